@@ -1,0 +1,125 @@
+ghost use Rattle.std.specs.Prelude.{◌≡◌, OnOk, OnErr, IfOk, Some, None};
+ghost use Rattle.std.specs.FinMap as map;
+ghost use Rattle.keycode.specs.Code.{code};
+ghost use Rattle.element_state.specs.Column.{column_pair, IsLawfulColumn, column_laws};
+ghost use Rattle.element_state.specs.Kinds.{meaning_of_column};
+
+use crate::cells::{cell, is_same};
+use crate::element::Element;
+use byte_map::Bytes;
+use keycode::{Value, Values, push_value};
+use row_map::{Batch, Row, column_key};
+use schema_version::ElementState;
+use std::alloc::{AllocError, Global};
+
+/// A column of a table in which a row has a value or none.
+#[derive(Clone, Copy, Debug)]
+pub struct OptionalColumn {
+    pub table: u32,
+    pub number: u32,
+}
+
+fn encoded(alloc: Global, value: &Value) -> Result<Bytes, AllocError>
+    ensures { IfOk result (λ bytes. bytes ≡ code value.now) }
+{
+    let mut out = Vec::new(alloc);
+    push_value(&mut out, value)?;
+    Bytes::new(out)
+}
+
+impl OptionalColumn {
+    fn put(
+        &self,
+        alloc: Global,
+        key: &Values,
+        value: &Value,
+        batch: &mut Batch,
+    ) -> Result<(), AllocError>
+        ensures ok { OnOk result (batch.new ≡ map.insert batch.old (column_pair self.now.number (self.now.table, key.now)) (Some (code value.now))) }
+        ensures err { OnErr result (batch.new ≡ batch.old) }
+    {
+        let at = column_key(alloc, self.table, key.as_slice(), self.number)?;
+        let bytes = encoded(alloc, value)?;
+        batch.put(at, bytes)
+    }
+
+    fn remove(&self, alloc: Global, key: &Values, batch: &mut Batch) -> Result<(), AllocError>
+        ensures ok { OnOk result (batch.new ≡ map.insert batch.old (column_pair self.now.number (self.now.table, key.now)) None) }
+        ensures err { OnErr result (batch.new ≡ batch.old) }
+    {
+        let at = column_key(alloc, self.table, key.as_slice(), self.number)?;
+        batch.remove(at)
+    }
+}
+
+impl Element for OptionalColumn {
+    ghost table = { λ e. e.table };
+
+    ghost meaning = { meaning_of_column };
+
+    ghost lawful = { λ e. IsLawfulColumn e.number };
+
+    ghost laws = { λ e lawful. column_laws e.table e.number lawful };
+
+    fn number(&self) -> u32 {
+        self.number
+    }
+
+    fn on_insert(
+        &self,
+        alloc: Global,
+        state: ElementState,
+        row: &Row,
+        batch: &mut Batch,
+    ) -> Result<(), AllocError> {
+        match state {
+            ElementState::Public => match cell(row, self.number) {
+                None => Ok(()),
+                Some(value) => self.put(alloc, &row.key, value, batch),
+            },
+            ElementState::Absent | ElementState::DeleteOnly | ElementState::WriteOnly => Ok(()),
+        }
+    }
+
+    fn on_update(
+        &self,
+        alloc: Global,
+        state: ElementState,
+        old: &Row,
+        new: &Row,
+        batch: &mut Batch,
+    ) -> Result<(), AllocError> {
+        match state {
+            ElementState::Public => {
+                let value = cell(new, self.number);
+                if is_same(cell(old, self.number), value) {
+                    return Ok(());
+                }
+                match value {
+                    None => self.remove(alloc, &old.key, batch),
+                    Some(value) => self.put(alloc, &old.key, value, batch),
+                }
+            }
+            ElementState::Absent | ElementState::DeleteOnly | ElementState::WriteOnly => Ok(()),
+        }
+    }
+
+    fn on_delete(
+        &self,
+        alloc: Global,
+        state: ElementState,
+        row: &Row,
+        batch: &mut Batch,
+    ) -> Result<(), AllocError> {
+        match state {
+            ElementState::Absent => Ok(()),
+            ElementState::DeleteOnly | ElementState::WriteOnly | ElementState::Public => {
+                self.remove(alloc, &row.key, batch)
+            }
+        }
+    }
+
+    fn fill_of(&self, alloc: Global, row: &Row) -> Result<Option<(Bytes, Bytes)>, AllocError> {
+        Ok(None)
+    }
+}

@@ -1,0 +1,138 @@
+ghost use Rattle.std.specs.Prelude.{◌≡◌, OnOk, OnErr, IfOk, Some, None, [], ◌∷◌, ◌++◌, true, false};
+ghost use Rattle.row_map.specs.Writes.{noted};
+ghost use Rattle.row_map.specs.Keys.{index_code};
+ghost use Rattle.element_state.specs.Index.{indexed, index_pair, index_by, IsLawfulIndex, index_laws};
+ghost use Rattle.element_state.specs.Operations.{cells_of};
+ghost use Rattle.element_state.specs.Kinds.{meaning_of_index};
+
+use crate::cells::copied;
+use crate::element::Element;
+use byte_map::Bytes;
+use keycode::Values;
+use listed::Listed;
+use row_map::{Batch, Row, index_key};
+use schema_version::ElementState;
+use std::alloc::{AllocError, Global};
+
+/// An index over columns of a table.
+#[derive(Debug, Drop)]
+pub struct IndexElement {
+    pub table: u32,
+    pub number: u32,
+    pub columns: Listed<u32>,
+}
+
+fn indexed_values(alloc: Global, columns: &[u32], row: &Row) -> Result<Values, AllocError>
+    ensures { IfOk result (λ values. values ≡ indexed columns.now (cells_of row.now)) }
+{
+    let mut values = Vec::new(alloc);
+    for column in columns {
+        values.push(copied(row, *column)?)?;
+    }
+    Ok(Listed::new(values))
+}
+
+impl IndexElement {
+    /// The key of a row's pair.
+    fn key_of(&self, alloc: Global, row: &Row) -> Result<Bytes, AllocError>
+        ensures { IfOk result (λ key. key ≡ index_pair self.now.number self.now.columns (self.now.table, row.now.key) (cells_of row.now)) }
+    {
+        let values = indexed_values(alloc, self.columns.as_slice(), row)?;
+        index_key(alloc, self.number, values.as_slice(), row.key.as_slice())
+    }
+
+    /// Moves a row's pair from its old key to its new one, which is put where the index keeps up with the rows.
+    fn move_pair(
+        &self,
+        alloc: Global,
+        puts: bool,
+        old: &Row,
+        new: &Row,
+        batch: &mut Batch,
+    ) -> Result<(), AllocError>
+        requires { old.now.key ≡ new.now.key }
+        ensures ok { OnOk result (batch.new ≡ noted batch.old (index_by self.now.number self.now.columns puts (self.now.table, old.now.key) (Some (cells_of old.now)) (Some (cells_of new.now)))) }
+        ensures err { OnErr result (batch.new ≡ batch.old) }
+    {
+        let before = self.key_of(alloc, old)?;
+        let after = self.key_of(alloc, new)?;
+        if before.cmp(&after).is_eq() {
+            return Ok(());
+        }
+        if puts {
+            let empty = Bytes::new(Vec::new(alloc))?;
+            let writes = vec![in alloc; (before, None), (after, Some(empty))]?;
+            batch.note_all(writes)
+        } else {
+            batch.remove(before)
+        }
+    }
+}
+
+impl Element for IndexElement {
+    ghost table = { λ e. e.table };
+
+    ghost meaning = { meaning_of_index };
+
+    ghost lawful = { λ e. IsLawfulIndex e.number e.columns };
+
+    ghost laws = { λ e lawful. index_laws e.table e.number e.columns lawful };
+
+    fn number(&self) -> u32 {
+        self.number
+    }
+
+    fn on_insert(
+        &self,
+        alloc: Global,
+        state: ElementState,
+        row: &Row,
+        batch: &mut Batch,
+    ) -> Result<(), AllocError> {
+        match state {
+            ElementState::Absent | ElementState::DeleteOnly => Ok(()),
+            ElementState::WriteOnly | ElementState::Public => {
+                let key = self.key_of(alloc, row)?;
+                batch.put(key, Bytes::new(Vec::new(alloc))?)
+            }
+        }
+    }
+
+    fn on_update(
+        &self,
+        alloc: Global,
+        state: ElementState,
+        old: &Row,
+        new: &Row,
+        batch: &mut Batch,
+    ) -> Result<(), AllocError> {
+        match state {
+            ElementState::Absent => Ok(()),
+            ElementState::DeleteOnly => self.move_pair(alloc, false, old, new, batch),
+            ElementState::WriteOnly | ElementState::Public => {
+                self.move_pair(alloc, true, old, new, batch)
+            }
+        }
+    }
+
+    fn on_delete(
+        &self,
+        alloc: Global,
+        state: ElementState,
+        row: &Row,
+        batch: &mut Batch,
+    ) -> Result<(), AllocError> {
+        match state {
+            ElementState::Absent => Ok(()),
+            ElementState::DeleteOnly | ElementState::WriteOnly | ElementState::Public => {
+                let key = self.key_of(alloc, row)?;
+                batch.remove(key)
+            }
+        }
+    }
+
+    fn fill_of(&self, alloc: Global, row: &Row) -> Result<Option<(Bytes, Bytes)>, AllocError> {
+        let key = self.key_of(alloc, row)?;
+        Ok(Some((key, Bytes::new(Vec::new(alloc))?)))
+    }
+}
