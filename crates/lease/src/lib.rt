@@ -1,0 +1,6 @@
+//! Leases.
+#![tactic(auto)]
+
+mod lease;
+
+pub use lease::Lease;

@@ -1,0 +1,4 @@
+pub mod Plain
+pub mod Reads
+pub mod Prepare
+pub mod Made

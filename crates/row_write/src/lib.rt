@@ -1,0 +1,9 @@
+//! Transactions of row operations: what they do to plain rows, what they read, and what they write by the states of a
+//! schema version.
+#![tactic(auto)]
+
+mod fault;
+mod op;
+
+pub use fault::{PrepareFault, RowFault};
+pub use op::{RowOp, RowOps, RowOutcome};

@@ -1,0 +1,50 @@
+use crate::fault::RowFault;
+use keycode::{Value, Values};
+use listed::Listed;
+
+/// An operation on one row. Tables and columns go by their numbers.
+#[derive(Clone, Debug, Drop, PartialEq, Eq)]
+pub enum RowOp {
+    /// A new row, refused where there is a row of this key.
+    Insert {
+        /// The number of the table.
+        table: u32,
+        /// The primary key's values.
+        key: Values,
+        /// Columns with their values. Null means having none.
+        cells: Listed<(u32, Value)>,
+    },
+    /// New values for some columns of a row, refused where there is no row of this key.
+    Update {
+        /// The number of the table.
+        table: u32,
+        /// The primary key's values.
+        key: Values,
+        /// Columns with their new values. Null takes the value away.
+        cells: Listed<(u32, Value)>,
+    },
+    /// The end of a row, refused where there is no row of this key.
+    Delete {
+        /// The number of the table.
+        table: u32,
+        /// The primary key's values.
+        key: Values,
+    },
+}
+
+/// The operations of a transaction. They act in turn, each seeing the ones before.
+pub type RowOps = Listed<RowOp>;
+
+/// What plain rows say to a transaction.
+#[derive(Clone, Copy, Debug, PartialEq, Eq)]
+pub enum RowOutcome {
+    /// Every operation is accepted.
+    Done,
+    /// This operation, counted from 0, is the first that is refused: the rows stay as before the first one.
+    Refused {
+        /// Its place.
+        op: usize,
+        /// Why.
+        why: RowFault,
+    },
+}
