@@ -1,0 +1,11 @@
+use Rattle.std.proofs.Common.{ℕ, ◌≤◌, length, ap, arith, Global}
+use Rattle.std.proofs.lemmas.List.{length-map}
+use Rattle.schema_version.specs.Held.{table_held}
+use Rattle.schema_version.specs.Names.{max_tables}
+use Rattle.schema_version.proofs.schema.Schema.with_elements.Goals as goal
+
+pub invariant_of-result : goal.invariant_of-result
+invariant_of-result c = (
+  omega (arith, length-map c.in_ok-copy_tables.field-0.entries (table_held {Y = Global}), length-map c.self.inside.tables.entries (table_held {Y = Global}), ap length c.in_ok-copy_tables.ensures, c.self.invariant.0),
+  c.requires,
+)

@@ -1,0 +1,224 @@
+ghost use Rattle.std.specs.Prelude.{◌≡◌, ◌==◌, ◌&&◌, count_by, bytes_eq, option_map};
+ghost use Rattle.std.specs.List.{list_any, find};
+ghost use Rattle.schema_version.specs.Version.{is_like as is_like_of, is_index as is_index_of, is_column as is_column_of, is_public as is_public_of, listed as listed_of, is_named as is_named_of};
+ghost use Rattle.schema_version.specs.Moves.{is_edge as is_edge_of, moves_element as moves_element_of, is_move_of as is_move_of_number, is_entry as is_entry_of, is_entry_like as is_entry_like_of, is_distinct as is_distinct_of};
+ghost use Rattle.schema_version.specs.Deciding.{has_no_edge as has_no_edge_of, is_entry_named as is_entry_named_of, lists as lists_of, is_column_list as is_column_list_of};
+ghost use Rattle.schema_version.specs.declared.element.ElementDef.{ElementDef as ElementDefinition};
+
+use crate::element::{ElementDef, ElementState, Kind, Way};
+use crate::step::Move;
+use keycode::Text;
+use row_map::ColumnType;
+
+const MAX_LISTED: usize = 4;
+
+/// Whether elements of this kind go from the one state to the other on their way.
+pub(crate) fn is_edge(kind: &Kind, way: Way, from: ElementState, to: ElementState) -> bool
+    ensures { result ≡ is_edge_of kind.now way from to }
+{
+    use ElementState::{Absent, DeleteOnly, Public, WriteOnly};
+    match (kind, way) {
+        (Kind::Index(_), Way::Adding) => matches!(
+            (from, to),
+            (Absent, DeleteOnly) | (DeleteOnly, WriteOnly) | (WriteOnly, Public)
+        ),
+        (Kind::Index(_), Way::Dropping) => matches!(
+            (from, to),
+            (Public, WriteOnly) | (WriteOnly, DeleteOnly) | (DeleteOnly, Absent)
+        ),
+        (Kind::Optional(_), Way::Adding) => matches!(
+            (from, to),
+            (Absent, DeleteOnly) | (DeleteOnly, Public)
+        ),
+        (Kind::Optional(_), Way::Dropping) => matches!(
+            (from, to),
+            (Public, DeleteOnly) | (DeleteOnly, Absent)
+        ),
+    }
+}
+
+pub(crate) fn has_no_edge(kind: &Kind, from: ElementState, to: ElementState) -> bool
+    ensures { result ≡ has_no_edge_of kind.now from to }
+{
+    !is_edge(kind, Way::Adding, from, to) && !is_edge(kind, Way::Dropping, from, to)
+}
+
+pub(crate) fn is_public(state: ElementState) -> bool
+    ensures { result ≡ is_public_of state }
+{
+    matches!(state, ElementState::Public)
+}
+
+pub(crate) fn is_index(kind: &Kind) -> bool
+    ensures { result ≡ is_index_of kind.now }
+{
+    matches!(kind, Kind::Index(_))
+}
+
+pub(crate) fn is_column(kind: &Kind) -> bool
+    ensures { result ≡ is_column_of kind.now }
+{
+    matches!(kind, Kind::Optional(_))
+}
+
+/// Whether this is an index, or else a column.
+pub(crate) fn is_like(index: bool, kind: &Kind) -> bool
+    ensures { result ≡ is_like_of index kind.now }
+{
+    if index {
+        is_index(kind)
+    } else {
+        is_column(kind)
+    }
+}
+
+/// The columns that an index lists.
+pub(crate) fn listed(kind: &Kind) -> &[u32]
+    ensures { result.now ≡ listed_of kind.now }
+{
+    match kind {
+        Kind::Index(columns) => columns.as_slice(),
+        Kind::Optional(_) => &[],
+    }
+}
+
+/// Whether the step moves this element.
+pub(crate) fn moves_element(step: &[Move], number: u32) -> bool
+    ensures { result ≡ moves_element_of step.now number }
+{
+    step.iter().any(|a| is_move_of(a, number))
+}
+
+fn is_move_of(a: &Move, number: u32) -> bool
+    ensures { result ≡ is_move_of_number number a.now }
+{
+    match a {
+        Move::Enter { .. } => false,
+        Move::Go { element, .. } => *element == number,
+    }
+}
+
+/// Whether this is an element of the table under the name.
+pub(crate) fn is_named(element: &ElementDef, table: u32, name: &[u8]) -> bool
+    ensures { result ≡ is_named_of table name.now element.now }
+{
+    element.table == table && element.name.as_bytes() == name
+}
+
+/// Whether one of these is an element of the table under the name.
+pub(crate) fn any_named(elements: &[ElementDef], table: u32, name: &[u8]) -> bool
+    ensures { result ≡ list_any (is_named_of table name.now) elements.now }
+{
+    elements.iter().any(|e| is_named(e, table, name))
+}
+
+/// Whether one of these columns has the name.
+pub(crate) fn any_column_named(columns: &[(Text, ColumnType)], name: &[u8]) -> bool
+    ensures { result ≡ list_any (λ column. bytes_eq column.0 name.now) columns.now }
+{
+    columns.iter().any(|c| c.0.as_bytes() == name)
+}
+
+/// The first of these elements that is an index which lists the column.
+pub(crate) fn first_listing(elements: &[ElementDef], column: u32) -> Option<u32>
+    ensures { result ≡ option_map (λ (e : ElementDefinition). e.number) (find (lists_of column) elements.now) }
+{
+    elements
+        .iter()
+        .find(|e| lists(*e, column))
+        .map(|e| e.number)
+}
+
+/// Whether the element is an index that lists the column.
+pub(crate) fn lists(element: &ElementDef, column: u32) -> bool
+    ensures { result ≡ lists_of column element.now }
+{
+    contains(listed(&element.kind), column)
+}
+
+fn is_entry(a: &Move) -> bool
+    ensures { result ≡ is_entry_of a.now }
+{
+    matches!(a, Move::Enter { .. })
+}
+
+/// How many elements enter.
+pub(crate) fn entries(moves: &[Move]) -> usize
+    ensures { result ≡ count_by is_entry_of moves.now }
+{
+    moves.iter().filter(|a| is_entry(*a)).count()
+}
+
+fn is_entry_like(a: &Move, table: u32, index: bool) -> bool
+    ensures { result ≡ is_entry_like_of table index a.now }
+{
+    match a {
+        Move::Enter { fresh, .. } => fresh.table == table && is_like(index, &fresh.kind),
+        Move::Go { .. } => false,
+    }
+}
+
+/// How many indexes of the table enter, or else how many columns.
+pub(crate) fn entries_like(moves: &[Move], table: u32, index: bool) -> usize
+    ensures { result ≡ count_by (is_entry_like_of table index) moves.now }
+{
+    moves
+        .iter()
+        .filter(|a| is_entry_like(*a, table, index))
+        .count()
+}
+
+/// How many of the elements are indexes of the table, or else how many are its columns.
+pub(crate) fn elements_like(elements: &[ElementDef], table: u32, index: bool) -> usize
+    ensures { result ≡ count_by (λ (element : ElementDefinition). (element.table == table) && is_like_of index element.kind) elements.now }
+{
+    elements
+        .iter()
+        .filter(|e| e.table == table && is_like(index, &e.kind))
+        .count()
+}
+
+fn is_entry_named(a: &Move, table: u32, name: &[u8]) -> bool
+    ensures { result ≡ is_entry_named_of table name.now a.now }
+{
+    match a {
+        Move::Enter { fresh, .. } => fresh.table == table && fresh.name.as_bytes() == name,
+        Move::Go { .. } => false,
+    }
+}
+
+/// Whether an element of this name enters the table.
+pub(crate) fn enters_named(moves: &[Move], table: u32, name: &[u8]) -> bool
+    ensures { result ≡ list_any (is_entry_named_of table name.now) moves.now }
+{
+    moves.iter().any(|a| is_entry_named(a, table, name))
+}
+
+/// Whether the number is among these.
+pub(crate) fn contains(numbers: &[u32], number: u32) -> bool
+    ensures { result ≡ list_any (◌==◌ number) numbers.now }
+{
+    numbers.iter().any(|n| number == *n)
+}
+
+/// Whether no number stands twice.
+pub(crate) fn is_distinct(numbers: &[u32]) -> bool
+    ensures { result ≡ is_distinct_of numbers.now }
+{
+    match numbers {
+        [] => true,
+        [first, rest @ ..] => !contains(rest, *first) && is_distinct(rest),
+    }
+}
+
+/// Whether an index lists 1 to 4 distinct columns.
+pub(crate) fn is_column_list(kind: &Kind) -> bool
+    ensures { result ≡ is_column_list_of kind.now }
+{
+    match kind {
+        Kind::Index(columns) => 1 <= columns.len()
+            && columns.len() <= MAX_LISTED
+            && is_distinct(columns.as_slice()),
+        Kind::Optional(_) => true,
+    }
+}

@@ -1,0 +1,195 @@
+ghost use Rattle.std.specs.Prelude.{◌≡◌, ◌+◌, Option, slice_get, bytes_eq, position};
+ghost use Rattle.std.specs.List.{find};
+ghost use Rattle.std.specs.Option.{option_copied, option_map};
+ghost use Rattle.schema_version.specs.Version.{Table, state_of, element_at, table_at, live, is_named as is_named_of};
+ghost use Rattle.schema_version.specs.Held.{table_held, IsHeld, holding};
+ghost use Rattle.std.specs.Prelude.{◌≤◌, ◌⊎◌, IfOk, IfErr, OnOk, count_by};
+ghost use Rattle.schema_version.specs.Moves.{after_step, IsAllowed, IsRefused, is_entry};
+ghost use Rattle.schema_version.specs.Names.{max_elements};
+ghost use Rattle.schema_version.specs.Declaring.{declared as declared_of, IsLawful};
+ghost use Rattle.schema_version.specs.declared.table.DeclareFault.TheVariants as declare;
+ghost use Rattle.schema_version.specs.declared.step.StepFault.TheVariants.{Memory};
+
+use crate::applying::{copy_elements, copy_tables, make_all};
+use crate::declaring::{enter_tables, hold_tables};
+use crate::element::{ElementDef, ElementState};
+use crate::lawful::are_lawful;
+use crate::moves::is_named;
+use crate::step::{Move, Step, StepFault};
+use crate::table::{Columns, DeclareFault, TableDef};
+use indexmap::IndexMap;
+use keycode::Text;
+use row_map::ColumnType;
+use std::alloc::{AllocError, Global};
+use std::marker::Model;
+
+/// A version of the schema. Its tables never change, and its elements stand by rising number.
+#[derive(Drop)]
+pub struct Schema {
+    tables: IndexMap<String, Columns>,
+    elements: IndexMap<u32, ElementDef>,
+    next: u32,
+}
+
+impl Model for Schema {
+    ghost use Rattle.schema_version.specs.Version.{Version};
+    ghost use Rattle.schema_version.specs.Held.{version_code};
+
+    ghost Value = { Version };
+
+    ghost coded = { version_code };
+
+    ghost use Rattle.schema_version.specs.Inside.{version_of, IsSound};
+
+    ghost view = { version_of };
+
+    ghost invariant = { IsSound };
+}
+
+impl Schema {
+    /// The live element of this number.
+    pub(crate) fn element(&self, number: u32) -> Option<&ElementDef>
+        ensures { option_copied result ≡ element_at self.now number }
+    {
+        self.elements.get(&number)
+    }
+
+    /// The state of the element of this number. One that isn't there is absent.
+    pub fn state(&self, element: u32) -> ElementState
+        ensures { result ≡ state_of self.now element }
+    {
+        match self.element(element) {
+            Some(found) => found.state,
+            None => ElementState::Absent,
+        }
+    }
+
+    /// All live elements, by rising number.
+    pub(crate) fn elements(&self) -> &[ElementDef]
+        ensures { result.now ≡ live self.now }
+    {
+        self.elements.values().as_slice()
+    }
+
+    /// The live element at this place among all, by rising number.
+    pub fn live(&self, place: usize) -> Option<&ElementDef>
+        ensures { option_copied result ≡ slice_get (live self.now) place }
+    {
+        self.elements().get(place)
+    }
+
+    /// The live element of the table under this name.
+    pub fn by_name(&self, table: u32, name: &str) -> Option<&ElementDef>
+        ensures { option_copied result ≡ find (is_named_of table name.now) (live self.now) }
+    {
+        self.elements()
+            .iter()
+            .find(|e| is_named(*e, table, name.as_bytes()))
+    }
+
+    /// The next free number of an element.
+    pub(crate) fn next_number(&self) -> u32
+        ensures { result ≡ self.now.next }
+    {
+        self.next
+    }
+
+    // The table of this number, with its name.
+    fn table_entry(&self, table: u32) -> Option<(&String, &Columns)>
+        ensures { option_map (λ t. table_held (t.0.now, t.1.now)) result ≡ table_at self.now table }
+    {
+        let place = table.checked_sub(1)?;
+        self.tables.get_index(place as usize)
+    }
+
+    /// The columns of the table's primary key.
+    pub(crate) fn key_of(&self, table: u32) -> Option<&[(Text, ColumnType)]>
+        ensures { option_map (λ k. k.now) result ≡ option_map (λ t. t.key) (table_at self.now table) }
+    {
+        let (_, key) = self.table_entry(table)?;
+        Some(key.as_slice())
+    }
+
+    /// The name of the table of this number.
+    pub fn table_name(&self, table: u32) -> Option<&str>
+        ensures { option_map (λ n. n.now) result ≡ option_map (λ t. t.name) (table_at self.now table) }
+    {
+        let (name, _) = self.table_entry(table)?;
+        Some(name.as_str())
+    }
+
+    /// The number of the table of this name.
+    pub fn table(&self, name: &str) -> Option<u32>
+        ensures { result ≡ option_map (λ place. place + 1) (position (λ (t : Table). bytes_eq name.now t.name) self.now.tables) }
+    {
+        let place = self.tables.get_index_of(name)?;
+        Some(place as u32 + 1)
+    }
+
+    // Whether the step is allowed.
+    fn allow(&self, step: &[Move]) -> Result<(), StepFault>
+        ensures allowed { OnOk result (IsAllowed self.now step.now) }
+        ensures refused { IfErr result (λ fault. IsRefused self.now step.now fault) }
+        ensures room { OnOk result (self.now.next + count_by is_entry step.now ≤ max_elements + 1) }
+    {
+        let _own = &self.elements;
+        self.check_step(step)
+    }
+
+    // A copy of the elements.
+    fn elements_copied(&self) -> Result<IndexMap<u32, ElementDef>, AllocError>
+        ensures held { IfOk result (λ copy. IsHeld copy.entries self.now.next) }
+        ensures same { IfOk result (λ copy. holding self.now copy.entries self.now.next ≡ self.now) }
+    {
+        copy_elements(&self.elements)
+    }
+
+    // These tables with other elements.
+    fn with_elements(
+        &self,
+        elements: IndexMap<u32, ElementDef>,
+        next: u32,
+    ) -> Result<Schema, AllocError>
+        requires { IsHeld elements.entries next }
+        ensures { IfOk result (λ made. made ≡ holding self.now elements.entries next) }
+    {
+        Ok(Schema {
+            tables: copy_tables(&self.tables)?,
+            elements,
+            next,
+        })
+    }
+
+    /// The version that a step gives, where each of its moves is allowed. The moves are tried in order, each against this version
+    /// and the whole step, and the first faulty move decides by its lowest fault.
+    pub fn apply(&self, step: &Step) -> Result<Schema, StepFault>
+        ensures allowed { OnOk result (IsAllowed self.now step.now) }
+        ensures after { IfOk result (λ then. then ≡ after_step self.now step.now) }
+        ensures refused { IfErr result (λ fault. (fault ≡ Memory) ⊎ IsRefused self.now step.now fault) }
+    {
+        let moves = step.as_slice();
+        self.allow(moves)?;
+        let mut elements = self.elements_copied()?;
+        let next = make_all(&mut elements, self.next_number(), moves)?;
+        Ok(self.with_elements(elements, next)?)
+    }
+
+    /// Version 1: the declared tables, whose columns and indexes are public and numbered table by table, columns first.
+    pub fn declared(alloc: Global, tables: &[TableDef]) -> Result<Schema, DeclareFault>
+        ensures lawful { OnOk result (IsLawful tables.now) }
+        ensures first { IfOk result (λ schema. schema ≡ declared_of tables.now) }
+        ensures refused { IfErr result (λ fault. (fault ≡ declare.Memory) ⊎ ((fault ≡ declare.BadTable) × (¬ (IsLawful tables.now)))) }
+    {
+        if !are_lawful(tables) {
+            return Err(DeclareFault::BadTable);
+        }
+        let held = hold_tables(alloc, tables)?;
+        let mut elements = IndexMap::new(alloc);
+        let next = enter_tables(alloc, &mut elements, tables)?;
+        Ok(Schema {
+            tables: held,
+            elements,
+            next,
+        })
+    }
+}
