@@ -2,3 +2,5 @@ pub mod Plain
 pub mod Reads
 pub mod Prepare
 pub mod Made
+pub mod Code
+pub mod Inside

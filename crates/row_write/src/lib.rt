@@ -4,6 +4,8 @@
 
 mod fault;
 mod op;
+mod prepared;
 
 pub use fault::{PrepareFault, RowFault};
 pub use op::{RowOp, RowOps, RowOutcome};
+pub use prepared::Prepared;

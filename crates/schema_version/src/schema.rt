@@ -65,7 +65,7 @@ impl Schema {
     }
 
     /// All live elements, by rising number.
-    pub(crate) fn elements(&self) -> &[ElementDef]
+    pub fn elements(&self) -> &[ElementDef]
         ensures { result.now ≡ live self.now }
     {
         self.elements.values().as_slice()
@@ -103,7 +103,7 @@ impl Schema {
     }
 
     /// The columns of the table's primary key.
-    pub(crate) fn key_of(&self, table: u32) -> Option<&[(Text, ColumnType)]>
+    pub fn key_of(&self, table: u32) -> Option<&[(Text, ColumnType)]>
         ensures { option_map (λ k. k.now) result ≡ option_map (λ t. t.key) (table_at self.now table) }
     {
         let (_, key) = self.table_entry(table)?;

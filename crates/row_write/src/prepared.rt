@@ -1,0 +1,95 @@
+ghost use Rattle.std.specs.Prelude.{◌≡◌};
+ghost use Rattle.row_write.specs.Made.{IsMade};
+
+use crate::op::{RowOp, RowOps, RowOutcome};
+use lease::Lease;
+use listed::Counted;
+use row_map::{Batch, Expect};
+use schema_version::Schema;
+use std::marker::Model;
+
+/// A transaction that was prepared under a schema version from what was read: what it expects to find again, and what
+/// it then writes. `prepare` alone makes one, and it can grow as old as it likes.
+#[derive(Drop)]
+pub struct Prepared {
+    pub(crate) schema: Counted<Schema>,
+    pub(crate) lease: Lease,
+    pub(crate) ops: RowOps,
+    pub(crate) expect: Expect,
+    pub(crate) batch: Batch,
+    pub(crate) told: RowOutcome,
+}
+
+impl Model for Prepared {
+    ghost use Rattle.row_write.specs.Made.{PreparedTxn};
+    ghost use Rattle.row_write.specs.Code.{prepared_code};
+
+    ghost Value = { PreparedTxn };
+
+    ghost coded = { prepared_code };
+
+    ghost use Rattle.row_write.specs.Inside.{prepared_of, IsHeld};
+
+    ghost view = { prepared_of };
+
+    ghost invariant = { IsHeld };
+}
+
+impl Prepared {
+    /// The schema version under which it was prepared.
+    pub fn schema(&self) -> &Counted<Schema>
+        ensures { result.now ≡ self.now.schema }
+    {
+        &self.schema
+    }
+
+    /// The lease that it was given.
+    pub fn lease(&self) -> &Lease
+        ensures { result.now ≡ self.now.lease }
+    {
+        &self.lease
+    }
+
+    /// Its operations, in order.
+    pub fn ops(&self) -> &[RowOp]
+        ensures { result.now ≡ self.now.ops }
+    {
+        self.ops.as_slice()
+    }
+
+    /// What it expects of the store: just what was read.
+    pub fn expect(&self) -> &Expect
+        ensures { result.now ≡ self.now.expect }
+    {
+        &self.expect
+    }
+
+    /// What it writes: nothing where an operation is refused.
+    pub fn batch(&self) -> &Batch
+        ensures { result.now ≡ self.now.batch }
+    {
+        &self.batch
+    }
+
+    /// What the rows say that were read.
+    pub fn outcome(&self) -> RowOutcome
+        ensures { result ≡ self.now.told }
+    {
+        self.told
+    }
+
+    /// Its parts, of which a commit keeps the lease and the operations.
+    pub fn into_parts(self) -> (Lease, RowOps)
+        ensures lease { result.0 ≡ self.lease }
+        ensures ops { result.1 ≡ self.ops }
+    {
+        (self.lease, self.ops)
+    }
+
+    /// Tells what is known of every prepared transaction.
+    pub fn made(&self)
+        ensures { IsMade self.now }
+    {
+        let _schema = &self.schema;
+    }
+}
