@@ -1,0 +1,4 @@
+pub mod Changes
+pub mod Operating
+pub mod Spelling
+pub mod Keeping

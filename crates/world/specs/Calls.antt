@@ -1,0 +1,109 @@
+-- What each call of the core may answer, and the state that it leaves.
+use Rattle.std.specs.Prelude.{◌≡◌, ◌≢◌, ℕ, ◌+◌, ◌<◌, ◌≤◌, max, List, [], ◌∷◌, ◌++◌, length, Option, Some, None, Result, Ok, Err, slice_get}
+use Rattle.listed.specs.Refusal.{IsFirst, IsRefusal, IsClear}
+use Rattle.lease.specs.declared.lease.Lease.{Lease}
+use Rattle.lease.specs.Timeline.{IsHonest, IsInForce, granted_at, max_moment, IsLength}
+use Rattle.row_map.specs.Expect.{IsConflict}
+use Rattle.schema_version.specs.declared.table.TableDef.{TableDef}
+use Rattle.schema_version.specs.Version.{Version}
+use Rattle.schema_version.specs.Declaring.{declared, IsLawful}
+use Rattle.row_write.specs.declared.op.RowOutcome.TheVariants.{Done, Refused}
+use Rattle.row_write.specs.Plain.{outcome}
+use Rattle.row_write.specs.Made.{PreparedTxn}
+use Rattle.world.specs.declared.config.Config.{Config}
+use Rattle.world.specs.declared.committed.Committed.{Committed}
+use Rattle.world.specs.declared.committed.Committed.TheVariants as committed
+use Rattle.world.specs.declared.entry.Entry.{Entry}
+use Rattle.world.specs.declared.entry.Receipt.{Receipt}
+use Rattle.world.specs.declared.entry.Grant.{Grant}
+use Rattle.world.specs.declared.entry.What.{What}
+use Rattle.world.specs.declared.entry.What.TheVariants.{Lease as Granted, Txn}
+use Rattle.world.specs.declared.fault.OpenFault.{OpenFault}
+use Rattle.world.specs.declared.fault.OpenFault.TheVariants as open_fault
+use Rattle.world.specs.declared.fault.GrantFault.{GrantFault}
+use Rattle.world.specs.declared.fault.GrantFault.TheVariants as grant_fault
+use Rattle.world.specs.declared.fault.CommitFault.{CommitFault}
+use Rattle.world.specs.declared.fault.CommitFault.TheVariants as commit_fault
+use Rattle.world.specs.Replay.{Opening, State, facts_of, effect, opened}
+
+-- the moment that counts: the greater of the one handed in and the last entry's
+abbrev pub counted : State → ℕ → ℕ
+counted state moment = max moment (facts_of state).moment
+
+-- the newest version
+abbrev pub newest_of : State → Option Version
+newest_of state = slice_get (facts_of state).versions 0
+
+-- one entry more, with the receipt for it
+pub record Appends (old : State) (now : ℕ) (what : What) (receipt : Receipt) (new : State) : Type 0 where
+  pub entry : receipt.entry ≡ record { moment = now; what = what }
+  pub place : receipt.place ≡ length old.log + 1
+  pub state : new ≡ effect old receipt.entry
+
+-- ---- opening
+
+abbrev pub open_rank : OpenFault → ℕ
+open_rank open_fault.BadTable = 1
+open_rank open_fault.BadLength = 2
+open_rank open_fault.Memory = 3
+
+abbrev pub OpenCondition : Config → OpenFault → Type 0
+OpenCondition config open_fault.BadTable = ¬ (IsLawful config.tables)
+OpenCondition config open_fault.BadLength = ¬ (IsLength config.length)
+OpenCondition config open_fault.Memory = ⊥
+
+abbrev pub opening_of : Config → Opening
+opening_of config = record { length = config.length; schema = declared config.tables }
+
+-- a world begins with the declared version, no rows and no pairs
+abbrev pub OpenStep : Config → Result State OpenFault → Type 0
+OpenStep config (Ok new) = IsClear (OpenCondition config) × (new ≡ opened (opening_of config))
+OpenStep config (Err fault) = IsRefusal open_rank (OpenCondition config) open_fault.Memory fault
+
+-- ---- lease
+
+abbrev pub grant_rank : GrantFault → ℕ
+grant_rank grant_fault.MomentTooLarge = 1
+grant_rank grant_fault.Memory = 2
+
+abbrev pub GrantCondition : ℕ → GrantFault → Type 0
+GrantCondition now grant_fault.MomentTooLarge = max_moment < now
+GrantCondition now grant_fault.Memory = ⊥
+
+-- a lease is one on the newest version, from the moment that counts
+abbrev pub LeaseStep : State → ℕ → Result Grant GrantFault → State → Type 0
+LeaseStep old moment (Ok given) new =
+    IsClear (GrantCondition (counted old moment))
+    × (given.lease ≡ granted_at (facts_of old).line (counted old moment))
+    × (newest_of old ≡ Some given.schema)
+    × Appends old (counted old moment) (Granted given.lease) given.receipt new
+LeaseStep old moment (Err fault) new = IsRefusal grant_rank (GrantCondition (counted old moment)) grant_fault.Memory fault × (new ≡ old)
+
+-- ---- commit
+
+-- want of memory may come in place of a conflict
+abbrev pub commit_rank : CommitFault → ℕ
+commit_rank commit_fault.MomentTooLarge = 1
+commit_rank commit_fault.BadLease = 2
+commit_rank (commit_fault.LeaseEnded until now) = 3
+commit_rank (commit_fault.Conflict key) = 5
+commit_rank commit_fault.Memory = 5
+
+abbrev pub CommitCondition : State → ℕ → PreparedTxn → CommitFault → Type 0
+CommitCondition old now prepared commit_fault.MomentTooLarge = max_moment < now
+CommitCondition old now prepared commit_fault.BadLease = ¬ (IsHonest (facts_of old).line now prepared.lease)
+CommitCondition old now prepared (commit_fault.LeaseEnded until counted) = (until ≡ prepared.lease.until) × (counted ≡ now) × (¬ (IsInForce prepared.lease now))
+CommitCondition old now prepared (commit_fault.Conflict key) = IsConflict prepared.expect old.pairs key
+CommitCondition old now prepared commit_fault.Memory = ⊥
+
+-- a transaction is logged where plain rows accept it, and else refused by its first bad operation
+abbrev pub CommitStep : State → ℕ → PreparedTxn → Result Committed CommitFault → State → Type 0
+CommitStep old moment prepared (Ok (committed.Done receipt)) new =
+    IsClear (CommitCondition old (counted old moment) prepared)
+    × (outcome (facts_of old).rows prepared.ops ≡ Done)
+    × Appends old (counted old moment) (Txn prepared.lease prepared.ops) receipt new
+CommitStep old moment prepared (Ok (committed.Refused op why)) new =
+    IsClear (CommitCondition old (counted old moment) prepared)
+    × (outcome (facts_of old).rows prepared.ops ≡ Refused op why)
+    × (new ≡ old)
+CommitStep old moment prepared (Err fault) new = IsRefusal commit_rank (CommitCondition old (counted old moment) prepared) commit_fault.Memory fault × (new ≡ old)

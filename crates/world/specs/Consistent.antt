@@ -1,0 +1,43 @@
+-- When a store agrees with a schema version and with rows.
+use Rattle.std.specs.Prelude.{◌≡◌, ◌≢◌, ℕ, ◌≤◌, List, Option, Some, None, IsTrue}
+use Rattle.std.specs.FinMap as map
+use Rattle.keycode.specs.declared.value.Value.{Value}
+use Rattle.keycode.specs.declared.value.Value.TheVariants.{Null}
+use Rattle.keycode.specs.Valid.{IsStorable}
+use Rattle.row_map.specs.declared.shape.ColumnType.{ColumnType}
+use Rattle.row_map.specs.Rows.{RowKey, Cells, Rows, Pairs}
+use Rattle.row_map.specs.Shape.{has_type}
+use Rattle.schema_version.specs.declared.element.Kind.TheVariants.{Optional}
+use Rattle.schema_version.specs.declared.element.ElementDef.{ElementDef}
+use Rattle.schema_version.specs.Version.{Version, Table, table_at, element_at}
+use Rattle.element_state.specs.Elements.{Empty, Exact, Demand, AreFormed}
+use Rattle.element_state.specs.Exists.{exists_meaning}
+use Rattle.element_state.specs.Kinds.{kind_meaning}
+use Rattle.element_state.specs.Tables.{within}
+use Rattle.row_write.specs.Prepare.{IsKeyFor}
+
+-- what a version demands of the pairs of an element: what its state does, and none of one that the version lacks
+abbrev pub DemandOf : ℕ → Option ElementDef → Pairs → Rows → Type 0
+DemandOf number None pairs rows = Empty number pairs
+DemandOf number (Some element) pairs rows = Demand (within element.table (kind_meaning number element.kind)) element.state pairs rows
+
+-- the row is of one of the version's tables, and its values are of their columns' types
+pub record IsLawfulRow (version : Version) (key : RowKey) (cells : Cells) : Type 0 where
+  pub table : Table
+  pub known : table_at version key.0 ≡ Some table
+  pub primary : IsKeyFor table.key key.1
+  pub types : (column : ℕ) (element : ElementDef) (type : ColumnType) (value : Value) → element_at version column ≡ Some element → element.kind ≡ Optional type → map.get cells column ≡ Some value → IsTrue (has_type type value)
+  pub values : (column : ℕ) (value : Value) → map.get cells column ≡ Some value → IsStorable value × (value ≢ Null)
+
+abbrev pub AreLawfulRows : Version → Rows → Type 0
+AreLawfulRows version rows = (key : RowKey) (cells : Cells) → map.get rows key ≡ Some cells → IsLawfulRow version key cells
+
+-- the store agrees with the version and the rows
+pub record IsConsistent (version : Version) (rows : Rows) (pairs : Pairs) : Type 0 where
+  -- each element has the pairs that its state demands
+  pub elements : (number : ℕ) → 1 ≤ number → DemandOf number (element_at version number) pairs rows
+  -- the `exists` pairs are exactly those of the rows
+  pub exists : Exact exists_meaning pairs rows
+  -- every key is the key of an `exists` pair, of a column's or of an index's
+  pub forms : AreFormed pairs
+  pub lawful : AreLawfulRows version rows

@@ -1,0 +1,5 @@
+pub mod Replay
+pub mod Consistent
+pub mod Calls
+pub mod Agreement
+pub mod Kept

@@ -1,0 +1,59 @@
+use byte_map::Bytes;
+use lease::LeaseFault;
+use schema_version::DeclareFault;
+use lease::TimelineFault;
+use std::alloc::{AllocError, AllocFailed};
+use thiserror::Error;
+
+/// Why no world was opened. Of several reasons the first in this order is told.
+#[derive(Clone, Copy, Debug, PartialEq, Eq, Error)]
+pub enum OpenFault {
+    /// A limit of the declaration is broken: on tables, columns, indexes or names.
+    #[error("the declaration breaks a limit, or uses a name twice")]
+    BadTable,
+    /// The lease length is not from 1 to 2^32.
+    #[error("the lease length is not from 1 to 2^32")]
+    BadLength,
+    /// Want of memory.
+    #[error("out of memory")]
+    Memory,
+}
+
+/// Why no lease was granted. Of several reasons the first in this order is told.
+#[derive(Clone, Copy, Debug, PartialEq, Eq, Error)]
+pub enum GrantFault {
+    /// The moment that counts is above 2^62.
+    #[error("the moment is above 2^62")]
+    MomentTooLarge,
+    /// Want of memory.
+    #[error("out of memory")]
+    Memory,
+}
+
+/// Why a transaction was not committed. Of several reasons the first in this order is told.
+#[derive(Debug, Drop, Error)]
+pub enum CommitFault {
+    /// The moment that counts is above 2^62.
+    #[error("the moment is above 2^62")]
+    MomentTooLarge,
+    /// The lease was never granted.
+    #[error("the lease was never granted")]
+    BadLease,
+    /// The lease ended before the moment that counts.
+    #[error("the lease ended at {until}, and now is {now}")]
+    LeaseEnded {
+        /// The end of the lease.
+        until: u64,
+        /// The moment that counts.
+        now: u64,
+    },
+    /// A pair is no longer what was read.
+    #[error("a pair changed since it was read")]
+    Conflict {
+        /// The least key whose present pair is not the expected one.
+        key: Bytes,
+    },
+    /// Want of memory, which may come in place of Conflict.
+    #[error("out of memory")]
+    Memory,
+}
