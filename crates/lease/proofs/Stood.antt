@@ -37,9 +37,10 @@ newest_stood xs g now j e =
     from : get_or (reverse xs) 0 0 ≡ get_or xs j 0 → WasNewest (reverse xs) (suc j) g now → (get_or xs j 0 ≤ g) × (g ≤ now)
     from at w =
         let k = stood_from (reverse xs) (suc j) g now w in
-        let zero_th : k.0 ≡ 0 = omega (arith, k.1, length-reverse xs) in
-        (subst (λ (m : ℕ). m ≤ g) at (subst (λ (m : ℕ). get_or (reverse xs) m 0 ≤ g) zero_th k.3),
-         subst (λ (m : ℕ). g ≤ get_or (now ∷ reverse xs) m 0) zero_th k.4)
+        let zero_th : k.0 ≡ 0 = omega (arith, k.1, length-reverse xs) in (
+          subst (λ (m : ℕ). m ≤ g) at (subst (λ (m : ℕ). get_or (reverse xs) m 0 ≤ g) zero_th k.3),
+          subst (λ (m : ℕ). g ≤ get_or (now ∷ reverse xs) m 0) zero_th k.4,
+        )
 
 pub earlier_stood : (xs : List ℕ) (g now j : ℕ) → suc j < length xs → WasNewest (reverse xs) (suc j) g now ↔ ((get_or xs j 0 ≤ g) × (g ≤ get_or xs (suc j) 0))
 earlier_stood xs g now j e =
@@ -51,9 +52,10 @@ earlier_stood xs g now j e =
     from : (n : ℕ) → suc (suc (n + j)) ≡ length xs → get_or (reverse xs) (suc n) 0 ≡ get_or xs j 0 → get_or (reverse xs) n 0 ≡ get_or xs (suc j) 0 → WasNewest (reverse xs) (suc j) g now → (get_or xs j 0 ≤ g) × (g ≤ get_or xs (suc j) 0)
     from n at here next w =
         let k = stood_from (reverse xs) (suc j) g now w in
-        let place : k.0 ≡ suc n = omega (arith, k.1, length-reverse xs) in
-        (subst (λ (m : ℕ). m ≤ g) here (subst (λ (m : ℕ). get_or (reverse xs) m 0 ≤ g) place k.3),
-         subst (λ (m : ℕ). g ≤ m) next (subst (λ (m : ℕ). g ≤ get_or (now ∷ reverse xs) m 0) place k.4))
+        let place : k.0 ≡ suc n = omega (arith, k.1, length-reverse xs) in (
+          subst (λ (m : ℕ). m ≤ g) here (subst (λ (m : ℕ). get_or (reverse xs) m 0 ≤ g) place k.3),
+          subst (λ (m : ℕ). g ≤ m) next (subst (λ (m : ℕ). g ≤ get_or (now ∷ reverse xs) m 0) place k.4),
+        )
 
 -- a version has stood from its publication until the next one's, and the newest until now
 pub stood_until : (ps xs : List ℕ) (v g now u : ℕ) → reverse xs ≡ ps → 1 ≤ v → v ≤ length xs
@@ -63,10 +65,10 @@ stood_until ps xs zero g now u same some most until = absurd (omega arith)
 stood_until ps xs (suc j) g now u same some most (inl before) =
     let at : suc j - 1 ≡ j = omega arith in
     subst (λ (l : List ℕ). WasNewest l (suc j) g now ↔ ((get_or xs (suc j - 1) 0 ≤ g) × (g ≤ u))) same
-      (subst (λ (i : ℕ). WasNewest (reverse xs) (suc j) g now ↔ ((get_or xs i 0 ≤ g) × (g ≤ u))) (sym at)
-        (subst (λ (m : ℕ). WasNewest (reverse xs) (suc j) g now ↔ ((get_or xs j 0 ≤ g) × (g ≤ m))) (sym before.1) (earlier_stood xs g now j before.0)))
+    (subst (λ (i : ℕ). WasNewest (reverse xs) (suc j) g now ↔ ((get_or xs i 0 ≤ g) × (g ≤ u))) (sym at)
+    (subst (λ (m : ℕ). WasNewest (reverse xs) (suc j) g now ↔ ((get_or xs j 0 ≤ g) × (g ≤ m))) (sym before.1) (earlier_stood xs g now j before.0)))
 stood_until ps xs (suc j) g now u same some most (inr newest) =
     let at : suc j - 1 ≡ j = omega arith in
     subst (λ (l : List ℕ). WasNewest l (suc j) g now ↔ ((get_or xs (suc j - 1) 0 ≤ g) × (g ≤ u))) same
-      (subst (λ (i : ℕ). WasNewest (reverse xs) (suc j) g now ↔ ((get_or xs i 0 ≤ g) × (g ≤ u))) (sym at)
-        (subst (λ (m : ℕ). WasNewest (reverse xs) (suc j) g now ↔ ((get_or xs j 0 ≤ g) × (g ≤ m))) (sym newest.1) (newest_stood xs g now j (omega (arith, newest.0, most)))))
+    (subst (λ (i : ℕ). WasNewest (reverse xs) (suc j) g now ↔ ((get_or xs i 0 ≤ g) × (g ≤ u))) (sym at)
+    (subst (λ (m : ℕ). WasNewest (reverse xs) (suc j) g now ↔ ((get_or xs j 0 ≤ g) × (g ≤ m))) (sym newest.1) (newest_stood xs g now j (omega (arith, newest.0, most)))))

@@ -1,6 +1,6 @@
 -- Which versions are usable.
-use Rattle.std.proofs.Common.{◌≡◌, ℕ, suc, ◌+◌, ◌<◌, ◌≤◌, ◌↔◌, List, [], ◌∷◌, length, ◌⊎◌, inl, inr, arith, refl, sym, subst}
-use Rattle.lease.specs.Timeline.{Timeline, IsTimeline, IsValid, WasNewest, IsHonest, IsUsable, IsNewestOrBefore, IsLastTwo, first_of, last_publication, newest, earliest}
+use Rattle.std.proofs.Common.{◌≡◌, ℕ, ◌+◌, ◌<◌, ◌≤◌, ◌↔◌, List, [], ◌∷◌, length, ◌⊎◌, inl, inr, arith, refl, sym, subst}
+use Rattle.lease.specs.Timeline.{Timeline, IsTimeline, IsValid, WasNewest, IsUsable, IsNewestOrBefore, IsLastTwo, first_of, last_publication, newest, earliest}
 
 -- a lease that was granted while a version before the newest stood has ended once the newest has stood for the length
 granted_before : (length : ℕ) (ps : List ℕ) (v g now : ℕ) → IsTimeline length ps → first_of ps ≤ now → WasNewest ps v g now → g ≤ now
@@ -34,17 +34,23 @@ stood_before n (p ∷ []) v now t some e = absurd (omega arith)
 stood_before n (p ∷ q ∷ rest) v now t some e = inr (inl (omega arith, omega (arith, t.0), omega arith))
 
 pub usable_from : (line : Timeline) (version now : ℕ) → IsValid line → last_publication line ≤ now → IsNewestOrBefore line version now → IsUsable line version now
-usable_from line version now valid le (inl e) =
-    (record { version = newest line; granted = now; until = now + line.length }, sym e,
-     record { in_time = stood_now line.length line.published now valid.in_turn le; full = refl }, omega (arith, valid.within.0))
-usable_from line version now valid le (inr h) =
-    (record { version = version; granted = last_publication line; until = earliest line }, refl,
-     record { in_time = stood_before line.length line.published version now valid.in_turn h.0 h.1; full = refl }, h.2)
+usable_from line version now valid le (inl e) = (
+  record { version = newest line; granted = now; until = now + line.length },
+  sym e,
+  record { in_time = stood_now line.length line.published now valid.in_turn le; full = refl },
+  omega (arith, valid.within.0),
+)
+usable_from line version now valid le (inr h) = (
+  record { version = version; granted = last_publication line; until = earliest line },
+  refl,
+  record { in_time = stood_before line.length line.published version now valid.in_turn h.0 h.1; full = refl },
+  h.2,
+)
 
 pub usable_to : (line : Timeline) (version now : ℕ) → IsValid line → last_publication line ≤ now → IsUsable line version now → IsNewestOrBefore line version now
 usable_to line version now valid le u =
     subst (λ (v : ℕ). IsNewestOrBefore line v now) u.1
-      (in_use line.length line.published u.0.version u.0.granted now valid.in_turn le u.2.in_time (omega (arith, u.2.full, u.3)))
+    (in_use line.length line.published u.0.version u.0.granted now valid.in_turn le u.2.in_time (omega (arith, u.2.full, u.3)))
 
 pub usable_exactly : (line : Timeline) (version now : ℕ) → IsValid line → last_publication line ≤ now → IsUsable line version now ↔ IsNewestOrBefore line version now
 usable_exactly line version now valid le = (usable_to line version now valid le, usable_from line version now valid le)

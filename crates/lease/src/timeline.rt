@@ -20,7 +20,8 @@ pub const MAX_LENGTH: u64 = 1 << 32;
 /// most two versions are in use at once, as in "Online, Asynchronous Schema Change in F1".
 #[derive(Debug, Drop)]
 pub struct Timeline {
-    length: u64,
+    /// For how long a lease is granted.
+    lease_length: u64,
     /// The moment of each version's publication, that of version 1 first.
     published: Vec<u64>,
 }
@@ -31,9 +32,9 @@ impl Model for Timeline {
 
     ghost Value = { Line };
 
-    ghost view = { λ t. record { length = t.length; published = reverse t.published.items } };
+    ghost view = { λ t. record { length = t.lease_length; published = reverse t.published.items } };
 
-    ghost invariant = { λ t. IsValid (record { length = t.length; published = reverse t.published.items }) };
+    ghost invariant = { λ t. IsValid (record { length = t.lease_length; published = reverse t.published.items }) };
 }
 
 impl Timeline {
@@ -50,7 +51,10 @@ impl Timeline {
         }
         let mut published = Vec::new(alloc);
         published.push(0)?;
-        Ok(Timeline { length, published })
+        Ok(Timeline {
+            lease_length: length,
+            published,
+        })
     }
 
     /// For how long a lease is granted.
@@ -58,7 +62,7 @@ impl Timeline {
         ensures value { result ≡ self.now.length }
         ensures valid { IsValid self.now }
     {
-        self.length
+        self.lease_length
     }
 
     /// The number of the newest version.
@@ -80,7 +84,7 @@ impl Timeline {
     pub fn earliest(&self) -> u64
         ensures { result ≡ earliest self.now }
     {
-        self.last_publication() + self.length
+        self.last_publication() + self.length()
     }
 
     /// A lease on the newest version, from `moment` on and for the lease length.
@@ -98,7 +102,7 @@ impl Timeline {
         Ok(Lease {
             version: self.newest(),
             granted: moment,
-            until: moment + self.length,
+            until: moment + self.length(),
         })
     }
 
@@ -166,7 +170,7 @@ impl Timeline {
         ensures { IsTrue result ↔ IsHonest self.now now lease.now }
     {
         lease.granted <= lease.until
-            && lease.until - lease.granted == self.length
+            && lease.until - lease.granted == self.length()
             && self.was_newest(lease.version, lease.granted, now)
     }
 
@@ -179,7 +183,11 @@ impl Timeline {
             return false;
         }
         let next = version as usize;
-        let until = if next < published.len() { published[next] } else { now };
+        let until = if next < published.len() {
+            published[next]
+        } else {
+            now
+        };
         published[next - 1] <= moment && moment <= until
     }
 }

@@ -1,4 +1,4 @@
-use Rattle.std.proofs.Common.{rules, arith, inl, inr, eq-eqb, ◌∙◌}
+use Rattle.std.proofs.Common.{arith}
 use Rattle.std.proofs.lemmas.Grind.{common_steps}
 use Rattle.lease.proofs.Uses.{usable_exactly}
 use Rattle.lease.proofs.timeline.Timeline.usable.Goals as goal
