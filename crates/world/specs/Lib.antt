@@ -3,3 +3,5 @@ pub mod Consistent
 pub mod Calls
 pub mod Agreement
 pub mod Kept
+pub mod Code
+pub mod Inside

@@ -5,8 +5,10 @@ mod committed;
 mod config;
 mod entry;
 mod fault;
+mod world;
 
 pub use committed::Committed;
 pub use config::Config;
 pub use entry::{Entry, Grant, Receipt, What};
 pub use fault::{CommitFault, GrantFault, OpenFault};
+pub use world::World;
