@@ -1,4 +1,4 @@
-ghost use Rattle.std.specs.Prelude.{◌≡◌};
+ghost use Rattle.std.specs.Prelude.{◌≡◌, IfOk};
 ghost use Rattle.row_write.specs.Made.{IsMade};
 
 use crate::op::{RowOp, RowOps, RowOutcome};
@@ -6,6 +6,7 @@ use lease::Lease;
 use listed::Counted;
 use row_map::{Batch, Expect};
 use schema_version::Schema;
+use std::alloc::AllocError;
 use std::marker::Model;
 
 /// A transaction that was prepared under a schema version from what was read: what it expects to find again, and what
@@ -78,12 +79,11 @@ impl Prepared {
         self.told
     }
 
-    /// Its parts, of which a commit keeps the lease and the operations.
-    pub fn into_parts(self) -> (Lease, RowOps)
-        ensures lease { result.0 ≡ self.lease }
-        ensures ops { result.1 ≡ self.ops }
+    /// A copy of its operations, as the log keeps them. Refused for want of memory alone.
+    pub fn ops_copied(&self) -> Result<RowOps, AllocError>
+        ensures { IfOk result (λ ops. ops ≡ self.now.ops) }
     {
-        (self.lease, self.ops)
+        self.ops.clone()
     }
 
     /// Tells what is known of every prepared transaction.

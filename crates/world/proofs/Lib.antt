@@ -2,3 +2,4 @@ pub mod Changes
 pub mod Operating
 pub mod Spelling
 pub mod Keeping
+pub mod Soundness

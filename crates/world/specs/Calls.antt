@@ -24,7 +24,7 @@ use Rattle.world.specs.declared.fault.GrantFault.{GrantFault}
 use Rattle.world.specs.declared.fault.GrantFault.TheVariants as grant_fault
 use Rattle.world.specs.declared.fault.CommitFault.{CommitFault}
 use Rattle.world.specs.declared.fault.CommitFault.TheVariants as commit_fault
-use Rattle.world.specs.Replay.{Opening, State, facts_of, effect, opened}
+use Rattle.world.specs.Replay.{Opening, State, facts_of, effect, opened, version_at}
 
 -- the moment that counts: the greater of the one handed in and the last entry's
 abbrev pub counted : State → ℕ → ℕ
@@ -70,14 +70,17 @@ abbrev pub GrantCondition : ℕ → GrantFault → Type 0
 GrantCondition now grant_fault.MomentTooLarge = max_moment < now
 GrantCondition now grant_fault.Memory = ⊥
 
--- a lease is one on the newest version, from the moment that counts
-abbrev pub LeaseStep : State → ℕ → Result Grant GrantFault → State → Type 0
-LeaseStep old moment (Ok given) new =
-    IsClear (GrantCondition (counted old moment))
-    × (given.lease ≡ granted_at (facts_of old).line (counted old moment))
+-- now is the moment that counts: a lease is one on the newest version, from then on
+abbrev pub LeaseAt : State → ℕ → Result Grant GrantFault → State → Type 0
+LeaseAt old now (Ok given) new =
+    IsClear (GrantCondition now)
+    × (given.lease ≡ granted_at (facts_of old).line now)
     × (newest_of old ≡ Some given.schema)
-    × Appends old (counted old moment) (Granted given.lease) given.receipt new
-LeaseStep old moment (Err fault) new = IsRefusal grant_rank (GrantCondition (counted old moment)) grant_fault.Memory fault × (new ≡ old)
+    × Appends old now (Granted given.lease) given.receipt new
+LeaseAt old now (Err fault) new = IsRefusal grant_rank (GrantCondition now) grant_fault.Memory fault × (new ≡ old)
+
+abbrev pub LeaseStep : State → ℕ → Result Grant GrantFault → State → Type 0
+LeaseStep old moment = LeaseAt old (counted old moment)
 
 -- ---- commit
 
@@ -96,14 +99,25 @@ CommitCondition old now prepared (commit_fault.LeaseEnded until counted) = (unti
 CommitCondition old now prepared (commit_fault.Conflict key) = IsConflict prepared.expect old.pairs key
 CommitCondition old now prepared commit_fault.Memory = ⊥
 
--- a transaction is logged where plain rows accept it, and else refused by its first bad operation
-abbrev pub CommitStep : State → ℕ → PreparedTxn → Result Committed CommitFault → State → Type 0
-CommitStep old moment prepared (Ok (committed.Done receipt)) new =
-    IsClear (CommitCondition old (counted old moment) prepared)
+-- now is the moment that counts: a transaction is logged where plain rows accept it, and else refused by its first bad operation
+abbrev pub CommitAt : State → ℕ → PreparedTxn → Result Committed CommitFault → State → Type 0
+CommitAt old now prepared (Ok (committed.Done receipt)) new =
+    IsClear (CommitCondition old now prepared)
     × (outcome (facts_of old).rows prepared.ops ≡ Done)
-    × Appends old (counted old moment) (Txn prepared.lease prepared.ops) receipt new
-CommitStep old moment prepared (Ok (committed.Refused op why)) new =
-    IsClear (CommitCondition old (counted old moment) prepared)
+    × Appends old now (Txn prepared.lease prepared.ops) receipt new
+CommitAt old now prepared (Ok (committed.Refused op why)) new =
+    IsClear (CommitCondition old now prepared)
     × (outcome (facts_of old).rows prepared.ops ≡ Refused op why)
     × (new ≡ old)
-CommitStep old moment prepared (Err fault) new = IsRefusal commit_rank (CommitCondition old (counted old moment) prepared) commit_fault.Memory fault × (new ≡ old)
+CommitAt old now prepared (Err fault) new = IsRefusal commit_rank (CommitCondition old now prepared) commit_fault.Memory fault × (new ≡ old)
+
+-- a refusal gives the prepared transaction back
+abbrev pub CommitStep : State → ℕ → PreparedTxn → Result Committed (CommitFault × PreparedTxn) → State → Type 0
+CommitStep old moment prepared (Ok done) new = CommitAt old (counted old moment) prepared (Ok done) new
+CommitStep old moment prepared (Err refusal) new = CommitAt old (counted old moment) prepared (Err refusal.0) new × (refusal.1 ≡ prepared)
+
+-- ---- the calls that change nothing
+
+-- a version by its number
+abbrev pub version_of : State → ℕ → Option Version
+version_of state number = version_at (facts_of state).versions number

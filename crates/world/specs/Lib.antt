@@ -5,3 +5,4 @@ pub mod Agreement
 pub mod Kept
 pub mod Code
 pub mod Inside
+pub mod Told

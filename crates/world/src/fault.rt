@@ -1,8 +1,12 @@
+ghost use Rattle.std.specs.Prelude.{◌≡◌};
+ghost use Rattle.world.specs.declared.fault.CommitFault.TheVariants as commit;
+ghost use Rattle.world.specs.declared.fault.GrantFault.TheVariants as grant;
+ghost use Rattle.world.specs.declared.fault.OpenFault.TheVariants as open_fault;
+ghost use Rattle.world.specs.Told.{set_fault};
+
 use byte_map::Bytes;
-use lease::LeaseFault;
-use schema_version::DeclareFault;
-use lease::TimelineFault;
-use std::alloc::{AllocError, AllocFailed};
+use txn_store::SetFault;
+use std::alloc::AllocError;
 use thiserror::Error;
 
 /// Why no world was opened. Of several reasons the first in this order is told.
@@ -56,4 +60,39 @@ pub enum CommitFault {
     /// Want of memory, which may come in place of Conflict.
     #[error("out of memory")]
     Memory,
+}
+
+impl From<AllocError> for OpenFault {
+    ghost from_gives = { λ _ fault. fault ≡ open_fault.Memory };
+
+    fn from(_: AllocError) -> OpenFault {
+        OpenFault::Memory
+    }
+}
+
+impl From<AllocError> for GrantFault {
+    ghost from_gives = { λ _ fault. fault ≡ grant.Memory };
+
+    fn from(_: AllocError) -> GrantFault {
+        GrantFault::Memory
+    }
+}
+
+impl From<AllocError> for CommitFault {
+    ghost from_gives = { λ _ fault. fault ≡ commit.Memory };
+
+    fn from(_: AllocError) -> CommitFault {
+        CommitFault::Memory
+    }
+}
+
+impl From<SetFault> for CommitFault {
+    ghost from_gives = { λ told fault. fault ≡ set_fault told };
+
+    fn from(told: SetFault) -> CommitFault {
+        match told {
+            SetFault::Conflict { key } => CommitFault::Conflict { key },
+            SetFault::Memory => CommitFault::Memory,
+        }
+    }
 }

@@ -5,6 +5,8 @@ mod committed;
 mod config;
 mod entry;
 mod fault;
+mod logging;
+mod opening;
 mod world;
 
 pub use committed::Committed;

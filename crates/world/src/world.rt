@@ -1,16 +1,19 @@
-ghost use Rattle.std.specs.Prelude.{◌≡◌, IfOk, IfErr, OnOk, OnErr, option_map, Result};
+ghost use Rattle.std.specs.Prelude.{◌≡◌, max, IfOk, IfErr, OnOk, OnErr, option_map, Result, Some};
 ghost use Rattle.std.specs.FinMap as map;
+ghost use Rattle.lease.specs.Refusals.{Serves};
 ghost use Rattle.world.specs.Agreement.{Agrees};
-ghost use Rattle.world.specs.Calls.{OpenStep, LeaseStep, CommitStep};
+ghost use Rattle.world.specs.Calls.{OpenStep, LeaseStep, LeaseAt, CommitStep, CommitAt, version_of};
 ghost use Rattle.world.specs.Replay.{facts_of, IsReplayed};
 
 use crate::committed::Committed;
 use crate::config::Config;
 use crate::entry::{Entry, Grant, Receipt, What};
 use crate::fault::{CommitFault, GrantFault, OpenFault};
-use lease::{Lease, Timeline};
+use crate::logging::{append, entry_pair, make_room, txn_of};
+use crate::opening::{declare, begin};
+use lease::{Lease, LeaseFault, Timeline};
 use listed::Counted;
-use row_map::PairView;
+use row_map::{PairView, ReadSet, ReadView};
 use row_write::{Prepared, RowOutcome};
 use schema_version::Schema;
 use std::alloc::{AllocError, Global};
@@ -46,6 +49,139 @@ impl Model for World {
 }
 
 impl World {
+    /// Opens a world with these tables as version 1, no rows, and a lease length.
+    ///
+    /// Refused in this order: `BadTable` where the declaration breaks a limit or uses a name twice; `BadLength` where
+    /// the lease length is not from 1 to 2^32; `Memory`.
+    pub fn open(alloc: Global, config: &Config) -> Result<World, OpenFault>
+        ensures { OpenStep config.now result }
+    {
+        let schema = declare(alloc, config)?;
+        let line = begin(alloc, config)?;
+        // schema.known();
+        let schema = Counted::new(alloc, schema)?;
+        Ok(World {
+            schema,
+            line,
+            store: Store::new(alloc),
+            log: Vec::new(alloc),
+            moment: 0,
+        })
+    }
+
+    /// Grants a lease on the newest version, from the moment that counts on: the greater of `moment` and the moment
+    /// of the last entry.
+    ///
+    /// Refused in this order: `MomentTooLarge` where the moment that counts is above 2^62; `Memory`. A refusal
+    /// changes nothing.
+    pub fn lease(&mut self, alloc: Global, moment: u64) -> Result<Grant, GrantFault>
+        ensures step { LeaseStep self.old moment result self.new }
+    {
+        let now = moment.max(self.moment);
+        let Ok(lease) = self.line.grant(now) else {
+            return Err(GrantFault::MomentTooLarge);
+        };
+        let schema = self.schema.clone()?;
+        let (entry, kept) = entry_pair(alloc, now, What::Lease(lease))?;
+        make_room(&mut self.log)?;
+        let place = self.log.len() as u64 + 1;
+        append(&mut self.log, kept);
+        self.moment = now;
+        Ok(Grant {
+            lease,
+            schema,
+            receipt: Receipt { place, entry },
+        })
+    }
+
+    /// The schema of the newest version or of the one before; so far there is version 1 alone.
+    pub fn schema(&self, version: u64) -> Option<&Counted<Schema>>
+        ensures { option_map (λ s. s.now) result ≡ version_of self.now version }
+    {
+        if version == 1 {
+            Some(&self.schema)
+        } else {
+            None
+        }
+    }
+
+    /// Commits a transaction that was prepared under version 1: it is logged and its batch is written, or the rows
+    /// refuse it.
+    ///
+    /// The moment that counts is the greater of `moment` and the moment of the last entry. Refused in this order, and
+    /// then nothing changes and the prepared transaction comes back: `MomentTooLarge` where the moment that counts is
+    /// above 2^62; `BadLease` where its lease was never granted; `LeaseEnded` where its lease is not in force any
+    /// more; `Conflict` with the least key whose pair is not what was read; `Memory`, which may come in place of
+    /// Conflict. A write carries its lease's end and isn't committed after it, as in the F1 paper.
+    pub fn commit(
+        &mut self,
+        alloc: Global,
+        moment: u64,
+        prepared: Prepared,
+    ) -> Result<Committed, (CommitFault, Prepared)>
+        requires { prepared.schema ≡ self.old.opening.schema }
+        ensures step { CommitStep self.old moment prepared result self.new }
+    {
+        let now = moment.max(self.moment);
+        match self.line.standing(prepared.lease(), now) {
+            Ok(()) => (),
+            Err(LeaseFault::MomentTooLarge) => return Err((CommitFault::MomentTooLarge, prepared)),
+            Err(LeaseFault::BadLease) => return Err((CommitFault::BadLease, prepared)),
+            Err(LeaseFault::LeaseEnded { until, now }) => {
+                return Err((CommitFault::LeaseEnded { until, now }, prepared));
+            }
+        }
+        match self.commit_at(alloc, now, &prepared) {
+            Ok(done) => Ok(done),
+            Err(fault) => Err((fault, prepared)),
+        }
+    }
+
+    // The commit of a transaction whose lease serves at the moment that counts.
+    fn commit_at(
+        &mut self,
+        alloc: Global,
+        now: u64,
+        prepared: &Prepared,
+    ) -> Result<Committed, CommitFault>
+        requires schema { prepared.now.schema ≡ self.old.opening.schema }
+        requires serves { Serves (facts_of self.old).line prepared.now.lease now }
+        ensures step { CommitAt self.old now prepared.now result self.new }
+    {
+        match prepared.outcome() {
+            RowOutcome::Done => self.add_txn(alloc, now, prepared),
+            RowOutcome::Refused { op, why } => {
+                prepared.made();
+                self.store
+                    .test_and_set(alloc, prepared.expect(), prepared.batch())?;
+                Ok(Committed::Refused { op, why })
+            }
+        }
+    }
+
+    // The same, where what was read accepts all operations.
+    fn add_txn(
+        &mut self,
+        alloc: Global,
+        now: u64,
+        prepared: &Prepared,
+    ) -> Result<Committed, CommitFault>
+        requires schema { prepared.now.schema ≡ self.old.opening.schema }
+        requires serves { Serves (facts_of self.old).line prepared.now.lease now }
+        requires done { prepared.now.told ≡ RowOutcome.Done }
+        ensures step { CommitAt self.old now prepared.now result self.new }
+    {
+        prepared.made();
+        let (entry, kept) = entry_pair(alloc, now, txn_of(prepared)?)?;
+        make_room(&mut self.log)?;
+        let place = self.log.len() as u64 + 1;
+        self.store
+            .test_and_set(alloc, prepared.expect(), prepared.batch())?;
+        append(&mut self.log, kept);
+        self.moment = now;
+        Ok(Committed::Done(Receipt { place, entry }))
+    }
+
     /// The moment of the last entry, 0 before the first.
     pub fn moment(&self) -> u64
         ensures { result ≡ (facts_of self.now).moment }
