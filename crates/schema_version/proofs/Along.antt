@@ -1,6 +1,6 @@
 -- An allowed step keeps what is true of every version: how the version after some of its moves goes back to the old one.
-use Rattle.std.proofs.Common.{◌≡◌, ◌≢◌, ℕ, ◌+◌, ◌<◌, ◌≤◌, Bool, true, false, cond, not, ◌&&◌, ◌||◌, ◌==◌, ◌⊎◌, List, [], ◌∷◌, ◌++◌, Option, Some, None, inl, inr, refl, sym, ap, subst, ◌∙◌, arith, Contains, count_by, append_assoc, add-zero}
-use Rattle.std.specs.Prelude.{IsNone, IsTrue, slice_get}
+use Rattle.std.proofs.Common.{◌≡◌, ◌≢◌, ℕ, ◌+◌, ◌<◌, ◌≤◌, Bool, true, false, cond, not, ◌&&◌, ◌||◌, ◌==◌, ◌⊎◌, List, [], ◌∷◌, ◌++◌, Option, Some, None, inl, inr, refl, sym, ap, subst, ◌∙◌, arith, Contains, Ok, Err, count_by, append_assoc, add-zero}
+use Rattle.std.specs.Prelude.{IsNone, IsTrue, OnOk}
 use Rattle.std.specs.List.{find as find_by, list_any}
 use Rattle.std.specs.FinMap as map
 use Rattle.std.proofs.lemmas.Bool.Decides.{Decides-eqb}
@@ -21,7 +21,7 @@ use Rattle.schema_version.specs.declared.step.StepFault.TheVariants.{Unknown, No
 use Rattle.schema_version.specs.Version.{Version, Table, table_at, element_at, state_of, state_or_absent, live, is_index, is_like, is_public, listed, IsLiveColumn, IsPublicColumn, count_live}
 use Rattle.schema_version.specs.Moves.{is_edge, way_after, as_element, in_state, moved, after_move, after_step, is_move_of, moves_element, is_unready, is_entry, is_entry_like, count_like, IsFirstSuch, IsIndexOn, IsLeastIndexOn, DependsOn, GoFault, MoveFault, IsWithinLimits, IsAllowed}
 use Rattle.schema_version.specs.Steps.{HasEdge, in_state_or_none}
-use Rattle.schema_version.specs.Deciding.{lists, is_column_of, is_within_limits}
+use Rattle.schema_version.specs.Deciding.{Answer, step_check, lists, is_column_of, is_within_limits}
 use Rattle.schema_version.specs.Sound.{IsSoundElement, IsSoundVersion}
 use Rattle.schema_version.proofs.Entries.{tells}
 use Rattle.schema_version.proofs.Lists.{here, some_same, not_both, any_from, find_first, none_in}
@@ -29,7 +29,7 @@ use Rattle.schema_version.proofs.Live.{none_passes, element_at-lookup}
 use Rattle.schema_version.proofs.Changes.{moved_here, moved_apart, moved_next, inserted_here, inserted_apart}
 use Rattle.schema_version.proofs.Decides.{AreNumbered, least, listing, column_is, within}
 use Rattle.schema_version.proofs.Declared.{any_append}
-use Rattle.schema_version.proofs.Steps.{truly}
+use Rattle.schema_version.proofs.Steps.{truly, step_allowed}
 use Rattle.schema_version.proofs.Edges.{split_at, edge, is_live, clear, own_way}
 use Rattle.schema_version.proofs.Counts.{count_insert}
 use Rattle.schema_version.proofs.Keeping.{MayEnter, enter_sound, moved_sound, moved_count}
@@ -303,3 +303,8 @@ module _ (v : Version) (step : List Move) (sound : IsSoundVersion v) (allowed : 
         kept = λ n d at still. at;
         counts = λ table index. omega arith;
       })
+
+-- at what the code answers
+pub sound_by : (v : Version) (step : List Move) → AreNumbered v → IsSoundVersion v → (r : Answer) → r ≡ step_check v step → OnOk r (IsSoundVersion (after_step v step))
+sound_by v step numbered sound (Ok done) e = step_sound v step sound (step_allowed v step numbered (sym e))
+sound_by v step numbered sound (Err fault) e = tt

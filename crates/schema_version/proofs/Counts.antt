@@ -1,5 +1,5 @@
 -- How many live elements pass a test, after each change of one.
-use Rattle.std.proofs.Common.{◌≡◌, ℕ, ◌+◌, ◌≤◌, Bool, true, false, cond, T, List, [], ◌∷◌, Option, Some, None, inl, inr, refl, sym, ap, subst, ◌∙◌, arith, nat_eq, count_by, if◌then◌else◌}
+use Rattle.std.proofs.Common.{◌≡◌, ℕ, ◌+◌, ◌≤◌, Bool, true, false, cond, T, List, [], ◌∷◌, Option, Some, None, inl, inr, refl, sym, ap, subst, ◌∙◌, arith, nat_eq, count_by, if◌then◌else◌, Contains}
 use Rattle.std.specs.declared.cmp.Ordering.{Ordering}
 use Rattle.std.specs.declared.cmp.Ordering.TheVariants.{Less, Equal, Greater}
 use Rattle.std.specs.Ordering.{nat_cmp}
@@ -12,6 +12,7 @@ use Rattle.std.proofs.lemmas.List.Sums.{sum_by-cons}
 use Rattle.indexmap.specs.IndexMap.{insert_entry}
 use mathlib.Core.List.{map as each}
 use Rattle.schema_version.proofs.Maps.{entries-remove}
+use Rattle.schema_version.proofs.Lists.{here, later}
 use Rattle.schema_version.proofs.Entries.{tells, put_is_insert, where_is_remove}
 
 module _ {X : Type 0} (p : X → Bool) where
@@ -56,6 +57,13 @@ module _ {X : Type 0} (p : X → Bool) where
         | inl q ↦ (let a = ap count (ap (λ b. cond b es (e ∷ remove_entry (nat_eq k) es)) q.0) in let b = more e es in omega (arith, a, b))
         | inr q ↦ (let a = ap count (ap (λ b. cond b es (e ∷ remove_entry (nat_eq k) es)) q.0) in let b = more e es in let c = more e (remove_entry (nat_eq k) es) in let rest = count_removed k es in omega (arith, a, b, c, rest))
       ]
+
+  -- none passes
+  pub count_none : (es : List (ℕ × X)) → ((x : X) → Contains (each (λ e. e.1) es) x → p x ≡ false) → count es ≡ 0
+  count_none [] none = refl
+  count_none (e ∷ es) none =
+      more e es
+      ∙ (λ i. cond (none e.1 (here e.1 (each (λ e. e.1) es)) i) 1 0 + count_none es (λ x there. none x (later e.1 x (each (λ e. e.1) es) there)) i)
 
   -- the same of maps
   pub count_insert : (m : map.FinMap nat_cmp X) (k : ℕ) (v : X) → count (map.entries (map.insert m k v)) ≤ count (map.entries m) + cond (p v) 1 0
