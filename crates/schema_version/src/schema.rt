@@ -188,7 +188,7 @@ impl Schema {
     pub fn declared(alloc: Global, tables: &[TableDef]) -> Result<Schema, DeclareFault>
         ensures lawful { OnOk result (IsLawful tables.now) }
         ensures first { IfOk result (λ schema. schema ≡ declared_of tables.now) }
-        ensures refused { IfErr result (λ fault. (fault ≡ declare.Memory) ⊎ ((fault ≡ declare.BadTable) × (¬ (IsLawful tables.now)))) }
+        ensures refused { IfErr result (λ fault. ((fault ≡ declare.Memory) × IsLawful tables.now) ⊎ ((fault ≡ declare.BadTable) × (¬ (IsLawful tables.now)))) }
     {
         if !are_lawful(tables) {
             return Err(DeclareFault::BadTable);

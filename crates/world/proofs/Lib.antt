@@ -3,3 +3,4 @@ pub mod Operating
 pub mod Spelling
 pub mod Keeping
 pub mod Soundness
+pub mod Calling

@@ -58,7 +58,7 @@ impl World {
     {
         let schema = declare(alloc, config)?;
         let line = begin(alloc, config)?;
-        // schema.known();
+        schema.known();
         let schema = Counted::new(alloc, schema)?;
         Ok(World {
             schema,
@@ -84,7 +84,7 @@ impl World {
         let schema = self.schema.clone()?;
         let (entry, kept) = entry_pair(alloc, now, What::Lease(lease))?;
         make_room(&mut self.log)?;
-        let place = self.log.len() as u64 + 1;
+        let place = self.log.as_slice().len() as u64 + 1;
         append(&mut self.log, kept);
         self.moment = now;
         Ok(Grant {
@@ -174,7 +174,7 @@ impl World {
         prepared.made();
         let (entry, kept) = entry_pair(alloc, now, txn_of(prepared)?)?;
         make_room(&mut self.log)?;
-        let place = self.log.len() as u64 + 1;
+        let place = self.log.as_slice().len() as u64 + 1;
         self.store
             .test_and_set(alloc, prepared.expect(), prepared.batch())?;
         append(&mut self.log, kept);
