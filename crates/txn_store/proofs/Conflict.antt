@@ -41,17 +41,23 @@ least_lesser P Q None (Some b) h k = (inr k.0, λ q less x. elim x [ inl p ↦ h
 least_lesser P Q (Some a) None h k = (inl h.0, λ q less x. elim x [ inl p ↦ h.1 q less p | inr p ↦ k q p ])
 least_lesser P Q (Some a) (Some b) h k =
     elim (is_le (bytes_cmp a b)) as (λ t. is_le (bytes_cmp a b) ≡ t → IsLeast (λ q. P q ⊎ Q q) (cond t (Some a) (Some b))) [
-      | true ↦ λ t. (inl h.0, λ q less x. elim x [
+      | true ↦ λ t. (
+        inl h.0,
+        λ q less x. elim x [
           | inl p ↦ h.1 q less p
           | inr p ↦ elim ((order a b).0 t) [
-              | inl same ↦ k.1 q (subst (λ (z : List ℕ). bytes_cmp q z ≡ Less) same less) p
-              | inr below ↦ k.1 q (less_trans q a b less below) p
-            ]
-        ])
-      | false ↦ λ t. (inr k.0, λ q less x. elim x [
+            | inl same ↦ k.1 q (subst (λ (z : List ℕ). bytes_cmp q z ≡ Less) same less) p
+            | inr below ↦ k.1 q (less_trans q a b less below) p
+          ]
+        ],
+      )
+      | false ↦ λ t. (
+        inr k.0,
+        λ q less x. elim x [
           | inl p ↦ h.1 q (less_trans q b a less ((order a b).1 t)) p
           | inr p ↦ k.1 q less p
-        ])
+        ],
+      )
     ] refl
 
 not_none : {X : Type 0} (v : X) → Some v ≢ None
@@ -95,25 +101,27 @@ alike_head k v es fs q e = ap (cond (eq_by_cmp bytes_cmp q k) (Some v)) e
 
 says_head : (k v : List ℕ) (es fs : Entries (List ℕ)) (r : Option (List ℕ)) → IsSorted ((k, v) ∷ es) → IsSorted ((k, v) ∷ fs) → Says es fs r → Says ((k, v) ∷ es) ((k, v) ∷ fs) r
 says_head k v es fs None h t s = λ q. alike_head k v es fs q (s q)
-says_head k v es fs (Some j) h t s =
-    (λ e. elim (head_or_tail k v es j) [
+says_head k v es fs (Some j) h t s = (
+  λ e. elim (head_or_tail k v es j) [
+    | inl same ↦ s.0 (subst (λ (z : List ℕ). find bytes_cmp z es ≡ find bytes_cmp z fs) (sym same) (find_none es k (first _ _ h) ∙ sym (find_none fs k (first _ _ t))))
+    | inr tail ↦ elim (head_or_tail k v fs j) [
       | inl same ↦ s.0 (subst (λ (z : List ℕ). find bytes_cmp z es ≡ find bytes_cmp z fs) (sym same) (find_none es k (first _ _ h) ∙ sym (find_none fs k (first _ _ t))))
-      | inr tail ↦ elim (head_or_tail k v fs j) [
-          | inl same ↦ s.0 (subst (λ (z : List ℕ). find bytes_cmp z es ≡ find bytes_cmp z fs) (sym same) (find_none es k (first _ _ h) ∙ sym (find_none fs k (first _ _ t))))
-          | inr other ↦ s.0 (sym tail ∙ e ∙ other)
-        ]
-    ],
-    λ q less. alike_head k v es fs q (s.1 q less))
+      | inr other ↦ s.0 (sym tail ∙ e ∙ other)
+    ]
+  ],
+  λ q less. alike_head k v es fs q (s.1 q less),
+)
 
 -- two values by their order
 same_or_not : (v w : List ℕ) → (eq_by_cmp bytes_cmp v w ≡ true → v ≡ w) × (eq_by_cmp bytes_cmp v w ≡ false → v ≢ w)
-same_or_not v w =
-    (λ e. elim (bytes_cmp v w) as (λ o. bytes_cmp v w ≡ o → is_eq o ≡ true → v ≡ w) [
-      | Less ↦ λ p t. absurd (subst (λ (b : Bool). T b) (sym t) tt)
-      | Equal ↦ λ p t. bytes_cmp-IsAntisymmetric v w p
-      | Greater ↦ λ p t. absurd (subst (λ (b : Bool). T b) (sym t) tt)
-    ] refl e,
-    λ e same. subst (λ (b : Bool). T b) (sym (ap is_eq (subst (λ (z : List ℕ). bytes_cmp v z ≡ Equal) same (same_itself v))) ∙ e) tt)
+same_or_not v w = (
+  λ e. elim (bytes_cmp v w) as (λ o. bytes_cmp v w ≡ o → is_eq o ≡ true → v ≡ w) [
+    | Less ↦ λ p t. absurd (subst (λ (b : Bool). T b) (sym t) tt)
+    | Equal ↦ λ p t. bytes_cmp-IsAntisymmetric v w p
+    | Greater ↦ λ p t. absurd (subst (λ (b : Bool). T b) (sym t) tt)
+  ] refl e,
+  λ e same. subst (λ (b : Bool). T b) (sym (ap is_eq (subst (λ (z : List ℕ). bytes_cmp v z ≡ Equal) same (same_itself v))) ∙ e) tt,
+)
 
 differ_first : (e : List ℕ × List ℕ) (es fs : Entries (List ℕ)) → IsSorted (e ∷ es) → find bytes_cmp e.0 fs ≡ None → ((q : List ℕ) → bytes_cmp q e.0 ≡ Less → find bytes_cmp q fs ≡ None) → Says (e ∷ es) fs (Some e.0)
 differ_first e es fs h missing below = (λ is. not_none e.1 (sym (find_head e es) ∙ is ∙ missing), λ q less. find_before e es q h less ∙ sym (below q less))
@@ -131,18 +139,19 @@ difference_says ((k, v) ∷ es) ((l, w) ∷ fs) h t =
       | Less ↦ λ o. differ_first (k, v) es ((l, w) ∷ fs) h (find_before (l, w) fs k t o) (λ q less. find_before (l, w) fs q t (less_trans q k l less o))
       | Greater ↦ λ o. differ_second (l, w) ((k, v) ∷ es) fs t (find_before (k, v) es l h (less_from_greater k l o)) (λ q less. find_before (k, v) es q h (less_trans q l k less (less_from_greater k l o)))
       | Equal ↦ λ o. elim (eq_by_cmp bytes_cmp v w) as (λ b. eq_by_cmp bytes_cmp v w ≡ b → Says ((k, v) ∷ es) ((l, w) ∷ fs) (if b then difference es fs else Some k)) [
-          | true ↦ λ b. equal_heads k v l w es fs (bytes_cmp-IsAntisymmetric k l o) ((same_or_not v w).0 b) h t rest
-          | false ↦ λ b. unequal_values k v l w es fs (bytes_cmp-IsAntisymmetric k l o) ((same_or_not v w).1 b) h t
-        ] refl
+        | true ↦ λ b. equal_heads k v l w es fs (bytes_cmp-IsAntisymmetric k l o) ((same_or_not v w).0 b) h t rest
+        | false ↦ λ b. unequal_values k v l w es fs (bytes_cmp-IsAntisymmetric k l o) ((same_or_not v w).1 b) h t
+      ] refl
     ] refl
   where
     equal_heads : (k v l w : List ℕ) (es fs : Entries (List ℕ)) → k ≡ l → v ≡ w → IsSorted ((k, v) ∷ es) → IsSorted ((l, w) ∷ fs) → Says es fs (difference es fs) → Says ((k, v) ∷ es) ((l, w) ∷ fs) (difference es fs)
     equal_heads k v l w es fs same equal h t s =
         subst (λ (z : List ℕ × List ℕ). IsSorted (z ∷ fs) → Says ((k, v) ∷ es) (z ∷ fs) (difference es fs)) (λ i. (same i, equal i)) (λ u. says_head k v es fs (difference es fs) h u s) t
+
     unequal_values : (k v l w : List ℕ) (es fs : Entries (List ℕ)) → k ≡ l → v ≢ w → IsSorted ((k, v) ∷ es) → IsSorted ((l, w) ∷ fs) → Says ((k, v) ∷ es) ((l, w) ∷ fs) (Some k)
     unequal_values k v l w es fs same apart h t =
         subst (λ (z : List ℕ). IsSorted ((z, w) ∷ fs) → Says ((k, v) ∷ es) ((z, w) ∷ fs) (Some k)) same (λ u.
-          (λ is. apart (inside v w (sym (find_here es k v) ∙ is ∙ find_here fs k w)), λ q less. find_before (k, v) es q h less ∙ sym (find_before (k, w) fs q u less))) t
+        (λ is. apart (inside v w (sym (find_here es k v) ∙ is ∙ find_here fs k w)), λ q less. find_before (k, v) es q h less ∙ sym (find_before (k, w) fs q u less))) t
 
 -- the stretch
 find_within : (low high : List ℕ) (es : Entries (List ℕ)) (q : List ℕ) → find bytes_cmp q (within low high es) ≡ cond (is_within low high q) (find bytes_cmp q es) None
@@ -160,13 +169,15 @@ stretch_least pairs (Some part) =
     let es = within low high (map.entries pairs) in
     let fs = within low high (map.entries part.pairs) in
     least_map _ _ (λ q. into q (is_within low high q) refl) (λ q. back q (is_within low high q) refl) (difference es fs)
-      (says_least es fs _ (difference_says es fs (is_sorted-where_key bytes_cmp (is_within low high) (map.entries pairs) (map.entries_sorted pairs)) (is_sorted-where_key bytes_cmp (is_within low high) (map.entries part.pairs) (map.entries_sorted part.pairs))))
+    (says_least es fs _ (difference_says es fs (is_sorted-where_key bytes_cmp (is_within low high) (map.entries pairs) (map.entries_sorted pairs)) (is_sorted-where_key bytes_cmp (is_within low high) (map.entries part.pairs) (map.entries_sorted part.pairs))))
   where
     found : (m : Pairs) (q : List ℕ) (b : Bool) → is_within part.low part.high q ≡ b → find bytes_cmp q (within part.low part.high (map.entries m)) ≡ cond b (map.get m q) None
     found m q b e = find_within part.low part.high (map.entries m) q ∙ ap (λ (x : Option (List ℕ)). cond (is_within part.low part.high q) x None) (sym (map.get-entries m q)) ∙ ap (λ (c : Bool). cond c (map.get m q) None) e
+
     into : (q : List ℕ) (b : Bool) → is_within part.low part.high q ≡ b → find bytes_cmp q (within part.low part.high (map.entries pairs)) ≢ find bytes_cmp q (within part.low part.high (map.entries part.pairs)) → MissedInStretch (Some part) pairs q
     into q true e n = (e, λ same. n (found pairs q true e ∙ same ∙ sym (found part.pairs q true e)))
     into q false e n = absurd (n (found pairs q false e ∙ sym (found part.pairs q false e)))
+
     back : (q : List ℕ) (b : Bool) → is_within part.low part.high q ≡ b → MissedInStretch (Some part) pairs q → find bytes_cmp q (within part.low part.high (map.entries pairs)) ≢ find bytes_cmp q (within part.low part.high (map.entries part.pairs))
     back q true e m = λ same. m.1 (sym (found pairs q true e) ∙ same ∙ found part.pairs q true e)
     back q false e m = absurd (subst (λ (b : Bool). T b) (sym m.0 ∙ e) tt)
@@ -183,9 +194,9 @@ same_values (Some v) (Some w) = (λ t. ap Some ((same_or_not v w).0 t), λ t e. 
 
 none_of_head : (pairs : Pairs) (k : List ℕ) (v : Option (List ℕ)) (ps : Entries (Option (List ℕ))) (q : List ℕ) → map.get pairs k ≡ v → ¬ (MissedPoint pairs ps q) → ¬ (MissedPoint pairs ((k, v) ∷ ps) q)
 none_of_head pairs k v ps q same n x = elim (head_or_tail k v ps q) [
-    | inl is ↦ x.2 (subst (λ (z : List ℕ). map.get pairs z ≡ v) (sym is) same ∙ inside_value v x.0 (sym (subst (λ (z : List ℕ). find bytes_cmp z ((k, v) ∷ ps) ≡ Some v) (sym is) (find_here ps k v)) ∙ x.1))
-    | inr tail ↦ n (x.0, sym tail ∙ x.1, x.2)
-  ]
+  | inl is ↦ x.2 (subst (λ (z : List ℕ). map.get pairs z ≡ v) (sym is) same ∙ inside_value v x.0 (sym (subst (λ (z : List ℕ). find bytes_cmp z ((k, v) ∷ ps) ≡ Some v) (sym is) (find_here ps k v)) ∙ x.1))
+  | inr tail ↦ n (x.0, sym tail ∙ x.1, x.2)
+]
   where
     inside_value : (v w : Option (List ℕ)) → Some v ≡ Some w → v ≡ w
     inside_value v w e = inside v w e
@@ -199,10 +210,15 @@ missed_least pairs ((k, v) ∷ ps) h =
     ] refl
   where
     later : (j : List ℕ) → MissedPoint pairs ps j → MissedPoint pairs ((k, v) ∷ ps) j
-    later j x = (x.0, elim (head_or_tail k v ps j) [
+    later j x = (
+      x.0,
+      elim (head_or_tail k v ps j) [
         | inl is ↦ absurd (not_none x.0 (sym x.1 ∙ find_none ps j (subst (λ (z : List ℕ). T (below_all bytes_cmp z ps)) (sym is) (first _ _ h))))
         | inr tail ↦ tail ∙ x.1
-      ], x.2)
+      ],
+      x.2,
+    )
+
     more : (r : Option (List ℕ)) → map.get pairs k ≡ v → IsLeast (MissedPoint pairs ps) r → IsLeast (MissedPoint pairs ((k, v) ∷ ps)) r
     more None same l = λ q. none_of_head pairs k v ps q same (l q)
     more (Some j) same l = (later j l.0, λ q less. none_of_head pairs k v ps q same (l.1 q less))
@@ -210,9 +226,9 @@ missed_least pairs ((k, v) ∷ ps) h =
 points_least : (expect : Expect) (pairs : Pairs) → IsLeast (λ key. (wanted : Option (List ℕ)) × (map.get expect.points key ≡ Some wanted) × (¬ (map.get pairs key ≡ wanted))) (first_missed pairs (map.entries expect.points))
 points_least expect pairs =
     least_map (MissedPoint pairs (map.entries expect.points)) _
-      (λ q x. (x.0, map.get-entries expect.points q ∙ x.1, x.2))
-      (λ q x. (x.0, sym (map.get-entries expect.points q) ∙ x.1, x.2))
-      _ (missed_least pairs (map.entries expect.points) (map.entries_sorted expect.points))
+    (λ q x. (x.0, map.get-entries expect.points q ∙ x.1, x.2))
+    (λ q x. (x.0, sym (map.get-entries expect.points q) ∙ x.1, x.2))
+    _ (missed_least pairs (map.entries expect.points) (map.entries_sorted expect.points))
 
 conflict_least : (expect : Expect) (pairs : Pairs) → IsLeast (Misses expect pairs) (conflict expect pairs)
 conflict_least expect pairs = least_lesser _ _ _ _ (points_least expect pairs) (stretch_least pairs expect.stretch)
