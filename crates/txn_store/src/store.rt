@@ -1,4 +1,4 @@
-ghost use Rattle.std.specs.Prelude.{◌≡◌, IfOk, IfSome, IfNone, option_map};
+ghost use Rattle.std.specs.Prelude.{◌≡◌, ◌==◌, IfOk, IfSome, IfNone, option_map};
 ghost use Rattle.std.specs.FinMap as map;
 ghost use Rattle.byte_map.specs.Walk.{within};
 ghost use Rattle.row_map.specs.Expect.{Holds, IsConflict};
@@ -48,6 +48,13 @@ impl Store {
         self.pairs.len()
     }
 
+    /// Whether there is no pair.
+    pub fn is_empty(&self) -> bool
+        ensures { result ≡ (map.len self.now == 0) }
+    {
+        self.len() == 0
+    }
+
     /// The pairs with keys from `low` to below `high`, in the order of their keys.
     pub fn range<'a>(&'a self, low: &[u8], high: &[u8]) -> Range<'a>
         ensures { result ≡ within low.now high.now (map.entries self.now) }
@@ -61,7 +68,12 @@ impl Store {
     /// with the least key whose pair is not the expected one; `Memory`, which may also come in place of a conflict
     /// whose key could not be shared. A refusal leaves the store as it was: all memory is taken before the first
     /// change.
-    pub fn test_and_set(&mut self, alloc: Global, expect: &Expect, batch: &Batch) -> Result<(), SetFault>
+    pub fn test_and_set(
+        &mut self,
+        alloc: Global,
+        expect: &Expect,
+        batch: &Batch,
+    ) -> Result<(), SetFault>
         ensures { Sets expect.now batch.now self.old result self.new }
     {
         match self.conflict(expect) {
@@ -105,7 +117,10 @@ impl Store {
             Some(part) => {
                 let low = part.low.as_slice();
                 let high = part.high.as_slice();
-                difference(self.range(low, high), Range::new(part.pairs.range(low, high)))
+                difference(
+                    self.range(low, high),
+                    Range::new(part.pairs.range(low, high)),
+                )
             }
         }
     }
