@@ -1,5 +1,5 @@
 -- Each call of a World over its fields: the relation that it meets, and what is true of the fields afterwards.
-use Rattle.std.proofs.Common.{◌≡◌, ℕ, ◌+◌, ◌<◌, ◌≤◌, max, List, [], ◌∷◌, ◌++◌, length, Option, Some, None, Result, Ok, Err, refl, sym, ap, subst, ◌∙◌, ◌⊎◌, inl, inr, Vec, Global, arith}
+use Rattle.std.proofs.Common.{◌≡◌, ℕ, ◌+◌, ◌<◌, ◌≤◌, max, List, [], ◌∷◌, ◌++◌, length, Option, Some, None, Result, Ok, Err, refl, sym, ap, subst, ◌∙◌, ◌⊎◌, inl, inr, Vec, Global, arith, Bool, cond, ne_eqb}
 use Rattle.std.specs.Prelude.{slice_get}
 use Rattle.std.specs.FinMap as map
 use Rattle.listed.specs.Refusal.{IsClear, IsRefusal}
@@ -28,11 +28,11 @@ use Rattle.world.specs.declared.fault.CommitFault.{CommitFault}
 use Rattle.world.specs.declared.fault.CommitFault.TheVariants as commit_fault
 use Rattle.world.specs.declared.fault.GrantFault.TheVariants as grant_fault
 use Rattle.world.specs.declared.world.World.TheInside.{Inside}
-use Rattle.world.specs.Calls.{counted, newest_of, version_of, GrantCondition, LeaseAt, CommitCondition, commit_rank, CommitAt}
+use Rattle.world.specs.Calls.{counted, newest_of, version_of, GrantCondition, LeaseAt, LeaseStep, CommitCondition, commit_rank, CommitAt}
 use Rattle.world.specs.Inside.{state_of, IsHeld}
 use Rattle.world.specs.Kept.{IsKept}
 use Rattle.world.specs.Replay.{Facts, State, facts_of, effect, opened, version_at}
-use Rattle.world.specs.Told.{set_fault}
+use Rattle.world.specs.Told.{set_told, lease_told}
 use Rattle.world.proofs.Keeping.{facts_of-effect, one_version, one_line, opened_kept, lease_kept, txn_kept, due_outcome, due_pairs, refused_pairs, IsDue}
 use Rattle.world.proofs.Soundness.{fits, small, lawful}
 
@@ -127,7 +127,7 @@ set_same f p (told.Conflict key) store set = set.1
 set_same f p told.Memory store set = set
 
 pub commit_failed : (f : Inside) (now : ℕ) (p : PreparedTxn) (fault : SetFault) (store : Pairs) (log : Vec Entry Global) → Serves (facts_of (state_of f)).line p.lease now → Sets p.expect p.batch f.store (Err fault) store → log.items ≡ f.log.items
-    → CommitAt (state_of f) now p (Err (set_fault fault)) (state_of (with_store f store log))
+    → CommitAt (state_of f) now p (Err (set_told fault)) (state_of (with_store f store log))
 commit_failed f now p (told.Conflict key) store log v set items = ((inr set.0, commit_lower (state_of f) now p v), same_state f store log set.1 items)
 commit_failed f now p told.Memory store log v set items = ((inl refl, commit_lower (state_of f) now p v), same_state f store log set items)
 
@@ -195,12 +195,6 @@ lease_lower s now p rank le none (commit_fault.LeaseEnded until counted_at) lt =
 lease_lower s now p rank le none (commit_fault.Conflict key) lt = λ c. absurd (omega (arith, lt, le))
 lease_lower s now p rank le none commit_fault.Memory lt = λ x. x
 
--- what a commit tells of a lease's refusal
-abbrev pub lease_told : LeaseFault → CommitFault
-lease_told lease_fault.MomentTooLarge = commit_fault.MomentTooLarge
-lease_told lease_fault.BadLease = commit_fault.BadLease
-lease_told (lease_fault.LeaseEnded until now) = commit_fault.LeaseEnded until now
-
 pub lease_refused : (s : State) (now : ℕ) (p : PreparedTxn) (fault : LeaseFault) → IsFirst lease_rank (LeaseCondition (facts_of s).line p.lease now) fault → CommitAt s now p (Err (lease_told fault)) s
 lease_refused s now p lease_fault.MomentTooLarge first = ((inr first.0, lease_lower s now p 1 (omega arith) first.1), refl)
 lease_refused s now p lease_fault.BadLease first = ((inr first.0, lease_lower s now p 2 (omega arith) first.1), refl)
@@ -221,3 +215,75 @@ opened_held f sound line log store moment =
 
 pub first_version : (f : Inside) (s : State) → IsHeld f → state_of f ≡ s → version_of s 1 ≡ Some f.schema
 first_version f s h view = subst (λ (x : State). version_of x 1 ≡ Some f.schema) view (ap (λ (vs : List Version). version_at vs 1) (one_version (state_of f)))
+
+pub other_version : (s : State) (version : ℕ) → (version ≡ 1 → ⊥) → version_of s version ≡ None
+other_version s version other =
+    ap (λ (vs : List Version). version_at vs version) (one_version s)
+    ∙ ap (λ (b : Bool). cond b (Some s.opening.schema) None) (ne_eqb version 1 other)
+
+-- ---- in the words of the calls
+
+ok_one : {A E : Type 0} (a b : A) → (Ok a ≡ (let r : Result A E = Ok b in r)) → a ≡ b
+ok_one a b e = cc
+
+pub lease_step : (f : Inside) (s : State) (log room : Vec Entry Global) (now moment place : ℕ) (lease : Lease) (schema : Version) (entry kept : Entry) → IsHeld f → state_of f ≡ s → now ≡ max moment f.moment
+    → Serves f.line lease now → (now ≤ max_moment → Ok lease ≡ (let r : Result Lease LeaseFault = Ok (granted_at f.line now) in r)) → schema ≡ f.schema
+    → entry ≡ record { moment = now; what = Granted lease } → kept ≡ record { moment = now; what = Granted lease } → log.items ≡ room.items ++ kept ∷ [] → room.items ≡ f.log.items → place ≡ length room.items + 1
+    → LeaseStep s moment (Ok (record { lease = lease; schema = schema; receipt = record { place = place; entry = entry } })) (state_of (after_lease f log now))
+lease_step f s log room now moment place lease schema entry kept h view counted_at v granted same first second items made at =
+    let done = lease_done f log now place lease schema entry kept h v.moment (ok_one lease (granted_at f.line now) (granted v.moment)) same first second (items ∙ ap (λ (es : List Entry). es ++ kept ∷ []) made) (at ∙ ap (λ (es : List Entry). length es + 1) made) in
+    subst (λ (n : ℕ). LeaseAt s n (Ok (record { lease = lease; schema = schema; receipt = record { place = place; entry = entry } })) (state_of (after_lease f log now))) (counted_is f s h view moment now counted_at)
+      (subst (λ (x : State). LeaseAt x now (Ok (record { lease = lease; schema = schema; receipt = record { place = place; entry = entry } })) (state_of (after_lease f log now))) view done)
+
+pub commit_unheld : (f : Inside) (s : State) (moment now : ℕ) (p : PreparedTxn) (lease : Lease) (fault : LeaseFault) (told_as : CommitFault) → IsHeld f → state_of f ≡ s → now ≡ max moment f.moment → lease ≡ p.lease
+    → IsFirst lease_rank (LeaseCondition f.line lease now) fault → told_as ≡ lease_told fault → CommitAt s (counted s moment) p (Err told_as) s
+commit_unheld f s moment now p lease fault told_as h view counted_at same first is =
+    let line : f.line ≡ (facts_of s).line = line_is f s h view in
+    let on_line : IsFirst lease_rank (LeaseCondition (facts_of s).line p.lease now) fault = subst (λ (l : Lease). IsFirst lease_rank (LeaseCondition (facts_of s).line l now) fault) same (subst (λ (l : Timeline). IsFirst lease_rank (LeaseCondition l lease now) fault) line first) in
+    subst (λ (r : CommitFault). CommitAt s (counted s moment) p (Err r) s) (sym is)
+      (subst (λ (n : ℕ). CommitAt s n p (Err (lease_told fault)) s) (counted_is f s h view moment now counted_at) (lease_refused s now p fault on_line))
+
+-- what a commit may count on: its lease serves, and it is one of the version
+pub record IsServed (f : Inside) (now : ℕ) (p : PreparedTxn) : Type 0 where
+  pub held : IsHeld f
+  pub made : IsMade p
+  pub schema : p.schema ≡ f.schema
+  pub serves : Serves (facts_of (state_of f)).line p.lease now
+
+pub served_by : (f : Inside) (s : State) (now : ℕ) (p : PreparedTxn) → IsHeld f → state_of f ≡ s → IsMade p → p.schema ≡ s.opening.schema → Serves (facts_of s).line p.lease now → IsServed f now p
+served_by f s now p h view made schema v = record {
+  held = h;
+  made = made;
+  schema = schema ∙ ap (λ (x : State). x.opening.schema) (sym view);
+  serves = subst (λ (x : State). Serves (facts_of x).line p.lease now) (sym view) v;
+}
+
+pub step_failed : (f : Inside) (s : State) (now : ℕ) (p : PreparedTxn) (fault : SetFault) (as_told : CommitFault) (store : Pairs) (log : Vec Entry Global) → state_of f ≡ s → IsServed f now p → Sets p.expect p.batch f.store (Err fault) store → log.items ≡ f.log.items
+    → as_told ≡ set_told fault → CommitAt s now p (Err as_told) (state_of (with_store f store log))
+step_failed f s now p fault as_told store log view v set items is =
+    subst (λ (r : CommitFault). CommitAt s now p (Err r) (state_of (with_store f store log))) (sym is)
+      (subst (λ (x : State). CommitAt x now p (Err (set_told fault)) (state_of (with_store f store log))) view (commit_failed f now p fault store log v.serves set items))
+
+pub step_short : (s g : State) (now : ℕ) (p : PreparedTxn) (as_told : CommitFault) → Serves (facts_of s).line p.lease now → g ≡ s → as_told ≡ commit_fault.Memory → CommitAt s now p (Err as_told) g
+step_short s g now p as_told v same is =
+    subst (λ (r : CommitFault). CommitAt s now p (Err r) g) (sym is) (subst (λ (x : State). CommitAt s now p (Err commit_fault.Memory) x) (sym same) (commit_short s now p v))
+
+pub step_refused : (f : Inside) (s : State) (now : ℕ) (p : PreparedTxn) (op : ℕ) (why : RowFault) (store : Pairs) → state_of f ≡ s → IsServed f now p → Holds p.expect f.store × (store ≡ laid p.batch f.store) → p.told ≡ Refused op why
+    → CommitAt s now p (Ok (committed.Refused op why)) (state_of (with_store f store f.log))
+step_refused f s now p op why store view v set is =
+    subst (λ (x : State). CommitAt x now p (Ok (committed.Refused op why)) (state_of (with_store f store f.log))) view (commit_refused f now p op why store v.held v.made v.schema v.serves set.0 set.1 is)
+
+pub refused_held : (f : Inside) (now : ℕ) (p : PreparedTxn) (op : ℕ) (why : RowFault) (store : Pairs) → IsServed f now p → Holds p.expect f.store × (store ≡ laid p.batch f.store) → p.told ≡ Refused op why → IsHeld (with_store f store f.log)
+refused_held f now p op why store v set is = same_held f store f.log v.held (refused_same f now p op why store v.held v.made v.schema v.serves set.0 set.1 is) refl
+
+pub step_done : (f : Inside) (s : State) (now place : ℕ) (p : PreparedTxn) (store : Pairs) (log room : Vec Entry Global) (entry kept : Entry) → state_of f ≡ s → IsServed f now p → Holds p.expect f.store × (store ≡ laid p.batch f.store) → p.told ≡ Done
+    → entry ≡ record { moment = now; what = Txn p.lease p.ops } → kept ≡ record { moment = now; what = Txn p.lease p.ops } → log.items ≡ room.items ++ kept ∷ [] → room.items ≡ f.log.items → place ≡ length room.items + 1
+    → CommitAt s now p (Ok (committed.Done (record { place = place; entry = entry }))) (state_of (after_commit f store log now))
+step_done f s now place p store log room entry kept view v set done first second items made at =
+    subst (λ (x : State). CommitAt x now p (Ok (committed.Done (record { place = place; entry = entry }))) (state_of (after_commit f store log now))) view
+      (commit_done f now place p store log entry kept v.held v.made v.schema v.serves set.0 set.1 done first second (items ∙ ap (λ (es : List Entry). es ++ kept ∷ []) made) (at ∙ ap (λ (es : List Entry). length es + 1) made))
+
+pub done_held : (f : Inside) (now : ℕ) (p : PreparedTxn) (store : Pairs) (log room : Vec Entry Global) (kept : Entry) → IsServed f now p → Holds p.expect f.store × (store ≡ laid p.batch f.store) → p.told ≡ Done
+    → kept ≡ record { moment = now; what = Txn p.lease p.ops } → log.items ≡ room.items ++ kept ∷ [] → room.items ≡ f.log.items → IsHeld (after_commit f store log now)
+done_held f now p store log room kept v set done is items made =
+    commit_held f now p store log kept v.held v.made v.schema v.serves set.0 set.1 done is (items ∙ ap (λ (es : List Entry). es ++ kept ∷ []) made)

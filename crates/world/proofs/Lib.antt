@@ -4,3 +4,4 @@ pub mod Spelling
 pub mod Keeping
 pub mod Soundness
 pub mod Calling
+pub mod Viewing

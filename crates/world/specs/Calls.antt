@@ -1,9 +1,12 @@
 -- What each call of the core may answer, and the state that it leaves.
-use Rattle.std.specs.Prelude.{◌≡◌, ◌≢◌, ℕ, ◌+◌, ◌<◌, ◌≤◌, max, List, [], ◌∷◌, ◌++◌, length, Option, Some, None, Result, Ok, Err, slice_get}
+use Rattle.std.specs.Prelude.{◌≡◌, ◌≢◌, ℕ, ◌+◌, ◌<◌, ◌≤◌, max, List, [], ◌∷◌, ◌++◌, length, Option, Some, None, Result, Ok, Err, slice_get, ◌↔◌}
+use Rattle.std.specs.FinMap as map
+use Rattle.keycode.specs.Order.{bytes_cmp}
 use Rattle.listed.specs.Refusal.{IsFirst, IsRefusal, IsClear}
 use Rattle.lease.specs.declared.lease.Lease.{Lease}
 use Rattle.lease.specs.Timeline.{IsHonest, IsInForce, granted_at, max_moment, IsLength}
-use Rattle.row_map.specs.Expect.{IsConflict}
+use Rattle.row_map.specs.Expect.{IsConflict, View}
+use Rattle.row_map.specs.Rows.{Bytes}
 use Rattle.schema_version.specs.declared.table.TableDef.{TableDef}
 use Rattle.schema_version.specs.Version.{Version}
 use Rattle.schema_version.specs.Declaring.{declared, IsLawful}
@@ -121,3 +124,8 @@ CommitStep old moment prepared (Err refusal) new = CommitAt old (counted old mom
 -- a version by its number
 abbrev pub version_of : State → ℕ → Option Version
 version_of state number = version_at (facts_of state).versions number
+
+-- each key that is to be read, with its value in the store or with none, and no other key
+abbrev pub IsReadView : State → map.FinMap bytes_cmp (Unit {0}) → View → Type 0
+IsReadView state keys view =
+    (key : Bytes) (value : Option Bytes) → (map.get view key ≡ Some value) ↔ ((map.get keys key ≡ Some tt) × (map.get state.pairs key ≡ value))

@@ -6,3 +6,4 @@ pub mod Kept
 pub mod Code
 pub mod Inside
 pub mod Told
+pub mod Reading

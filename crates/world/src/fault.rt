@@ -2,9 +2,10 @@ ghost use Rattle.std.specs.Prelude.{◌≡◌};
 ghost use Rattle.world.specs.declared.fault.CommitFault.TheVariants as commit;
 ghost use Rattle.world.specs.declared.fault.GrantFault.TheVariants as grant;
 ghost use Rattle.world.specs.declared.fault.OpenFault.TheVariants as open_fault;
-ghost use Rattle.world.specs.Told.{set_fault};
+ghost use Rattle.world.specs.Told.{set_told, lease_told};
 
 use byte_map::Bytes;
+use lease::LeaseFault;
 use txn_store::SetFault;
 use std::alloc::AllocError;
 use thiserror::Error;
@@ -87,12 +88,24 @@ impl From<AllocError> for CommitFault {
 }
 
 impl From<SetFault> for CommitFault {
-    ghost from_gives = { λ told fault. fault ≡ set_fault told };
+    ghost from_gives = { λ told fault. fault ≡ set_told told };
 
     fn from(told: SetFault) -> CommitFault {
         match told {
             SetFault::Conflict { key } => CommitFault::Conflict { key },
             SetFault::Memory => CommitFault::Memory,
+        }
+    }
+}
+
+impl From<LeaseFault> for CommitFault {
+    ghost from_gives = { λ told fault. fault ≡ lease_told told };
+
+    fn from(told: LeaseFault) -> CommitFault {
+        match told {
+            LeaseFault::MomentTooLarge => CommitFault::MomentTooLarge,
+            LeaseFault::BadLease => CommitFault::BadLease,
+            LeaseFault::LeaseEnded { until, now } => CommitFault::LeaseEnded { until, now },
         }
     }
 }

@@ -7,6 +7,7 @@ mod entry;
 mod fault;
 mod logging;
 mod opening;
+mod reading;
 mod world;
 
 pub use committed::Committed;

@@ -2,7 +2,7 @@ ghost use Rattle.std.specs.Prelude.{◌≡◌, max, IfOk, IfErr, OnOk, OnErr, op
 ghost use Rattle.std.specs.FinMap as map;
 ghost use Rattle.lease.specs.Refusals.{Serves};
 ghost use Rattle.world.specs.Agreement.{Agrees};
-ghost use Rattle.world.specs.Calls.{OpenStep, LeaseStep, LeaseAt, CommitStep, CommitAt, version_of};
+ghost use Rattle.world.specs.Calls.{OpenStep, LeaseStep, CommitStep, CommitAt, IsReadView, version_of};
 ghost use Rattle.world.specs.Replay.{facts_of, IsReplayed};
 
 use crate::committed::Committed;
@@ -10,15 +10,16 @@ use crate::config::Config;
 use crate::entry::{Entry, Grant, Receipt, What};
 use crate::fault::{CommitFault, GrantFault, OpenFault};
 use crate::logging::{append, entry_pair, make_room, txn_of};
-use crate::opening::{declare, begin};
-use lease::{Lease, LeaseFault, Timeline};
+use crate::opening::{begin, declare};
+use crate::reading::read_all;
+use lease::Timeline;
 use listed::Counted;
 use row_map::{PairView, ReadSet, ReadView};
 use row_write::{Prepared, RowOutcome};
 use schema_version::Schema;
 use std::alloc::{AllocError, Global};
 use std::marker::Model;
-use txn_store::{SetFault, Store};
+use txn_store::Store;
 
 /// The core: one schema version so far, the store of pairs, and the log of all accepted calls. Contracts see it as its
 /// state: what it was opened with, its log and its pairs.
@@ -105,6 +106,14 @@ impl World {
         }
     }
 
+    /// The pairs of these keys: each key with its value, or with none where there is no pair. Refused for want of
+    /// memory alone.
+    pub fn read(&self, alloc: Global, keys: &ReadSet) -> Result<ReadView, AllocError>
+        ensures { IfOk result (λ view. IsReadView self.now keys.now view) }
+    {
+        read_all(alloc, &self.store, keys.entries())
+    }
+
     /// Commits a transaction that was prepared under version 1: it is logged and its batch is written, or the rows
     /// refuse it.
     ///
@@ -125,11 +134,7 @@ impl World {
         let now = moment.max(self.moment);
         match self.line.standing(prepared.lease(), now) {
             Ok(()) => (),
-            Err(LeaseFault::MomentTooLarge) => return Err((CommitFault::MomentTooLarge, prepared)),
-            Err(LeaseFault::BadLease) => return Err((CommitFault::BadLease, prepared)),
-            Err(LeaseFault::LeaseEnded { until, now }) => {
-                return Err((CommitFault::LeaseEnded { until, now }, prepared));
-            }
+            Err(fault) => return Err((CommitFault::from(fault), prepared)),
         }
         match self.commit_at(alloc, now, &prepared) {
             Ok(done) => Ok(done),
