@@ -9,7 +9,7 @@ use Rattle.row_map.proofs.Orders.{row_cmp_total, row_cmp-IsAntisymmetric}
 use Rattle.byte_map.proofs.Written.{same_or_apart, written_here, written_apart}
 use Rattle.schema_version.specs.declared.element.ElementState.{ElementState}
 use Rattle.schema_version.specs.declared.element.ElementState.TheVariants.{Absent, DeleteOnly, WriteOnly, Public}
-use Rattle.element_state.specs.Elements.{Alike, Change, rows_after, Fits, ChangesPublicOnly, IsStorableNew, IsStorableChange, owner, IsKeyOfElement, Meaning, Stands, Subset, CoveredAt, Exact, Empty, Demand}
+use Rattle.element_state.specs.Elements.{Alike, Change, rows_after, Fits, ChangesPublicOnly, IsStorableNew, IsStorableChange, owner, IsKeyOfElement, Meaning, IsFromScratch, Subset, CoveredAt, Exact, Empty, Demand}
 use Rattle.element_state.specs.Laws.{pairs_after, Operates, Grows, IsLive, Laws, Joined, BesideOne}
 
 pub bytes_one : (x y : Bytes) → (x ≡ y) ⊎ (x ≢ y)
@@ -77,7 +77,7 @@ none_where None h = refl
 none_where (Some v) h = absurd (h v refl)
 
 -- a from-scratch pair of the old rows that the operation leaves is one of the new rows
-stands_still : (m : Meaning) (c : Change) (R : Rows) (x v : Bytes) → Fits R c → ((o : Cells) (w : Bytes) → c.old ≡ Some o → m.pair_key c.key o ≡ x → m.pair_value c.key o ≡ Some w → Same m c o) → Stands m R x v → Stands m (rows_after R c) x v
+stands_still : (m : Meaning) (c : Change) (R : Rows) (x v : Bytes) → Fits R c → ((o : Cells) (w : Bytes) → c.old ≡ Some o → m.pair_key c.key o ≡ x → m.pair_value c.key o ≡ Some w → Same m c o) → IsFromScratch m R x v → IsFromScratch m (rows_after R c) x v
 stands_still m c R x v fits same s = elim (key_one s.key c.key) [
   | inl e ↦
       let was : c.old ≡ Some s.cells = sym fits ∙ ap (get R) (sym e) ∙ s.there in
@@ -94,7 +94,7 @@ stands_still m c R x v fits same s = elim (key_one s.key c.key) [
   | inr ne ↦ record { key = s.key; cells = s.cells; there = row_apart R c s.key ne ∙ s.there; key_is = s.key_is; value_is = s.value_is }
 ]
 
-subset_at : (m : Meaning) (c : Change) (P Q : Pairs) (R : Rows) (x v : Bytes) → Fits R c → Subset m P R → owner x ≡ Some m.number → get Q x ≡ Some v → Effect m c P Q x → Stands m (rows_after R c) x v
+subset_at : (m : Meaning) (c : Change) (P Q : Pairs) (R : Rows) (x v : Bytes) → Fits R c → Subset m P R → owner x ≡ Some m.number → get Q x ≡ Some v → Effect m c P Q x → IsFromScratch m (rows_after R c) x v
 subset_at m c P Q R x v fits sub own is (Stays e same) = stands_still m c R x v fits same (sub x v own (sym e ∙ is))
 subset_at m c P Q R x v fits sub own is (Gone o own_table was k none) = absurd (not_none v (get Q x) is none)
 subset_at m c P Q R x v fits sub own is (Came r w new k val e) =

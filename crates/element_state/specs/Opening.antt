@@ -9,7 +9,7 @@ use Rattle.schema_version.specs.declared.element.ElementState.{ElementState}
 use Rattle.schema_version.specs.declared.element.ElementState.TheVariants.{Absent, DeleteOnly, WriteOnly, Public}
 use Rattle.element_state.specs.Elements.{Meaning, Subset, Demand}
 use Rattle.element_state.specs.Schemas.{Entry, Schema, state_of, Kinds, AreLawful}
-use Rattle.element_state.specs.Core.{Core, Meets, JoinedAt, NeverPublic, Inv}
+use Rattle.element_state.specs.Core.{Core, Meets, JoinedAt, NeverPublic, Invariant}
 
 -- one version, no rows and no pairs
 abbrev pub opened : {K : Type 0} → Schema K → ℕ → Core K
@@ -49,7 +49,7 @@ module _ {K : Type 0} (ks : Kinds K) where
   not_public next n None h = absent_public
   not_public next n (Some e) h = h.1
 
-  pub opened_holds : (s : Schema K) (next : ℕ) → AreLawful ks s → Inv ks (opened s next)
+  pub opened_holds : (s : Schema K) (next : ℕ) → AreLawful ks s → Invariant ks (opened s next)
   opened_holds s next lawful = record {
     held = λ k r at. no_row k r at;
     formed = λ x v is. no_pair x v is;

@@ -13,11 +13,12 @@ use Rattle.element_state.specs.Elements.{owner, AreFormed, HasForm, IsKeyOfEleme
 use Rattle.element_state.specs.Laws.{Grows, IsLive, Laws}
 use Rattle.element_state.specs.Effects.{not_none, none_where, pair_here}
 use Rattle.element_state.specs.Exists.{row_key}
-use Rattle.element_state.specs.Index.{removed}
+use Rattle.element_state.specs.IndexLaws.{removed}
 use Rattle.element_state.specs.Items.{IsIn, AmongEntries}
 use Rattle.element_state.specs.Schemas.{Entry, state_of, Kinds}
-use Rattle.element_state.specs.Core.{Work, Fill, Clear, Span, InSpans, Progress, Core, Meets, JoinedAt, Passed, Reached, Inv, same_demand}
+use Rattle.element_state.specs.Core.{Work, Fill, Clear, Span, InSpans, Progress, Core, Meets, JoinedAt, Passed, Reached, Invariant, same_demand}
 use Rattle.element_state.specs.Whole.{number_one}
+use Rattle.element_state.specs.Options.{none_some, some_one}
 
 -- the pair of a row, if it has one
 abbrev pub item_write : Bytes → Option Bytes → Writes
@@ -41,12 +42,6 @@ clear_writes (x ∷ xs) = (x, None) ∷ clear_writes xs
 abbrev pub AreRows : Rows → List (RowKey × Cells) → Type 0
 AreRows R [] = Unit {0}
 AreRows R (i ∷ items) = (get R i.0 ≡ Some i.1) × AreRows R items
-
-none_some : {A : Type 0} (v : A) → None ≡ Some v → ⊥
-none_some v e = cc
-
-some_one : {A : Type 0} (v w : A) → Some v ≡ Some w → v ≡ w
-some_one v w e = cc
 
 joined_owned : {n : ℕ} (x : Bytes) (o : Option Bytes) → IsKeyOfElement n x → (ws : Writes) → AllKeys (IsKeyOfElement n) ws → AllKeys (IsKeyOfElement n) (item_write x o ++ ws)
 joined_owned x None own ws h = h
@@ -142,13 +137,13 @@ module _ {K : Type 0} (ks : Kinds K) where
   moved w n p P = record w { progress = insert w.progress n p; pairs = P }
 
   -- a piece touches the pairs of n alone
-  pub piece_kept : (w : Core K) (n : ℕ) (work : Work) (old spans : List Span) (Q : Pairs) → Inv ks w
+  pub piece_kept : (w : Core K) (n : ℕ) (work : Work) (old spans : List Span) (Q : Pairs) → Invariant ks w
       → (begun : get w.progress n ≡ Some (record { work = work; spans = old }))
       → AreFormed Q
       → ((j : ℕ) → j ≢ n → (x : Bytes) → owner x ≡ Some j → get Q x ≡ get w.pairs x)
       → Meets ks n (get w.before n) Q w.rows → Meets ks n (get w.newest n) Q w.rows
       → ((k : K) → ((e : Entry K) → get w.newest n ≡ Some e → e.kind ≡ k) → Passed ks n k work old w.pairs w.rows → Passed ks n k work spans Q w.rows)
-      → Inv ks (moved w n (record { work = work; spans = spans }) Q)
+      → Invariant ks (moved w n (record { work = work; spans = spans }) Q)
   piece_kept w n work old spans Q i begun formed others in_before in_newest passed = record {
     held = i.held;
     formed = formed;
@@ -201,12 +196,12 @@ module _ {K : Type 0} (ks : Kinds K) where
       (fill_demand (ks.meaning n e.kind) (ks.laws n e.kind (lawful e refl)) R held e.state items P (live e.state grows) rows d)
 
   -- a piece of a fill: its rows are those between the old cursor and the new one
-  pub fill_kept : (w : Core K) (n : ℕ) (f : Entry K) (old spans : List Span) (items : List (RowKey × Cells)) → Inv ks w
+  pub fill_kept : (w : Core K) (n : ℕ) (f : Entry K) (old spans : List Span) (items : List (RowKey × Cells)) → Invariant ks w
       → get w.newest n ≡ Some f
       → get w.progress n ≡ Some (record { work = Fill; spans = old })
       → AreRows w.rows items
       → ((j : RowKey) (r : Cells) → get w.rows j ≡ Some r → HasPair (ks.meaning n f.kind) j r → InSpans spans (row_key j) → InSpans old (row_key j) ⊎ AmongEntries j items)
-      → Inv ks (moved w n (record { work = Fill; spans = spans }) (written_all w.pairs (fill_writes (ks.meaning n f.kind) items)))
+      → Invariant ks (moved w n (record { work = Fill; spans = spans }) (written_all w.pairs (fill_writes (ks.meaning n f.kind) items)))
   fill_kept w n f old spans items i is begun rows reach =
       let m = ks.meaning n f.kind in
       let law : Laws m = ks.laws n f.kind (i.lawful_newest n f is) in
@@ -230,11 +225,11 @@ module _ {K : Type 0} (ks : Kinds K) where
   clear_meets n (Some e) xs P R shrinks d = clear_demand (ks.meaning n e.kind) e.state xs P R shrinks d
 
   -- a piece of a clear: it names each pair of n between the old cursor and the new one
-  pub clear_kept : (w : Core K) (n : ℕ) (old spans : List Span) (xs : List Bytes) → Inv ks w
+  pub clear_kept : (w : Core K) (n : ℕ) (old spans : List Span) (xs : List Bytes) → Invariant ks w
       → get w.progress n ≡ Some (record { work = Clear; spans = old })
       → ((x : Bytes) → IsIn x xs → IsKeyOfElement n x)
       → ((x v : Bytes) → owner x ≡ Some n → get w.pairs x ≡ Some v → InSpans spans x → InSpans old x ⊎ IsIn x xs)
-      → Inv ks (moved w n (record { work = Clear; spans = spans }) (written_all w.pairs (clear_writes xs)))
+      → Invariant ks (moved w n (record { work = Clear; spans = spans }) (written_all w.pairs (clear_writes xs)))
   clear_kept w n old spans xs i begun owned reach =
       let r = i.reached n _ begun in
       piece_kept w n Clear old spans (written_all w.pairs (clear_writes xs)) i begun

@@ -13,12 +13,14 @@ use Rattle.row_map.proofs.Ranges.{row_not_before, row_before_next}
 use Rattle.element_state.specs.Elements.{IsKeyOfElement, Meaning, Subset}
 use Rattle.element_state.specs.Laws.{Laws}
 use Rattle.element_state.specs.Exists.{row_key}
-use Rattle.element_state.specs.Items.{Between, row_items, ClearFacts, entry_kept, facts_kept, both_true, test_between}
+use Rattle.element_state.specs.Items.{Between, row_items, ClearFacts}
+use Rattle.element_state.specs.Clears.{entry_kept, facts_kept, both_true, test_between}
 use Rattle.element_state.specs.Schemas.{Entry, Kinds}
-use Rattle.element_state.specs.Core.{Fill, Clear, Span, InSpans, Core, Inv}
+use Rattle.element_state.specs.Core.{Fill, Clear, Span, InSpans, Core, Invariant}
 use Rattle.element_state.specs.Pieces.{AreRows, fill_writes, clear_writes, moved, fill_kept, clear_kept}
 use Rattle.element_state.specs.Publishing.{FillEnded, ClearEnded, subset_meets}
 use Rattle.element_state.specs.Ended.{Piece, passed_spans, AreJoined, HaveEnded, less_or_not, all_passed}
+use Rattle.element_state.specs.Options.{some_one}
 
 -- one cursor is moved
 abbrev pub with_cursor : ℕ → Bytes → List Span → List Span
@@ -47,17 +49,14 @@ rows_there : (R : Rows) (es : List (RowKey × Cells)) (P : RowKey × Cells → T
 rows_there R [] P h = tt
 rows_there R (e ∷ es) P h = (h.0.0, rows_there R es P h.1)
 
-some_one : {A : Type 0} (v w : A) → Some v ≡ Some w → v ≡ w
-some_one v w e = cc
-
 module _ {K : Type 0} (ks : Kinds K) where
   -- the rows that a piece of a fill goes through
   abbrev pub fill_items : Meaning → Rows → Bytes → Bytes → List (RowKey × Cells)
   fill_items m rows from to = row_items m.serves rows from to
 
   -- a piece of a fill puts the pair of each row from the old cursor to below the new one
-  pub fill_piece_kept : (w : Core K) (n : ℕ) (f : Entry K) (old : List Span) (place : ℕ) (to : Bytes) → Inv ks w → get w.newest n ≡ Some f → get w.progress n ≡ Some (record { work = Fill; spans = old })
-      → Inv ks (moved ks w n (record { work = Fill; spans = with_cursor place to old }) (written_all w.pairs (fill_writes (ks.meaning n f.kind) (fill_items (ks.meaning n f.kind) w.rows (cursor_at place old) to))))
+  pub fill_piece_kept : (w : Core K) (n : ℕ) (f : Entry K) (old : List Span) (place : ℕ) (to : Bytes) → Invariant ks w → get w.newest n ≡ Some f → get w.progress n ≡ Some (record { work = Fill; spans = old })
+      → Invariant ks (moved ks w n (record { work = Fill; spans = with_cursor place to old }) (written_all w.pairs (fill_writes (ks.meaning n f.kind) (fill_items (ks.meaning n f.kind) w.rows (cursor_at place old) to))))
   fill_piece_kept w n f old place to i is begun =
       let m = ks.meaning n f.kind in
       let law : Laws m = ks.laws n f.kind (i.lawful_newest n f is) in
@@ -72,9 +71,9 @@ module _ {K : Type 0} (ks : Kinds K) where
       ])
 
   -- a piece of a clear takes each item from the old cursor to below the new one away
-  pub clear_piece_kept : (w : Core K) (n : ℕ) (f : Entry K) (old : List Span) (place : ℕ) (to low high : Bytes) (IsBound : Bytes → Type 0) (items : Rows → Pairs → Bytes → Bytes → List Bytes) → ClearFacts (ks.meaning n f.kind) low high IsBound items → Inv ks w
+  pub clear_piece_kept : (w : Core K) (n : ℕ) (f : Entry K) (old : List Span) (place : ℕ) (to low high : Bytes) (IsBound : Bytes → Type 0) (items : Rows → Pairs → Bytes → Bytes → List Bytes) → ClearFacts (ks.meaning n f.kind) low high IsBound items → Invariant ks w
       → get w.newest n ≡ Some f → get w.progress n ≡ Some (record { work = Clear; spans = old }) → IsBound (cursor_at place old) → IsBound to
-      → Inv ks (moved ks w n (record { work = Clear; spans = with_cursor place to old }) (written_all w.pairs (clear_writes (items w.rows w.pairs (cursor_at place old) to))))
+      → Invariant ks (moved ks w n (record { work = Clear; spans = with_cursor place to old }) (written_all w.pairs (clear_writes (items w.rows w.pairs (cursor_at place old) to))))
   clear_piece_kept w n f old place to low high IsBound items facts i is begun from_bound to_bound =
       let m = ks.meaning n f.kind in
       let sub : Subset m w.pairs w.rows = subset_meets ks n f.kind (get w.newest n) w.pairs w.rows (λ d at. ap (λ (e : Entry K). e.kind) (some_one d f (sym at ∙ is))) (i.newest n) in
@@ -99,7 +98,7 @@ module _ {K : Type 0} (ks : Kinds K) where
   }
 
   -- a clear whose pieces join one another over its range and have all ended has passed each pair of the element
-  pub clear_ended : (w : Core K) (n : ℕ) (f : Entry K) (low high : Bytes) (IsBound : Bytes → Type 0) (items : Rows → Pairs → Bytes → Bytes → List Bytes) (ps : List Piece) → ClearFacts (ks.meaning n f.kind) low high IsBound items → Inv ks w → get w.newest n ≡ Some f
+  pub clear_ended : (w : Core K) (n : ℕ) (f : Entry K) (low high : Bytes) (IsBound : Bytes → Type 0) (items : Rows → Pairs → Bytes → Bytes → List Bytes) (ps : List Piece) → ClearFacts (ks.meaning n f.kind) low high IsBound items → Invariant ks w → get w.newest n ≡ Some f
       → get w.progress n ≡ Some (record { work = Clear; spans = passed_spans ps }) → AreJoined low high ps → HaveEnded ps → ClearEnded ks w n
   clear_ended w n f low high IsBound items ps facts i is begun joined ended =
       let m = ks.meaning n f.kind in

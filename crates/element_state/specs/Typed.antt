@@ -10,14 +10,12 @@ use Rattle.schema_version.specs.declared.element.ElementState.TheVariants.{Absen
 use Rattle.element_state.specs.Elements.{Change, rows_after, cell}
 use Rattle.element_state.specs.Effects.{row_here, row_apart, key_one}
 use Rattle.element_state.specs.Schemas.{Entry, Schema, state_of, Kinds}
-use Rattle.element_state.specs.Core.{Core, JoinedAt, Runs, NeverPublic, Progress, Inv}
+use Rattle.element_state.specs.Core.{Core, JoinedAt, Runs, NeverPublic, Progress, Invariant}
 use Rattle.element_state.specs.Publishing.{Steps}
+use Rattle.element_state.specs.Options.{some_one}
 
 none_some : {A B : Type 0} (v : A) → None ≡ Some v → B
 none_some v e = absurd cc
-
-some_one : {A : Type 0} (v w : A) → Some v ≡ Some w → v ≡ w
-some_one v w e = cc
 
 public_or_not : (q : ElementState) → (q ≡ Public) ⊎ (q ≢ Public)
 public_or_not Absent = inr (λ e. cc)
@@ -66,7 +64,7 @@ module _ {K : Type 0} (ks : Kinds K) (of_kind : K → Value → Type 0) where
   one_kind s n d e p q = ap (λ (x : Entry K). x.kind) (some_one d e (sym p ∙ q))
 
   -- an operation under either version keeps the types of both
-  pub commit_typed : (w : Core K) (s : Schema K) (c : Change) → (s ≡ w.before) ⊎ (s ≡ w.newest) → Runs ks s w.rows c → GivesTyped s c → Inv ks w → AreTyped w.before w.rows → AreTyped w.newest w.rows
+  pub commit_typed : (w : Core K) (s : Schema K) (c : Change) → (s ≡ w.before) ⊎ (s ≡ w.newest) → Runs ks s w.rows c → GivesTyped s c → Invariant ks w → AreTyped w.before w.rows → AreTyped w.newest w.rows
       → AreTyped w.before (rows_after w.rows c) × AreTyped w.newest (rows_after w.rows c)
   commit_typed w s c used runs gives i before newest = (
     new_typed s w.before w.rows c (λ n d e p q. elim used [
@@ -83,7 +81,7 @@ module _ {K : Type 0} (ks : Kinds K) (of_kind : K → Value → Type 0) where
   abbrev pub EntersFresh : Core K → Schema K → Type 0
   EntersFresh w s = (n : ℕ) (e : Entry K) → get s n ≡ Some e → get w.newest n ≡ None → w.next ≤ n
 
-  pub publish_typed : (w : Core K) (s : Schema K) (next : ℕ) (progress : FinMap nat_cmp Progress) → Steps ks w s next progress → EntersFresh w s → Inv ks w → AreTyped w.newest w.rows → AreTyped s w.rows
+  pub publish_typed : (w : Core K) (s : Schema K) (next : ℕ) (progress : FinMap nat_cmp Progress) → Steps ks w s next progress → EntersFresh w s → Invariant ks w → AreTyped w.newest w.rows → AreTyped s w.rows
   publish_typed w s next progress st fresh i typed n e k r v at row is = was (get w.newest n) refl
     where
       no_cell : get r n ≡ None → of_kind e.kind v

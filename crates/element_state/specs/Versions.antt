@@ -16,15 +16,18 @@ use Rattle.schema_version.specs.declared.element.Kind.{Kind}
 use Rattle.schema_version.specs.declared.element.Kind.TheVariants.{Index, Optional}
 use Rattle.schema_version.specs.declared.element.ElementDef.{ElementDef}
 use Rattle.schema_version.specs.Version.{Version}
-use Rattle.element_state.specs.Elements.{Meaning, Stands, Exact, owner, owner_named}
+use Rattle.element_state.specs.Elements.{Meaning, IsFromScratch, Exact, owner, owner_named}
 use Rattle.element_state.specs.Laws.{Laws}
 use Rattle.element_state.specs.Effects.{not_none, none_where}
 use Rattle.element_state.specs.Tables.{within}
-use Rattle.element_state.specs.Exists.{exists_meaning, exists_laws, row_key, one_key}
-use Rattle.element_state.specs.Items.{ClearFacts, column_items, column_clears, index_items, index_clears}
+use Rattle.element_state.specs.Exists.{exists_meaning, row_key}
+use Rattle.element_state.specs.ExistsLaws.{exists_laws, one_key}
+use Rattle.element_state.specs.Items.{ClearFacts, column_items, index_items}
+use Rattle.element_state.specs.Clears.{column_clears, index_clears}
 use Rattle.element_state.specs.Kinds.{kind_meaning, IsLawfulKind, kind_laws}
 use Rattle.element_state.specs.Schemas.{Entry, Schema, Kinds}
-use Rattle.element_state.specs.Core.{Consistent, Meets}
+use Rattle.element_state.specs.Core.{IsConsistent, Meets}
+use Rattle.element_state.specs.Options.{some_one}
 
 -- the `exists` pairs of all rows, or an element of a table
 pub data ElementKind : Type 0 where
@@ -121,19 +124,16 @@ get-schema_of version n =
 
 -- ---- what consistency says of the rows
 
-some_one : {A : Type 0} (v w : A) → Some v ≡ Some w → v ≡ w
-some_one v w e = cc
-
-pub exists_exact : (version : Version) (P : Pairs) (R : Rows) → Consistent the_kinds (schema_of version) P R → Exact exists_meaning P R
+pub exists_exact : (version : Version) (P : Pairs) (R : Rows) → IsConsistent the_kinds (schema_of version) P R → Exact exists_meaning P R
 exists_exact version P R all = subst (λ o. Meets the_kinds 0 o P R) (get-schema_of version 0) (all 0)
 
 -- a row is there exactly where its `exists` pair is, which has no value
-pub row_there : (version : Version) (P : Pairs) (R : Rows) → Consistent the_kinds (schema_of version) P R → (k : RowKey) (r : Cells) → get R k ≡ Some r → get P (row_key k) ≡ Some []
+pub row_there : (version : Version) (P : Pairs) (R : Rows) → IsConsistent the_kinds (schema_of version) P R → (k : RowKey) (r : Cells) → get R k ≡ Some r → get P (row_key k) ≡ Some []
 row_there version P R all k r at = (exists_exact version P R all).covered k r [] at refl
 
-pub row_missing : (version : Version) (P : Pairs) (R : Rows) → AreStorable R → Consistent the_kinds (schema_of version) P R → (k : RowKey) → IsKey (Exists k.0 k.1) → get R k ≡ None → get P (row_key k) ≡ None
+pub row_missing : (version : Version) (P : Pairs) (R : Rows) → AreStorable R → IsConsistent the_kinds (schema_of version) P R → (k : RowKey) → IsKey (Exists k.0 k.1) → get R k ≡ None → get P (row_key k) ≡ None
 row_missing version P R held all k form none = none_where (get P (row_key k)) (λ v is.
     let own : owner (row_key k) ≡ Some 0 = owner_named 0 (row_key k) (record { key = Exists k.0 k.1; form = form; spelled = refl; names = refl }) in
-    let s : Stands exists_meaning R (row_key k) v = (exists_exact version P R all).subset (row_key k) v own is in
+    let s : IsFromScratch exists_meaning R (row_key k) v = (exists_exact version P R all).subset (row_key k) v own is in
     let same : s.key ≡ k = one_key s.key k (held s.key s.cells s.there).table (held s.key s.cells s.there).primary form s.key_is in
     not_none s.cells (get R k) (ap (get R) (sym same) ∙ s.there) none)

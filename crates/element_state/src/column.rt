@@ -1,7 +1,8 @@
 ghost use Rattle.std.specs.Prelude.{◌≡◌, OnOk, OnErr, IfOk, Some, None};
 ghost use Rattle.std.specs.FinMap as map;
 ghost use Rattle.keycode.specs.Code.{code};
-ghost use Rattle.element_state.specs.Column.{column_pair, IsLawfulColumn, column_laws};
+ghost use Rattle.element_state.specs.Column.{column_pair, IsLawfulColumn};
+ghost use Rattle.element_state.specs.ColumnLaws.{column_laws};
 ghost use Rattle.element_state.specs.Kinds.{meaning_of_column};
 
 use crate::cells::{cell, is_same};

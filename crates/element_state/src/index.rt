@@ -1,7 +1,8 @@
 ghost use Rattle.std.specs.Prelude.{◌≡◌, OnOk, OnErr, IfOk, Some, None, [], ◌∷◌, ◌++◌, true, false};
 ghost use Rattle.row_map.specs.Writes.{noted};
 ghost use Rattle.row_map.specs.Keys.{index_code};
-ghost use Rattle.element_state.specs.Index.{indexed, index_pair, index_by, IsLawfulIndex, index_laws};
+ghost use Rattle.element_state.specs.Index.{indexed, index_pair, index_by, IsLawfulIndex};
+ghost use Rattle.element_state.specs.IndexLaws.{index_laws};
 ghost use Rattle.element_state.specs.Operations.{cells_of};
 ghost use Rattle.element_state.specs.Kinds.{meaning_of_index};
 
