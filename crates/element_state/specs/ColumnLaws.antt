@@ -23,6 +23,30 @@ use Rattle.element_state.specs.IndexLaws.{removed, no_test, yes_test}
 use Rattle.element_state.specs.Tables.{within, HasOneRowIn, table_laws}
 use Rattle.element_state.specs.Options.{none_some, some_one}
 use Rattle.element_state.specs.Column.{column_pair, coded, same_cell, put_if_some, column_public, column_deletes, column_writes, column_exact, column_edge, column_reads, column_meaning, column_of, IsLawfulColumn}
+use Rattle.std.specs.Prelude.{◌≡◌, ◌≢◌, ℕ, ◌+◌, ◌<◌, ◌^◌, Bool, true, false, ◌&&◌, not, eqb, cond, List, [], ◌∷◌, ◌++◌, Some, None, filter, ◌⊎◌, refl}
+use Rattle.std.specs.List.{AllByRecursion}
+use Rattle.std.specs.Cmp.{IsTotalOrder}
+use Rattle.std.specs.FinMap.{FinMap, IsAntisymmetric, get, find, entries, get-entries}
+use Rattle.std.specs.declared.cmp.Ordering.{Ordering}
+use Rattle.std.specs.declared.cmp.Ordering.TheVariants.{Less, Equal, Greater}
+use Rattle.std.specs.Ordering.{is_lt, eq_by_cmp}
+use Rattle.std.proofs.Common.{sym, ap, subst, ◌∙◌, inl, inr, arith, eqb-true}
+use mathlib.Core.List.{map as each}
+use Rattle.keycode.specs.Order.{bytes_cmp}
+use Rattle.keycode.proofs.Orders.{bytes_cmp_total, bytes_cmp-IsAntisymmetric}
+use Rattle.row_map.specs.Keys.{key_code, IsKey, row_code}
+use Rattle.row_map.specs.Rows.{Bytes, RowKey, Cells, Rows, Pairs, row_cmp, AreStorable, IsStorableRow}
+use Rattle.row_map.specs.Ranges.{is_within, table_prefix, index_prefix, IsRowBound}
+use Rattle.row_map.proofs.Orders.{row_cmp_total, row_cmp-IsAntisymmetric}
+use Rattle.byte_map.proofs.Written.{same_or_apart, tied, apart}
+use Rattle.row_map.proofs.Entries.{each_entry}
+use Rattle.row_map.proofs.Ranges.{row_not_before, row_before_next, index_not_before, index_before_next, index_number, row_no_index, pair_then_row, row_then_pair}
+use Rattle.element_state.specs.Elements.{HasForm, IsKeyOfElement, AreFormed, owner, Meaning, IsFromScratch, Subset}
+use Rattle.element_state.specs.Exists.{row_key}
+use Rattle.element_state.specs.Items.{IsIn, Between, row_items, ClearFacts, AmongEntries}
+use Rattle.element_state.specs.Clears.{both_true, left_true, right_true, test_between, between_test, entry_kept, facts_kept, first_facts}
+use Rattle.element_state.specs.Column.{column_items, column_clear}
+use Rattle.element_state.specs.Tables.{some_in}
 
 same_cell_is : (a b : Option Value) → same_cell a b ≡ true → a ≡ b
 same_cell_is None None e = refl
@@ -234,3 +258,52 @@ column_facts n lawful = record {
 
 pub column_laws : (table n : ℕ) → IsLawfulColumn n → Laws (column_of table n)
 column_laws table n lawful = table_laws table (column_meaning n) (column_facts n lawful) (column_row n lawful table)
+
+-- ---- its clear
+
+column_among : (n : ℕ) (k : RowKey) (es : List (RowKey × Cells)) → AmongEntries k es → IsIn (column_pair n k) (each (λ (e : RowKey × Cells). column_pair n e.0) es)
+column_among n k [] h = h
+column_among n k (e ∷ es) h = elim h [ inl s ↦ inl (ap (column_pair n) (sym s)) | inr later ↦ inr (column_among n k es later) ]
+
+column_in : (n : ℕ) → IsLawfulColumn n → (x : Bytes) (es : List (RowKey × Cells)) → AllByRecursion (λ (e : RowKey × Cells). IsStorableRow e.0 e.1) es → IsIn x (each (λ (e : RowKey × Cells). column_pair n e.0) es) → IsKeyOfElement n x
+column_in n lawful x [] h at = absurd at
+column_in n lawful x (e ∷ es) h at = elim at [
+  | inl s ↦ subst (IsKeyOfElement n) (sym s) (column_owned_key n lawful e.0 e.1 h.0)
+  | inr later ↦ column_in n lawful x es h.1 later
+]
+
+module _ (table n : ℕ) (fits : table + 1 < 2 ^ 32) (lawful : IsLawfulColumn n) where
+  column_reach : (R : Rows) (P : Pairs) (from to x v : Bytes) → AreStorable R → Subset (column_of table n) P R → IsRowBound table from → IsRowBound table to → owner x ≡ Some n → get P x ≡ Some v → Between from to x → IsIn x (column_items table n R P from to)
+  column_reach R P from to x v held sub low high own is at =
+      let s : IsFromScratch (column_of table n) R x v = sub x v own is in
+      let of_table : eqb s.key.0 table ≡ true = (some_in (eqb s.key.0 table) ((column_meaning n).pair_value s.key s.cells) v s.value_is).0 in
+      let tables : s.key.0 ≡ table = eqb-true s.key.0 table of_table in
+      let row : IsStorableRow s.key s.cells = held s.key s.cells s.there in
+      let pair_is : row_code table s.key.1 n ≡ x = ap (λ t. row_code t s.key.1 n) (sym tables) ∙ s.key_is in
+      let row_is : row_code table s.key.1 0 ≡ row_key s.key = ap (λ t. row_code t s.key.1 0) (sym tables) in
+      let between : Between from to (row_key s.key) = (
+        λ e. at.0 (sym (ap (λ y. bytes_cmp y from) pair_is) ∙ row_then_pair table fits s.key.1 row.primary.values n lawful.below from low (ap (λ y. bytes_cmp y from) row_is ∙ e)),
+        sym (ap (λ y. bytes_cmp y to) row_is) ∙ pair_then_row table fits s.key.1 row.primary.values n lawful.below to high (ap (λ y. bytes_cmp y to) pair_is ∙ at.1),
+      ) in
+      subst (λ y. IsIn y (column_items table n R P from to)) s.key_is
+      (column_among n s.key (row_items (λ t. eqb t table) R from to) (entry_kept row_cmp_total row_cmp-IsAntisymmetric (λ (e : RowKey × Cells). eqb e.0.0 table && is_within from to (row_key e.0)) R s.key s.cells s.there
+      (both_true _ _ of_table (test_between from to (row_key s.key) between))))
+
+  column_whole : (R : Rows) (P : Pairs) (x v : Bytes) → AreStorable R → Subset (column_of table n) P R → owner x ≡ Some n → get P x ≡ Some v → Between (table_prefix table) (table_prefix (table + 1)) x
+  column_whole R P x v held sub own is =
+      let s : IsFromScratch (column_of table n) R x v = sub x v own is in
+      let tables : s.key.0 ≡ table = eqb-true s.key.0 table (some_in (eqb s.key.0 table) ((column_meaning n).pair_value s.key s.cells) v s.value_is).0 in
+      let pair_is : row_code table s.key.1 n ≡ x = ap (λ t. row_code t s.key.1 n) (sym tables) ∙ s.key_is in (
+        λ e. row_not_before table s.key.1 n (omega arith) (ap (λ y. bytes_cmp y (table_prefix table)) pair_is ∙ e),
+        sym (ap (λ y. bytes_cmp y (table_prefix (table + 1))) pair_is) ∙ row_before_next table s.key.1 n fits,
+      )
+
+  pub column_clears : ClearFacts (column_of table n) (column_clear table n)
+  column_clears = record {
+    owned = λ R P from to x held formed at. column_in n lawful x (row_items (λ t. eqb t table) R from to)
+        (first_facts (λ (e : RowKey × Cells). IsStorableRow e.0 e.1) (λ (e : RowKey × Cells). (eqb e.0.0 table && is_within from to (row_key e.0)) ≡ true) (row_items (λ t. eqb t table) R from to)
+        (facts_kept row_cmp_total row_cmp-IsAntisymmetric (λ (e : RowKey × Cells). eqb e.0.0 table && is_within from to (row_key e.0)) (λ (e : RowKey × Cells). IsStorableRow e.0 e.1) (entries R)
+        (each_entry row_cmp row_cmp_total row_cmp-IsAntisymmetric IsStorableRow R held))) at;
+    reach = column_reach;
+    whole = column_whole;
+  }

@@ -27,6 +27,27 @@ use Rattle.element_state.specs.Effects.{Effect, Stays, Gone, Came, KindFacts, by
 use Rattle.element_state.specs.Tables.{within, HasOneRowIn, table_laws}
 use Rattle.element_state.specs.Options.{none_some, some_one}
 use Rattle.element_state.specs.Index.{indexed, index_pair, same_bytes, moved, index_by, index_writes, index_exact, index_edge, lists, index_meaning, index_of, IsLawfulIndex}
+use Rattle.std.specs.Prelude.{◌≡◌, ◌≢◌, ℕ, ◌+◌, ◌<◌, ◌^◌, Bool, true, false, ◌&&◌, not, eqb, cond, List, [], ◌∷◌, ◌++◌, Some, None, filter, ◌⊎◌, refl}
+use Rattle.std.specs.List.{AllByRecursion}
+use Rattle.std.specs.Cmp.{IsTotalOrder}
+use Rattle.std.specs.FinMap.{FinMap, IsAntisymmetric, get, find, entries, get-entries}
+use Rattle.std.specs.declared.cmp.Ordering.{Ordering}
+use Rattle.std.specs.declared.cmp.Ordering.TheVariants.{Less, Equal, Greater}
+use Rattle.std.specs.Ordering.{is_lt, eq_by_cmp}
+use Rattle.std.proofs.Common.{sym, ap, subst, ◌∙◌, inl, inr, arith, eqb-true}
+use Rattle.keycode.proofs.Orders.{bytes_cmp_total, bytes_cmp-IsAntisymmetric}
+use Rattle.row_map.specs.Keys.{key_code, IsKey, row_code}
+use Rattle.row_map.specs.Rows.{Bytes, RowKey, Cells, Rows, Pairs, row_cmp, AreStorable, IsStorableRow}
+use Rattle.row_map.specs.Ranges.{is_within, table_prefix, index_prefix, IsRowBound}
+use Rattle.row_map.proofs.Orders.{row_cmp_total, row_cmp-IsAntisymmetric}
+use Rattle.byte_map.proofs.Written.{same_or_apart, tied, apart}
+use Rattle.row_map.proofs.Entries.{each_entry}
+use Rattle.row_map.proofs.Ranges.{row_not_before, row_before_next, index_not_before, index_before_next, index_number, row_no_index, pair_then_row, row_then_pair}
+use Rattle.element_state.specs.Elements.{HasForm, IsKeyOfElement, AreFormed, owner, Meaning, IsFromScratch, Subset}
+use Rattle.element_state.specs.Exists.{row_key}
+use Rattle.element_state.specs.Items.{IsIn, Between, row_items, ClearFacts, AmongEntries}
+use Rattle.element_state.specs.Clears.{both_true, left_true, right_true, test_between, between_test, entry_kept, facts_kept, first_facts}
+use Rattle.element_state.specs.Index.{index_items, index_clear}
 
 pub no_test : IsTrue false → ⊥
 no_test e = cc
@@ -277,3 +298,58 @@ index_facts n columns lawful = record {
 
 pub index_laws : (table n : ℕ) (columns : List ℕ) → IsLawfulIndex n columns → Laws (index_of table n columns)
 index_laws table n columns lawful = table_laws table (index_meaning n columns) (index_facts n columns lawful) (index_row n columns lawful table)
+
+-- ---- its clear
+
+key_in : (test : Bytes → Bool) (es : List (Bytes × Bytes)) (x v : Bytes) → find bytes_cmp x es ≡ Some v → test x ≡ true → IsIn x (filter test (each (λ (e : Bytes × Bytes). e.0) es))
+key_in test [] x v is t = absurd (none_some v is)
+key_in test (e ∷ es) x v is t = elim (same_or_apart bytes_cmp_total bytes_cmp-IsAntisymmetric x e.0) [
+  | inl s ↦ here (test e.0) (sym (ap test s) ∙ t) s
+  | inr ne ↦ later (test e.0) (key_in test es x v (sym (ap (λ b. cond b (Some e.1) (find bytes_cmp x es)) (apart bytes_cmp_total bytes_cmp-IsAntisymmetric x e.0 ne)) ∙ is) t)
+]
+  where
+    here : (b : Bool) → b ≡ true → x ≡ e.0 → IsIn x (cond b (e.0 ∷ filter test (each (λ (e : Bytes × Bytes). e.0) es)) (filter test (each (λ (e : Bytes × Bytes). e.0) es)))
+    here true t s = inl s
+    here false t s = absurd cc
+
+    later : (b : Bool) → IsIn x (filter test (each (λ (e : Bytes × Bytes). e.0) es)) → IsIn x (cond b (e.0 ∷ filter test (each (λ (e : Bytes × Bytes). e.0) es)) (filter test (each (λ (e : Bytes × Bytes). e.0) es)))
+    later true h = inr h
+    later false h = h
+
+key_facts : (test : Bytes → Bool) (es : List (Bytes × Bytes)) (x : Bytes) → AllByRecursion (λ (e : Bytes × Bytes). HasForm e.0) es → IsIn x (filter test (each (λ (e : Bytes × Bytes). e.0) es)) → HasForm x × (test x ≡ true)
+key_facts test [] x h at = absurd at
+key_facts test (e ∷ es) x h at = elim (test e.0) as (λ b. test e.0 ≡ b → IsIn x (cond b (e.0 ∷ filter test (each (λ (e : Bytes × Bytes). e.0) es)) (filter test (each (λ (e : Bytes × Bytes). e.0) es))) → HasForm x × (test x ≡ true)) [
+  | true ↦ λ t in_list. elim in_list [ inl s ↦ (subst HasForm (sym s) h.0, ap test s ∙ t) | inr more ↦ key_facts test es x h.1 more ]
+  | false ↦ λ t in_list. key_facts test es x h.1 in_list
+] refl at
+
+index_named : (n : ℕ) → n + 1 < 2 ^ 32 → (x : Bytes) (k : KeyOf) → IsKey k → x ≡ key_code k → Between (index_prefix n) (index_prefix (n + 1)) x → IsKeyOfElement n x
+index_named n fits x (Exists table key) form is b = absurd (b.0 (ap (λ y. bytes_cmp y (index_prefix n)) is ∙ row_no_index table key 0 n))
+index_named n fits x (Column table key element) form is b = absurd (b.0 (ap (λ y. bytes_cmp y (index_prefix n)) is ∙ row_no_index table key element n))
+index_named n fits x (Index element values) form is b = record {
+  key = Index element values;
+  form = form;
+  spelled = is;
+  names = index_number element n values form.0 fits (λ e. b.0 (ap (λ y. bytes_cmp y (index_prefix n)) is ∙ e)) (ap (λ y. bytes_cmp y (index_prefix (n + 1))) (sym is) ∙ b.1);
+}
+
+module _ (table n : ℕ) (columns : List ℕ) (fits : n + 1 < 2 ^ 32) where
+  index_items_owned : (R : Rows) (P : Pairs) (from to x : Bytes) → AreStorable R → AreFormed P → IsIn x (index_items n R P from to) → IsKeyOfElement n x
+  index_items_owned R P from to x held formed at =
+      let f = key_facts (λ y. is_within (index_prefix n) (index_prefix (n + 1)) y && is_within from to y) (entries P) x (each_entry bytes_cmp bytes_cmp_total bytes_cmp-IsAntisymmetric (λ y v. HasForm y) P formed) at in
+      index_named n fits x f.0.key f.0.form f.0.spelled (between_test (index_prefix n) (index_prefix (n + 1)) x (left_true _ _ f.1))
+
+  index_whole : (R : Rows) (P : Pairs) (x v : Bytes) → AreStorable R → Subset (index_of table n columns) P R → owner x ≡ Some n → get P x ≡ Some v → Between (index_prefix n) (index_prefix (n + 1)) x
+  index_whole R P x v held sub own is =
+      let s : IsFromScratch (index_of table n columns) R x v = sub x v own is in (
+        λ e. index_not_before n (indexed columns s.cells ++ s.key.1) (omega arith) (ap (λ y. bytes_cmp y (index_prefix n)) s.key_is ∙ e),
+        sym (ap (λ y. bytes_cmp y (index_prefix (n + 1))) s.key_is) ∙ index_before_next n (indexed columns s.cells ++ s.key.1) fits,
+      )
+
+  index_reach : (R : Rows) (P : Pairs) (from to x v : Bytes) → AreStorable R → Subset (index_of table n columns) P R → Unit {0} → Unit {0} → owner x ≡ Some n → get P x ≡ Some v → Between from to x → IsIn x (index_items n R P from to)
+  index_reach R P from to x v held sub low high own is at =
+      key_in (λ y. is_within (index_prefix n) (index_prefix (n + 1)) y && is_within from to y) (entries P) x v (sym (get-entries P x) ∙ is)
+      (both_true _ _ (test_between (index_prefix n) (index_prefix (n + 1)) x (index_whole R P x v held sub own is)) (test_between from to x at))
+
+  pub index_clears : ClearFacts (index_of table n columns) (index_clear n)
+  index_clears = record { owned = index_items_owned; reach = index_reach; whole = index_whole }

@@ -1,5 +1,5 @@
 -- What a fill and a clear go through between two cursors.
-use Rattle.std.specs.Prelude.{◌≡◌, ◌≢◌, ℕ, ◌+◌, ◌<◌, ◌^◌, Bool, true, false, ◌&&◌, not, eqb, cond, List, [], ◌∷◌, ◌++◌, Some, None, filter, ◌⊎◌, refl}
+use Rattle.std.specs.Prelude.{IsTrue, Option, ◌≡◌, ◌≢◌, ℕ, ◌+◌, ◌<◌, ◌^◌, Bool, true, false, ◌&&◌, not, eqb, cond, List, [], ◌∷◌, ◌++◌, Some, None, filter, ◌⊎◌, refl}
 use Rattle.std.specs.List.{AllByRecursion}
 use Rattle.std.specs.Cmp.{IsTotalOrder}
 use Rattle.std.specs.FinMap.{FinMap, IsAntisymmetric, get, find, entries, get-entries}
@@ -19,13 +19,11 @@ use Rattle.row_map.proofs.Orders.{row_cmp_total, row_cmp-IsAntisymmetric}
 use Rattle.byte_map.proofs.Written.{same_or_apart, tied, apart}
 use Rattle.row_map.proofs.Entries.{each_entry}
 use Rattle.row_map.proofs.Ranges.{row_not_before, row_before_next, index_not_before, index_before_next, index_number, row_no_index, pair_then_row, row_then_pair}
-use Rattle.element_state.specs.Elements.{HasForm, IsKeyOfElement, AreFormed, owner, Meaning, IsFromScratch, Subset}
+use Rattle.element_state.specs.Elements.{HasForm, IsKeyOfElement, AreFormed, owner, Meaning, IsFromScratch, Subset, CoveredAt}
 use Rattle.element_state.specs.Exists.{row_key}
-use Rattle.element_state.specs.Tables.{some_in}
-use Rattle.element_state.specs.Index.{index_of, indexed}
-use Rattle.element_state.specs.Column.{column_of, column_meaning, column_pair, IsLawfulColumn}
-use Rattle.element_state.specs.ColumnLaws.{column_owned_key}
 use Rattle.element_state.specs.Options.{none_some, some_one}
+use Rattle.row_map.specs.Writes.{Writes, written_all}
+use Rattle.element_state.specs.Operations.{fill_pair}
 
 abbrev pub IsIn : Bytes → List Bytes → Type 0
 IsIn x [] = ⊥
@@ -39,19 +37,51 @@ Between from to x = (bytes_cmp x from ≢ Less) × (bytes_cmp x to ≡ Less)
 abbrev pub row_items : (ℕ → Bool) → Rows → Bytes → Bytes → List (RowKey × Cells)
 row_items serves rows from to = filter (λ (e : RowKey × Cells). serves e.0.0 && is_within from to (row_key e.0)) (entries rows)
 
--- a clear of a column takes the pair of each row between the cursors away
-abbrev pub column_items : ℕ → ℕ → Rows → Pairs → Bytes → Bytes → List Bytes
-column_items table n rows pairs from to = each (λ (e : RowKey × Cells). column_pair n e.0) (row_items (λ t. eqb t table) rows from to)
+-- how a clear goes through an element's pairs: from `low` to below `high`, in pieces that are cut at bounds
+pub record ClearRange : Type 1 where
+  pub low : Bytes
+  pub high : Bytes
+  -- where its pieces may begin and end
+  pub IsBound : Bytes → Type 0
+  -- the keys that it takes away between two cursors
+  pub items : Rows → Pairs → Bytes → Bytes → List Bytes
 
--- a clear of an index takes each of its pairs between the cursors away
-abbrev pub index_items : ℕ → Rows → Pairs → Bytes → Bytes → List Bytes
-index_items n rows pairs from to = filter (λ x. is_within (index_prefix n) (index_prefix (n + 1)) x && is_within from to x) (each (λ (e : Bytes × Bytes). e.0) (entries pairs))
+-- what a kind shows of its clear: the items are its pairs' keys, no pair between two cursors is left out, and all its pairs lie in the range
+pub record ClearFacts (m : Meaning) (range : ClearRange) : Type 0 where
+  pub owned : (R : Rows) (P : Pairs) (from to x : Bytes) → AreStorable R → AreFormed P → IsIn x (range.items R P from to) → IsKeyOfElement m.number x
+  pub reach : (R : Rows) (P : Pairs) (from to x v : Bytes) → AreStorable R → Subset m P R → range.IsBound from → range.IsBound to → owner x ≡ Some m.number → get P x ≡ Some v → Between from to x → IsIn x (range.items R P from to)
+  pub whole : (R : Rows) (P : Pairs) (x v : Bytes) → AreStorable R → Subset m P R → owner x ≡ Some m.number → get P x ≡ Some v → Between range.low range.high x
 
--- what a kind shows of its clear from low to below high: the items are its pairs' keys, no pair between two cursors is left out, and all its pairs lie in the range
-pub record ClearFacts (m : Meaning) (low high : Bytes) (IsBound : Bytes → Type 0) (items : Rows → Pairs → Bytes → Bytes → List Bytes) : Type 0 where
-  pub owned : (R : Rows) (P : Pairs) (from to x : Bytes) → AreStorable R → AreFormed P → IsIn x (items R P from to) → IsKeyOfElement m.number x
-  pub reach : (R : Rows) (P : Pairs) (from to x v : Bytes) → AreStorable R → Subset m P R → IsBound from → IsBound to → owner x ≡ Some m.number → get P x ≡ Some v → Between from to x → IsIn x (items R P from to)
-  pub whole : (R : Rows) (P : Pairs) (x v : Bytes) → AreStorable R → Subset m P R → owner x ≡ Some m.number → get P x ≡ Some v → Between low high x
+-- a table and an element whose ranges of keys end within numbers of four bytes
+pub record HasRange (table number : ℕ) : Type 0 where
+  pub table_below : table + 1 < 2 ^ 32
+  pub number_below : number + 1 < 2 ^ 32
+
+-- what a piece of a clear writes: a removal of each item
+abbrev pub clear_writes : List Bytes → Writes
+clear_writes [] = []
+clear_writes (x ∷ xs) = (x, None) ∷ clear_writes xs
+
+-- what a fill writes for one row: the pair that it puts, if any
+abbrev pub put_pair : Option (Bytes × Bytes) → Writes
+put_pair None = []
+put_pair (Some pair) = (pair.0, Some pair.1) ∷ []
+
+-- what a piece of a fill writes for its rows
+abbrev pub fill_puts : Meaning → List (RowKey × Cells) → Writes
+fill_puts m [] = []
+fill_puts m (i ∷ items) = put_pair (fill_pair m i.0 i.1) ++ fill_puts m items
+
+-- Fill: to put the pair of each row between two cursors leaves a subset, and one that covers those rows
+abbrev pub FillCovers : Meaning → Type 0
+FillCovers m = (P : Pairs) (R : Rows) (from to : Bytes) → IsTrue m.filled → AreStorable R → Subset m P R
+    → Subset m (written_all P (fill_puts m (row_items m.serves R from to))) R
+    × ((k : RowKey) → Between from to (row_key k) → CoveredAt m (written_all P (fill_puts m (row_items m.serves R from to))) R k)
+
+-- Clear: to take the items between two bounds from a subset away leaves no pair of the element with a key between them
+abbrev pub ClearLeavesNone : Meaning → ClearRange → Type 0
+ClearLeavesNone m range = (P : Pairs) (R : Rows) (from to : Bytes) → AreStorable R → Subset m P R → range.IsBound from → range.IsBound to
+    → (x : Bytes) → owner x ≡ Some m.number → Between from to x → get (written_all P (clear_writes (range.items R P from to))) x ≡ None
 
 -- a key of one of the entries
 abbrev pub AmongEntries : {K X : Type 0} → K → List (K × X) → Type 0

@@ -14,7 +14,7 @@ use Rattle.element_state.specs.Laws.{Grows, IsLive, Laws}
 use Rattle.element_state.specs.Effects.{not_none, none_where, pair_here}
 use Rattle.element_state.specs.Exists.{row_key}
 use Rattle.element_state.specs.IndexLaws.{removed}
-use Rattle.element_state.specs.Items.{IsIn, AmongEntries}
+use Rattle.element_state.specs.Items.{IsIn, AmongEntries, clear_writes}
 use Rattle.element_state.specs.Schemas.{Entry, state_of, Kinds}
 use Rattle.element_state.specs.Core.{Work, Fill, Clear, Span, InSpans, Progress, Core, Meets, JoinedAt, Passed, Reached, Invariant, same_demand}
 use Rattle.element_state.specs.Whole.{number_one}
@@ -33,11 +33,6 @@ fill_writes m (i ∷ items) = item_write (m.pair_key i.0 i.1) (m.pair_value i.0 
 -- a row that has a pair of the element
 abbrev pub HasPair : Meaning → RowKey → Cells → Type 0
 HasPair m k r = (v : Bytes) × (m.pair_value k r ≡ Some v)
-
--- what a piece of a clear writes
-abbrev pub clear_writes : List Bytes → Writes
-clear_writes [] = []
-clear_writes (x ∷ xs) = (x, None) ∷ clear_writes xs
 
 abbrev pub AreRows : Rows → List (RowKey × Cells) → Type 0
 AreRows R [] = Unit {0}

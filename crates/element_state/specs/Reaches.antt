@@ -13,11 +13,11 @@ use Rattle.row_map.proofs.Ranges.{row_not_before, row_before_next}
 use Rattle.element_state.specs.Elements.{IsKeyOfElement, Meaning, Subset}
 use Rattle.element_state.specs.Laws.{Laws}
 use Rattle.element_state.specs.Exists.{row_key}
-use Rattle.element_state.specs.Items.{Between, row_items, ClearFacts}
+use Rattle.element_state.specs.Items.{Between, row_items, clear_writes, ClearRange, ClearFacts}
 use Rattle.element_state.specs.Clears.{entry_kept, facts_kept, both_true, test_between}
 use Rattle.element_state.specs.Schemas.{Entry, Kinds}
 use Rattle.element_state.specs.Core.{Fill, Clear, Span, InSpans, Core, Invariant}
-use Rattle.element_state.specs.Pieces.{AreRows, fill_writes, clear_writes, moved, fill_kept, clear_kept}
+use Rattle.element_state.specs.Pieces.{AreRows, fill_writes, moved, fill_kept, clear_kept}
 use Rattle.element_state.specs.Publishing.{FillEnded, ClearEnded, subset_meets}
 use Rattle.element_state.specs.Ended.{Piece, passed_spans, AreJoined, HaveEnded, less_or_not, all_passed}
 use Rattle.element_state.specs.Options.{some_one}
@@ -45,7 +45,8 @@ passed_since (suc place) to (s ∷ ss) x at = elim at [
   | inr later ↦ elim (passed_since place to ss x later) [ inl was ↦ inl (inr was) | inr between ↦ inr between ]
 ]
 
-rows_there : (R : Rows) (es : List (RowKey × Cells)) (P : RowKey × Cells → Type 0) → AllByRecursion (λ (e : RowKey × Cells). (get R e.0 ≡ Some e.1) × P e) es → AreRows R es
+-- entries of the rows are rows of theirs
+pub rows_there : (R : Rows) (es : List (RowKey × Cells)) (P : RowKey × Cells → Type 0) → AllByRecursion (λ (e : RowKey × Cells). (get R e.0 ≡ Some e.1) × P e) es → AreRows R es
 rows_there R [] P h = tt
 rows_there R (e ∷ es) P h = (h.0.0, rows_there R es P h.1)
 
@@ -71,13 +72,13 @@ module _ {K : Type 0} (ks : Kinds K) where
       ])
 
   -- a piece of a clear takes each item from the old cursor to below the new one away
-  pub clear_piece_kept : (w : Core K) (n : ℕ) (f : Entry K) (old : List Span) (place : ℕ) (to low high : Bytes) (IsBound : Bytes → Type 0) (items : Rows → Pairs → Bytes → Bytes → List Bytes) → ClearFacts (ks.meaning n f.kind) low high IsBound items → Invariant ks w
-      → get w.newest n ≡ Some f → get w.progress n ≡ Some (record { work = Clear; spans = old }) → IsBound (cursor_at place old) → IsBound to
-      → Invariant ks (moved ks w n (record { work = Clear; spans = with_cursor place to old }) (written_all w.pairs (clear_writes (items w.rows w.pairs (cursor_at place old) to))))
-  clear_piece_kept w n f old place to low high IsBound items facts i is begun from_bound to_bound =
+  pub clear_piece_kept : (w : Core K) (n : ℕ) (f : Entry K) (old : List Span) (place : ℕ) (to : Bytes) (range : ClearRange) → ClearFacts (ks.meaning n f.kind) range → Invariant ks w
+      → get w.newest n ≡ Some f → get w.progress n ≡ Some (record { work = Clear; spans = old }) → range.IsBound (cursor_at place old) → range.IsBound to
+      → Invariant ks (moved ks w n (record { work = Clear; spans = with_cursor place to old }) (written_all w.pairs (clear_writes (range.items w.rows w.pairs (cursor_at place old) to))))
+  clear_piece_kept w n f old place to range facts i is begun from_bound to_bound =
       let m = ks.meaning n f.kind in
       let sub : Subset m w.pairs w.rows = subset_meets ks n f.kind (get w.newest n) w.pairs w.rows (λ d at. ap (λ (e : Entry K). e.kind) (some_one d f (sym at ∙ is))) (i.newest n) in
-      clear_kept ks w n old (with_cursor place to old) (items w.rows w.pairs (cursor_at place old) to) i begun
+      clear_kept ks w n old (with_cursor place to old) (range.items w.rows w.pairs (cursor_at place old) to) i begun
       (λ x at. subst (λ y. IsKeyOfElement y x) (ks.numbered n f.kind) (facts.owned w.rows w.pairs (cursor_at place old) to x i.held i.formed at))
       (λ x v own there at. elim (passed_since place to old x at) [
         | inl was ↦ inl was
@@ -98,15 +99,15 @@ module _ {K : Type 0} (ks : Kinds K) where
   }
 
   -- a clear whose pieces join one another over its range and have all ended has passed each pair of the element
-  pub clear_ended : (w : Core K) (n : ℕ) (f : Entry K) (low high : Bytes) (IsBound : Bytes → Type 0) (items : Rows → Pairs → Bytes → Bytes → List Bytes) (ps : List Piece) → ClearFacts (ks.meaning n f.kind) low high IsBound items → Invariant ks w → get w.newest n ≡ Some f
-      → get w.progress n ≡ Some (record { work = Clear; spans = passed_spans ps }) → AreJoined low high ps → HaveEnded ps → ClearEnded ks w n
-  clear_ended w n f low high IsBound items ps facts i is begun joined ended =
+  pub clear_ended : (w : Core K) (n : ℕ) (f : Entry K) (range : ClearRange) (ps : List Piece) → ClearFacts (ks.meaning n f.kind) range → Invariant ks w → get w.newest n ≡ Some f
+      → get w.progress n ≡ Some (record { work = Clear; spans = passed_spans ps }) → AreJoined range.low range.high ps → HaveEnded ps → ClearEnded ks w n
+  clear_ended w n f range ps facts i is begun joined ended =
       let m = ks.meaning n f.kind in
       let sub : Subset m w.pairs w.rows = subset_meets ks n f.kind (get w.newest n) w.pairs w.rows (λ d at. ap (λ (e : Entry K). e.kind) (some_one d f (sym at ∙ is))) (i.newest n) in
       record {
         spans = passed_spans ps;
         begun = begun;
         all = λ x v own there.
-            let range : Between low high x = facts.whole w.rows w.pairs x v i.held sub (own ∙ ap Some (sym (ks.numbered n f.kind))) there in
-            all_passed ps low high x joined ended range.0 range.1;
+            let inside : Between range.low range.high x = facts.whole w.rows w.pairs x v i.held sub (own ∙ ap Some (sym (ks.numbered n f.kind))) there in
+            all_passed ps range.low range.high x joined ended inside.0 inside.1;
       }

@@ -22,9 +22,8 @@ use Rattle.element_state.specs.Effects.{not_none, none_where}
 use Rattle.element_state.specs.Tables.{within}
 use Rattle.element_state.specs.Exists.{exists_meaning, row_key}
 use Rattle.element_state.specs.ExistsLaws.{exists_laws, one_key}
-use Rattle.element_state.specs.Items.{ClearFacts, column_items, index_items}
-use Rattle.element_state.specs.Clears.{column_clears, index_clears}
-use Rattle.element_state.specs.Kinds.{kind_meaning, IsLawfulKind, kind_laws}
+use Rattle.element_state.specs.Kinds.{kind_meaning, IsLawfulKind, kind_laws, kind_numbered}
+use Rattle.element_state.specs.Items.{HasRange}
 use Rattle.element_state.specs.Schemas.{Entry, Schema, Kinds}
 use Rattle.element_state.specs.Core.{IsConsistent, Meets}
 use Rattle.element_state.specs.Options.{some_one}
@@ -40,8 +39,7 @@ meaning_of number (Of table kind) = within table (kind_meaning number kind)
 
 -- the element's number and its table's within the limits, and what its kind's laws want
 pub record IsLawfulOf (number table : ℕ) (kind : Kind) : Type 0 where
-  pub number_below : number + 1 < 2 ^ 32
-  pub table_below : table + 1 < 2 ^ 32
+  pub range : HasRange table number
   pub lawful : IsLawfulKind number kind
 
 abbrev pub IsLawful : ℕ → ElementKind → Type 0
@@ -50,8 +48,7 @@ IsLawful number (Of table kind) = IsLawfulOf number table kind
 
 pub numbered : (number : ℕ) (kind : ElementKind) → (meaning_of number kind).number ≡ number
 numbered number Row = refl
-numbered number (Of table (Index columns)) = refl
-numbered number (Of table (Optional type)) = refl
+numbered number (Of table kind) = kind_numbered number kind
 
 pub laws : (number : ℕ) (kind : ElementKind) → IsLawful number kind → Laws (meaning_of number kind)
 laws number Row lawful = subst (λ y. Laws (record exists_meaning { number = y })) (sym lawful) exists_laws
@@ -60,40 +57,9 @@ laws number (Of table kind) lawful = kind_laws table number kind lawful.lawful
 abbrev pub the_kinds : Kinds ElementKind
 the_kinds = record { meaning = meaning_of; numbered = numbered; lawful = IsLawful; laws = laws }
 
--- ---- reorganisations
-
--- what a clear takes away between two cursors
-abbrev pub clear_items : ℕ → ElementKind → Rows → Pairs → Bytes → Bytes → List Bytes
-clear_items number Row rows pairs from to = []
-clear_items number (Of table (Index columns)) rows pairs from to = index_items number rows pairs from to
-clear_items number (Of table (Optional type)) rows pairs from to = column_items table number rows pairs from to
-
--- where a clear begins
-abbrev pub clear_low : ℕ → ElementKind → Bytes
-clear_low number Row = []
-clear_low number (Of table (Index columns)) = index_prefix number
-clear_low number (Of table (Optional type)) = table_prefix table
-
--- before what it ends
-abbrev pub clear_high : ℕ → ElementKind → Bytes
-clear_high number Row = []
-clear_high number (Of table (Index columns)) = index_prefix (number + 1)
-clear_high number (Of table (Optional type)) = table_prefix (table + 1)
-
--- where its pieces may begin and end
-abbrev pub IsClearBound : ElementKind → Bytes → Type 0
-IsClearBound Row bound = Unit {0}
-IsClearBound (Of table (Index columns)) bound = Unit {0}
-IsClearBound (Of table (Optional type)) bound = IsRowBound table bound
-
-pub clear_facts : (number table : ℕ) (kind : Kind) → IsLawfulOf number table kind
-    → ClearFacts (meaning_of number (Of table kind)) (clear_low number (Of table kind)) (clear_high number (Of table kind)) (IsClearBound (Of table kind)) (clear_items number (Of table kind))
-clear_facts number table (Index columns) lawful = index_clears table number columns lawful.number_below
-clear_facts number table (Optional type) lawful = column_clears table number lawful.table_below lawful.lawful
-
+-- only rows of its table have an element's pairs
 pub one_table : (number table : ℕ) (kind : Kind) (t : ℕ) → IsTrue ((meaning_of number (Of table kind)).serves t) → t ≡ table
-one_table number table (Index columns) t e = eqb-true t table e
-one_table number table (Optional type) t e = eqb-true t table e
+one_table number table kind t e = eqb-true t table e
 
 abbrev pub is_adding : Way → Bool
 is_adding Adding = true
