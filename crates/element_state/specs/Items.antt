@@ -37,19 +37,27 @@ Between from to x = (bytes_cmp x from ≢ Less) × (bytes_cmp x to ≡ Less)
 abbrev pub row_items : (ℕ → Bool) → Rows → Bytes → Bytes → List (RowKey × Cells)
 row_items serves rows from to = filter (λ (e : RowKey × Cells). serves e.0.0 && is_within from to (row_key e.0)) (entries rows)
 
+-- where the pieces of a clear may begin and end: at any key, or where a row of a table begins
+pub data Bounds : Type 0 where
+  AnyKey : Bounds
+  RowsOf : (table : ℕ) → Bounds
+
+abbrev pub IsBound : Bounds → Bytes → Type 0
+IsBound AnyKey key = Unit {0}
+IsBound (RowsOf table) key = IsRowBound table key
+
 -- how a clear goes through an element's pairs: from `low` to below `high`, in pieces that are cut at bounds
-pub record ClearRange : Type 1 where
+pub record ClearRange : Type 0 where
   pub low : Bytes
   pub high : Bytes
-  -- where its pieces may begin and end
-  pub IsBound : Bytes → Type 0
+  pub bounds : Bounds
   -- the keys that it takes away between two cursors
   pub items : Rows → Pairs → Bytes → Bytes → List Bytes
 
 -- what a kind shows of its clear: the items are its pairs' keys, no pair between two cursors is left out, and all its pairs lie in the range
 pub record ClearFacts (m : Meaning) (range : ClearRange) : Type 0 where
   pub owned : (R : Rows) (P : Pairs) (from to x : Bytes) → AreStorable R → AreFormed P → IsIn x (range.items R P from to) → IsKeyOfElement m.number x
-  pub reach : (R : Rows) (P : Pairs) (from to x v : Bytes) → AreStorable R → Subset m P R → range.IsBound from → range.IsBound to → owner x ≡ Some m.number → get P x ≡ Some v → Between from to x → IsIn x (range.items R P from to)
+  pub reach : (R : Rows) (P : Pairs) (from to x v : Bytes) → AreStorable R → Subset m P R → IsBound range.bounds from → IsBound range.bounds to → owner x ≡ Some m.number → get P x ≡ Some v → Between from to x → IsIn x (range.items R P from to)
   pub whole : (R : Rows) (P : Pairs) (x v : Bytes) → AreStorable R → Subset m P R → owner x ≡ Some m.number → get P x ≡ Some v → Between range.low range.high x
 
 -- a table and an element whose ranges of keys end within numbers of four bytes
@@ -80,7 +88,7 @@ FillCovers m = (P : Pairs) (R : Rows) (from to : Bytes) → IsTrue m.filled → 
 
 -- Clear: to take the items between two bounds from a subset away leaves no pair of the element with a key between them
 abbrev pub ClearLeavesNone : Meaning → ClearRange → Type 0
-ClearLeavesNone m range = (P : Pairs) (R : Rows) (from to : Bytes) → AreStorable R → Subset m P R → range.IsBound from → range.IsBound to
+ClearLeavesNone m range = (P : Pairs) (R : Rows) (from to : Bytes) → AreStorable R → Subset m P R → IsBound range.bounds from → IsBound range.bounds to
     → (x : Bytes) → owner x ≡ Some m.number → Between from to x → get (written_all P (clear_writes (range.items R P from to))) x ≡ None
 
 -- a key of one of the entries

@@ -15,7 +15,7 @@ use Rattle.element_state.specs.Reaches.{with_cursor, cursor_at, fill_items}
 use Rattle.element_state.specs.Opening.{opened}
 use Rattle.element_state.specs.Versions.{ElementKind, Of, the_kinds, meaning_of}
 use Rattle.element_state.specs.Kinds.{kind_clear}
-use Rattle.element_state.specs.Items.{clear_writes}
+use Rattle.element_state.specs.Items.{clear_writes, IsBound}
 
 abbrev pub OpeningHolds : Type 0
 OpeningHolds = (s : Schema ElementKind) (next : ℕ) → AreLawful the_kinds s → Invariant the_kinds (opened s next)
@@ -48,5 +48,5 @@ FillKeeps =
 abbrev pub ClearKeeps : Type 0
 ClearKeeps =
     (w : Core ElementKind) (n table : ℕ) (kind : Kind) (f : Entry ElementKind) (old : List Span) (place : ℕ) (to : Bytes) → Invariant the_kinds w
-    → get w.newest n ≡ Some f → f.kind ≡ Of table kind → get w.progress n ≡ Some (record { work = Clear; spans = old }) → (kind_clear table n kind).IsBound (cursor_at place old) → (kind_clear table n kind).IsBound to
+    → get w.newest n ≡ Some f → f.kind ≡ Of table kind → get w.progress n ≡ Some (record { work = Clear; spans = old }) → IsBound (kind_clear table n kind).bounds (cursor_at place old) → IsBound (kind_clear table n kind).bounds to
     → Invariant the_kinds (moved the_kinds w n (record { work = Clear; spans = with_cursor place to old }) (written_all w.pairs (clear_writes ((kind_clear table n kind).items w.rows w.pairs (cursor_at place old) to))))

@@ -1,8 +1,8 @@
 -- A piece of a fill or a clear keeps what the core keeps, from the laws alone.
-use Rattle.std.specs.Prelude.{◌≡◌, ◌≢◌, ◌⊎◌, ℕ, List, [], ◌∷◌, ◌++◌, Option, Some, None, refl}
+use Rattle.std.specs.Prelude.{IsTrue, cond, option_map, ◌≡◌, ◌≢◌, ◌⊎◌, ℕ, List, [], ◌∷◌, ◌++◌, Option, Some, None, refl}
 use Rattle.std.specs.FinMap.{get, insert, nat_cmp-IsAntisymmetric}
 use Rattle.std.specs.Cmp.{nat_cmp_total}
-use Rattle.std.proofs.Common.{sym, ap, subst, ◌∙◌, inl, inr}
+use Rattle.std.proofs.Common.{ap₂, sym, ap, subst, ◌∙◌, inl, inr}
 use Rattle.keycode.proofs.Orders.{bytes_cmp_total, bytes_cmp-IsAntisymmetric}
 use Rattle.row_map.specs.Rows.{Bytes, RowKey, Cells, Rows, Pairs, AreStorable}
 use Rattle.row_map.specs.Writes.{Writes, written, written_all, AllKeys}
@@ -14,7 +14,7 @@ use Rattle.element_state.specs.Laws.{Grows, IsLive, Laws}
 use Rattle.element_state.specs.Effects.{not_none, none_where, pair_here}
 use Rattle.element_state.specs.Exists.{row_key}
 use Rattle.element_state.specs.IndexLaws.{removed}
-use Rattle.element_state.specs.Items.{IsIn, AmongEntries, clear_writes}
+use Rattle.element_state.specs.Items.{IsIn, AmongEntries, clear_writes, put_pair, fill_puts}
 use Rattle.element_state.specs.Schemas.{Entry, state_of, Kinds}
 use Rattle.element_state.specs.Core.{Work, Fill, Clear, Span, InSpans, Progress, Core, Meets, JoinedAt, Passed, Reached, Invariant, same_demand}
 use Rattle.element_state.specs.Whole.{number_one}
@@ -29,6 +29,16 @@ item_write x (Some v) = (x, Some v) ∷ []
 abbrev pub fill_writes : Meaning → List (RowKey × Cells) → Writes
 fill_writes m [] = []
 fill_writes m (i ∷ items) = item_write (m.pair_key i.0 i.1) (m.pair_value i.0 i.1) ++ fill_writes m items
+
+put_pair-fill : (x : Bytes) (o : Option Bytes) → put_pair (option_map (λ v. (x, v)) o) ≡ item_write x o
+put_pair-fill x None = refl
+put_pair-fill x (Some v) = refl
+
+-- of a kind that is filled, what `fill_of` gives
+pub fill_puts-filled : (m : Meaning) → IsTrue m.filled → (items : List (RowKey × Cells)) → fill_puts m items ≡ fill_writes m items
+fill_puts-filled m filled [] = refl
+fill_puts-filled m filled (i ∷ items) =
+    ap₂ (λ (a b : Writes). a ++ b) (ap (λ b. put_pair (cond b (option_map (λ v. (m.pair_key i.0 i.1, v)) (m.pair_value i.0 i.1)) None)) filled ∙ put_pair-fill (m.pair_key i.0 i.1) (m.pair_value i.0 i.1)) (fill_puts-filled m filled items)
 
 -- a row that has a pair of the element
 abbrev pub HasPair : Meaning → RowKey → Cells → Type 0

@@ -13,7 +13,7 @@ use Rattle.row_map.proofs.Ranges.{row_not_before, row_before_next}
 use Rattle.element_state.specs.Elements.{IsKeyOfElement, Meaning, Subset}
 use Rattle.element_state.specs.Laws.{Laws}
 use Rattle.element_state.specs.Exists.{row_key}
-use Rattle.element_state.specs.Items.{Between, row_items, clear_writes, ClearRange, ClearFacts}
+use Rattle.element_state.specs.Items.{Between, row_items, clear_writes, ClearRange, IsBound, ClearFacts}
 use Rattle.element_state.specs.Clears.{entry_kept, facts_kept, both_true, test_between}
 use Rattle.element_state.specs.Schemas.{Entry, Kinds}
 use Rattle.element_state.specs.Core.{Fill, Clear, Span, InSpans, Core, Invariant}
@@ -73,7 +73,7 @@ module _ {K : Type 0} (ks : Kinds K) where
 
   -- a piece of a clear takes each item from the old cursor to below the new one away
   pub clear_piece_kept : (w : Core K) (n : ℕ) (f : Entry K) (old : List Span) (place : ℕ) (to : Bytes) (range : ClearRange) → ClearFacts (ks.meaning n f.kind) range → Invariant ks w
-      → get w.newest n ≡ Some f → get w.progress n ≡ Some (record { work = Clear; spans = old }) → range.IsBound (cursor_at place old) → range.IsBound to
+      → get w.newest n ≡ Some f → get w.progress n ≡ Some (record { work = Clear; spans = old }) → IsBound range.bounds (cursor_at place old) → IsBound range.bounds to
       → Invariant ks (moved ks w n (record { work = Clear; spans = with_cursor place to old }) (written_all w.pairs (clear_writes (range.items w.rows w.pairs (cursor_at place old) to))))
   clear_piece_kept w n f old place to range facts i is begun from_bound to_bound =
       let m = ks.meaning n f.kind in

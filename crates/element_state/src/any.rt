@@ -1,5 +1,5 @@
 ghost use Rattle.std.specs.Prelude.{◌≡◌, IfOk};
-ghost use Rattle.element_state.specs.Kinds.{kind_meaning, table_of_any, meaning_of_any, IsLawfulElement, laws_of_any};
+ghost use Rattle.element_state.specs.Kinds.{kind_meaning, table_of_any, meaning_of_any, IsLawfulElement, laws_of_any, clear_of_any, clears_of_any};
 
 use crate::column::OptionalColumn;
 use crate::element::Element;
@@ -45,7 +45,11 @@ impl Element for AnyElement {
 
     ghost lawful = { IsLawfulElement };
 
+    ghost clear = { clear_of_any };
+
     ghost laws = { laws_of_any };
+
+    ghost clears = { clears_of_any };
 
     fn number(&self) -> u32 {
         match self {

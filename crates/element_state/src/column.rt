@@ -1,8 +1,8 @@
 ghost use Rattle.std.specs.Prelude.{◌≡◌, OnOk, OnErr, IfOk, Some, None};
 ghost use Rattle.std.specs.FinMap as map;
 ghost use Rattle.keycode.specs.Code.{code};
-ghost use Rattle.element_state.specs.Column.{column_pair, IsLawfulColumn};
-ghost use Rattle.element_state.specs.ColumnLaws.{column_laws};
+ghost use Rattle.element_state.specs.Column.{column_clear, column_pair, IsLawfulColumn};
+ghost use Rattle.element_state.specs.ColumnLaws.{column_clears, column_laws};
 ghost use Rattle.element_state.specs.Kinds.{meaning_of_column};
 
 use crate::cells::{cell, is_same};
@@ -60,7 +60,11 @@ impl Element for OptionalColumn {
 
     ghost lawful = { λ e. IsLawfulColumn e.number };
 
+    ghost clear = { λ e. column_clear e.table e.number };
+
     ghost laws = { λ e lawful. column_laws e.table e.number lawful };
+
+    ghost clears = { λ e lawful range. column_clears e.table e.number range.table_below lawful };
 
     fn number(&self) -> u32 {
         self.number

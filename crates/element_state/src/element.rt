@@ -3,6 +3,7 @@ ghost use Rattle.row_map.specs.Writes.{noted};
 ghost use Rattle.element_state.specs.Elements.{Meaning};
 ghost use Rattle.element_state.specs.Laws.{Laws};
 ghost use Rattle.element_state.specs.Tables.{within};
+ghost use Rattle.element_state.specs.Items.{ClearRange, ClearFacts, HasRange};
 ghost use Rattle.element_state.specs.Operations.{cells_of, inserted, updated, deleted, fill_pair};
 
 use byte_map::Bytes;
@@ -63,6 +64,12 @@ pub trait Element {
     fn fill_of(&self, alloc: Global, row: &Row) -> Result<Option<(Bytes, Bytes)>, AllocError>
         ensures { IfOk result (λ pair. pair ≡ fill_pair (meaning self.now) (table self.now, row.now.key) (cells_of row.now)) };
 
+    /// The range that a clear of it goes through, and its items there.
+    ghost clear: { Self → ClearRange };
+
     /// The laws of every kind.
     ghost laws: { (e : Self) → lawful e → Laws (within (table e) (meaning e)) };
+
+    /// What each kind shows of its clear.
+    ghost clears: { (e : Self) → lawful e → HasRange (table e) (meaning e).number → ClearFacts (within (table e) (meaning e)) (clear e) };
 }

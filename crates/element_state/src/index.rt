@@ -1,8 +1,8 @@
 ghost use Rattle.std.specs.Prelude.{◌≡◌, OnOk, OnErr, IfOk, Some, None, [], ◌∷◌, ◌++◌, true, false};
 ghost use Rattle.row_map.specs.Writes.{noted};
 ghost use Rattle.row_map.specs.Keys.{index_code};
-ghost use Rattle.element_state.specs.Index.{indexed, index_pair, index_by, IsLawfulIndex};
-ghost use Rattle.element_state.specs.IndexLaws.{index_laws};
+ghost use Rattle.element_state.specs.Index.{index_clear, indexed, index_pair, index_by, IsLawfulIndex};
+ghost use Rattle.element_state.specs.IndexLaws.{index_clears, index_laws};
 ghost use Rattle.element_state.specs.Operations.{cells_of};
 ghost use Rattle.element_state.specs.Kinds.{meaning_of_index};
 
@@ -77,7 +77,11 @@ impl Element for IndexElement {
 
     ghost lawful = { λ e. IsLawfulIndex e.number e.columns };
 
+    ghost clear = { λ e. index_clear e.number };
+
     ghost laws = { λ e lawful. index_laws e.table e.number e.columns lawful };
+
+    ghost clears = { λ e lawful range. index_clears e.table e.number e.columns range.number_below };
 
     fn number(&self) -> u32 {
         self.number
