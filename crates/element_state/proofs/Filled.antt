@@ -32,13 +32,13 @@ fill_covers m law P R from to filled held sub =
     subst (λ ws. Subset m (written_all P ws) R × ((k : RowKey) → Between from to (row_key k) → CoveredAt m (written_all P ws) R k)) (sym (fill_puts-filled m filled items)) (
       fill_demand m law R held WriteOnly items P tt there sub,
       λ k between r v at val.
-        fill_reaches m law R held items P there k
-        (entry_kept row_cmp_total row_cmp-IsAntisymmetric (λ (e : RowKey × Cells). m.serves e.0.0 && is_within from to (row_key e.0)) R k r at (both_true _ _ (law.served k r v val) (test_between from to (row_key k) between)))
-        r v at val,
+          fill_reaches m law R held items P there k
+          (entry_kept row_cmp_total row_cmp-IsAntisymmetric (λ (e : RowKey × Cells). m.serves e.0.0 && is_within from to (row_key e.0)) R k r at (both_true _ _ (law.served k r v val) (test_between from to (row_key k) between)))
+          r v at val,
     )
 
 pub clear_leaves_none : (m : Meaning) (range : ClearRange) → ClearFacts m range → ClearLeavesNone m range
 clear_leaves_none m range facts P R from to held sub from_bound to_bound x own between =
     none_where (get (written_all P (clear_writes (range.items R P from to))) x) (λ v is.
-      not_none v (get (written_all P (clear_writes (range.items R P from to))) x) is
-      (clear_gone (range.items R P from to) P x (facts.reach R P from to x v held sub from_bound to_bound own (clear_shrinks (range.items R P from to) P x v is) between)))
+    not_none v (get (written_all P (clear_writes (range.items R P from to))) x) is
+    (clear_gone (range.items R P from to) P x (facts.reach R P from to x v held sub from_bound to_bound own (clear_shrinks (range.items R P from to) P x v is) between)))

@@ -43,9 +43,9 @@ impl Element for AnyElement {
 
     ghost meaning = { meaning_of_any };
 
-    ghost lawful = { IsLawfulElement };
-
     ghost clear = { clear_of_any };
+
+    ghost lawful = { IsLawfulElement };
 
     ghost laws = { laws_of_any };
 

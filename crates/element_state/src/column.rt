@@ -58,9 +58,9 @@ impl Element for OptionalColumn {
 
     ghost meaning = { meaning_of_column };
 
-    ghost lawful = { λ e. IsLawfulColumn e.number };
-
     ghost clear = { λ e. column_clear e.table e.number };
+
+    ghost lawful = { λ e. IsLawfulColumn e.number };
 
     ghost laws = { λ e lawful. column_laws e.table e.number lawful };
 

@@ -19,6 +19,9 @@ pub trait Element {
     /// Its number, the pair that a row of its table has for it, and what it writes.
     ghost meaning: { Self → Meaning };
 
+    /// The range that a clear of it goes through, and its items there.
+    ghost clear: { Self → ClearRange };
+
     /// What its laws want of it.
     ghost lawful: { Self → Type 0 };
 
@@ -63,9 +66,6 @@ pub trait Element {
     /// The pair that a fill puts for a row.
     fn fill_of(&self, alloc: Global, row: &Row) -> Result<Option<(Bytes, Bytes)>, AllocError>
         ensures { IfOk result (λ pair. pair ≡ fill_pair (meaning self.now) (table self.now, row.now.key) (cells_of row.now)) };
-
-    /// The range that a clear of it goes through, and its items there.
-    ghost clear: { Self → ClearRange };
 
     /// The laws of every kind.
     ghost laws: { (e : Self) → lawful e → Laws (within (table e) (meaning e)) };

@@ -75,9 +75,9 @@ impl Element for IndexElement {
 
     ghost meaning = { meaning_of_index };
 
-    ghost lawful = { λ e. IsLawfulIndex e.number e.columns };
-
     ghost clear = { λ e. index_clear e.number };
+
+    ghost lawful = { λ e. IsLawfulIndex e.number e.columns };
 
     ghost laws = { λ e lawful. index_laws e.table e.number e.columns lawful };
 
