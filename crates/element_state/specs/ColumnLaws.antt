@@ -56,11 +56,13 @@ same_cell_is (Some v) (Some w) e = ap Some (value_cmp-IsAntisymmetric v w ((Equa
 
 -- ---- reading a column's key
 
+-- the table of a row's key
 abbrev key_table : KeyOf → ℕ
 key_table (Exists table key) = table
 key_table (Column table key element) = table
 key_table (Index element values) = 0
 
+-- the primary key of a row's key
 abbrev key_values : KeyOf → List Value
 key_values (Exists table key) = key
 key_values (Column table key element) = key
@@ -79,6 +81,7 @@ module _ (n : ℕ) (lawful : IsLawfulColumn n) where
       λ i. (key_table (same i), key_values (same i))
 
 module _ (n : ℕ) where
+  -- what an operation does to the column's pair at one key
   abbrev Eff : Change → Pairs → Pairs → Bytes → Type 0
   Eff c P Q x = Effect (column_meaning n) c P Q x
 
@@ -179,6 +182,7 @@ module _ (n : ℕ) where
   column_owned lawful WriteOnly c both = owned_deletes c.key c.old c.new (λ r e. column_owned_key n lawful c.key r (both.before r e))
   column_owned lawful Public c both = owned_public c.key c.old c.new (λ r e. column_owned_key n lawful c.key r (both.before r e)) (λ r e. column_owned_key n lawful c.key r (both.after r e))
 
+  -- the new row's pair is there after the operation, if the old row's was there before
   abbrev StandsAfter : ElementState → Type 0
   StandsAfter q = (c : Change) (P : Pairs) → ChangesPublicOnly n q c
       → ((o : Cells) (w : Bytes) → c.old ≡ Some o → coded (get o n) ≡ Some w → get P (column_pair n c.key) ≡ Some w)

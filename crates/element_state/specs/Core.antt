@@ -15,6 +15,7 @@ use Rattle.element_state.specs.Exists.{row_key}
 use Rattle.element_state.specs.Schemas.{Entry, Schema, state_of, Kinds, AreLawful, version_writes, at_own, at_none}
 use Rattle.element_state.specs.Options.{none_some, some_one}
 
+-- the two reorganisations: a fill puts the pairs of an element that is being added, a clear takes those of a dropped one away
 pub data Work : Type 0 where
   Fill : Work
   Clear : Work
@@ -24,17 +25,21 @@ pub record Span : Type 0 where
   pub low : Bytes
   pub cursor : Bytes
 
+-- a key that the reorganisation has passed in one piece
 abbrev pub InSpan : Span → Bytes → Type 0
 InSpan s x = (bytes_cmp x s.low ≢ Less) × (bytes_cmp x s.cursor ≡ Less)
 
+-- a key that it has passed in any of its pieces
 abbrev pub InSpans : List Span → Bytes → Type 0
 InSpans [] x = ⊥
 InSpans (s ∷ ss) x = InSpan s x ⊎ InSpans ss x
 
+-- a begun reorganisation: its work, and what each piece has passed
 pub record Progress : Type 0 where
   pub work : Work
   pub spans : List Span
 
+-- what a store under two usable versions is: the version before the newest, the newest, the next free element number, the begun reorganisations, the pairs, and the rows that they stand for
 pub record Core (K : Type 0) : Type 0 where
   pub before : Schema K
   pub newest : Schema K
@@ -89,6 +94,7 @@ module _ {K : Type 0} (ks : Kinds K) where
   MayRun Fill k q = Grows q
   MayRun Clear k q = ¬ (Grows q)
 
+  -- a begun reorganisation of n: its element is in the newest version, it may run in both, and what it has passed is done
   pub record Reached (n : ℕ) (p : Progress) (before newest : Schema K) (P : Pairs) (R : Rows) : Type 0 where
     pub kind : K
     pub entry : Entry K
@@ -104,6 +110,7 @@ module _ {K : Type 0} (ks : Kinds K) where
   NeverPublic next n None = next ≤ n
   NeverPublic next n (Some e) = (e.adding ≡ true) × (e.state ≢ Public)
 
+  -- what the core keeps from event to event
   pub record Invariant (w : Core K) : Type 0 where
     -- the rows can be named and held, the keys can be read, and the elements are as their laws want them
     pub held : AreStorable w.rows
@@ -138,6 +145,7 @@ module _ {K : Type 0} (ks : Kinds K) where
       let held_after : AreStorable (rows_after R c) = storable_after R c held runs.storable in
       (same_demand m l p _ _ (rows_after R c) held_after same both.0, same_demand m l q _ _ (rows_after R c) held_after same both.1)
 
+  -- an element, if there is one, is as its laws want it
   abbrev IsLawfulEntry : ℕ → Option (Entry K) → Type 0
   IsLawfulEntry n o = (e : Entry K) → o ≡ Some e → ks.lawful n e.kind
 

@@ -18,11 +18,13 @@ use Rattle.element_state.specs.IndexLaws.{removed, no_test, yes_test}
 use Rattle.element_state.specs.Options.{none_some, some_one}
 use Rattle.element_state.specs.Exists.{row_key, exists_by, exists_deletes, exists_writes, exists_exact, exists_meaning}
 
+-- the table of a row's key
 abbrev key_table : KeyOf → ℕ
 key_table (Exists table key) = table
 key_table (Column table key element) = table
 key_table (Index element values) = 0
 
+-- the primary key of a row's key
 abbrev key_values : KeyOf → List Value
 key_values (Exists table key) = key
 key_values (Column table key element) = key
@@ -43,6 +45,7 @@ one_key k l table primary form e =
 pub one_row_key : (k l : RowKey) (r s : Cells) → IsStorableRow k r → IsStorableRow l s → row_key k ≡ row_key l → k ≡ l
 one_row_key k l r s held also e = one_key k l held.table held.primary (row_is_key l s also) e
 
+-- what an operation does to the pairs at one key
 abbrev Eff : Change → Pairs → Pairs → Bytes → Type 0
 Eff c P Q x = Effect (exists_meaning) c P Q x
 
@@ -106,6 +109,7 @@ exists_owned DeleteOnly c both = owned_deletes c.key c.old c.new (λ r e. row_ow
 exists_owned WriteOnly c both = owned_by c.key c.old c.new (λ r e. row_owned_key c.key r (both.before r e)) (λ r e. row_owned_key c.key r (both.after r e))
 exists_owned Public c both = owned_by c.key c.old c.new (λ r e. row_owned_key c.key r (both.before r e)) (λ r e. row_owned_key c.key r (both.after r e))
 
+-- the new row's pair is there after the operation, if the old row's was there before
 abbrev StandsAfter : ElementState → Type 0
 StandsAfter q = (c : Change) (P : Pairs)
     → ((o : Cells) (w : Bytes) → c.old ≡ Some o → Some [] ≡ Some w → get P (row_key c.key) ≡ Some w)

@@ -74,6 +74,7 @@ module _ (n : ℕ) (columns : List ℕ) where
   owned_by true k (Some o) (Some r) p q = elim (same_bytes (index_pair n columns k o) (index_pair n columns k r)) as (λ t. AllKeys (IsKeyOfElement n) (cond t [] (moved true (index_pair n columns k o) (index_pair n columns k r)))) [ true ↦ tt | false ↦ (p o refl, (q r refl, tt)) ]
   owned_by false k (Some o) (Some r) p q = elim (same_bytes (index_pair n columns k o) (index_pair n columns k r)) as (λ t. AllKeys (IsKeyOfElement n) (cond t [] (moved false (index_pair n columns k o) (index_pair n columns k r)))) [ true ↦ tt | false ↦ (p o refl, tt) ]
 
+  -- what an operation does to the index's pairs at one key
   abbrev Eff : Change → Pairs → Pairs → Bytes → Type 0
   Eff c P Q x = Effect (index_meaning n columns) c P Q x
 
@@ -163,6 +164,7 @@ same_indexed (c ∷ cs) r s h =
     ap₂ (λ (v : Value) (vs : List Value). v ∷ vs) (ap (λ o. unwrap_or o Null) (h c (true_or (eqb c c) (lists cs c) (eqb_itself c)))) (same_indexed cs r s (λ i t. h i (or_true (eqb i c) (lists cs i) t)))
 
 module _ (n : ℕ) (columns : List ℕ) where
+  -- the index's key of a row with these indexed values
   abbrev key_with : RowKey → List Value → Bytes
   key_with k vs = index_code n (vs ++ k.1)
 
@@ -200,6 +202,7 @@ pub indexed_length : (columns : List ℕ) (r : Cells) → length (indexed column
 indexed_length [] r = refl
 indexed_length (c ∷ cs) r = ap suc (indexed_length cs r)
 
+-- the values of an index's key
 abbrev index_values : KeyOf → List Value
 index_values (Exists table key) = []
 index_values (Column table key element) = []
@@ -237,6 +240,7 @@ module _ (n : ℕ) (columns : List ℕ) (lawful : IsLawfulIndex n columns) where
   index_owned WriteOnly c both = owned_by n columns true c.key c.old c.new (λ r e. index_owned_key c.key r (both.before r e)) (λ r e. index_owned_key c.key r (both.after r e))
   index_owned Public c both = owned_by n columns true c.key c.old c.new (λ r e. index_owned_key c.key r (both.before r e)) (λ r e. index_owned_key c.key r (both.after r e))
 
+-- the new row's pair is there after the operation, if the old row's was there before
 abbrev StandsAfter : ℕ → List ℕ → ElementState → Type 0
 StandsAfter n columns q = (c : Change) (P : Pairs)
     → ((o : Cells) (w : Bytes) → c.old ≡ Some o → Some [] ≡ Some w → get P (index_pair n columns c.key o) ≡ Some w)

@@ -25,6 +25,7 @@ use Rattle.element_state.specs.Options.{none_some, some_one}
 use Rattle.row_map.specs.Writes.{Writes, written_all}
 use Rattle.element_state.specs.Operations.{fill_pair}
 
+-- one of the keys
 abbrev pub IsIn : Bytes → List Bytes → Type 0
 IsIn x [] = ⊥
 IsIn x (y ∷ ys) = (x ≡ y) ⊎ IsIn x ys
@@ -42,6 +43,7 @@ pub data Bounds : Type 0 where
   AnyKey : Bounds
   RowsOf : (table : ℕ) → Bounds
 
+-- whether a piece may begin or end at a key
 abbrev pub IsBound : Bounds → Bytes → Type 0
 IsBound AnyKey key = Unit {0}
 IsBound (RowsOf table) key = IsRowBound table key

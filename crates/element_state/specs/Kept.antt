@@ -17,6 +17,7 @@ use Rattle.element_state.specs.Versions.{ElementKind, Of, the_kinds, meaning_of}
 use Rattle.element_state.specs.Kinds.{kind_clear}
 use Rattle.element_state.specs.Items.{clear_writes, IsBound}
 
+-- an empty store under one version
 abbrev pub OpeningHolds : Type 0
 OpeningHolds = (s : Schema ElementKind) (next : ℕ) → AreLawful the_kinds s → Invariant the_kinds (opened s next)
 
@@ -26,11 +27,13 @@ TransactionKeeps =
     (w : Core ElementKind) (s : Schema ElementKind) (cs : List Change) → (s ≡ w.before) ⊎ (s ≡ w.newest) → RunsAll the_kinds s w.rows cs
     → Invariant the_kinds w → Invariant the_kinds (committed_all the_kinds w s cs)
 
+-- an allowed step is published: the newest version becomes the one before
 abbrev pub PublicationKeeps : Type 0
 PublicationKeeps =
     (w : Core ElementKind) (s : Schema ElementKind) (next : ℕ) (progress : FinMap nat_cmp Progress) → Steps the_kinds w s next progress
     → Invariant the_kinds w → Invariant the_kinds (published the_kinds w s next progress)
 
+-- a reorganisation begins, where both usable versions have the state for it, with each cursor at its lower bound
 abbrev pub BeginKeeps : Type 0
 BeginKeeps =
     (w : Core ElementKind) (n : ℕ) (f : Entry ElementKind) (work : Work) (lows : List Bytes) → get w.newest n ≡ Some f → (work ≡ Fill → IsTrue ((meaning_of n f.kind).filled))

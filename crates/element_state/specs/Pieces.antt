@@ -44,6 +44,7 @@ fill_puts-filled m filled (i ∷ items) =
 abbrev pub HasPair : Meaning → RowKey → Cells → Type 0
 HasPair m k r = (v : Bytes) × (m.pair_value k r ≡ Some v)
 
+-- each item is a row as it is
 abbrev pub AreRows : Rows → List (RowKey × Cells) → Type 0
 AreRows R [] = Unit {0}
 AreRows R (i ∷ items) = (get R i.0 ≡ Some i.1) × AreRows R items

@@ -28,6 +28,7 @@ module _ {K : Type 0} (ks : Kinds K) where
     pub begun : get w.progress n ≡ Some (record { work = Fill; spans = spans })
     pub all : (l : RowKey) (r : Cells) (v : Bytes) → get w.rows l ≡ Some r → (ks.meaning n k).pair_value l r ≡ Some v → InSpans spans (row_key l)
 
+  -- the element's clear has passed each of its pairs
   pub record ClearEnded (w : Core K) (n : ℕ) : Type 0 where
     pub spans : List Span
     pub begun : get w.progress n ≡ Some (record { work = Clear; spans = spans })
@@ -54,6 +55,7 @@ module _ {K : Type 0} (ks : Kinds K) where
     pub progress_kept : (n : ℕ) (p : Progress) → get progress n ≡ Some p → (get w.progress n ≡ Some p) × (get s n ≡ get w.newest n)
     pub fresh : (n : ℕ) → NeverPublic ks next n (get s n) → NeverPublic ks w.next n (get w.newest n)
 
+  -- the core after the publication: the newest version becomes the one before
   abbrev pub published : Core K → Schema K → ℕ → FinMap nat_cmp Progress → Core K
   published w s next progress = record w { before = w.newest; newest = s; next = next; progress = progress }
 

@@ -28,6 +28,7 @@ with_cursor place to [] = []
 with_cursor zero to (s ∷ ss) = record s { cursor = to } ∷ ss
 with_cursor (suc place) to (s ∷ ss) = s ∷ with_cursor place to ss
 
+-- the cursor of a piece
 abbrev pub cursor_at : ℕ → List Span → Bytes
 cursor_at place [] = []
 cursor_at zero (s ∷ ss) = s.cursor

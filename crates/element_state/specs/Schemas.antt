@@ -21,9 +21,11 @@ pub record Entry (K : Type 0) : Type 0 where
   pub state : ElementState
   pub adding : Bool
 
+-- the elements of a version by number
 abbrev pub Schema : Type 0 → Type 0
 Schema K = FinMap nat_cmp (Entry K)
 
+-- the state of an element in a version
 abbrev pub state_of : {K : Type 0} → Option (Entry K) → ElementState
 state_of None = Absent
 state_of (Some e) = e.state
@@ -35,6 +37,7 @@ pub record Kinds (K : Type 0) : Type 1 where
   pub lawful : ℕ → K → Type 0
   pub laws : (n : ℕ) (k : K) → lawful n k → Laws (meaning n k)
 
+-- what the elements of a list write, in turn
 abbrev pub writes_of : {K : Type 0} → (ℕ → K → Meaning) → List (ℕ × Entry K) → Change → Writes
 writes_of meaning [] c = []
 writes_of meaning (e ∷ es) c = (meaning e.0 e.1.kind).writes e.1.state c ++ writes_of meaning es c
@@ -68,6 +71,7 @@ module _ {K : Type 0} (ks : Kinds K) where
   abbrev pub AreLawful : Schema K → Type 0
   AreLawful s = (n : ℕ) (e : Entry K) → get s n ≡ Some e → ks.lawful n e.kind
 
+  -- each element of a list is as its laws want it
   abbrev LawfulList : List (ℕ × Entry K) → Type 0
   LawfulList [] = Unit {0}
   LawfulList (e ∷ es) = ks.lawful e.0 e.1.kind × LawfulList es

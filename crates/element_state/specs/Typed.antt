@@ -25,6 +25,7 @@ public_or_not Public = inl refl
 
 -- of_kind says whether a value can be a cell of an element of the kind
 module _ {K : Type 0} (ks : Kinds K) (of_kind : K → Value → Type 0) where
+  -- each cell of an element of the version is of its kind's type
   abbrev pub AreTyped : Schema K → Rows → Type 0
   AreTyped s R = (n : ℕ) (e : Entry K) (k : RowKey) (r : Cells) (v : Value) → get s n ≡ Some e → get R k ≡ Some r → get r n ≡ Some v → of_kind e.kind v
 

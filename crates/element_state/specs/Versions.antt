@@ -33,6 +33,7 @@ pub data ElementKind : Type 0 where
   Row : ElementKind
   Of : (table : ℕ) → (kind : Kind) → ElementKind
 
+-- what an element of that kind and number means
 abbrev pub meaning_of : ℕ → ElementKind → Meaning
 meaning_of number Row = record exists_meaning { number = number }
 meaning_of number (Of table kind) = within table (kind_meaning number kind)
@@ -42,6 +43,7 @@ pub record IsLawfulOf (number table : ℕ) (kind : Kind) : Type 0 where
   pub range : HasRange table number
   pub lawful : IsLawfulKind number kind
 
+-- what the laws want of it
 abbrev pub IsLawful : ℕ → ElementKind → Type 0
 IsLawful number Row = number ≡ 0
 IsLawful number (Of table kind) = IsLawfulOf number table kind
@@ -54,6 +56,7 @@ pub laws : (number : ℕ) (kind : ElementKind) → IsLawful number kind → Laws
 laws number Row lawful = subst (λ y. Laws (record exists_meaning { number = y })) (sym lawful) exists_laws
 laws number (Of table kind) lawful = kind_laws table number kind lawful.lawful
 
+-- the kinds that there are
 abbrev pub the_kinds : Kinds ElementKind
 the_kinds = record { meaning = meaning_of; numbered = numbered; lawful = IsLawful; laws = laws }
 
@@ -61,13 +64,16 @@ the_kinds = record { meaning = meaning_of; numbered = numbered; lawful = IsLawfu
 pub one_table : (number table : ℕ) (kind : Kind) (t : ℕ) → IsTrue ((meaning_of number (Of table kind)).serves t) → t ≡ table
 one_table number table kind t e = eqb-true t table e
 
+-- whether the element is on its way in
 abbrev pub is_adding : Way → Bool
 is_adding Adding = true
 is_adding Dropping = false
 
+-- an element of a version as the core sees it
 abbrev pub entry_of : ElementDef → Entry ElementKind
 entry_of element = record { kind = Of element.table element.kind; state = element.state; adding = is_adding element.way }
 
+-- the `exists` pairs as the core sees them
 abbrev pub row_entry : Entry ElementKind
 row_entry = record { kind = Row; state = Public; adding = true }
 

@@ -31,14 +31,17 @@ module _ {K : Type 0} (ks : Kinds K) where
   RunsAll s R [] = Unit {0}
   RunsAll s R (c ∷ cs) = Runs ks s R c × RunsAll s (rows_after R c) cs
 
+  -- the rows after all operations
   abbrev pub rows_after_all : Rows → List Change → Rows
   rows_after_all R [] = R
   rows_after_all R (c ∷ cs) = rows_after_all (rows_after R c) cs
 
+  -- what all operations write, in turn
   abbrev pub all_writes : Schema K → List Change → Writes
   all_writes s [] = []
   all_writes s (c ∷ cs) = version_writes ks s c ++ all_writes s cs
 
+  -- the core after a transaction by a server at version s
   abbrev pub committed_all : Core K → Schema K → List Change → Core K
   committed_all w s cs = record w { pairs = written_all w.pairs (all_writes s cs); rows = rows_after_all w.rows cs }
 

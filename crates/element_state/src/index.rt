@@ -15,14 +15,19 @@ use row_map::{Batch, Row, index_key};
 use schema_version::ElementState;
 use std::alloc::{AllocError, Global};
 
-/// An index over columns of a table.
+/// A secondary index over columns of a table. Each row of the table has one pair for it, without a value, whose key has the row's
+/// values in these columns and then its primary key.
 #[derive(Debug, Drop)]
 pub struct IndexElement {
+    /// The number of its table.
     pub table: u32,
+    /// Its element number.
     pub number: u32,
+    /// The element numbers of its 1 to 4 columns, in the order in which they sort.
     pub columns: Listed<u32>,
 }
 
+/// A row's values in some columns, Null where it has none.
 fn indexed_values(alloc: Global, columns: &[u32], row: &Row) -> Result<Values, AllocError>
     ensures { IfOk result (λ values. values ≡ indexed columns.now (cells_of row.now)) }
 {
