@@ -10,7 +10,8 @@ use Rattle.row_map.proofs.Entries.{each_entry}
 use Rattle.schema_version.specs.declared.element.ElementState.TheVariants.{WriteOnly}
 use Rattle.element_state.specs.Elements.{Meaning, Subset, CoveredAt}
 use Rattle.element_state.specs.Laws.{Laws}
-use Rattle.element_state.specs.Effects.{none_where, not_none}
+use Rattle.element_state.specs.Effects.{none_where}
+use Rattle.element_state.specs.Apart.{not_none}
 use Rattle.element_state.specs.Exists.{row_key}
 use Rattle.element_state.specs.Items.{Between, row_items, ClearRange, ClearFacts, clear_writes, FillCovers, ClearLeavesNone}
 use Rattle.element_state.specs.Clears.{both_true, test_between, entry_kept, facts_kept}

@@ -21,14 +21,14 @@ use Rattle.row_map.proofs.Entries.{each_entry}
 use Rattle.row_map.proofs.Ranges.{row_not_before, row_before_next, index_not_before, index_before_next, index_number, row_no_index, pair_then_row, row_then_pair}
 use Rattle.element_state.specs.Elements.{HasForm, IsKeyOfElement, AreFormed, owner, Meaning, IsFromScratch, Subset}
 use Rattle.element_state.specs.Exists.{row_key}
-use Rattle.element_state.specs.Options.{none_some, some_one}
 use Rattle.element_state.specs.Items.{IsIn, Between, row_items, ClearFacts, AmongEntries}
+use Rattle.element_state.specs.Apart.{false_true, none_some, other_not_less, some_one}
 
 -- ---- tests
 
 pub both_true : (a b : Bool) → a ≡ true → b ≡ true → (a && b) ≡ true
 both_true true b p q = q
-both_true false b p q = absurd cc
+both_true false b p q = absurd (false_true p)
 
 pub left_true : (a b : Bool) → (a && b) ≡ true → a ≡ true
 left_true true b h = refl
@@ -36,7 +36,7 @@ left_true false b h = h
 
 pub right_true : (a b : Bool) → (a && b) ≡ true → b ≡ true
 right_true true b h = h
-right_true false b h = absurd cc
+right_true false b h = absurd (false_true h)
 
 not_less : (o : Ordering) → o ≢ Less → not (is_lt o) ≡ true
 not_less Less h = absurd (h refl)
@@ -48,13 +48,13 @@ less o e = ap is_lt e
 
 is_less : (o : Ordering) → is_lt o ≡ true → o ≡ Less
 is_less Less e = refl
-is_less Equal e = absurd cc
-is_less Greater e = absurd cc
+is_less Equal e = absurd (false_true e)
+is_less Greater e = absurd (false_true e)
 
 is_not_less : (o : Ordering) → not (is_lt o) ≡ true → o ≢ Less
-is_not_less Less e f = absurd cc
-is_not_less Equal e f = cc
-is_not_less Greater e f = cc
+is_not_less Less e f = false_true e
+is_not_less Equal e f = other_not_less Equal tt f
+is_not_less Greater e f = other_not_less Greater tt f
 
 pub test_between : (from to x : Bytes) → Between from to x → is_within from to x ≡ true
 test_between from to x b = both_true _ _ (not_less (bytes_cmp x from) b.0) (less (bytes_cmp x to) b.1)
@@ -67,7 +67,7 @@ between_test from to x h = (is_not_less (bytes_cmp x from) (left_true _ _ h), is
 module _ {K X : Type 0} {R : K → K → Ordering} (o : IsTotalOrder R) (a : IsAntisymmetric R) (test : K × X → Bool) where
   kept_here : (e : K × X) (es : List (K × X)) (k : K) → e.0 ≡ k → (b : Bool) → b ≡ true → AmongEntries k (cond b (e ∷ filter test es) (filter test es))
   kept_here e es k s true t = inl s
-  kept_here e es k s false t = absurd cc
+  kept_here e es k s false t = absurd (false_true t)
 
   kept_later : (e : K × X) (es : List (K × X)) (k : K) (b : Bool) → AmongEntries k (filter test es) → AmongEntries k (cond b (e ∷ filter test es) (filter test es))
   kept_later e es k true h = inr h

@@ -21,7 +21,6 @@ use Rattle.element_state.specs.Laws.{pairs_after, Grows, IsLive, Laws, BesideOne
 use Rattle.element_state.specs.Effects.{Effect, Stays, Gone, Came, KindFacts, bytes_one, pair_here, pair_apart}
 use Rattle.element_state.specs.IndexLaws.{removed, no_test, yes_test}
 use Rattle.element_state.specs.Tables.{within, HasOneRowIn, table_laws}
-use Rattle.element_state.specs.Options.{none_some, some_one}
 use Rattle.element_state.specs.Column.{column_pair, coded, same_cell, put_if_some, column_public, column_deletes, column_writes, column_exact, column_edge, column_reads, column_meaning, column_of, IsLawfulColumn}
 use Rattle.std.specs.Prelude.{◌≡◌, ◌≢◌, ℕ, ◌+◌, ◌<◌, ◌^◌, Bool, true, false, ◌&&◌, not, eqb, cond, List, [], ◌∷◌, ◌++◌, Some, None, filter, ◌⊎◌, refl}
 use Rattle.std.specs.List.{AllByRecursion}
@@ -47,11 +46,12 @@ use Rattle.element_state.specs.Items.{IsIn, Between, row_items, ClearFacts, Amon
 use Rattle.element_state.specs.Clears.{both_true, left_true, right_true, test_between, between_test, entry_kept, facts_kept, first_facts}
 use Rattle.element_state.specs.Column.{column_items, column_clear}
 use Rattle.element_state.specs.Tables.{some_in}
+use Rattle.element_state.specs.Apart.{below_next, false_true, hidden_not_public, none_some, some_one}
 
 same_cell_is : (a b : Option Value) → same_cell a b ≡ true → a ≡ b
 same_cell_is None None e = refl
-same_cell_is None (Some w) e = cc
-same_cell_is (Some v) None e = cc
+same_cell_is None (Some w) e = absurd (false_true e)
+same_cell_is (Some v) None e = absurd (false_true e)
 same_cell_is (Some v) (Some w) e = ap Some (value_cmp-IsAntisymmetric v w ((Equal-is (value_cmp v w)).0 e))
 
 -- ---- reading a column's key
@@ -165,10 +165,10 @@ module _ (n : ℕ) where
 
   -- an ElementState that isn't public
   delete_only : DeleteOnly ≢ Public
-  delete_only e = cc
+  delete_only = hidden_not_public DeleteOnly tt
 
   write_only : WriteOnly ≢ Public
-  write_only e = cc
+  write_only = hidden_not_public WriteOnly tt
 
   column_effect : (q : ElementState) (c : Change) (P : Pairs) → IsLive q → ChangesPublicOnly n q c → (x : Bytes) → Effect (column_meaning n) c P (pairs_after (column_meaning n) q c P) x
   column_effect Absent c P live only x = absurd live
@@ -298,7 +298,7 @@ module _ (table n : ℕ) (fits : table + 1 < 2 ^ 32) (lawful : IsLawfulColumn n)
       let s : IsFromScratch (column_of table n) R x v = sub x v own is in
       let tables : s.key.0 ≡ table = eqb-true s.key.0 table (some_in (eqb s.key.0 table) ((column_meaning n).pair_value s.key s.cells) v s.value_is).0 in
       let pair_is : row_code table s.key.1 n ≡ x = ap (λ t. row_code t s.key.1 n) (sym tables) ∙ s.key_is in (
-        λ e. row_not_before table s.key.1 n (omega arith) (ap (λ y. bytes_cmp y (table_prefix table)) pair_is ∙ e),
+        λ e. row_not_before table s.key.1 n (below_next table (2 ^ 32) fits) (ap (λ y. bytes_cmp y (table_prefix table)) pair_is ∙ e),
         sym (ap (λ y. bytes_cmp y (table_prefix (table + 1))) pair_is) ∙ row_before_next table s.key.1 n fits,
       )
 

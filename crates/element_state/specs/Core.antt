@@ -13,7 +13,7 @@ use Rattle.element_state.specs.Laws.{pairs_after, Operates, Grows, Laws, Joined}
 use Rattle.element_state.specs.Effects.{both_storable, storable_after}
 use Rattle.element_state.specs.Exists.{row_key}
 use Rattle.element_state.specs.Schemas.{Entry, Schema, state_of, Kinds, AreLawful, version_writes, at_own, at_none}
-use Rattle.element_state.specs.Options.{none_some, some_one}
+use Rattle.element_state.specs.Apart.{none_some, some_one}
 
 -- the two reorganisations: a fill puts the pairs of an element that is being added, a clear takes those of a dropped one away
 pub data Work : Type 0 where

@@ -11,6 +11,7 @@ use Rattle.schema_version.specs.declared.element.ElementState.{ElementState}
 use Rattle.schema_version.specs.declared.element.ElementState.TheVariants.{Absent, DeleteOnly, WriteOnly, Public}
 use Rattle.element_state.specs.Elements.{Alike, Change, rows_after, Fits, ChangesPublicOnly, IsStorableNew, IsStorableChange, owner, IsKeyOfElement, Meaning, IsFromScratch, Subset, CoveredAt, Exact, Empty, Demand}
 use Rattle.element_state.specs.Laws.{pairs_after, Operates, Grows, IsLive, Laws, Joined, BesideOne}
+use Rattle.element_state.specs.Apart.{not_none, some_one}
 
 pub bytes_one : (x y : Bytes) → (x ≡ y) ⊎ (x ≢ y)
 bytes_one x y = same_or_apart bytes_cmp_total bytes_cmp-IsAntisymmetric x y
@@ -29,9 +30,6 @@ row_apart R c k ne = written_apart row_cmp_total row_cmp-IsAntisymmetric R c.key
 
 pub key_one : (x y : RowKey) → (x ≡ y) ⊎ (x ≢ y)
 key_one x y = same_or_apart row_cmp_total row_cmp-IsAntisymmetric x y
-
-pub not_none : {A : Type 0} (v : A) (o : Option A) → o ≡ Some v → o ≡ None → ⊥
-not_none v o e f = cc
 
 module _ (m : Meaning) (c : Change) where
   -- the new row has the old row's pair
@@ -192,7 +190,7 @@ module _ (m : Meaning) (one : HasOneRow m) (served : IsServed m) (f : KindFacts 
   pub fill_covers : (P : Pairs) (R : Rows) (k : RowKey) (r : Cells) (w : Bytes) → get R k ≡ Some r → m.pair_value k r ≡ Some w → CoveredAt m (written P (m.pair_key k r) (Some w)) R k
   fill_covers P R k r w at val s v is sval =
       let e : Some r ≡ Some s = sym at ∙ is in
-      let same : r ≡ s = cc in
+      let same : r ≡ s = some_one r s e in
       ap (λ y. get (written P (m.pair_key k r) (Some w)) (m.pair_key k y)) (sym same) ∙ pair_here P (m.pair_key k r) (Some w) ∙ sym val ∙ ap (m.pair_value k) same ∙ sval
 
   pub fill_keeps : (P : Pairs) (R : Rows) → AreStorable R → (k : RowKey) (r : Cells) (w : Bytes) → get R k ≡ Some r → m.pair_value k r ≡ Some w → (l : RowKey) → CoveredAt m P R l → CoveredAt m (written P (m.pair_key k r) (Some w)) R l

@@ -10,13 +10,13 @@ use Rattle.schema_version.specs.declared.element.ElementState.{ElementState}
 use Rattle.schema_version.specs.declared.element.ElementState.TheVariants.{Absent, Public}
 use Rattle.element_state.specs.Elements.{Change, rows_after, Fits, ChangesPublicOnly, cell, HasForm, owner_named}
 use Rattle.element_state.specs.Laws.{pairs_after, Operates, Laws}
-use Rattle.element_state.specs.Effects.{row_here, row_apart, key_one, not_none, none_where, both_storable, storable_after}
+use Rattle.element_state.specs.Effects.{row_here, row_apart, key_one, none_where, both_storable, storable_after}
 use Rattle.element_state.specs.Schemas.{Entry, Schema, state_of, Kinds, AreLawful, version_writes, at_own, formed_writes}
 use Rattle.element_state.specs.Core.{Work, Fill, Clear, Span, Progress, Core, NoCell, JoinedAt, Runs, Passed, MayRun, Reached, NeverPublic, Invariant, used_lawful, committed, meets_after}
-use Rattle.element_state.specs.Options.{none_some, some_one}
+use Rattle.element_state.specs.Apart.{not_none, hidden_not_public, none_some, some_one}
 
 absent_not_public : Absent ≢ Public
-absent_not_public e = cc
+absent_not_public = hidden_not_public Absent tt
 
 old_bare : (n : ℕ) (k : RowKey) (R : Rows) → NoCell n R → (o : Option Cells) → get R k ≡ o → cell o n ≡ None
 old_bare n k R none None is = refl

@@ -15,8 +15,8 @@ use Rattle.element_state.specs.Elements.{Alike, Change, ChangesPublicOnly, IsSto
 use Rattle.element_state.specs.Laws.{pairs_after, Grows, IsLive, Laws}
 use Rattle.element_state.specs.Effects.{Effect, Stays, Gone, Came, KindFacts, HasOneRow, bytes_one, pair_here, pair_apart, laws_from_facts}
 use Rattle.element_state.specs.IndexLaws.{removed, no_test, yes_test}
-use Rattle.element_state.specs.Options.{none_some, some_one}
 use Rattle.element_state.specs.Exists.{row_key, exists_by, exists_deletes, exists_writes, exists_exact, exists_meaning}
+use Rattle.element_state.specs.Apart.{none_some, some_one}
 
 -- the table of a row's key
 abbrev key_table : KeyOf → ℕ

@@ -5,6 +5,7 @@ use Rattle.std.specs.Cmp.{Equal-is}
 use Rattle.std.specs.List.{list_any}
 use Rattle.std.specs.Ordering.{eq_by_cmp}
 use Rattle.std.proofs.Common.{eq-eqb, ap₂, true≢false, sym, ap, ◌∙◌, inl, inr, arith}
+use Rattle.std.proofs.Math.Nat.{add-le-add}
 use Rattle.std.proofs.lemmas.List.{length-append, drop_at}
 use mathlib.Core.List.{map as each}
 use Rattle.keycode.specs.declared.value.Value.{Value}
@@ -25,7 +26,6 @@ use Rattle.element_state.specs.Elements.{Alike, Change, ChangesPublicOnly, IsSto
 use Rattle.element_state.specs.Laws.{pairs_after, Grows, IsLive, Laws, BesideOne}
 use Rattle.element_state.specs.Effects.{Effect, Stays, Gone, Came, KindFacts, bytes_one, pair_here, pair_apart}
 use Rattle.element_state.specs.Tables.{within, HasOneRowIn, table_laws}
-use Rattle.element_state.specs.Options.{none_some, some_one}
 use Rattle.element_state.specs.Index.{indexed, index_pair, same_bytes, moved, index_by, index_writes, index_exact, index_edge, lists, index_meaning, index_of, IsLawfulIndex}
 use Rattle.std.specs.Prelude.{◌≡◌, ◌≢◌, ℕ, ◌+◌, ◌<◌, ◌^◌, Bool, true, false, ◌&&◌, not, eqb, cond, List, [], ◌∷◌, ◌++◌, Some, None, filter, ◌⊎◌, refl}
 use Rattle.std.specs.List.{AllByRecursion}
@@ -48,9 +48,10 @@ use Rattle.element_state.specs.Exists.{row_key}
 use Rattle.element_state.specs.Items.{IsIn, Between, row_items, ClearFacts, AmongEntries}
 use Rattle.element_state.specs.Clears.{both_true, left_true, right_true, test_between, between_test, entry_kept, facts_kept, first_facts}
 use Rattle.element_state.specs.Index.{index_items, index_clear}
+use Rattle.element_state.specs.Apart.{below_next, false_true, none_some, some_one}
 
 pub no_test : IsTrue false → ⊥
-no_test e = cc
+no_test e = false_true e
 
 pub yes_test : IsTrue true
 yes_test = refl
@@ -209,12 +210,15 @@ index_values (Column table key element) = []
 index_values (Index element values) = values
 
 module _ (n : ℕ) (columns : List ℕ) (lawful : IsLawfulIndex n columns) where
+  length_both : (k : RowKey) (r : Cells) → length (indexed columns r ++ k.1) ≡ length columns + length k.1
+  length_both k r = length-append (indexed columns r) k.1 ∙ ap (λ l. l + length k.1) (indexed_length columns r)
+
   pub index_is_key : (k : RowKey) (r : Cells) → IsStorableRow k r → IsKey (Index n (indexed columns r ++ k.1))
   index_is_key k r held = (
     lawful.number,
     record {
-      low_number = omega (arith, length-append (indexed columns r) k.1, indexed_length columns r, lawful.some_columns, held.primary.low_number);
-      high_number = omega (arith, length-append (indexed columns r) k.1, indexed_length columns r, lawful.few_columns, held.primary.high_number);
+      low_number = subst (λ l. 2 ≤ l) (sym (length_both k r)) (add-le-add lawful.some_columns held.primary.low_number);
+      high_number = subst (λ l. l ≤ 8) (sym (length_both k r)) (add-le-add lawful.few_columns held.primary.high_number);
       values = AllByRecursion-append IsValue (indexed columns r) k.1 (indexed_values columns r held.values) held.primary.values;
       short = AllByRecursion-append IsShort (indexed columns r) k.1 (indexed_short columns r held.values) held.primary.short;
     },
@@ -314,7 +318,7 @@ key_in test (e ∷ es) x v is t = elim (same_or_apart bytes_cmp_total bytes_cmp-
   where
     here : (b : Bool) → b ≡ true → x ≡ e.0 → IsIn x (cond b (e.0 ∷ filter test (each (λ (e : Bytes × Bytes). e.0) es)) (filter test (each (λ (e : Bytes × Bytes). e.0) es)))
     here true t s = inl s
-    here false t s = absurd cc
+    here false t s = absurd (false_true t)
 
     later : (b : Bool) → IsIn x (filter test (each (λ (e : Bytes × Bytes). e.0) es)) → IsIn x (cond b (e.0 ∷ filter test (each (λ (e : Bytes × Bytes). e.0) es)) (filter test (each (λ (e : Bytes × Bytes). e.0) es)))
     later true h = inr h
@@ -346,7 +350,7 @@ module _ (table n : ℕ) (columns : List ℕ) (fits : n + 1 < 2 ^ 32) where
   index_whole : (R : Rows) (P : Pairs) (x v : Bytes) → AreStorable R → Subset (index_of table n columns) P R → owner x ≡ Some n → get P x ≡ Some v → Between (index_prefix n) (index_prefix (n + 1)) x
   index_whole R P x v held sub own is =
       let s : IsFromScratch (index_of table n columns) R x v = sub x v own is in (
-        λ e. index_not_before n (indexed columns s.cells ++ s.key.1) (omega arith) (ap (λ y. bytes_cmp y (index_prefix n)) s.key_is ∙ e),
+        λ e. index_not_before n (indexed columns s.cells ++ s.key.1) (below_next n (2 ^ 32) fits) (ap (λ y. bytes_cmp y (index_prefix n)) s.key_is ∙ e),
         sym (ap (λ y. bytes_cmp y (index_prefix (n + 1))) s.key_is) ∙ index_before_next n (indexed columns s.cells ++ s.key.1) fits,
       )
 

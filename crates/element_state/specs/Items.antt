@@ -21,9 +21,9 @@ use Rattle.row_map.proofs.Entries.{each_entry}
 use Rattle.row_map.proofs.Ranges.{row_not_before, row_before_next, index_not_before, index_before_next, index_number, row_no_index, pair_then_row, row_then_pair}
 use Rattle.element_state.specs.Elements.{HasForm, IsKeyOfElement, AreFormed, owner, Meaning, IsFromScratch, Subset, CoveredAt}
 use Rattle.element_state.specs.Exists.{row_key}
-use Rattle.element_state.specs.Options.{none_some, some_one}
 use Rattle.row_map.specs.Writes.{Writes, written_all}
 use Rattle.element_state.specs.Operations.{fill_pair}
+use Rattle.element_state.specs.Apart.{none_some, some_one}
 
 -- one of the keys
 abbrev pub IsIn : Bytes → List Bytes → Type 0

@@ -11,14 +11,14 @@ use Rattle.schema_version.specs.declared.element.ElementState.{ElementState}
 use Rattle.schema_version.specs.declared.element.ElementState.TheVariants.{Absent, DeleteOnly, WriteOnly, Public}
 use Rattle.element_state.specs.Elements.{owner, AreFormed, HasForm, IsKeyOfElement, form_named, owner_named, Meaning, CoveredAt, Demand}
 use Rattle.element_state.specs.Laws.{Grows, IsLive, Laws}
-use Rattle.element_state.specs.Effects.{not_none, none_where, pair_here}
+use Rattle.element_state.specs.Effects.{none_where, pair_here}
 use Rattle.element_state.specs.Exists.{row_key}
 use Rattle.element_state.specs.IndexLaws.{removed}
 use Rattle.element_state.specs.Items.{IsIn, AmongEntries, clear_writes, put_pair, fill_puts}
 use Rattle.element_state.specs.Schemas.{Entry, state_of, Kinds}
 use Rattle.element_state.specs.Core.{Work, Fill, Clear, Span, InSpans, Progress, Core, Meets, JoinedAt, Passed, Reached, Invariant, same_demand}
 use Rattle.element_state.specs.Whole.{number_one}
-use Rattle.element_state.specs.Options.{none_some, some_one}
+use Rattle.element_state.specs.Apart.{not_none, none_some, some_one}
 
 -- the pair of a row, if it has one
 abbrev pub item_write : Bytes → Option Bytes → Writes

@@ -8,14 +8,14 @@ use Rattle.schema_version.specs.declared.element.ElementState.{ElementState}
 use Rattle.schema_version.specs.declared.element.ElementState.TheVariants.{Absent, DeleteOnly, WriteOnly, Public}
 use Rattle.element_state.specs.Elements.{owner, Meaning, Subset, CoveredAt, Exact, Empty, Demand}
 use Rattle.element_state.specs.Laws.{IsLive}
-use Rattle.element_state.specs.Effects.{not_none, none_where}
+use Rattle.element_state.specs.Effects.{none_where}
 use Rattle.element_state.specs.Exists.{row_key}
 use Rattle.element_state.specs.Schemas.{Entry, Schema, state_of, Kinds, AreLawful}
 use Rattle.element_state.specs.Core.{Fill, Clear, Span, InSpans, Progress, Core, Meets, JoinedAt, MayRun, NeverPublic, Invariant}
-use Rattle.element_state.specs.Options.{none_some, some_one}
+use Rattle.element_state.specs.Apart.{not_none, hidden_not_public, none_some, some_one}
 
 absent_public : Absent ≡ Public → ⊥
-absent_public e = cc
+absent_public = hidden_not_public Absent tt
 
 module _ {K : Type 0} (ks : Kinds K) where
   never_public : (next n : ℕ) (o : Option (Entry K)) → NeverPublic ks next n o → state_of o ≢ Public

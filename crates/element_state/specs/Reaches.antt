@@ -20,7 +20,7 @@ use Rattle.element_state.specs.Core.{Fill, Clear, Span, InSpans, Core, Invariant
 use Rattle.element_state.specs.Pieces.{AreRows, fill_writes, moved, fill_kept, clear_kept}
 use Rattle.element_state.specs.Publishing.{FillEnded, ClearEnded, subset_meets}
 use Rattle.element_state.specs.Ended.{Piece, passed_spans, AreJoined, HaveEnded, less_or_not, all_passed}
-use Rattle.element_state.specs.Options.{some_one}
+use Rattle.element_state.specs.Apart.{below_next, some_one}
 
 -- one cursor is moved
 abbrev pub with_cursor : ℕ → Bytes → List Span → List Span
@@ -95,7 +95,7 @@ module _ {K : Type 0} (ks : Kinds K) where
     all = λ l r v at val.
         let tables : l.0 ≡ table = one l.0 (law.served l r v val) in
         all_passed ps (table_prefix table) (table_prefix (table + 1)) (row_key l) joined ended
-        (λ e. row_not_before l.0 l.1 0 (subst (λ (t : ℕ). t < 2 ^ 32) (sym tables) (omega arith)) (ap (λ t. bytes_cmp (row_key l) (table_prefix t)) tables ∙ e))
+        (λ e. row_not_before l.0 l.1 0 (subst (λ (t : ℕ). t < 2 ^ 32) (sym tables) (below_next table (2 ^ 32) fits)) (ap (λ t. bytes_cmp (row_key l) (table_prefix t)) tables ∙ e))
         (ap (λ t. bytes_cmp (row_key l) (table_prefix (t + 1))) (sym tables) ∙ row_before_next l.0 l.1 0 (subst (λ (t : ℕ). t + 1 < 2 ^ 32) (sym tables) fits));
   }
 

@@ -13,7 +13,7 @@ use Rattle.schema_version.specs.declared.element.ElementState.{ElementState}
 use Rattle.schema_version.specs.declared.element.ElementState.TheVariants.{Absent}
 use Rattle.element_state.specs.Elements.{Change, IsStorableChange, owner, HasForm, IsKeyOfElement, form_named, owner_named, Meaning}
 use Rattle.element_state.specs.Laws.{pairs_after, Laws}
-use Rattle.element_state.specs.Options.{none_some, some_one}
+use Rattle.element_state.specs.Apart.{none_some, some_one}
 
 -- an element as a version has it. A number that a version lacks is absent there
 pub record Entry (K : Type 0) : Type 0 where
@@ -64,7 +64,7 @@ first false b h = absurd h
 found : {X : Type 0} (n : ℕ) (e : ℕ × X) (es : List (ℕ × X)) → n ≡ e.0 → find nat_cmp n (e ∷ es) ≡ None → ⊥
 found n e es s none =
     let here : find nat_cmp n (e ∷ es) ≡ Some e.1 = ap (λ t. cond t (Some e.1) (find nat_cmp n es)) (ap (λ y. eq_by_cmp nat_cmp n y) (sym s) ∙ tied nat_cmp_total nat_cmp-IsAntisymmetric n) in
-    cc
+    none_some e.1 (sym none ∙ here)
 
 module _ {K : Type 0} (ks : Kinds K) where
   -- every element of a version is as its laws want it

@@ -18,7 +18,7 @@ use Rattle.schema_version.specs.declared.element.ElementDef.{ElementDef}
 use Rattle.schema_version.specs.Version.{Version}
 use Rattle.element_state.specs.Elements.{Meaning, IsFromScratch, Exact, owner, owner_named}
 use Rattle.element_state.specs.Laws.{Laws}
-use Rattle.element_state.specs.Effects.{not_none, none_where}
+use Rattle.element_state.specs.Effects.{none_where}
 use Rattle.element_state.specs.Tables.{within}
 use Rattle.element_state.specs.Exists.{exists_meaning, row_key}
 use Rattle.element_state.specs.ExistsLaws.{exists_laws, one_key}
@@ -26,7 +26,7 @@ use Rattle.element_state.specs.Kinds.{kind_meaning, IsLawfulKind, kind_laws, kin
 use Rattle.element_state.specs.Items.{HasRange}
 use Rattle.element_state.specs.Schemas.{Entry, Schema, Kinds}
 use Rattle.element_state.specs.Core.{IsConsistent, Meets}
-use Rattle.element_state.specs.Options.{some_one}
+use Rattle.element_state.specs.Apart.{not_none, some_one}
 
 -- the `exists` pairs of all rows, or an element of a table
 pub data ElementKind : Type 0 where

@@ -11,7 +11,7 @@ use Rattle.element_state.specs.Exists.{row_key}
 use Rattle.element_state.specs.Schemas.{Entry, Schema, state_of, Kinds, version_writes}
 use Rattle.element_state.specs.Core.{Work, Fill, Clear, Span, InSpans, Core, Passed, MayRun, Reached, Invariant, Runs, committed}
 use Rattle.element_state.specs.Events.{commit_kept}
-use Rattle.element_state.specs.Options.{some_one}
+use Rattle.element_state.specs.Apart.{some_one}
 
 pub number_one : (x y : ℕ) → (x ≡ y) ⊎ (x ≢ y)
 number_one x y = same_or_apart nat_cmp_total nat_cmp-IsAntisymmetric x y
