@@ -10,12 +10,12 @@ use Rattle.element_state.specs.Schemas.{Entry, Schema, state_of, AreLawful}
 use Rattle.element_state.specs.Core.{Core, Work, Fill, Clear, Span, MayRun, Progress, Invariant}
 use Rattle.element_state.specs.Whole.{RunsAll, committed_all, fresh_spans}
 use Rattle.element_state.specs.Publishing.{Steps, published}
-use Rattle.element_state.specs.Pieces.{moved, fill_writes}
+use Rattle.element_state.specs.Pieces.{moved}
 use Rattle.element_state.specs.Reaches.{with_cursor, cursor_at, fill_items}
 use Rattle.element_state.specs.Opening.{opened}
 use Rattle.element_state.specs.Versions.{ElementKind, Of, the_kinds, meaning_of}
 use Rattle.element_state.specs.Kinds.{kind_clear}
-use Rattle.element_state.specs.Items.{clear_writes, IsBound}
+use Rattle.element_state.specs.Items.{fill_puts, clear_writes, IsBound}
 
 -- an empty store under one version
 abbrev pub OpeningHolds : Type 0
@@ -40,14 +40,14 @@ BeginKeeps =
     → MayRun the_kinds work f.kind (state_of (get w.before n)) → MayRun the_kinds work f.kind (state_of (get w.newest n))
     → Invariant the_kinds w → Invariant the_kinds (record w { progress = insert w.progress n (record { work = work; spans = fresh_spans lows }) })
 
--- the rows from the old cursor to below the new one get their pairs
+-- a piece of a fill puts what `fill_of` gives for each row from the old cursor to below the new one
 abbrev pub FillKeeps : Type 0
 FillKeeps =
     (w : Core ElementKind) (n : ℕ) (f : Entry ElementKind) (old : List Span) (place : ℕ) (to : Bytes) → Invariant the_kinds w
     → get w.newest n ≡ Some f → get w.progress n ≡ Some (record { work = Fill; spans = old })
-    → Invariant the_kinds (moved the_kinds w n (record { work = Fill; spans = with_cursor place to old }) (written_all w.pairs (fill_writes (meaning_of n f.kind) (fill_items the_kinds (meaning_of n f.kind) w.rows (cursor_at place old) to))))
+    → Invariant the_kinds (moved the_kinds w n (record { work = Fill; spans = with_cursor place to old }) (written_all w.pairs (fill_puts (meaning_of n f.kind) (fill_items the_kinds (meaning_of n f.kind) w.rows (cursor_at place old) to))))
 
--- the items from the old cursor to below the new one lose their pairs
+-- a piece of a clear removes each item from the old cursor to below the new one
 abbrev pub ClearKeeps : Type 0
 ClearKeeps =
     (w : Core ElementKind) (n table : ℕ) (kind : Kind) (f : Entry ElementKind) (old : List Span) (place : ℕ) (to : Bytes) → Invariant the_kinds w

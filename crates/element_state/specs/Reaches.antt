@@ -1,5 +1,5 @@
 -- The pieces of fills and clears as they are: what they write are the items between two cursors, and nothing there is left out.
-use Rattle.std.specs.Prelude.{◌≡◌, ◌⊎◌, ℕ, zero, suc, ◌+◌, ◌<◌, ◌^◌, ◌&&◌, true, IsTrue, List, [], ◌∷◌, Some}
+use Rattle.std.specs.Prelude.{refl, ◌≡◌, ◌⊎◌, ℕ, zero, suc, ◌+◌, ◌<◌, ◌^◌, ◌&&◌, true, IsTrue, List, [], ◌∷◌, Some}
 use Rattle.std.specs.List.{AllByRecursion}
 use Rattle.std.specs.FinMap.{get, entries}
 use Rattle.std.proofs.Common.{sym, ap, subst, ◌∙◌, inl, inr, arith}
@@ -13,11 +13,11 @@ use Rattle.row_map.proofs.Ranges.{row_not_before, row_before_next}
 use Rattle.element_state.specs.Elements.{IsKeyOfElement, Meaning, Subset}
 use Rattle.element_state.specs.Laws.{Laws}
 use Rattle.element_state.specs.Exists.{row_key}
-use Rattle.element_state.specs.Items.{Between, row_items, clear_writes, ClearRange, IsBound, ClearFacts}
+use Rattle.element_state.specs.Items.{fill_puts, Between, row_items, clear_writes, ClearRange, IsBound, ClearFacts}
 use Rattle.element_state.specs.Clears.{entry_kept, facts_kept, both_true, test_between}
 use Rattle.element_state.specs.Schemas.{Entry, Kinds}
-use Rattle.element_state.specs.Core.{Fill, Clear, Span, InSpans, Core, Invariant}
-use Rattle.element_state.specs.Pieces.{AreRows, fill_writes, moved, fill_kept, clear_kept}
+use Rattle.element_state.specs.Core.{Reached, Fill, Clear, Span, InSpans, Core, Invariant}
+use Rattle.element_state.specs.Pieces.{AreRows, fill_puts-filled, fill_writes, moved, fill_kept, clear_kept}
 use Rattle.element_state.specs.Publishing.{FillEnded, ClearEnded, subset_meets}
 use Rattle.element_state.specs.Ended.{Piece, passed_spans, AreJoined, HaveEnded, less_or_not, all_passed}
 use Rattle.element_state.specs.Apart.{below_next, some_one}
@@ -71,6 +71,17 @@ module _ {K : Type 0} (ks : Kinds K) where
         | inl was ↦ inl was
         | inr between ↦ inr (entry_kept row_cmp_total row_cmp-IsAntisymmetric test w.rows j r there (both_true _ _ (law.served j r has.0 has.1) (test_between (cursor_at place old) to (row_key j) between)))
       ])
+
+  -- the same in what `fill_of` gives for each row
+  pub fill_puts_kept : (w : Core K) (n : ℕ) (f : Entry K) (old : List Span) (place : ℕ) (to : Bytes) → Invariant ks w → get w.newest n ≡ Some f → get w.progress n ≡ Some (record { work = Fill; spans = old })
+      → Invariant ks (moved ks w n (record { work = Fill; spans = with_cursor place to old }) (written_all w.pairs (fill_puts (ks.meaning n f.kind) (fill_items (ks.meaning n f.kind) w.rows (cursor_at place old) to))))
+  fill_puts_kept w n f old place to i is begun =
+      let m = ks.meaning n f.kind in
+      let r : Reached ks n (record { work = Fill; spans = old }) w.before w.newest w.pairs w.rows = i.reached n _ begun in
+      let same : r.kind ≡ f.kind = sym r.kind_is ∙ ap (λ (e : Entry K). e.kind) (some_one r.entry f (sym r.entry_is ∙ is)) in
+      let filled : IsTrue (m.filled) = subst (λ k. IsTrue ((ks.meaning n k).filled)) same (r.filled refl) in
+      subst (λ ws. Invariant ks (moved ks w n (record { work = Fill; spans = with_cursor place to old }) (written_all w.pairs ws))) (sym (fill_puts-filled m filled (fill_items m w.rows (cursor_at place old) to)))
+      (fill_piece_kept w n f old place to i is begun)
 
   -- a piece of a clear takes each item from the old cursor to below the new one away
   pub clear_piece_kept : (w : Core K) (n : ℕ) (f : Entry K) (old : List Span) (place : ℕ) (to : Bytes) (range : ClearRange) → ClearFacts (ks.meaning n f.kind) range → Invariant ks w
