@@ -1,8 +1,8 @@
 -- The sixth law, for any kind: what a piece of a fill covers, and what a piece of a clear leaves.
-use Rattle.std.specs.Prelude.{◌≡◌, ◌&&◌, true, IsTrue, List, Some}
+use Rattle.std.specs.Prelude.{◌≡◌, ◌&&◌, true, List, Some}
 use Rattle.std.specs.FinMap.{get, entries}
 use Rattle.std.proofs.Common.{sym, subst}
-use Rattle.row_map.specs.Rows.{Bytes, RowKey, Cells, Rows, Pairs, row_cmp, AreStorable}
+use Rattle.row_map.specs.Rows.{Bytes, RowKey, Cells, Rows, row_cmp}
 use Rattle.row_map.specs.Writes.{written_all}
 use Rattle.row_map.specs.Ranges.{is_within}
 use Rattle.row_map.proofs.Orders.{row_cmp_total, row_cmp-IsAntisymmetric}
@@ -15,7 +15,7 @@ use Rattle.element_state.specs.Apart.{not_none}
 use Rattle.element_state.specs.Exists.{row_key}
 use Rattle.element_state.specs.Items.{Between, row_items, ClearRange, ClearFacts, clear_writes, FillCovers, ClearLeavesNone}
 use Rattle.element_state.specs.Clears.{both_true, test_between, entry_kept, facts_kept}
-use Rattle.element_state.specs.Pieces.{AreRows, fill_writes, fill_puts-filled, fill_demand, fill_reaches, clear_gone, clear_shrinks}
+use Rattle.element_state.specs.Pieces.{AreRows, fill_puts-filled, fill_demand, fill_reaches, clear_gone, clear_shrinks}
 use Rattle.element_state.specs.Reaches.{rows_there}
 
 -- the rows of a piece are rows

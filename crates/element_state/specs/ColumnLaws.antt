@@ -1,49 +1,41 @@
 -- The laws of an optional column.
-use Rattle.std.specs.Prelude.{◌≡◌, ◌≢◌, ℕ, ◌<◌, ◌^◌, Bool, true, false, IsTrue, List, [], ◌∷◌, Option, Some, None, cond, refl, eqb, option_map}
+use Rattle.std.specs.Prelude.{◌≡◌, ◌≢◌, ℕ, ◌<◌, ◌^◌, Bool, true, false, IsTrue, List, [], ◌∷◌, Option, Some, None, cond, refl, eqb}
 use Rattle.std.specs.FinMap.{get}
 use Rattle.std.specs.Cmp.{Equal-is}
-use Rattle.std.specs.Ordering.{eq_by_cmp}
 use Rattle.std.proofs.Common.{eq-eqb, ap₂, sym, ap, ◌∙◌, inl, inr}
 use Rattle.keycode.specs.declared.value.Value.{Value}
 use Rattle.keycode.specs.Order.{value_cmp}
-use Rattle.keycode.specs.Code.{code}
 use Rattle.keycode.proofs.Orders.{value_cmp-IsAntisymmetric}
 use Rattle.row_map.specs.declared.key.KeyOf.{KeyOf}
 use Rattle.row_map.specs.declared.key.KeyOf.TheVariants.{Exists, Column, Index}
 use Rattle.row_map.specs.Keys.{row_code, IsKey}
 use Rattle.row_map.specs.Rows.{Bytes, RowKey, Cells, Pairs, IsStorableRow}
-use Rattle.row_map.specs.Writes.{Writes, written, written_all, AllKeys}
+use Rattle.row_map.specs.Writes.{written, written_all, AllKeys}
 use Rattle.row_map.proofs.KeyLaws.{same_key}
 use Rattle.schema_version.specs.declared.element.ElementState.{ElementState}
 use Rattle.schema_version.specs.declared.element.ElementState.TheVariants.{Absent, DeleteOnly, WriteOnly, Public}
-use Rattle.element_state.specs.Elements.{Alike, Change, ChangesPublicOnly, IsStorableChange, cell, IsKeyOfElement, Meaning}
+use Rattle.element_state.specs.Elements.{Alike, Change, ChangesPublicOnly, IsStorableChange, cell, IsKeyOfElement}
 use Rattle.element_state.specs.Laws.{pairs_after, Grows, IsLive, Laws, BesideOne}
 use Rattle.element_state.specs.Effects.{Effect, Stays, Gone, Came, KindFacts, bytes_one, pair_here, pair_apart}
 use Rattle.element_state.specs.IndexLaws.{removed, no_test, yes_test}
-use Rattle.element_state.specs.Tables.{within, HasOneRowIn, table_laws}
+use Rattle.element_state.specs.Tables.{HasOneRowIn, table_laws}
 use Rattle.element_state.specs.Column.{column_pair, coded, same_cell, put_if_some, column_public, column_deletes, column_writes, column_exact, column_edge, column_reads, column_meaning, column_of, IsLawfulColumn}
-use Rattle.std.specs.Prelude.{◌≡◌, ◌≢◌, ℕ, ◌+◌, ◌<◌, ◌^◌, Bool, true, false, ◌&&◌, not, eqb, cond, List, [], ◌∷◌, ◌++◌, Some, None, filter, ◌⊎◌, refl}
+use Rattle.std.specs.Prelude.{◌≡◌, ◌≢◌, ℕ, ◌+◌, ◌<◌, ◌^◌, Bool, true, false, ◌&&◌, eqb, cond, List, [], ◌∷◌, Some, None, refl}
 use Rattle.std.specs.List.{AllByRecursion}
-use Rattle.std.specs.Cmp.{IsTotalOrder}
-use Rattle.std.specs.FinMap.{FinMap, IsAntisymmetric, get, find, entries, get-entries}
-use Rattle.std.specs.declared.cmp.Ordering.{Ordering}
-use Rattle.std.specs.declared.cmp.Ordering.TheVariants.{Less, Equal, Greater}
-use Rattle.std.specs.Ordering.{is_lt, eq_by_cmp}
-use Rattle.std.proofs.Common.{sym, ap, subst, ◌∙◌, inl, inr, arith, eqb-true}
+use Rattle.std.specs.FinMap.{get, entries}
+use Rattle.std.proofs.Common.{sym, ap, subst, ◌∙◌, inl, inr, eqb-true}
 use mathlib.Core.List.{map as each}
 use Rattle.keycode.specs.Order.{bytes_cmp}
-use Rattle.keycode.proofs.Orders.{bytes_cmp_total, bytes_cmp-IsAntisymmetric}
-use Rattle.row_map.specs.Keys.{key_code, IsKey, row_code}
+use Rattle.row_map.specs.Keys.{IsKey, row_code}
 use Rattle.row_map.specs.Rows.{Bytes, RowKey, Cells, Rows, Pairs, row_cmp, AreStorable, IsStorableRow}
-use Rattle.row_map.specs.Ranges.{is_within, table_prefix, index_prefix, IsRowBound}
+use Rattle.row_map.specs.Ranges.{is_within, table_prefix, IsRowBound}
 use Rattle.row_map.proofs.Orders.{row_cmp_total, row_cmp-IsAntisymmetric}
-use Rattle.byte_map.proofs.Written.{same_or_apart, tied, apart}
 use Rattle.row_map.proofs.Entries.{each_entry}
-use Rattle.row_map.proofs.Ranges.{row_not_before, row_before_next, index_not_before, index_before_next, index_number, row_no_index, pair_then_row, row_then_pair}
-use Rattle.element_state.specs.Elements.{HasForm, IsKeyOfElement, AreFormed, owner, Meaning, IsFromScratch, Subset}
+use Rattle.row_map.proofs.Ranges.{row_not_before, row_before_next, pair_then_row, row_then_pair}
+use Rattle.element_state.specs.Elements.{IsKeyOfElement, owner, IsFromScratch, Subset}
 use Rattle.element_state.specs.Exists.{row_key}
 use Rattle.element_state.specs.Items.{IsIn, Between, row_items, ClearFacts, AmongEntries}
-use Rattle.element_state.specs.Clears.{both_true, left_true, right_true, test_between, between_test, entry_kept, facts_kept, first_facts}
+use Rattle.element_state.specs.Clears.{both_true, test_between, entry_kept, facts_kept, first_facts}
 use Rattle.element_state.specs.Column.{column_items, column_clear}
 use Rattle.element_state.specs.Tables.{some_in}
 use Rattle.element_state.specs.Apart.{below_next, false_true, hidden_not_public, none_some, some_one}

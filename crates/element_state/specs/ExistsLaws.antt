@@ -1,22 +1,22 @@
 -- The laws of the `exists` pairs.
-use Rattle.std.specs.Prelude.{◌≡◌, ℕ, ◌<◌, ◌^◌, Bool, true, false, IsTrue, List, [], ◌∷◌, Option, Some, None, refl}
+use Rattle.std.specs.Prelude.{◌≡◌, ℕ, ◌<◌, ◌^◌, Bool, false, IsTrue, List, [], Option, Some, None, refl}
 use Rattle.std.specs.FinMap.{get}
 use Rattle.std.proofs.Common.{true≢false, sym, ap, ◌∙◌, inl, inr}
 use Rattle.keycode.specs.declared.value.Value.{Value}
 use Rattle.row_map.specs.declared.key.KeyOf.{KeyOf}
 use Rattle.row_map.specs.declared.key.KeyOf.TheVariants.{Exists, Column, Index}
-use Rattle.row_map.specs.Keys.{row_code, AreKeyValues, IsKey}
+use Rattle.row_map.specs.Keys.{AreKeyValues, IsKey}
 use Rattle.row_map.specs.Rows.{Bytes, RowKey, Cells, Pairs, IsStorableRow}
-use Rattle.row_map.specs.Writes.{Writes, written, written_all, AllKeys}
+use Rattle.row_map.specs.Writes.{written, written_all, AllKeys}
 use Rattle.row_map.proofs.KeyLaws.{same_key}
 use Rattle.schema_version.specs.declared.element.ElementState.{ElementState}
 use Rattle.schema_version.specs.declared.element.ElementState.TheVariants.{Absent, DeleteOnly, WriteOnly, Public}
-use Rattle.element_state.specs.Elements.{Alike, Change, ChangesPublicOnly, IsStorableChange, IsKeyOfElement, Meaning}
+use Rattle.element_state.specs.Elements.{Alike, Change, ChangesPublicOnly, IsStorableChange, IsKeyOfElement}
 use Rattle.element_state.specs.Laws.{pairs_after, Grows, IsLive, Laws}
 use Rattle.element_state.specs.Effects.{Effect, Stays, Gone, Came, KindFacts, HasOneRow, bytes_one, pair_here, pair_apart, laws_from_facts}
 use Rattle.element_state.specs.IndexLaws.{removed, no_test, yes_test}
 use Rattle.element_state.specs.Exists.{row_key, exists_by, exists_deletes, exists_writes, exists_exact, exists_meaning}
-use Rattle.element_state.specs.Apart.{none_some, some_one}
+use Rattle.element_state.specs.Apart.{none_some}
 
 -- the table of a row's key
 abbrev key_table : KeyOf → ℕ

@@ -2,9 +2,7 @@
 use Rattle.std.specs.Prelude.{eqb, ◌≡◌, ◌<◌, ◌≤◌, ◌^◌, ℕ, suc, Bool, true, false, ◌||◌, IsTrue, unwrap_or, List, [], ◌∷◌, ◌++◌, length, drop, Option, Some, None, cond, refl}
 use Rattle.std.specs.FinMap.{get}
 use Rattle.std.specs.Cmp.{Equal-is}
-use Rattle.std.specs.List.{list_any}
-use Rattle.std.specs.Ordering.{eq_by_cmp}
-use Rattle.std.proofs.Common.{eq-eqb, ap₂, true≢false, sym, ap, ◌∙◌, inl, inr, arith}
+use Rattle.std.proofs.Common.{eq-eqb, ap₂, true≢false, sym, ap, ◌∙◌, inl, inr}
 use Rattle.std.proofs.Math.Nat.{add-le-add}
 use Rattle.std.proofs.lemmas.List.{length-append, drop_at}
 use mathlib.Core.List.{map as each}
@@ -18,35 +16,29 @@ use Rattle.row_map.specs.declared.key.KeyOf.{KeyOf}
 use Rattle.row_map.specs.declared.key.KeyOf.TheVariants.{Exists, Column, Index}
 use Rattle.row_map.specs.Keys.{index_code, IsKey}
 use Rattle.row_map.specs.Rows.{Bytes, RowKey, Cells, Pairs, value_or_null, IsStorableRow}
-use Rattle.row_map.specs.Writes.{Writes, written, written_all, AllKeys}
+use Rattle.row_map.specs.Writes.{written, written_all, AllKeys}
 use Rattle.row_map.proofs.KeyLaws.{same_key}
 use Rattle.schema_version.specs.declared.element.ElementState.{ElementState}
 use Rattle.schema_version.specs.declared.element.ElementState.TheVariants.{Absent, DeleteOnly, WriteOnly, Public}
-use Rattle.element_state.specs.Elements.{Alike, Change, ChangesPublicOnly, IsStorableChange, IsKeyOfElement, Meaning}
+use Rattle.element_state.specs.Elements.{Alike, Change, ChangesPublicOnly, IsStorableChange, IsKeyOfElement}
 use Rattle.element_state.specs.Laws.{pairs_after, Grows, IsLive, Laws, BesideOne}
 use Rattle.element_state.specs.Effects.{Effect, Stays, Gone, Came, KindFacts, bytes_one, pair_here, pair_apart}
-use Rattle.element_state.specs.Tables.{within, HasOneRowIn, table_laws}
+use Rattle.element_state.specs.Tables.{HasOneRowIn, table_laws}
 use Rattle.element_state.specs.Index.{indexed, index_pair, same_bytes, moved, index_by, index_writes, index_exact, index_edge, lists, index_meaning, index_of, IsLawfulIndex}
-use Rattle.std.specs.Prelude.{◌≡◌, ◌≢◌, ℕ, ◌+◌, ◌<◌, ◌^◌, Bool, true, false, ◌&&◌, not, eqb, cond, List, [], ◌∷◌, ◌++◌, Some, None, filter, ◌⊎◌, refl}
+use Rattle.std.specs.Prelude.{◌≡◌, ℕ, ◌+◌, ◌<◌, ◌^◌, Bool, true, false, ◌&&◌, eqb, cond, List, [], ◌∷◌, ◌++◌, Some, None, filter, refl}
 use Rattle.std.specs.List.{AllByRecursion}
-use Rattle.std.specs.Cmp.{IsTotalOrder}
-use Rattle.std.specs.FinMap.{FinMap, IsAntisymmetric, get, find, entries, get-entries}
-use Rattle.std.specs.declared.cmp.Ordering.{Ordering}
-use Rattle.std.specs.declared.cmp.Ordering.TheVariants.{Less, Equal, Greater}
-use Rattle.std.specs.Ordering.{is_lt, eq_by_cmp}
-use Rattle.std.proofs.Common.{sym, ap, subst, ◌∙◌, inl, inr, arith, eqb-true}
+use Rattle.std.specs.FinMap.{get, find, entries, get-entries}
+use Rattle.std.proofs.Common.{sym, ap, subst, ◌∙◌, inl, inr}
 use Rattle.keycode.proofs.Orders.{bytes_cmp_total, bytes_cmp-IsAntisymmetric}
-use Rattle.row_map.specs.Keys.{key_code, IsKey, row_code}
-use Rattle.row_map.specs.Rows.{Bytes, RowKey, Cells, Rows, Pairs, row_cmp, AreStorable, IsStorableRow}
-use Rattle.row_map.specs.Ranges.{is_within, table_prefix, index_prefix, IsRowBound}
-use Rattle.row_map.proofs.Orders.{row_cmp_total, row_cmp-IsAntisymmetric}
-use Rattle.byte_map.proofs.Written.{same_or_apart, tied, apart}
+use Rattle.row_map.specs.Keys.{key_code, IsKey}
+use Rattle.row_map.specs.Rows.{Bytes, RowKey, Cells, Rows, Pairs, AreStorable, IsStorableRow}
+use Rattle.row_map.specs.Ranges.{is_within, index_prefix}
+use Rattle.byte_map.proofs.Written.{same_or_apart, apart}
 use Rattle.row_map.proofs.Entries.{each_entry}
-use Rattle.row_map.proofs.Ranges.{row_not_before, row_before_next, index_not_before, index_before_next, index_number, row_no_index, pair_then_row, row_then_pair}
-use Rattle.element_state.specs.Elements.{HasForm, IsKeyOfElement, AreFormed, owner, Meaning, IsFromScratch, Subset}
-use Rattle.element_state.specs.Exists.{row_key}
-use Rattle.element_state.specs.Items.{IsIn, Between, row_items, ClearFacts, AmongEntries}
-use Rattle.element_state.specs.Clears.{both_true, left_true, right_true, test_between, between_test, entry_kept, facts_kept, first_facts}
+use Rattle.row_map.proofs.Ranges.{index_not_before, index_before_next, index_number, row_no_index}
+use Rattle.element_state.specs.Elements.{HasForm, IsKeyOfElement, AreFormed, owner, IsFromScratch, Subset}
+use Rattle.element_state.specs.Items.{IsIn, Between, ClearFacts}
+use Rattle.element_state.specs.Clears.{both_true, left_true, test_between, between_test}
 use Rattle.element_state.specs.Index.{index_items, index_clear}
 use Rattle.element_state.specs.Apart.{below_next, false_true, none_some, some_one}
 

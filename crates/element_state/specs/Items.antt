@@ -1,29 +1,14 @@
 -- What a fill and a clear go through between two cursors.
-use Rattle.std.specs.Prelude.{IsTrue, Option, ◌≡◌, ◌≢◌, ℕ, ◌+◌, ◌<◌, ◌^◌, Bool, true, false, ◌&&◌, not, eqb, cond, List, [], ◌∷◌, ◌++◌, Some, None, filter, ◌⊎◌, refl}
-use Rattle.std.specs.List.{AllByRecursion}
-use Rattle.std.specs.Cmp.{IsTotalOrder}
-use Rattle.std.specs.FinMap.{FinMap, IsAntisymmetric, get, find, entries, get-entries}
-use Rattle.std.specs.declared.cmp.Ordering.{Ordering}
-use Rattle.std.specs.declared.cmp.Ordering.TheVariants.{Less, Equal, Greater}
-use Rattle.std.specs.Ordering.{is_lt, eq_by_cmp}
-use Rattle.std.proofs.Common.{sym, ap, subst, ◌∙◌, inl, inr, arith, eqb-true}
-use mathlib.Core.List.{map as each}
+use Rattle.std.specs.Prelude.{IsTrue, Option, ◌≡◌, ◌≢◌, ℕ, ◌+◌, ◌<◌, ◌^◌, Bool, ◌&&◌, List, [], ◌∷◌, ◌++◌, Some, None, filter, ◌⊎◌}
+use Rattle.std.specs.FinMap.{get, entries}
+use Rattle.std.specs.declared.cmp.Ordering.TheVariants.{Less}
 use Rattle.keycode.specs.Order.{bytes_cmp}
-use Rattle.keycode.proofs.Orders.{bytes_cmp_total, bytes_cmp-IsAntisymmetric}
-use Rattle.row_map.specs.declared.key.KeyOf.{KeyOf}
-use Rattle.row_map.specs.declared.key.KeyOf.TheVariants.{Exists, Column, Index}
-use Rattle.row_map.specs.Keys.{key_code, IsKey, row_code}
-use Rattle.row_map.specs.Rows.{Bytes, RowKey, Cells, Rows, Pairs, row_cmp, AreStorable, IsStorableRow}
-use Rattle.row_map.specs.Ranges.{is_within, table_prefix, index_prefix, IsRowBound}
-use Rattle.row_map.proofs.Orders.{row_cmp_total, row_cmp-IsAntisymmetric}
-use Rattle.byte_map.proofs.Written.{same_or_apart, tied, apart}
-use Rattle.row_map.proofs.Entries.{each_entry}
-use Rattle.row_map.proofs.Ranges.{row_not_before, row_before_next, index_not_before, index_before_next, index_number, row_no_index, pair_then_row, row_then_pair}
-use Rattle.element_state.specs.Elements.{HasForm, IsKeyOfElement, AreFormed, owner, Meaning, IsFromScratch, Subset, CoveredAt}
+use Rattle.row_map.specs.Rows.{Bytes, RowKey, Cells, Rows, Pairs, AreStorable}
+use Rattle.row_map.specs.Ranges.{is_within, IsRowBound}
+use Rattle.element_state.specs.Elements.{IsKeyOfElement, AreFormed, owner, Meaning, Subset, CoveredAt}
 use Rattle.element_state.specs.Exists.{row_key}
 use Rattle.row_map.specs.Writes.{Writes, written_all}
 use Rattle.element_state.specs.Operations.{fill_pair}
-use Rattle.element_state.specs.Apart.{none_some, some_one}
 
 -- one of the keys
 abbrev pub IsIn : Bytes → List Bytes → Type 0

@@ -2,9 +2,9 @@
 use Rattle.std.specs.Prelude.{refl, ◌≡◌, ◌⊎◌, ℕ, zero, suc, ◌+◌, ◌<◌, ◌^◌, ◌&&◌, true, IsTrue, List, [], ◌∷◌, Some}
 use Rattle.std.specs.List.{AllByRecursion}
 use Rattle.std.specs.FinMap.{get, entries}
-use Rattle.std.proofs.Common.{sym, ap, subst, ◌∙◌, inl, inr, arith}
+use Rattle.std.proofs.Common.{sym, ap, subst, ◌∙◌, inl, inr}
 use Rattle.keycode.specs.Order.{bytes_cmp}
-use Rattle.row_map.specs.Rows.{Bytes, RowKey, Cells, Rows, Pairs, row_cmp}
+use Rattle.row_map.specs.Rows.{Bytes, RowKey, Cells, Rows, row_cmp}
 use Rattle.row_map.specs.Writes.{written_all}
 use Rattle.row_map.specs.Ranges.{is_within, table_prefix}
 use Rattle.row_map.proofs.Orders.{row_cmp_total, row_cmp-IsAntisymmetric}

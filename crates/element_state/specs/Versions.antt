@@ -1,5 +1,5 @@
 -- The schema versions as the core sees them: the `exists` pairs are those of element 0, which is public in every version.
-use Rattle.std.specs.Prelude.{◌≡◌, ℕ, ◌+◌, ◌<◌, ◌^◌, IsTrue, Bool, true, false, cond, List, [], ◌∷◌, Option, Some, None, option_map, refl}
+use Rattle.std.specs.Prelude.{◌≡◌, ℕ, IsTrue, Bool, true, false, cond, List, [], ◌∷◌, Option, Some, None, option_map, refl}
 use mathlib.Core.List.{map as each}
 use Rattle.std.specs.Cmp.{nat_cmp_total}
 use Rattle.std.specs.Ordering.{nat_cmp, eq_by_cmp}
@@ -7,13 +7,11 @@ use Rattle.std.specs.FinMap.{get, find, entries, from_entries, get-entries, get-
 use Rattle.std.proofs.Common.{sym, ap, subst, ◌∙◌, eqb-true}
 use Rattle.row_map.specs.declared.key.KeyOf.TheVariants.{Exists}
 use Rattle.row_map.specs.Keys.{IsKey}
-use Rattle.row_map.specs.Ranges.{table_prefix, index_prefix, IsRowBound}
-use Rattle.row_map.specs.Rows.{Bytes, RowKey, Cells, Rows, Pairs, AreStorable}
+use Rattle.row_map.specs.Rows.{RowKey, Cells, Rows, Pairs, AreStorable}
 use Rattle.schema_version.specs.declared.element.ElementState.TheVariants.{Public}
 use Rattle.schema_version.specs.declared.element.Way.{Way}
 use Rattle.schema_version.specs.declared.element.Way.TheVariants.{Adding, Dropping}
 use Rattle.schema_version.specs.declared.element.Kind.{Kind}
-use Rattle.schema_version.specs.declared.element.Kind.TheVariants.{Index, Optional}
 use Rattle.schema_version.specs.declared.element.ElementDef.{ElementDef}
 use Rattle.schema_version.specs.Version.{Version}
 use Rattle.element_state.specs.Elements.{Meaning, IsFromScratch, Exact, owner, owner_named}
@@ -26,7 +24,7 @@ use Rattle.element_state.specs.Kinds.{kind_meaning, IsLawfulKind, kind_laws, kin
 use Rattle.element_state.specs.Items.{HasRange}
 use Rattle.element_state.specs.Schemas.{Entry, Schema, Kinds}
 use Rattle.element_state.specs.Core.{IsConsistent, Meets}
-use Rattle.element_state.specs.Apart.{not_none, some_one}
+use Rattle.element_state.specs.Apart.{not_none}
 
 -- the `exists` pairs of all rows, or an element of a table
 pub data ElementKind : Type 0 where
