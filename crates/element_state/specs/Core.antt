@@ -13,7 +13,9 @@ use Rattle.element_state.specs.Laws.{pairs_after, Operates, Grows, Laws, Joined}
 use Rattle.element_state.specs.Effects.{both_storable, storable_after}
 use Rattle.element_state.specs.Exists.{row_key}
 use Rattle.element_state.specs.Schemas.{Entry, Schema, state_of, Kinds, AreLawful, version_writes, at_own, at_none}
+use Rattle.element_state.specs.Apart.{none_some, some_one}
 
+-- the two reorganisations: a fill puts the pairs of an element that is being added, a clear takes those of a dropped one away
 pub data Work : Type 0 where
   Fill : Work
   Clear : Work
@@ -23,17 +25,21 @@ pub record Span : Type 0 where
   pub low : Bytes
   pub cursor : Bytes
 
+-- a key that the reorganisation has passed in one piece
 abbrev pub InSpan : Span → Bytes → Type 0
 InSpan s x = (bytes_cmp x s.low ≢ Less) × (bytes_cmp x s.cursor ≡ Less)
 
+-- a key that it has passed in any of its pieces
 abbrev pub InSpans : List Span → Bytes → Type 0
 InSpans [] x = ⊥
 InSpans (s ∷ ss) x = InSpan s x ⊎ InSpans ss x
 
+-- a begun reorganisation: its work, and what each piece has passed
 pub record Progress : Type 0 where
   pub work : Work
   pub spans : List Span
 
+-- what a store under two usable versions is: the version before the newest, the newest, the next free element number, the begun reorganisations, the pairs, and the rows that they stand for
 pub record Core (K : Type 0) : Type 0 where
   pub before : Schema K
   pub newest : Schema K
@@ -55,12 +61,6 @@ same_demand m l Public P Q R held e d = record { subset = same_subset m P Q R e 
 abbrev pub NoCell : ℕ → Rows → Type 0
 NoCell n R = (k : RowKey) (r : Cells) → get R k ≡ Some r → get r n ≡ None
 
-none_some : {A : Type 0} (v : A) → None ≡ Some v → ⊥
-none_some v e = cc
-
-some_one : {A : Type 0} (v w : A) → Some v ≡ Some w → v ≡ w
-some_one v w e = cc
-
 module _ {K : Type 0} (ks : Kinds K) where
   -- the demand of the state that a version gives n
   abbrev pub Meets : ℕ → Option (Entry K) → Pairs → Rows → Type 0
@@ -68,8 +68,8 @@ module _ {K : Type 0} (ks : Kinds K) where
   Meets n (Some e) P R = Demand (ks.meaning n e.kind) e.state P R
 
   -- every element number meets its demand
-  abbrev pub Consistent : Schema K → Pairs → Rows → Type 0
-  Consistent s P R = (n : ℕ) → Meets n (get s n) P R
+  abbrev pub IsConsistent : Schema K → Pairs → Rows → Type 0
+  IsConsistent s P R = (n : ℕ) → Meets n (get s n) P R
 
   -- one kind, and equal states or states that an edge joins
   abbrev pub JoinedAt : ℕ → Option (Entry K) → Option (Entry K) → Type 0
@@ -94,6 +94,7 @@ module _ {K : Type 0} (ks : Kinds K) where
   MayRun Fill k q = Grows q
   MayRun Clear k q = ¬ (Grows q)
 
+  -- a begun reorganisation of n: its element is in the newest version, it may run in both, and what it has passed is done
   pub record Reached (n : ℕ) (p : Progress) (before newest : Schema K) (P : Pairs) (R : Rows) : Type 0 where
     pub kind : K
     pub entry : Entry K
@@ -109,7 +110,8 @@ module _ {K : Type 0} (ks : Kinds K) where
   NeverPublic next n None = next ≤ n
   NeverPublic next n (Some e) = (e.adding ≡ true) × (e.state ≢ Public)
 
-  pub record Inv (w : Core K) : Type 0 where
+  -- what the core keeps from event to event
+  pub record Invariant (w : Core K) : Type 0 where
     -- the rows can be named and held, the keys can be read, and the elements are as their laws want them
     pub held : AreStorable w.rows
     pub formed : AreFormed w.pairs
@@ -117,8 +119,8 @@ module _ {K : Type 0} (ks : Kinds K) where
     pub lawful_newest : AreLawful ks w.newest
     -- the states in the usable versions
     pub joined : (n : ℕ) → JoinedAt n (get w.before n) (get w.newest n)
-    pub before : Consistent w.before w.pairs w.rows
-    pub newest : Consistent w.newest w.pairs w.rows
+    pub before : IsConsistent w.before w.pairs w.rows
+    pub newest : IsConsistent w.newest w.pairs w.rows
     -- what the reorganisations have passed
     pub reached : (n : ℕ) (p : Progress) → get w.progress n ≡ Some p → Reached n p w.before w.newest w.pairs w.rows
     -- a column that was never public has no cell
@@ -143,6 +145,7 @@ module _ {K : Type 0} (ks : Kinds K) where
       let held_after : AreStorable (rows_after R c) = storable_after R c held runs.storable in
       (same_demand m l p _ _ (rows_after R c) held_after same both.0, same_demand m l q _ _ (rows_after R c) held_after same both.1)
 
+  -- an element, if there is one, is as its laws want it
   abbrev IsLawfulEntry : ℕ → Option (Entry K) → Type 0
   IsLawfulEntry n o = (e : Entry K) → o ≡ Some e → ks.lawful n e.kind
 
@@ -167,10 +170,10 @@ module _ {K : Type 0} (ks : Kinds K) where
       (both.0, subst (λ y. Demand (ks.meaning n y) h.state (written_all P (version_writes ks s c)) (rows_after R c)) j.0 both.1)
 
   -- the version of the server is one of the two
-  pub used_lawful : (w : Core K) (s : Schema K) → (s ≡ w.before) ⊎ (s ≡ w.newest) → Inv w → AreLawful ks s
+  pub used_lawful : (w : Core K) (s : Schema K) → (s ≡ w.before) ⊎ (s ≡ w.newest) → Invariant w → AreLawful ks s
   used_lawful w s used i = elim used [ inl y ↦ subst (λ (t : Schema K). AreLawful ks t) (sym y) i.lawful_before | inr y ↦ subst (λ (t : Schema K). AreLawful ks t) (sym y) i.lawful_newest ]
 
-  pub meets_after : (w : Core K) (s : Schema K) (c : Change) → (s ≡ w.before) ⊎ (s ≡ w.newest) → Runs s w.rows c → Inv w → (n : ℕ)
+  pub meets_after : (w : Core K) (s : Schema K) (c : Change) → (s ≡ w.before) ⊎ (s ≡ w.newest) → Runs s w.rows c → Invariant w → (n : ℕ)
       → Meets n (get w.before n) (committed w s c).pairs (committed w s c).rows × Meets n (get w.newest n) (committed w s c).pairs (committed w s c).rows
   meets_after w s c used runs i n =
       let lawful : AreLawful ks s = used_lawful w s used i in

@@ -9,8 +9,9 @@ use Rattle.row_map.proofs.Orders.{row_cmp_total, row_cmp-IsAntisymmetric}
 use Rattle.byte_map.proofs.Written.{same_or_apart, written_here, written_apart}
 use Rattle.schema_version.specs.declared.element.ElementState.{ElementState}
 use Rattle.schema_version.specs.declared.element.ElementState.TheVariants.{Absent, DeleteOnly, WriteOnly, Public}
-use Rattle.element_state.specs.Elements.{Alike, Change, rows_after, Fits, ChangesPublicOnly, IsStorableNew, IsStorableChange, owner, IsKeyOfElement, Meaning, Stands, Subset, CoveredAt, Exact, Empty, Demand}
+use Rattle.element_state.specs.Elements.{Alike, Change, rows_after, Fits, ChangesPublicOnly, IsStorableNew, IsStorableChange, owner, IsKeyOfElement, Meaning, IsFromScratch, Subset, CoveredAt, Exact, Empty, Demand}
 use Rattle.element_state.specs.Laws.{pairs_after, Operates, Grows, IsLive, Laws, Joined, BesideOne}
+use Rattle.element_state.specs.Apart.{not_none, some_one}
 
 pub bytes_one : (x y : Bytes) → (x ≡ y) ⊎ (x ≢ y)
 bytes_one x y = same_or_apart bytes_cmp_total bytes_cmp-IsAntisymmetric x y
@@ -29,9 +30,6 @@ row_apart R c k ne = written_apart row_cmp_total row_cmp-IsAntisymmetric R c.key
 
 pub key_one : (x y : RowKey) → (x ≡ y) ⊎ (x ≢ y)
 key_one x y = same_or_apart row_cmp_total row_cmp-IsAntisymmetric x y
-
-pub not_none : {A : Type 0} (v : A) (o : Option A) → o ≡ Some v → o ≡ None → ⊥
-not_none v o e f = cc
 
 module _ (m : Meaning) (c : Change) where
   -- the new row has the old row's pair
@@ -77,7 +75,7 @@ none_where None h = refl
 none_where (Some v) h = absurd (h v refl)
 
 -- a from-scratch pair of the old rows that the operation leaves is one of the new rows
-stands_still : (m : Meaning) (c : Change) (R : Rows) (x v : Bytes) → Fits R c → ((o : Cells) (w : Bytes) → c.old ≡ Some o → m.pair_key c.key o ≡ x → m.pair_value c.key o ≡ Some w → Same m c o) → Stands m R x v → Stands m (rows_after R c) x v
+stands_still : (m : Meaning) (c : Change) (R : Rows) (x v : Bytes) → Fits R c → ((o : Cells) (w : Bytes) → c.old ≡ Some o → m.pair_key c.key o ≡ x → m.pair_value c.key o ≡ Some w → Same m c o) → IsFromScratch m R x v → IsFromScratch m (rows_after R c) x v
 stands_still m c R x v fits same s = elim (key_one s.key c.key) [
   | inl e ↦
       let was : c.old ≡ Some s.cells = sym fits ∙ ap (get R) (sym e) ∙ s.there in
@@ -94,7 +92,7 @@ stands_still m c R x v fits same s = elim (key_one s.key c.key) [
   | inr ne ↦ record { key = s.key; cells = s.cells; there = row_apart R c s.key ne ∙ s.there; key_is = s.key_is; value_is = s.value_is }
 ]
 
-subset_at : (m : Meaning) (c : Change) (P Q : Pairs) (R : Rows) (x v : Bytes) → Fits R c → Subset m P R → owner x ≡ Some m.number → get Q x ≡ Some v → Effect m c P Q x → Stands m (rows_after R c) x v
+subset_at : (m : Meaning) (c : Change) (P Q : Pairs) (R : Rows) (x v : Bytes) → Fits R c → Subset m P R → owner x ≡ Some m.number → get Q x ≡ Some v → Effect m c P Q x → IsFromScratch m (rows_after R c) x v
 subset_at m c P Q R x v fits sub own is (Stays e same) = stands_still m c R x v fits same (sub x v own (sym e ∙ is))
 subset_at m c P Q R x v fits sub own is (Gone o own_table was k none) = absurd (not_none v (get Q x) is none)
 subset_at m c P Q R x v fits sub own is (Came r w new k val e) =
@@ -192,7 +190,7 @@ module _ (m : Meaning) (one : HasOneRow m) (served : IsServed m) (f : KindFacts 
   pub fill_covers : (P : Pairs) (R : Rows) (k : RowKey) (r : Cells) (w : Bytes) → get R k ≡ Some r → m.pair_value k r ≡ Some w → CoveredAt m (written P (m.pair_key k r) (Some w)) R k
   fill_covers P R k r w at val s v is sval =
       let e : Some r ≡ Some s = sym at ∙ is in
-      let same : r ≡ s = cc in
+      let same : r ≡ s = some_one r s e in
       ap (λ y. get (written P (m.pair_key k r) (Some w)) (m.pair_key k y)) (sym same) ∙ pair_here P (m.pair_key k r) (Some w) ∙ sym val ∙ ap (m.pair_value k) same ∙ sval
 
   pub fill_keeps : (P : Pairs) (R : Rows) → AreStorable R → (k : RowKey) (r : Cells) (w : Bytes) → get R k ≡ Some r → m.pair_value k r ≡ Some w → (l : RowKey) → CoveredAt m P R l → CoveredAt m (written P (m.pair_key k r) (Some w)) R l

@@ -4,12 +4,15 @@ use Rattle.std.proofs.Common.{sym, ap, ◌∙◌, inl, inr, Ordering, Less, Equa
 use Rattle.keycode.specs.Order.{bytes_cmp}
 use Rattle.row_map.specs.Rows.{Bytes}
 use Rattle.element_state.specs.Core.{Span, InSpans}
+use Rattle.element_state.specs.Apart.{other_not_less}
 
+-- one piece of a reorganisation: from its lower to below its upper bound, and how far it has come
 pub record Piece : Type 0 where
   pub low : Bytes
   pub high : Bytes
   pub cursor : Bytes
 
+-- what the pieces have passed
 abbrev pub passed_spans : List Piece → List Span
 passed_spans [] = []
 passed_spans (p ∷ ps) = record { low = p.low; cursor = p.cursor } ∷ passed_spans ps
@@ -19,14 +22,15 @@ abbrev pub AreJoined : Bytes → Bytes → List Piece → Type 0
 AreJoined low high [] = low ≡ high
 AreJoined low high (p ∷ ps) = (p.low ≡ low) × AreJoined p.high high ps
 
+-- each piece has come to its upper bound
 abbrev pub HaveEnded : List Piece → Type 0
 HaveEnded [] = Unit {0}
 HaveEnded (p ∷ ps) = (p.cursor ≡ p.high) × HaveEnded ps
 
 pub less_or_not : (r : Ordering) → (r ≡ Less) ⊎ (r ≢ Less)
 less_or_not Less = inl refl
-less_or_not Equal = inr (λ e. cc)
-less_or_not Greater = inr (λ e. cc)
+less_or_not Equal = inr (other_not_less Equal tt)
+less_or_not Greater = inr (other_not_less Greater tt)
 
 pub all_passed : (ps : List Piece) (low high x : Bytes) → AreJoined low high ps → HaveEnded ps → bytes_cmp x low ≢ Less → bytes_cmp x high ≡ Less → InSpans (passed_spans ps) x
 all_passed [] low high x join ended from to = absurd (from (ap (bytes_cmp x) join ∙ to))

@@ -10,18 +10,13 @@ use Rattle.schema_version.specs.declared.element.ElementState.{ElementState}
 use Rattle.schema_version.specs.declared.element.ElementState.TheVariants.{Absent, Public}
 use Rattle.element_state.specs.Elements.{Change, rows_after, Fits, ChangesPublicOnly, cell, HasForm, owner_named}
 use Rattle.element_state.specs.Laws.{pairs_after, Operates, Laws}
-use Rattle.element_state.specs.Effects.{row_here, row_apart, key_one, not_none, none_where, both_storable, storable_after}
+use Rattle.element_state.specs.Effects.{row_here, row_apart, key_one, none_where, both_storable, storable_after}
 use Rattle.element_state.specs.Schemas.{Entry, Schema, state_of, Kinds, AreLawful, version_writes, at_own, formed_writes}
-use Rattle.element_state.specs.Core.{Work, Fill, Clear, Span, Progress, Core, NoCell, JoinedAt, Runs, Passed, MayRun, Reached, NeverPublic, Inv, used_lawful, committed, meets_after}
-
-none_some : {A : Type 0} (v : A) → None ≡ Some v → ⊥
-none_some v e = cc
-
-some_one : {A : Type 0} (v w : A) → Some v ≡ Some w → v ≡ w
-some_one v w e = cc
+use Rattle.element_state.specs.Core.{Work, Fill, Clear, Span, Progress, Core, NoCell, JoinedAt, Runs, Passed, MayRun, Reached, NeverPublic, Invariant, used_lawful, committed, meets_after}
+use Rattle.element_state.specs.Apart.{not_none, hidden_not_public, none_some, some_one}
 
 absent_not_public : Absent ≢ Public
-absent_not_public e = cc
+absent_not_public = hidden_not_public Absent tt
 
 old_bare : (n : ℕ) (k : RowKey) (R : Rows) → NoCell n R → (o : Option Cells) → get R k ≡ o → cell o n ≡ None
 old_bare n k R none None is = refl
@@ -59,7 +54,7 @@ module _ {K : Type 0} (ks : Kinds K) where
   kinds_agree n None f j e is = absurd (none_some e is)
   kinds_agree n (Some d) f j e is = ap (λ (t : Entry K). t.kind) (some_one e d (sym is)) ∙ j.0
 
-  reached_after : (w : Core K) (s : Schema K) (c : Change) → (s ≡ w.before) ⊎ (s ≡ w.newest) → Runs ks s w.rows c → Inv ks w → (n : ℕ) (p : Progress) → get w.progress n ≡ Some p
+  reached_after : (w : Core K) (s : Schema K) (c : Change) → (s ≡ w.before) ⊎ (s ≡ w.newest) → Runs ks s w.rows c → Invariant ks w → (n : ℕ) (p : Progress) → get w.progress n ≡ Some p
       → Reached ks n p w.before w.newest (written_all w.pairs (version_writes ks s c)) (rows_after w.rows c)
   reached_after w s c used runs i n p at =
       let r : Reached ks n p w.before w.newest w.pairs w.rows = i.reached n p at in
@@ -83,7 +78,7 @@ module _ {K : Type 0} (ks : Kinds K) where
       }
 
   -- a transaction's operation, by a server at either version
-  pub commit_kept : (w : Core K) (s : Schema K) (c : Change) → (s ≡ w.before) ⊎ (s ≡ w.newest) → Runs ks s w.rows c → Inv ks w → Inv ks (committed ks w s c)
+  pub commit_kept : (w : Core K) (s : Schema K) (c : Change) → (s ≡ w.before) ⊎ (s ≡ w.newest) → Runs ks s w.rows c → Invariant ks w → Invariant ks (committed ks w s c)
   commit_kept w s c used runs i = record {
     held = storable_after w.rows c i.held runs.storable;
     formed = written_all-keys bytes_cmp_total bytes_cmp-IsAntisymmetric HasForm (version_writes ks s c) w.pairs (formed_writes ks s (used_lawful ks w s used i) c (both_storable w.rows c runs.fits i.held runs.storable)) i.formed;

@@ -7,44 +7,49 @@ use Rattle.row_map.specs.Writes.{written_all}
 use Rattle.schema_version.specs.declared.element.Kind.{Kind}
 use Rattle.element_state.specs.Elements.{Change}
 use Rattle.element_state.specs.Schemas.{Entry, Schema, state_of, AreLawful}
-use Rattle.element_state.specs.Core.{Core, Work, Fill, Clear, Span, MayRun, Progress, Inv}
+use Rattle.element_state.specs.Core.{Core, Work, Fill, Clear, Span, MayRun, Progress, Invariant}
 use Rattle.element_state.specs.Whole.{RunsAll, committed_all, fresh_spans}
 use Rattle.element_state.specs.Publishing.{Steps, published}
-use Rattle.element_state.specs.Pieces.{moved, fill_writes, clear_writes}
+use Rattle.element_state.specs.Pieces.{moved}
 use Rattle.element_state.specs.Reaches.{with_cursor, cursor_at, fill_items}
 use Rattle.element_state.specs.Opening.{opened}
-use Rattle.element_state.specs.Versions.{ElementKind, Of, the_kinds, meaning_of, IsClearBound, clear_items}
+use Rattle.element_state.specs.Versions.{ElementKind, Of, the_kinds, meaning_of}
+use Rattle.element_state.specs.Kinds.{kind_clear}
+use Rattle.element_state.specs.Items.{fill_puts, clear_writes, IsBound}
 
+-- an empty store under one version
 abbrev pub OpeningHolds : Type 0
-OpeningHolds = (s : Schema ElementKind) (next : ℕ) → AreLawful the_kinds s → Inv the_kinds (opened s next)
+OpeningHolds = (s : Schema ElementKind) (next : ℕ) → AreLawful the_kinds s → Invariant the_kinds (opened s next)
 
 -- a transaction by a server at either usable version
 abbrev pub TransactionKeeps : Type 0
 TransactionKeeps =
     (w : Core ElementKind) (s : Schema ElementKind) (cs : List Change) → (s ≡ w.before) ⊎ (s ≡ w.newest) → RunsAll the_kinds s w.rows cs
-    → Inv the_kinds w → Inv the_kinds (committed_all the_kinds w s cs)
+    → Invariant the_kinds w → Invariant the_kinds (committed_all the_kinds w s cs)
 
+-- an allowed step is published: the newest version becomes the one before
 abbrev pub PublicationKeeps : Type 0
 PublicationKeeps =
     (w : Core ElementKind) (s : Schema ElementKind) (next : ℕ) (progress : FinMap nat_cmp Progress) → Steps the_kinds w s next progress
-    → Inv the_kinds w → Inv the_kinds (published the_kinds w s next progress)
+    → Invariant the_kinds w → Invariant the_kinds (published the_kinds w s next progress)
 
+-- a reorganisation begins, where both usable versions have the state for it, with each cursor at its lower bound
 abbrev pub BeginKeeps : Type 0
 BeginKeeps =
     (w : Core ElementKind) (n : ℕ) (f : Entry ElementKind) (work : Work) (lows : List Bytes) → get w.newest n ≡ Some f → (work ≡ Fill → IsTrue ((meaning_of n f.kind).filled))
     → MayRun the_kinds work f.kind (state_of (get w.before n)) → MayRun the_kinds work f.kind (state_of (get w.newest n))
-    → Inv the_kinds w → Inv the_kinds (record w { progress = insert w.progress n (record { work = work; spans = fresh_spans lows }) })
+    → Invariant the_kinds w → Invariant the_kinds (record w { progress = insert w.progress n (record { work = work; spans = fresh_spans lows }) })
 
--- the rows from the old cursor to below the new one get their pairs
+-- a piece of a fill puts what `fill_of` gives for each row from the old cursor to below the new one
 abbrev pub FillKeeps : Type 0
 FillKeeps =
-    (w : Core ElementKind) (n : ℕ) (f : Entry ElementKind) (old : List Span) (place : ℕ) (to : Bytes) → Inv the_kinds w
+    (w : Core ElementKind) (n : ℕ) (f : Entry ElementKind) (old : List Span) (place : ℕ) (to : Bytes) → Invariant the_kinds w
     → get w.newest n ≡ Some f → get w.progress n ≡ Some (record { work = Fill; spans = old })
-    → Inv the_kinds (moved the_kinds w n (record { work = Fill; spans = with_cursor place to old }) (written_all w.pairs (fill_writes (meaning_of n f.kind) (fill_items the_kinds (meaning_of n f.kind) w.rows (cursor_at place old) to))))
+    → Invariant the_kinds (moved the_kinds w n (record { work = Fill; spans = with_cursor place to old }) (written_all w.pairs (fill_puts (meaning_of n f.kind) (fill_items the_kinds (meaning_of n f.kind) w.rows (cursor_at place old) to))))
 
--- the items from the old cursor to below the new one lose their pairs
+-- a piece of a clear removes each item from the old cursor to below the new one
 abbrev pub ClearKeeps : Type 0
 ClearKeeps =
-    (w : Core ElementKind) (n table : ℕ) (kind : Kind) (f : Entry ElementKind) (old : List Span) (place : ℕ) (to : Bytes) → Inv the_kinds w
-    → get w.newest n ≡ Some f → f.kind ≡ Of table kind → get w.progress n ≡ Some (record { work = Clear; spans = old }) → IsClearBound (Of table kind) (cursor_at place old) → IsClearBound (Of table kind) to
-    → Inv the_kinds (moved the_kinds w n (record { work = Clear; spans = with_cursor place to old }) (written_all w.pairs (clear_writes (clear_items n (Of table kind) w.rows w.pairs (cursor_at place old) to))))
+    (w : Core ElementKind) (n table : ℕ) (kind : Kind) (f : Entry ElementKind) (old : List Span) (place : ℕ) (to : Bytes) → Invariant the_kinds w
+    → get w.newest n ≡ Some f → f.kind ≡ Of table kind → get w.progress n ≡ Some (record { work = Clear; spans = old }) → IsBound (kind_clear table n kind).bounds (cursor_at place old) → IsBound (kind_clear table n kind).bounds to
+    → Invariant the_kinds (moved the_kinds w n (record { work = Clear; spans = with_cursor place to old }) (written_all w.pairs (clear_writes ((kind_clear table n kind).items w.rows w.pairs (cursor_at place old) to))))

@@ -9,23 +9,24 @@ use Rattle.schema_version.specs.declared.element.ElementState.{ElementState}
 use Rattle.schema_version.specs.declared.element.ElementState.TheVariants.{Absent, DeleteOnly, WriteOnly, Public}
 use Rattle.element_state.specs.Elements.{Meaning, Subset, Demand}
 use Rattle.element_state.specs.Schemas.{Entry, Schema, state_of, Kinds, AreLawful}
-use Rattle.element_state.specs.Core.{Core, Meets, JoinedAt, NeverPublic, Inv}
+use Rattle.element_state.specs.Core.{Core, Meets, JoinedAt, NeverPublic, Invariant}
+use Rattle.element_state.specs.Apart.{hidden_not_public, not_none}
 
 -- one version, no rows and no pairs
 abbrev pub opened : {K : Type 0} → Schema K → ℕ → Core K
 opened s next = record { before = s; newest = s; next = next; progress = empty; pairs = empty; rows = empty }
 
-none_some : {A B : Type 0} (v : A) (o : Option A) → o ≡ None → o ≡ Some v → B
-none_some v o e f = absurd cc
+nothing_there : {A B : Type 0} (v : A) (o : Option A) → o ≡ None → o ≡ Some v → B
+nothing_there v o e f = absurd (not_none v o f e)
 
 no_pair : {A : Type 0} (x v : Bytes) → get {R = bytes_cmp} empty x ≡ Some v → A
-no_pair x v is = none_some v _ (get-empty bytes_cmp x) is
+no_pair x v is = nothing_there v _ (get-empty bytes_cmp x) is
 
 no_row : {A : Type 0} (k : RowKey) (r : Cells) → get {R = row_cmp} empty k ≡ Some r → A
-no_row k r at = none_some r _ (get-empty row_cmp k) at
+no_row k r at = nothing_there r _ (get-empty row_cmp k) at
 
 absent_public : Absent ≢ Public
-absent_public e = cc
+absent_public = hidden_not_public Absent tt
 
 empty_subset : (m : Meaning) → Subset m empty empty
 empty_subset m x v own is = no_pair x v is
@@ -49,7 +50,7 @@ module _ {K : Type 0} (ks : Kinds K) where
   not_public next n None h = absent_public
   not_public next n (Some e) h = h.1
 
-  pub opened_holds : (s : Schema K) (next : ℕ) → AreLawful ks s → Inv ks (opened s next)
+  pub opened_holds : (s : Schema K) (next : ℕ) → AreLawful ks s → Invariant ks (opened s next)
   opened_holds s next lawful = record {
     held = λ k r at. no_row k r at;
     formed = λ x v is. no_pair x v is;
@@ -58,6 +59,6 @@ module _ {K : Type 0} (ks : Kinds K) where
     joined = λ n. joined_itself n (get s n);
     before = λ n. empty_meets n (get s n);
     newest = λ n. empty_meets n (get s n);
-    reached = λ n p at. none_some p _ (get-empty nat_cmp n) at;
+    reached = λ n p at. nothing_there p _ (get-empty nat_cmp n) at;
     bare = λ n never. (λ k r at. no_row k r at, not_public next n (get s n) never);
   }

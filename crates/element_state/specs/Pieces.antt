@@ -1,8 +1,8 @@
 -- A piece of a fill or a clear keeps what the core keeps, from the laws alone.
-use Rattle.std.specs.Prelude.{◌≡◌, ◌≢◌, ◌⊎◌, ℕ, List, [], ◌∷◌, ◌++◌, Option, Some, None, refl}
+use Rattle.std.specs.Prelude.{IsTrue, cond, option_map, ◌≡◌, ◌≢◌, ◌⊎◌, ℕ, List, [], ◌∷◌, ◌++◌, Option, Some, None, refl}
 use Rattle.std.specs.FinMap.{get, insert, nat_cmp-IsAntisymmetric}
 use Rattle.std.specs.Cmp.{nat_cmp_total}
-use Rattle.std.proofs.Common.{sym, ap, subst, ◌∙◌, inl, inr}
+use Rattle.std.proofs.Common.{ap₂, sym, ap, subst, ◌∙◌, inl, inr}
 use Rattle.keycode.proofs.Orders.{bytes_cmp_total, bytes_cmp-IsAntisymmetric}
 use Rattle.row_map.specs.Rows.{Bytes, RowKey, Cells, Rows, Pairs, AreStorable}
 use Rattle.row_map.specs.Writes.{Writes, written, written_all, AllKeys}
@@ -11,13 +11,14 @@ use Rattle.schema_version.specs.declared.element.ElementState.{ElementState}
 use Rattle.schema_version.specs.declared.element.ElementState.TheVariants.{Absent, DeleteOnly, WriteOnly, Public}
 use Rattle.element_state.specs.Elements.{owner, AreFormed, HasForm, IsKeyOfElement, form_named, owner_named, Meaning, CoveredAt, Demand}
 use Rattle.element_state.specs.Laws.{Grows, IsLive, Laws}
-use Rattle.element_state.specs.Effects.{not_none, none_where, pair_here}
+use Rattle.element_state.specs.Effects.{none_where, pair_here}
 use Rattle.element_state.specs.Exists.{row_key}
-use Rattle.element_state.specs.Index.{removed}
-use Rattle.element_state.specs.Items.{IsIn, AmongEntries}
+use Rattle.element_state.specs.IndexLaws.{removed}
+use Rattle.element_state.specs.Items.{IsIn, AmongEntries, clear_writes, put_pair, fill_puts}
 use Rattle.element_state.specs.Schemas.{Entry, state_of, Kinds}
-use Rattle.element_state.specs.Core.{Work, Fill, Clear, Span, InSpans, Progress, Core, Meets, JoinedAt, Passed, Reached, Inv, same_demand}
+use Rattle.element_state.specs.Core.{Work, Fill, Clear, Span, InSpans, Progress, Core, Meets, JoinedAt, Passed, Reached, Invariant, same_demand}
 use Rattle.element_state.specs.Whole.{number_one}
+use Rattle.element_state.specs.Apart.{not_none, none_some, some_one}
 
 -- the pair of a row, if it has one
 abbrev pub item_write : Bytes → Option Bytes → Writes
@@ -29,24 +30,24 @@ abbrev pub fill_writes : Meaning → List (RowKey × Cells) → Writes
 fill_writes m [] = []
 fill_writes m (i ∷ items) = item_write (m.pair_key i.0 i.1) (m.pair_value i.0 i.1) ++ fill_writes m items
 
+put_pair-fill : (x : Bytes) (o : Option Bytes) → put_pair (option_map (λ v. (x, v)) o) ≡ item_write x o
+put_pair-fill x None = refl
+put_pair-fill x (Some v) = refl
+
+-- of a kind that is filled, what `fill_of` gives
+pub fill_puts-filled : (m : Meaning) → IsTrue m.filled → (items : List (RowKey × Cells)) → fill_puts m items ≡ fill_writes m items
+fill_puts-filled m filled [] = refl
+fill_puts-filled m filled (i ∷ items) =
+    ap₂ (λ (a b : Writes). a ++ b) (ap (λ b. put_pair (cond b (option_map (λ v. (m.pair_key i.0 i.1, v)) (m.pair_value i.0 i.1)) None)) filled ∙ put_pair-fill (m.pair_key i.0 i.1) (m.pair_value i.0 i.1)) (fill_puts-filled m filled items)
+
 -- a row that has a pair of the element
 abbrev pub HasPair : Meaning → RowKey → Cells → Type 0
 HasPair m k r = (v : Bytes) × (m.pair_value k r ≡ Some v)
 
--- what a piece of a clear writes
-abbrev pub clear_writes : List Bytes → Writes
-clear_writes [] = []
-clear_writes (x ∷ xs) = (x, None) ∷ clear_writes xs
-
+-- each item is a row as it is
 abbrev pub AreRows : Rows → List (RowKey × Cells) → Type 0
 AreRows R [] = Unit {0}
 AreRows R (i ∷ items) = (get R i.0 ≡ Some i.1) × AreRows R items
-
-none_some : {A : Type 0} (v : A) → None ≡ Some v → ⊥
-none_some v e = cc
-
-some_one : {A : Type 0} (v w : A) → Some v ≡ Some w → v ≡ w
-some_one v w e = cc
 
 joined_owned : {n : ℕ} (x : Bytes) (o : Option Bytes) → IsKeyOfElement n x → (ws : Writes) → AllKeys (IsKeyOfElement n) ws → AllKeys (IsKeyOfElement n) (item_write x o ++ ws)
 joined_owned x None own ws h = h
@@ -142,13 +143,13 @@ module _ {K : Type 0} (ks : Kinds K) where
   moved w n p P = record w { progress = insert w.progress n p; pairs = P }
 
   -- a piece touches the pairs of n alone
-  pub piece_kept : (w : Core K) (n : ℕ) (work : Work) (old spans : List Span) (Q : Pairs) → Inv ks w
+  pub piece_kept : (w : Core K) (n : ℕ) (work : Work) (old spans : List Span) (Q : Pairs) → Invariant ks w
       → (begun : get w.progress n ≡ Some (record { work = work; spans = old }))
       → AreFormed Q
       → ((j : ℕ) → j ≢ n → (x : Bytes) → owner x ≡ Some j → get Q x ≡ get w.pairs x)
       → Meets ks n (get w.before n) Q w.rows → Meets ks n (get w.newest n) Q w.rows
       → ((k : K) → ((e : Entry K) → get w.newest n ≡ Some e → e.kind ≡ k) → Passed ks n k work old w.pairs w.rows → Passed ks n k work spans Q w.rows)
-      → Inv ks (moved w n (record { work = work; spans = spans }) Q)
+      → Invariant ks (moved w n (record { work = work; spans = spans }) Q)
   piece_kept w n work old spans Q i begun formed others in_before in_newest passed = record {
     held = i.held;
     formed = formed;
@@ -201,12 +202,12 @@ module _ {K : Type 0} (ks : Kinds K) where
       (fill_demand (ks.meaning n e.kind) (ks.laws n e.kind (lawful e refl)) R held e.state items P (live e.state grows) rows d)
 
   -- a piece of a fill: its rows are those between the old cursor and the new one
-  pub fill_kept : (w : Core K) (n : ℕ) (f : Entry K) (old spans : List Span) (items : List (RowKey × Cells)) → Inv ks w
+  pub fill_kept : (w : Core K) (n : ℕ) (f : Entry K) (old spans : List Span) (items : List (RowKey × Cells)) → Invariant ks w
       → get w.newest n ≡ Some f
       → get w.progress n ≡ Some (record { work = Fill; spans = old })
       → AreRows w.rows items
       → ((j : RowKey) (r : Cells) → get w.rows j ≡ Some r → HasPair (ks.meaning n f.kind) j r → InSpans spans (row_key j) → InSpans old (row_key j) ⊎ AmongEntries j items)
-      → Inv ks (moved w n (record { work = Fill; spans = spans }) (written_all w.pairs (fill_writes (ks.meaning n f.kind) items)))
+      → Invariant ks (moved w n (record { work = Fill; spans = spans }) (written_all w.pairs (fill_writes (ks.meaning n f.kind) items)))
   fill_kept w n f old spans items i is begun rows reach =
       let m = ks.meaning n f.kind in
       let law : Laws m = ks.laws n f.kind (i.lawful_newest n f is) in
@@ -230,11 +231,11 @@ module _ {K : Type 0} (ks : Kinds K) where
   clear_meets n (Some e) xs P R shrinks d = clear_demand (ks.meaning n e.kind) e.state xs P R shrinks d
 
   -- a piece of a clear: it names each pair of n between the old cursor and the new one
-  pub clear_kept : (w : Core K) (n : ℕ) (old spans : List Span) (xs : List Bytes) → Inv ks w
+  pub clear_kept : (w : Core K) (n : ℕ) (old spans : List Span) (xs : List Bytes) → Invariant ks w
       → get w.progress n ≡ Some (record { work = Clear; spans = old })
       → ((x : Bytes) → IsIn x xs → IsKeyOfElement n x)
       → ((x v : Bytes) → owner x ≡ Some n → get w.pairs x ≡ Some v → InSpans spans x → InSpans old x ⊎ IsIn x xs)
-      → Inv ks (moved w n (record { work = Clear; spans = spans }) (written_all w.pairs (clear_writes xs)))
+      → Invariant ks (moved w n (record { work = Clear; spans = spans }) (written_all w.pairs (clear_writes xs)))
   clear_kept w n old spans xs i begun owned reach =
       let r = i.reached n _ begun in
       piece_kept w n Clear old spans (written_all w.pairs (clear_writes xs)) i begun

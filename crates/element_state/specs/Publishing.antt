@@ -8,19 +8,14 @@ use Rattle.schema_version.specs.declared.element.ElementState.{ElementState}
 use Rattle.schema_version.specs.declared.element.ElementState.TheVariants.{Absent, DeleteOnly, WriteOnly, Public}
 use Rattle.element_state.specs.Elements.{owner, Meaning, Subset, CoveredAt, Exact, Empty, Demand}
 use Rattle.element_state.specs.Laws.{IsLive}
-use Rattle.element_state.specs.Effects.{not_none, none_where}
+use Rattle.element_state.specs.Effects.{none_where}
 use Rattle.element_state.specs.Exists.{row_key}
 use Rattle.element_state.specs.Schemas.{Entry, Schema, state_of, Kinds, AreLawful}
-use Rattle.element_state.specs.Core.{Fill, Clear, Span, InSpans, Progress, Core, Meets, JoinedAt, MayRun, NeverPublic, Inv}
-
-none_some : {A : Type 0} (v : A) → None ≡ Some v → ⊥
-none_some v e = cc
-
-some_one : {A : Type 0} (v w : A) → Some v ≡ Some w → v ≡ w
-some_one v w e = cc
+use Rattle.element_state.specs.Core.{Fill, Clear, Span, InSpans, Progress, Core, Meets, JoinedAt, MayRun, NeverPublic, Invariant}
+use Rattle.element_state.specs.Apart.{not_none, hidden_not_public, none_some, some_one}
 
 absent_public : Absent ≡ Public → ⊥
-absent_public e = cc
+absent_public = hidden_not_public Absent tt
 
 module _ {K : Type 0} (ks : Kinds K) where
   never_public : (next n : ℕ) (o : Option (Entry K)) → NeverPublic ks next n o → state_of o ≢ Public
@@ -33,6 +28,7 @@ module _ {K : Type 0} (ks : Kinds K) where
     pub begun : get w.progress n ≡ Some (record { work = Fill; spans = spans })
     pub all : (l : RowKey) (r : Cells) (v : Bytes) → get w.rows l ≡ Some r → (ks.meaning n k).pair_value l r ≡ Some v → InSpans spans (row_key l)
 
+  -- the element's clear has passed each of its pairs
   pub record ClearEnded (w : Core K) (n : ℕ) : Type 0 where
     pub spans : List Span
     pub begun : get w.progress n ≡ Some (record { work = Clear; spans = spans })
@@ -59,6 +55,7 @@ module _ {K : Type 0} (ks : Kinds K) where
     pub progress_kept : (n : ℕ) (p : Progress) → get progress n ≡ Some p → (get w.progress n ≡ Some p) × (get s n ≡ get w.newest n)
     pub fresh : (n : ℕ) → NeverPublic ks next n (get s n) → NeverPublic ks w.next n (get w.newest n)
 
+  -- the core after the publication: the newest version becomes the one before
   abbrev pub published : Core K → Schema K → ℕ → FinMap nat_cmp Progress → Core K
   published w s next progress = record w { before = w.newest; newest = s; next = next; progress = progress }
 
@@ -84,16 +81,16 @@ module _ {K : Type 0} (ks : Kinds K) where
   kinds_agree n None f j e is = absurd (none_some e is)
   kinds_agree n (Some d) f j e is = ap (λ (t : Entry K). t.kind) (some_one e d (sym is)) ∙ j.0
 
-  filled_covers : (w : Core K) (n : ℕ) (k : K) → Inv ks w → ((e : Entry K) → get w.newest n ≡ Some e → e.kind ≡ k) → FillEnded w n k → (l : RowKey) → CoveredAt (ks.meaning n k) w.pairs w.rows l
+  filled_covers : (w : Core K) (n : ℕ) (k : K) → Invariant ks w → ((e : Entry K) → get w.newest n ≡ Some e → e.kind ≡ k) → FillEnded w n k → (l : RowKey) → CoveredAt (ks.meaning n k) w.pairs w.rows l
   filled_covers w n k i of_kind f l r v at val =
       let done = i.reached n _ f.begun in
       let same : done.kind ≡ k = sym done.kind_is ∙ of_kind done.entry done.entry_is in
       subst (λ y. CoveredAt (ks.meaning n y) w.pairs w.rows l) same (done.passed l (f.all l r v at val)) r v at val
 
-  cleared_empty : (w : Core K) (n : ℕ) → Inv ks w → ClearEnded w n → Empty n w.pairs
+  cleared_empty : (w : Core K) (n : ℕ) → Invariant ks w → ClearEnded w n → Empty n w.pairs
   cleared_empty w n i f x own = none_where (get w.pairs x) (λ v is. not_none v (get w.pairs x) is ((i.reached n _ f.begun).passed x own (f.all x v own is)))
 
-  public_now : (w : Core K) (n : ℕ) (k : K) → Inv ks w → ((e : Entry K) → get w.newest n ≡ Some e → e.kind ≡ k) → ks.lawful n k → MayBePublic w n k → Exact (ks.meaning n k) w.pairs w.rows
+  public_now : (w : Core K) (n : ℕ) (k : K) → Invariant ks w → ((e : Entry K) → get w.newest n ≡ Some e → e.kind ≡ k) → ks.lawful n k → MayBePublic w n k → Exact (ks.meaning n k) w.pairs w.rows
   public_now w n k i of_kind kind (Was is) = exact_meets n k (get w.newest n) w.pairs w.rows of_kind is (i.newest n)
   public_now w n k i of_kind kind (Filled f) = record { subset = subset_meets n k (get w.newest n) w.pairs w.rows of_kind (i.newest n); covered = filled_covers w n k i of_kind f }
   public_now w n k i of_kind kind (Unfilled u never) = record {
@@ -101,23 +98,23 @@ module _ {K : Type 0} (ks : Kinds K) where
     covered = λ l r v at val. absurd (not_none v ((ks.meaning n k).pair_value l r) val ((ks.laws n k kind).no_pair u l r (ap (get r) (ks.numbered n k) ∙ (i.bare n never).0 l r at)));
   }
 
-  next_demand : (w : Core K) (n : ℕ) (e : Entry K) → Inv ks w → ((d : Entry K) → get w.newest n ≡ Some d → d.kind ≡ e.kind) → (q : ElementState) → ks.lawful n e.kind → IsLive q → (q ≡ Public → MayBePublic w n e.kind) → Demand (ks.meaning n e.kind) q w.pairs w.rows
+  next_demand : (w : Core K) (n : ℕ) (e : Entry K) → Invariant ks w → ((d : Entry K) → get w.newest n ≡ Some d → d.kind ≡ e.kind) → (q : ElementState) → ks.lawful n e.kind → IsLive q → (q ≡ Public → MayBePublic w n e.kind) → Demand (ks.meaning n e.kind) q w.pairs w.rows
   next_demand w n e i of_kind Absent kind live to = absurd live
   next_demand w n e i of_kind DeleteOnly kind live to = subset_meets n e.kind (get w.newest n) w.pairs w.rows of_kind (i.newest n)
   next_demand w n e i of_kind WriteOnly kind live to = subset_meets n e.kind (get w.newest n) w.pairs w.rows of_kind (i.newest n)
   next_demand w n e i of_kind Public kind live to = public_now w n e.kind i of_kind kind (to refl)
 
-  absent_now : (w : Core K) (n : ℕ) → Inv ks w → MayBeAbsent w n → Empty n w.pairs
+  absent_now : (w : Core K) (n : ℕ) → Invariant ks w → MayBeAbsent w n → Empty n w.pairs
   absent_now w n i (Was_not none) = subst (λ o. Meets ks n o w.pairs w.rows) none (i.newest n)
   absent_now w n i (Cleared c) = cleared_empty w n i c
 
-  next_meets : (w : Core K) (s : Schema K) (next : ℕ) (progress : FinMap nat_cmp Progress) → Inv ks w → Steps w s next progress → (n : ℕ) → Meets ks n (get s n) w.pairs w.rows
+  next_meets : (w : Core K) (s : Schema K) (next : ℕ) (progress : FinMap nat_cmp Progress) → Invariant ks w → Steps w s next progress → (n : ℕ) → Meets ks n (get s n) w.pairs w.rows
   next_meets w s next progress i st n = elim (get s n) as (λ o. get s n ≡ o → Meets ks n o w.pairs w.rows) [
     | None ↦ λ is. absent_now w n i (st.to_absent n is)
     | Some e ↦ λ is. next_demand w n e i (kinds_agree n (get w.newest n) e (subst (JoinedAt ks n (get w.newest n)) is (st.joined n))) e.state (st.lawful n e is) (st.live n e is) (st.to_public n e is)
   ] refl
 
-  pub publish_kept : (w : Core K) (s : Schema K) (next : ℕ) (progress : FinMap nat_cmp Progress) → Steps w s next progress → Inv ks w → Inv ks (published w s next progress)
+  pub publish_kept : (w : Core K) (s : Schema K) (next : ℕ) (progress : FinMap nat_cmp Progress) → Steps w s next progress → Invariant ks w → Invariant ks (published w s next progress)
   publish_kept w s next progress st i = record {
     held = i.held;
     formed = i.formed;

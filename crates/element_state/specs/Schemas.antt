@@ -13,6 +13,7 @@ use Rattle.schema_version.specs.declared.element.ElementState.{ElementState}
 use Rattle.schema_version.specs.declared.element.ElementState.TheVariants.{Absent}
 use Rattle.element_state.specs.Elements.{Change, IsStorableChange, owner, HasForm, IsKeyOfElement, form_named, owner_named, Meaning}
 use Rattle.element_state.specs.Laws.{pairs_after, Laws}
+use Rattle.element_state.specs.Apart.{none_some, some_one}
 
 -- an element as a version has it. A number that a version lacks is absent there
 pub record Entry (K : Type 0) : Type 0 where
@@ -20,9 +21,11 @@ pub record Entry (K : Type 0) : Type 0 where
   pub state : ElementState
   pub adding : Bool
 
+-- the elements of a version by number
 abbrev pub Schema : Type 0 → Type 0
 Schema K = FinMap nat_cmp (Entry K)
 
+-- the state of an element in a version
 abbrev pub state_of : {K : Type 0} → Option (Entry K) → ElementState
 state_of None = Absent
 state_of (Some e) = e.state
@@ -34,6 +37,7 @@ pub record Kinds (K : Type 0) : Type 1 where
   pub lawful : ℕ → K → Type 0
   pub laws : (n : ℕ) (k : K) → lawful n k → Laws (meaning n k)
 
+-- what the elements of a list write, in turn
 abbrev pub writes_of : {K : Type 0} → (ℕ → K → Meaning) → List (ℕ × Entry K) → Change → Writes
 writes_of meaning [] c = []
 writes_of meaning (e ∷ es) c = (meaning e.0 e.1.kind).writes e.1.state c ++ writes_of meaning es c
@@ -60,19 +64,14 @@ first false b h = absurd h
 found : {X : Type 0} (n : ℕ) (e : ℕ × X) (es : List (ℕ × X)) → n ≡ e.0 → find nat_cmp n (e ∷ es) ≡ None → ⊥
 found n e es s none =
     let here : find nat_cmp n (e ∷ es) ≡ Some e.1 = ap (λ t. cond t (Some e.1) (find nat_cmp n es)) (ap (λ y. eq_by_cmp nat_cmp n y) (sym s) ∙ tied nat_cmp_total nat_cmp-IsAntisymmetric n) in
-    cc
-
-none_some : {A : Type 0} (v : A) → None ≡ Some v → ⊥
-none_some v e = cc
-
-some_one : {A : Type 0} (v w : A) → Some v ≡ Some w → v ≡ w
-some_one v w e = cc
+    none_some e.1 (sym none ∙ here)
 
 module _ {K : Type 0} (ks : Kinds K) where
   -- every element of a version is as its laws want it
   abbrev pub AreLawful : Schema K → Type 0
   AreLawful s = (n : ℕ) (e : Entry K) → get s n ≡ Some e → ks.lawful n e.kind
 
+  -- each element of a list is as its laws want it
   abbrev LawfulList : List (ℕ × Entry K) → Type 0
   LawfulList [] = Unit {0}
   LawfulList (e ∷ es) = ks.lawful e.0 e.1.kind × LawfulList es

@@ -1,5 +1,5 @@
 -- The schema versions as the core sees them: the `exists` pairs are those of element 0, which is public in every version.
-use Rattle.std.specs.Prelude.{◌≡◌, ℕ, ◌+◌, ◌<◌, ◌^◌, IsTrue, Bool, true, false, cond, List, [], ◌∷◌, Option, Some, None, option_map, refl}
+use Rattle.std.specs.Prelude.{◌≡◌, ℕ, IsTrue, Bool, true, false, cond, List, [], ◌∷◌, Option, Some, None, option_map, refl}
 use mathlib.Core.List.{map as each}
 use Rattle.std.specs.Cmp.{nat_cmp_total}
 use Rattle.std.specs.Ordering.{nat_cmp, eq_by_cmp}
@@ -7,98 +7,71 @@ use Rattle.std.specs.FinMap.{get, find, entries, from_entries, get-entries, get-
 use Rattle.std.proofs.Common.{sym, ap, subst, ◌∙◌, eqb-true}
 use Rattle.row_map.specs.declared.key.KeyOf.TheVariants.{Exists}
 use Rattle.row_map.specs.Keys.{IsKey}
-use Rattle.row_map.specs.Ranges.{table_prefix, index_prefix, IsRowBound}
-use Rattle.row_map.specs.Rows.{Bytes, RowKey, Cells, Rows, Pairs, AreStorable}
+use Rattle.row_map.specs.Rows.{RowKey, Cells, Rows, Pairs, AreStorable}
 use Rattle.schema_version.specs.declared.element.ElementState.TheVariants.{Public}
 use Rattle.schema_version.specs.declared.element.Way.{Way}
 use Rattle.schema_version.specs.declared.element.Way.TheVariants.{Adding, Dropping}
 use Rattle.schema_version.specs.declared.element.Kind.{Kind}
-use Rattle.schema_version.specs.declared.element.Kind.TheVariants.{Index, Optional}
 use Rattle.schema_version.specs.declared.element.ElementDef.{ElementDef}
 use Rattle.schema_version.specs.Version.{Version}
-use Rattle.element_state.specs.Elements.{Meaning, Stands, Exact, owner, owner_named}
+use Rattle.element_state.specs.Elements.{Meaning, IsFromScratch, Exact, owner, owner_named}
 use Rattle.element_state.specs.Laws.{Laws}
-use Rattle.element_state.specs.Effects.{not_none, none_where}
+use Rattle.element_state.specs.Effects.{none_where}
 use Rattle.element_state.specs.Tables.{within}
-use Rattle.element_state.specs.Exists.{exists_meaning, exists_laws, row_key, one_key}
-use Rattle.element_state.specs.Items.{ClearFacts, column_items, column_clears, index_items, index_clears}
-use Rattle.element_state.specs.Kinds.{kind_meaning, IsLawfulKind, kind_laws}
+use Rattle.element_state.specs.Exists.{exists_meaning, row_key}
+use Rattle.element_state.specs.ExistsLaws.{exists_laws, one_key}
+use Rattle.element_state.specs.Kinds.{kind_meaning, IsLawfulKind, kind_laws, kind_numbered}
+use Rattle.element_state.specs.Items.{HasRange}
 use Rattle.element_state.specs.Schemas.{Entry, Schema, Kinds}
-use Rattle.element_state.specs.Core.{Consistent, Meets}
+use Rattle.element_state.specs.Core.{IsConsistent, Meets}
+use Rattle.element_state.specs.Apart.{not_none}
 
 -- the `exists` pairs of all rows, or an element of a table
 pub data ElementKind : Type 0 where
   Row : ElementKind
   Of : (table : ℕ) → (kind : Kind) → ElementKind
 
+-- what an element of that kind and number means
 abbrev pub meaning_of : ℕ → ElementKind → Meaning
 meaning_of number Row = record exists_meaning { number = number }
 meaning_of number (Of table kind) = within table (kind_meaning number kind)
 
 -- the element's number and its table's within the limits, and what its kind's laws want
 pub record IsLawfulOf (number table : ℕ) (kind : Kind) : Type 0 where
-  pub number_below : number + 1 < 2 ^ 32
-  pub table_below : table + 1 < 2 ^ 32
+  pub range : HasRange table number
   pub lawful : IsLawfulKind number kind
 
+-- what the laws want of it
 abbrev pub IsLawful : ℕ → ElementKind → Type 0
 IsLawful number Row = number ≡ 0
 IsLawful number (Of table kind) = IsLawfulOf number table kind
 
 pub numbered : (number : ℕ) (kind : ElementKind) → (meaning_of number kind).number ≡ number
 numbered number Row = refl
-numbered number (Of table (Index columns)) = refl
-numbered number (Of table (Optional type)) = refl
+numbered number (Of table kind) = kind_numbered number kind
 
 pub laws : (number : ℕ) (kind : ElementKind) → IsLawful number kind → Laws (meaning_of number kind)
 laws number Row lawful = subst (λ y. Laws (record exists_meaning { number = y })) (sym lawful) exists_laws
 laws number (Of table kind) lawful = kind_laws table number kind lawful.lawful
 
+-- the kinds that there are
 abbrev pub the_kinds : Kinds ElementKind
 the_kinds = record { meaning = meaning_of; numbered = numbered; lawful = IsLawful; laws = laws }
 
--- ---- reorganisations
-
--- what a clear takes away between two cursors
-abbrev pub clear_items : ℕ → ElementKind → Rows → Pairs → Bytes → Bytes → List Bytes
-clear_items number Row rows pairs from to = []
-clear_items number (Of table (Index columns)) rows pairs from to = index_items number rows pairs from to
-clear_items number (Of table (Optional type)) rows pairs from to = column_items table number rows pairs from to
-
--- where a clear begins
-abbrev pub clear_low : ℕ → ElementKind → Bytes
-clear_low number Row = []
-clear_low number (Of table (Index columns)) = index_prefix number
-clear_low number (Of table (Optional type)) = table_prefix table
-
--- before what it ends
-abbrev pub clear_high : ℕ → ElementKind → Bytes
-clear_high number Row = []
-clear_high number (Of table (Index columns)) = index_prefix (number + 1)
-clear_high number (Of table (Optional type)) = table_prefix (table + 1)
-
--- where its pieces may begin and end
-abbrev pub IsClearBound : ElementKind → Bytes → Type 0
-IsClearBound Row bound = Unit {0}
-IsClearBound (Of table (Index columns)) bound = Unit {0}
-IsClearBound (Of table (Optional type)) bound = IsRowBound table bound
-
-pub clear_facts : (number table : ℕ) (kind : Kind) → IsLawfulOf number table kind
-    → ClearFacts (meaning_of number (Of table kind)) (clear_low number (Of table kind)) (clear_high number (Of table kind)) (IsClearBound (Of table kind)) (clear_items number (Of table kind))
-clear_facts number table (Index columns) lawful = index_clears table number columns lawful.number_below
-clear_facts number table (Optional type) lawful = column_clears table number lawful.table_below lawful.lawful
-
+-- only rows of its table have an element's pairs
 pub one_table : (number table : ℕ) (kind : Kind) (t : ℕ) → IsTrue ((meaning_of number (Of table kind)).serves t) → t ≡ table
-one_table number table (Index columns) t e = eqb-true t table e
-one_table number table (Optional type) t e = eqb-true t table e
+one_table number table kind t e = eqb-true t table e
 
+-- whether the element is on its way in
 abbrev pub is_adding : Way → Bool
 is_adding Adding = true
 is_adding Dropping = false
 
+-- an element of a version as the core sees it
 abbrev pub entry_of : ElementDef → Entry ElementKind
 entry_of element = record { kind = Of element.table element.kind; state = element.state; adding = is_adding element.way }
 
+-- the `exists` pairs as the core sees them
 abbrev pub row_entry : Entry ElementKind
 row_entry = record { kind = Row; state = Public; adding = true }
 
@@ -121,19 +94,16 @@ get-schema_of version n =
 
 -- ---- what consistency says of the rows
 
-some_one : {A : Type 0} (v w : A) → Some v ≡ Some w → v ≡ w
-some_one v w e = cc
-
-pub exists_exact : (version : Version) (P : Pairs) (R : Rows) → Consistent the_kinds (schema_of version) P R → Exact exists_meaning P R
+pub exists_exact : (version : Version) (P : Pairs) (R : Rows) → IsConsistent the_kinds (schema_of version) P R → Exact exists_meaning P R
 exists_exact version P R all = subst (λ o. Meets the_kinds 0 o P R) (get-schema_of version 0) (all 0)
 
 -- a row is there exactly where its `exists` pair is, which has no value
-pub row_there : (version : Version) (P : Pairs) (R : Rows) → Consistent the_kinds (schema_of version) P R → (k : RowKey) (r : Cells) → get R k ≡ Some r → get P (row_key k) ≡ Some []
+pub row_there : (version : Version) (P : Pairs) (R : Rows) → IsConsistent the_kinds (schema_of version) P R → (k : RowKey) (r : Cells) → get R k ≡ Some r → get P (row_key k) ≡ Some []
 row_there version P R all k r at = (exists_exact version P R all).covered k r [] at refl
 
-pub row_missing : (version : Version) (P : Pairs) (R : Rows) → AreStorable R → Consistent the_kinds (schema_of version) P R → (k : RowKey) → IsKey (Exists k.0 k.1) → get R k ≡ None → get P (row_key k) ≡ None
+pub row_missing : (version : Version) (P : Pairs) (R : Rows) → AreStorable R → IsConsistent the_kinds (schema_of version) P R → (k : RowKey) → IsKey (Exists k.0 k.1) → get R k ≡ None → get P (row_key k) ≡ None
 row_missing version P R held all k form none = none_where (get P (row_key k)) (λ v is.
     let own : owner (row_key k) ≡ Some 0 = owner_named 0 (row_key k) (record { key = Exists k.0 k.1; form = form; spelled = refl; names = refl }) in
-    let s : Stands exists_meaning R (row_key k) v = (exists_exact version P R all).subset (row_key k) v own is in
+    let s : IsFromScratch exists_meaning R (row_key k) v = (exists_exact version P R all).subset (row_key k) v own is in
     let same : s.key ≡ k = one_key s.key k (held s.key s.cells s.there).table (held s.key s.cells s.there).primary form s.key_is in
     not_none s.cells (get R k) (ap (get R) (sym same) ∙ s.there) none)

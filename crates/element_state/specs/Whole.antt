@@ -9,11 +9,9 @@ use Rattle.byte_map.proofs.Written.{written_all-append, written_here, written_ap
 use Rattle.element_state.specs.Elements.{Change, rows_after}
 use Rattle.element_state.specs.Exists.{row_key}
 use Rattle.element_state.specs.Schemas.{Entry, Schema, state_of, Kinds, version_writes}
-use Rattle.element_state.specs.Core.{Work, Fill, Clear, Span, InSpans, Core, Passed, MayRun, Reached, Inv, Runs, committed}
+use Rattle.element_state.specs.Core.{Work, Fill, Clear, Span, InSpans, Core, Passed, MayRun, Reached, Invariant, Runs, committed}
 use Rattle.element_state.specs.Events.{commit_kept}
-
-some_one : {A : Type 0} (v w : A) → Some v ≡ Some w → v ≡ w
-some_one v w e = cc
+use Rattle.element_state.specs.Apart.{some_one}
 
 pub number_one : (x y : ℕ) → (x ≡ y) ⊎ (x ≢ y)
 number_one x y = same_or_apart nat_cmp_total nat_cmp-IsAntisymmetric x y
@@ -33,22 +31,25 @@ module _ {K : Type 0} (ks : Kinds K) where
   RunsAll s R [] = Unit {0}
   RunsAll s R (c ∷ cs) = Runs ks s R c × RunsAll s (rows_after R c) cs
 
+  -- the rows after all operations
   abbrev pub rows_after_all : Rows → List Change → Rows
   rows_after_all R [] = R
   rows_after_all R (c ∷ cs) = rows_after_all (rows_after R c) cs
 
+  -- what all operations write, in turn
   abbrev pub all_writes : Schema K → List Change → Writes
   all_writes s [] = []
   all_writes s (c ∷ cs) = version_writes ks s c ++ all_writes s cs
 
+  -- the core after a transaction by a server at version s
   abbrev pub committed_all : Core K → Schema K → List Change → Core K
   committed_all w s cs = record w { pairs = written_all w.pairs (all_writes s cs); rows = rows_after_all w.rows cs }
 
-  pub commit_all_kept : (cs : List Change) (w : Core K) (s : Schema K) → (s ≡ w.before) ⊎ (s ≡ w.newest) → RunsAll s w.rows cs → Inv ks w → Inv ks (committed_all w s cs)
+  pub commit_all_kept : (cs : List Change) (w : Core K) (s : Schema K) → (s ≡ w.before) ⊎ (s ≡ w.newest) → RunsAll s w.rows cs → Invariant ks w → Invariant ks (committed_all w s cs)
   commit_all_kept [] w s used runs i = i
   commit_all_kept (c ∷ cs) w s used runs i =
       let rest = commit_all_kept cs (committed ks w s c) s used runs.1 (commit_kept ks w s c used runs.0 i) in
-      subst (λ P. Inv ks (record w { pairs = P; rows = rows_after_all (rows_after w.rows c) cs })) (sym (written_all-append w.pairs (version_writes ks s c) (all_writes s cs))) rest
+      subst (λ P. Invariant ks (record w { pairs = P; rows = rows_after_all (rows_after w.rows c) cs })) (sym (written_all-append w.pairs (version_writes ks s c) (all_writes s cs))) rest
 
   none_passed : (n : ℕ) (k : K) (work : Work) (lows : List Bytes) (P : Pairs) (R : Rows) → Passed ks n k work (fresh_spans lows) P R
   none_passed n k Fill lows P R = λ j at. absurd (nothing_passed lows (row_key j) at)
@@ -56,8 +57,8 @@ module _ {K : Type 0} (ks : Kinds K) where
 
   -- a reorganisation begins where every usable version has the state for it
   pub begin_kept : (w : Core K) (n : ℕ) (f : Entry K) (work : Work) (lows : List Bytes) → get w.newest n ≡ Some f → (work ≡ Fill → IsTrue ((ks.meaning n f.kind).filled))
-      → MayRun ks work f.kind (state_of (get w.before n)) → MayRun ks work f.kind (state_of (get w.newest n)) → Inv ks w
-      → Inv ks (record w { progress = insert w.progress n (record { work = work; spans = fresh_spans lows }) })
+      → MayRun ks work f.kind (state_of (get w.before n)) → MayRun ks work f.kind (state_of (get w.newest n)) → Invariant ks w
+      → Invariant ks (record w { progress = insert w.progress n (record { work = work; spans = fresh_spans lows }) })
   begin_kept w n f work lows is filled may_before may_newest i = record {
     held = i.held;
     formed = i.formed;

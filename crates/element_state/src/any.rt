@@ -1,5 +1,5 @@
 ghost use Rattle.std.specs.Prelude.{◌≡◌, IfOk};
-ghost use Rattle.element_state.specs.Kinds.{kind_meaning, table_of_any, meaning_of_any, IsLawfulElement, laws_of_any};
+ghost use Rattle.element_state.specs.Kinds.{kind_meaning, table_of_any, meaning_of_any, IsLawfulElement, laws_of_any, clear_of_any, clears_of_any};
 
 use crate::column::OptionalColumn;
 use crate::element::Element;
@@ -9,15 +9,19 @@ use row_map::{Batch, Row};
 use schema_version::{ElementDef, ElementState, Kind};
 use std::alloc::{AllocError, Global};
 
-/// An element of either kind.
+/// An element of any kind. A new kind is one more variant here, with its arm in each call.
 #[derive(Debug, Drop)]
 pub enum AnyElement {
+    /// A secondary index.
     Index(IndexElement),
+    /// A column that a row may have no value in.
     Optional(OptionalColumn),
 }
 
 impl AnyElement {
-    /// The element of a definition.
+    /// The element that a schema version defines: of its table, its number and its kind.
+    ///
+    /// An index's columns are copied. Want of memory is the only refusal.
     pub fn of(definition: &ElementDef) -> Result<AnyElement, AllocError>
         ensures table { IfOk result (λ e. table_of_any e ≡ definition.now.table) }
         ensures meaning { IfOk result (λ e. meaning_of_any e ≡ kind_meaning definition.now.number definition.now.kind) }
@@ -43,9 +47,13 @@ impl Element for AnyElement {
 
     ghost meaning = { meaning_of_any };
 
+    ghost clear = { clear_of_any };
+
     ghost lawful = { IsLawfulElement };
 
     ghost laws = { laws_of_any };
+
+    ghost clears = { clears_of_any };
 
     fn number(&self) -> u32 {
         match self {

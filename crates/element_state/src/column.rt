@@ -1,7 +1,8 @@
 ghost use Rattle.std.specs.Prelude.{◌≡◌, OnOk, OnErr, IfOk, Some, None};
 ghost use Rattle.std.specs.FinMap as map;
 ghost use Rattle.keycode.specs.Code.{code};
-ghost use Rattle.element_state.specs.Column.{column_pair, IsLawfulColumn, column_laws};
+ghost use Rattle.element_state.specs.Column.{column_clear, column_pair, IsLawfulColumn};
+ghost use Rattle.element_state.specs.ColumnLaws.{column_clears, column_laws};
 ghost use Rattle.element_state.specs.Kinds.{meaning_of_column};
 
 use crate::cells::{cell, is_same};
@@ -12,13 +13,19 @@ use row_map::{Batch, Row, column_key};
 use schema_version::ElementState;
 use std::alloc::{AllocError, Global};
 
-/// A column of a table in which a row has a value or none.
+/// A column of a table in which a row has a value or none. A row with a value has one pair for it.
+///
+/// It is never write-only: a transaction that does not see the column cannot name a cell of it, so nothing has to be filled, and in
+/// delete-only it keeps up with the rows already.
 #[derive(Clone, Copy, Debug)]
 pub struct OptionalColumn {
+    /// The number of its table.
     pub table: u32,
+    /// Its element number.
     pub number: u32,
 }
 
+/// The code of a value, as the value of a pair.
 fn encoded(alloc: Global, value: &Value) -> Result<Bytes, AllocError>
     ensures { IfOk result (λ bytes. bytes ≡ code value.now) }
 {
@@ -28,6 +35,7 @@ fn encoded(alloc: Global, value: &Value) -> Result<Bytes, AllocError>
 }
 
 impl OptionalColumn {
+    /// Notes the pair of the row of a key.
     fn put(
         &self,
         alloc: Global,
@@ -43,6 +51,7 @@ impl OptionalColumn {
         batch.put(at, bytes)
     }
 
+    /// Notes that the pair of the row of a key goes.
     fn remove(&self, alloc: Global, key: &Values, batch: &mut Batch) -> Result<(), AllocError>
         ensures ok { OnOk result (batch.new ≡ map.insert batch.old (column_pair self.now.number (self.now.table, key.now)) None) }
         ensures err { OnErr result (batch.new ≡ batch.old) }
@@ -57,9 +66,13 @@ impl Element for OptionalColumn {
 
     ghost meaning = { meaning_of_column };
 
+    ghost clear = { λ e. column_clear e.table e.number };
+
     ghost lawful = { λ e. IsLawfulColumn e.number };
 
     ghost laws = { λ e lawful. column_laws e.table e.number lawful };
+
+    ghost clears = { λ e lawful range. column_clears e.table e.number range.table_below lawful };
 
     fn number(&self) -> u32 {
         self.number

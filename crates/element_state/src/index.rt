@@ -1,7 +1,8 @@
 ghost use Rattle.std.specs.Prelude.{◌≡◌, OnOk, OnErr, IfOk, Some, None, [], ◌∷◌, ◌++◌, true, false};
 ghost use Rattle.row_map.specs.Writes.{noted};
 ghost use Rattle.row_map.specs.Keys.{index_code};
-ghost use Rattle.element_state.specs.Index.{indexed, index_pair, index_by, IsLawfulIndex, index_laws};
+ghost use Rattle.element_state.specs.Index.{index_clear, indexed, index_pair, index_by, IsLawfulIndex};
+ghost use Rattle.element_state.specs.IndexLaws.{index_clears, index_laws};
 ghost use Rattle.element_state.specs.Operations.{cells_of};
 ghost use Rattle.element_state.specs.Kinds.{meaning_of_index};
 
@@ -14,14 +15,19 @@ use row_map::{Batch, Row, index_key};
 use schema_version::ElementState;
 use std::alloc::{AllocError, Global};
 
-/// An index over columns of a table.
+/// A secondary index over columns of a table. Each row of the table has one pair for it, without a value, whose key has the row's
+/// values in these columns and then its primary key.
 #[derive(Debug, Drop)]
 pub struct IndexElement {
+    /// The number of its table.
     pub table: u32,
+    /// Its element number.
     pub number: u32,
+    /// The element numbers of its 1 to 4 columns, in the order in which they sort.
     pub columns: Listed<u32>,
 }
 
+/// A row's values in some columns, Null where it has none.
 fn indexed_values(alloc: Global, columns: &[u32], row: &Row) -> Result<Values, AllocError>
     ensures { IfOk result (λ values. values ≡ indexed columns.now (cells_of row.now)) }
 {
@@ -74,9 +80,13 @@ impl Element for IndexElement {
 
     ghost meaning = { meaning_of_index };
 
+    ghost clear = { λ e. index_clear e.number };
+
     ghost lawful = { λ e. IsLawfulIndex e.number e.columns };
 
     ghost laws = { λ e lawful. index_laws e.table e.number e.columns lawful };
+
+    ghost clears = { λ e lawful range. index_clears e.table e.number e.columns range.number_below };
 
     fn number(&self) -> u32 {
         self.number

@@ -1,6 +1,6 @@
 use Rattle.element_state.specs.Whole.{commit_all_kept, begin_kept}
 use Rattle.element_state.specs.Publishing.{publish_kept}
-use Rattle.element_state.specs.Reaches.{fill_piece_kept}
+use Rattle.element_state.specs.Reaches.{fill_puts_kept}
 use Rattle.element_state.specs.Opening.{opened_holds}
 use Rattle.element_state.specs.Versions.{the_kinds}
 use Rattle.element_state.proofs.Clearing.{clear_keeps}
@@ -19,7 +19,7 @@ pub returns-clause-begin : goal.returns-clause-begin
 returns-clause-begin c = begin_kept the_kinds
 
 pub returns-clause-fill : goal.returns-clause-fill
-returns-clause-fill c = fill_piece_kept the_kinds
+returns-clause-fill c = fill_puts_kept the_kinds
 
 pub returns-clause-clear : goal.returns-clause-clear
 returns-clause-clear c = clear_keeps

@@ -1,0 +1,4 @@
+use Rattle.element_state.proofs.laws.subset_stays.Goals as goal
+
+pub returns : goal.returns
+returns g c = λ lawful. (g.met.E.Element.laws c.args.element.now lawful).subset
