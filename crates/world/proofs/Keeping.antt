@@ -12,7 +12,7 @@ use Rattle.row_map.specs.Rows.{Rows, Pairs}
 use Rattle.row_map.specs.Writes.{Writes, Batch, written_all, noted, laid}
 use Rattle.schema_version.specs.declared.element.ElementDef.{ElementDef}
 use Rattle.schema_version.specs.Version.{Version, element_at}
-use Rattle.element_state.specs.Core.{Core, Inv, Meets}
+use Rattle.element_state.specs.Core.{Core, Invariant, Meets}
 use Rattle.element_state.specs.Elements.{Change, rows_after}
 use Rattle.element_state.specs.Opening.{opened_holds}
 use Rattle.element_state.specs.Schemas.{AreLawful}
@@ -69,7 +69,7 @@ replayed_after state entry same = ap (λ (pairs : Pairs). pairs_by (facts_of sta
 with_core : (core : Core ElementKind) (pairs : Pairs) (rows : Rows) → Core ElementKind
 with_core core pairs rows = record core { pairs = pairs; rows = rows }
 
-kept_on : (state : State) (entry : Entry) → IsKept state → Inv the_kinds (record (core_of state) { pairs = pairs_by (facts_of state) state.pairs entry.what; rows = rows_by (facts_of state) entry.what })
+kept_on : (state : State) (entry : Entry) → IsKept state → Invariant the_kinds (record (core_of state) { pairs = pairs_by (facts_of state) state.pairs entry.what; rows = rows_by (facts_of state) entry.what })
     → AreLawfulRows state.opening.schema (rows_by (facts_of state) entry.what) → IsKept (effect state entry)
 kept_on state entry k core lawful =
     let rows : (facts_of (effect state entry)).rows ≡ rows_by (facts_of state) entry.what = ap (λ (f : Facts). f.rows) (facts_of-effect state entry) in
@@ -77,7 +77,7 @@ kept_on state entry k core lawful =
       small = k.small;
       fit = k.fit;
       replayed = replayed_after state entry k.replayed;
-      core = subst (λ (r : Rows). Inv the_kinds (record (core_of state) { pairs = pairs_by (facts_of state) state.pairs entry.what; rows = r })) (sym rows) core;
+      core = subst (λ (r : Rows). Invariant the_kinds (record (core_of state) { pairs = pairs_by (facts_of state) state.pairs entry.what; rows = r })) (sym rows) core;
       lawful = subst (AreLawfulRows state.opening.schema) (sym rows) lawful;
     }
 
@@ -170,8 +170,8 @@ txn_kept state now moment prepared d k done =
     let pairs : written_all state.pairs (all_writes the_kinds (schema_of version) (changes rows ops)) ≡ pairs_by (facts_of state) state.pairs (Txn prepared.lease ops)
     = ap (written_all state.pairs) (makes.1 ∙ sym writes) ∙ ap (λ (v : Option Version). written_all state.pairs (writes_under v rows ops)) (sym (version_of_lease state now prepared.lease d.honest)) in
     kept_on state (record { moment = moment; what = Txn prepared.lease ops }) k
-      (subst (λ (p : Pairs). Inv the_kinds (record (core_of state) { pairs = p; rows = transacted rows ops })) pairs
-        (subst (λ (r : Rows). Inv the_kinds (record (core_of state) { pairs = written_all state.pairs (all_writes the_kinds (schema_of version) (changes rows ops)); rows = r })) makes.0 core))
+      (subst (λ (p : Pairs). Invariant the_kinds (record (core_of state) { pairs = p; rows = transacted rows ops })) pairs
+        (subst (λ (r : Rows). Invariant the_kinds (record (core_of state) { pairs = written_all state.pairs (all_writes the_kinds (schema_of version) (changes rows ops)); rows = r })) makes.0 core))
       (subst (AreLawfulRows version) makes.0 steps.1)
 
 -- ---- the agreement of the pairs with the rows

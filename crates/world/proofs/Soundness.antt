@@ -57,8 +57,7 @@ lawful_entry version sound n d at =
     let t = small version sound d.table e.placed.0 e.placed.1 in
     let tables = table_in version.tables d.table e.placed.0 sound.tables e.placed.1 in
     record {
-      number_below = omega (arith, fit.1);
-      table_below = omega (arith, tables.1, sound.few_tables);
+      range = record { number_below = omega (arith, fit.1); table_below = omega (arith, tables.1, sound.few_tables) };
       lawful = lawful_kind n d d.kind fit.0 fit.1 e.list;
     }
 

@@ -22,10 +22,12 @@ use Rattle.schema_version.specs.declared.element.Kind.{Kind}
 use Rattle.schema_version.specs.declared.element.Kind.TheVariants.{Optional}
 use Rattle.schema_version.specs.declared.element.ElementDef.{ElementDef}
 use Rattle.schema_version.specs.Version.{Version, Table, table_at, element_at}
-use Rattle.element_state.specs.Column.{column_meaning, column_laws, IsLawfulColumn, coded}
-use Rattle.element_state.specs.Core.{Consistent, Meets}
-use Rattle.element_state.specs.Elements.{Demand, Exact, Stands, owner, owner_named}
-use Rattle.element_state.specs.Effects.{none_where, not_none}
+use Rattle.element_state.specs.Column.{column_meaning, IsLawfulColumn, coded}
+use Rattle.element_state.specs.ColumnLaws.{column_laws}
+use Rattle.element_state.specs.Core.{IsConsistent as Consistent, Meets}
+use Rattle.element_state.specs.Elements.{Demand, Exact, IsFromScratch, owner, owner_named}
+use Rattle.element_state.specs.Effects.{none_where}
+use Rattle.element_state.specs.Apart.{not_none}
 use Rattle.element_state.specs.Kinds.{kind_meaning}
 use Rattle.element_state.specs.Laws.{Laws}
 use Rattle.element_state.specs.Tables.{within, some_in}
@@ -112,7 +114,7 @@ column_value P R n lawful held k exact named o at = by (pair_value n o) refl
     gives : (v : Bytes) → map.get P (row_code k.0 k.1 n) ≡ Some v → pair_value n o ≡ Some v
     gives v is =
         let own : owner (row_code k.0 k.1 n) ≡ Some n = owner_named n (row_code k.0 k.1 n) (m_laws.owned k map.empty named) in
-        let s : Stands (within k.0 (column_meaning n)) R (row_code k.0 k.1 n) v = exact.subset (row_code k.0 k.1 n) v own is in
+        let s : IsFromScratch (within k.0 (column_meaning n)) R (row_code k.0 k.1 n) v = exact.subset (row_code k.0 k.1 n) v own is in
         let same : s.key ≡ k = m_laws.one_row s.key k s.cells map.empty (held s.key s.cells s.there) named (m_laws.served s.key s.cells v s.value_is) (eq-eqb k.0 k.0 refl) s.key_is in
         let row : o ≡ Some s.cells = sym at ∙ ap (map.get R) (sym same) ∙ s.there in
         let value : coded (map.get s.cells n) ≡ Some v = (some_in (eqb s.key.0 k.0) (coded (map.get s.cells n)) v s.value_is).1 in

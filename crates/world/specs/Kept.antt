@@ -3,7 +3,7 @@ use Rattle.std.specs.Prelude.{◌≡◌, ℕ, ◌<◌, ◌≤◌, ◌^◌, List,
 use Rattle.std.specs.FinMap as map
 use Rattle.schema_version.specs.declared.element.ElementDef.{ElementDef}
 use Rattle.schema_version.specs.Version.{Version, Table, table_at, element_at}
-use Rattle.element_state.specs.Core.{Core, Inv}
+use Rattle.element_state.specs.Core.{Core, Invariant}
 use Rattle.element_state.specs.Schemas.{AreLawful}
 use Rattle.element_state.specs.Versions.{ElementKind, the_kinds, schema_of}
 use Rattle.world.specs.Consistent.{AreLawfulRows}
@@ -35,6 +35,6 @@ pub record IsKept (state : State) : Type 0 where
   -- the pairs are those of the log
   pub replayed : IsReplayed state
   -- each element has the pairs that its state demands
-  pub core : Inv the_kinds (core_of state)
+  pub core : Invariant the_kinds (core_of state)
   -- the rows are of the version's tables and types
   pub lawful : AreLawfulRows state.opening.schema (facts_of state).rows
