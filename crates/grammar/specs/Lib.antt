@@ -1,0 +1,4 @@
+pub mod Silent
+pub mod Tokens
+pub mod Productions
+pub mod Commands
