@@ -2,3 +2,4 @@ pub mod Silent
 pub mod Tokens
 pub mod Productions
 pub mod Commands
+pub mod Printing
