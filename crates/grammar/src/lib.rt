@@ -19,3 +19,6 @@ pub use fault::LineFault;
 pub use operation::Operation;
 pub use printing::{push_hex, push_value};
 pub use silent::is_silent;
+
+#[cfg(test)]
+mod tests;
