@@ -98,18 +98,18 @@ index_of ts = do
   columns ← each_between mark.Comma name_of inner.0
   Some (command.Index name.0 table.0 columns)
 
--- `SERVER at M`, and the tokens behind it
-unfoldable pub server_at : List Token → Option ((List ℕ × ℕ) × List Token)
-server_at ts = do
-  server ← first_by name_in ts
-  behind ← after_first (is_word (codes "at")) server.1
+-- `NAME at M`, and the tokens behind it
+unfoldable pub name_at_moment : List Token → Option ((List ℕ × ℕ) × List Token)
+name_at_moment ts = do
+  name ← first_by name_in ts
+  behind ← after_first (is_word (codes "at")) name.1
   moment ← first_by count_in behind
-  Some ((server.0, moment.0), moment.1)
+  Some ((name.0, moment.0), moment.1)
 
 -- `lease SERVER at M`
 unfoldable pub lease_of : List Token → Option Command
 lease_of ts = do
-  server ← server_at ts
+  server ← name_at_moment ts
   at_end (command.Lease server.0.0 server.0.1) server.1
 
 -- `( VALUE {, VALUE} )`, and the tokens behind it
@@ -165,10 +165,26 @@ operation_of (t ∷ ts) =
 -- `txn SERVER at M: OPERATION {; OPERATION}`
 unfoldable pub txn_of : List Token → Option Command
 txn_of ts = do
-  server ← server_at ts
+  server ← name_at_moment ts
   behind ← after_first (is_mark mark.Colon) server.1
   operations ← each_between mark.Semicolon operation_of behind
   Some (command.Txn server.0.0 server.0.1 operations)
+
+-- `prepare WORK by SERVER: OPERATION {; OPERATION}`
+unfoldable pub prepare_of : List Token → Option Command
+prepare_of ts = do
+  work ← first_by name_in ts
+  behind ← after_first (is_word (codes "by")) work.1
+  server ← first_by name_in behind
+  colon ← after_first (is_mark mark.Colon) server.1
+  operations ← each_between mark.Semicolon operation_of colon
+  Some (command.Prepare work.0 server.0 operations)
+
+-- `commit WORK at M`
+unfoldable pub commit_of : List Token → Option Command
+commit_of ts = do
+  work ← name_at_moment ts
+  at_end (command.Commit work.0.0 work.0.1) work.1
 
 -- a command, by its first word
 unfoldable pub command_of : List Token → Option Command
@@ -182,7 +198,10 @@ command_of (t ∷ ts) =
     else (if is_word (codes "txn") t then txn_of ts
     else (if is_word (codes "pairs") t then at_end command.Pairs ts
     else (if is_word (codes "check") t then at_end command.Check ts
-    else None)))))))
+    else (if is_word (codes "log") t then at_end command.Log ts
+    else (if is_word (codes "prepare") t then prepare_of ts
+    else (if is_word (codes "commit") t then commit_of ts
+    else None))))))))))
 
 -- what is spelled, or a bad line
 abbrev pub or_malformed : {A : Type 0} → Option A → Result A LineFault

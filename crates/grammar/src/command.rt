@@ -1,7 +1,7 @@
 ghost use Rattle.listed.specs.Answers.{GivesOr};
 ghost use Rattle.grammar.specs.declared.fault.LineFault.TheVariants.{Memory};
 ghost use Rattle.grammar.specs.Productions.{Gives};
-ghost use Rattle.grammar.specs.Commands.{length_of, table_of, index_of, server_at, lease_of, txn_of, command_of, command_at};
+ghost use Rattle.grammar.specs.Commands.{length_of, table_of, index_of, name_at_moment, lease_of, txn_of, prepare_of, commit_of, command_of, command_at};
 
 use crate::columns::{Columns, Declared, keys_first, split};
 use crate::fault::LineFault;
@@ -47,6 +47,19 @@ pub enum Command {
     Pairs,
     /// `check`: whether the pairs are those of the rows.
     Check,
+    /// `log`: how many entries the log has.
+    Log,
+    /// `prepare WORK by SERVER: OPERATION {; OPERATION}`: a transaction under the server's lease, to be committed later.
+    Prepare {
+        work: Text,
+        server: Text,
+        operations: Listed<Operation>,
+    },
+    /// `commit WORK at M`: what was prepared under that name.
+    Commit {
+        work: Text,
+        moment: u64,
+    },
 }
 
 #[tactic(auto, unfolding(crate::specs::Commands::length_of))]
@@ -89,24 +102,25 @@ fn index(alloc: Global, tokens: &[Token<'_>]) -> Result<Command, LineFault>
     })
 }
 
-#[tactic(auto, unfolding(crate::specs::Commands::server_at))]
-fn server<'t, 'a>(
+/// A name, and the moment at which it is used.
+#[tactic(auto, unfolding(crate::specs::Commands::name_at_moment))]
+fn name_at_moment<'t, 'a>(
     alloc: Global,
     tokens: &'t [Token<'a>],
 ) -> Result<((Text, u64), &'t [Token<'a>]), LineFault>
-    ensures { Gives (λ x. (x.0, x.1.now)) result (server_at tokens.entry.now) }
+    ensures { Gives (λ x. (x.0, x.1.now)) result (name_at_moment tokens.entry.now) }
 {
-    let (server, rest) = name(alloc, tokens)?;
+    let (name, rest) = name(alloc, tokens)?;
     let rest = after_word(rest, b"at")?;
     let (moment, rest) = count(rest)?;
-    Ok(((server, moment), rest))
+    Ok(((name, moment), rest))
 }
 
 #[tactic(auto, unfolding(crate::specs::Commands::lease_of))]
 fn lease(alloc: Global, tokens: &[Token<'_>]) -> Result<Command, LineFault>
     ensures { Gives (λ x. x) result (lease_of tokens.now) }
 {
-    let ((server, moment), rest) = server(alloc, tokens)?;
+    let ((server, moment), rest) = name_at_moment(alloc, tokens)?;
     at_end(Command::Lease { server, moment }, rest)
 }
 
@@ -114,7 +128,7 @@ fn lease(alloc: Global, tokens: &[Token<'_>]) -> Result<Command, LineFault>
 fn txn(alloc: Global, tokens: &[Token<'_>]) -> Result<Command, LineFault>
     ensures { Gives (λ x. x) result (txn_of tokens.now) }
 {
-    let ((server, moment), rest) = server(alloc, tokens)?;
+    let ((server, moment), rest) = name_at_moment(alloc, tokens)?;
     let rest = after_mark(rest, Mark::Colon)?;
     let operations = read_each::<Operation>(alloc, rest, Mark::Semicolon)?;
     Ok(Command::Txn {
@@ -122,6 +136,30 @@ fn txn(alloc: Global, tokens: &[Token<'_>]) -> Result<Command, LineFault>
         moment,
         operations,
     })
+}
+
+#[tactic(auto, unfolding(crate::specs::Commands::prepare_of))]
+fn prepare(alloc: Global, tokens: &[Token<'_>]) -> Result<Command, LineFault>
+    ensures { Gives (λ x. x) result (prepare_of tokens.now) }
+{
+    let (work, rest) = name(alloc, tokens)?;
+    let rest = after_word(rest, b"by")?;
+    let (server, rest) = name(alloc, rest)?;
+    let rest = after_mark(rest, Mark::Colon)?;
+    let operations = read_each::<Operation>(alloc, rest, Mark::Semicolon)?;
+    Ok(Command::Prepare {
+        work,
+        server,
+        operations,
+    })
+}
+
+#[tactic(auto, unfolding(crate::specs::Commands::commit_of))]
+fn commit(alloc: Global, tokens: &[Token<'_>]) -> Result<Command, LineFault>
+    ensures { Gives (λ x. x) result (commit_of tokens.now) }
+{
+    let ((work, moment), rest) = name_at_moment(alloc, tokens)?;
+    at_end(Command::Commit { work, moment }, rest)
 }
 
 #[tactic(auto, unfolding(crate::specs::Commands::command_of))]
@@ -147,6 +185,12 @@ fn spelled_command(alloc: Global, tokens: &[Token<'_>]) -> Result<Command, LineF
         at_end(Command::Pairs, rest)
     } else if is_word(first, b"check") {
         at_end(Command::Check, rest)
+    } else if is_word(first, b"log") {
+        at_end(Command::Log, rest)
+    } else if is_word(first, b"prepare") {
+        prepare(alloc, rest)
+    } else if is_word(first, b"commit") {
+        commit(alloc, rest)
     } else {
         Err(LineFault::Malformed)
     }
