@@ -13,7 +13,7 @@ use keycode::Text;
 use listed::Listed;
 use std::alloc::Global;
 
-/// What a line asks for. Names stay names: what they stand for is the reader's to look up.
+/// What a line asks for. Names stay names: what they stand for is the caller's to look up. A moment is a point of the script's own time, which it counts in whole numbers.
 #[derive(Debug, Drop, PartialEq, Eq)]
 pub enum Command {
     /// `length N`: a lease's length, in moments.
@@ -198,8 +198,9 @@ fn spelled_command(alloc: Global, tokens: &[Token<'_>]) -> Result<Command, LineF
 
 /// The command that a line spells.
 ///
-/// `line` is the line without its ending, and no silent one. The refusals, in their order: `Malformed` where the line is not of the grammar, and `Memory` where
-/// memory ran out before that was known. Nothing is left behind by either.
+/// `line` is the bytes of the line without its ending. How long it may be is the caller's to say, and a silent line spells no command. The refusals:
+/// `Malformed` where the line is not of the grammar, which also holds of a text that is not UTF-8 and of a number that does not fit its place, and `Memory`,
+/// in place of either answer, where memory ran out. A refusal leaves nothing behind.
 pub fn read_command(alloc: Global, line: &[u8]) -> Result<Command, LineFault>
     ensures { GivesOr Memory (λ command. command) result (command_at line.now) }
 {

@@ -6,6 +6,8 @@ use row_map::ColumnType;
 use std::alloc::{AllocError, Global};
 use std::test::*;
 
+type Sets = Listed<(Text, Value)>;
+
 fn text(alloc: Global, word: &str) -> Result<Text, AllocError> {
     Ok(Text::new(String::from_str(alloc, word)?))
 }
@@ -18,7 +20,7 @@ fn key_of(alloc: Global, number: i64) -> Result<Values, AllocError> {
     Ok(Listed::new(vec![in alloc; Value::Int(number)]?))
 }
 
-fn sets_of(alloc: Global, name: &str, value: Value) -> Result<Listed<(Text, Value)>, AllocError> {
+fn sets_of(alloc: Global, name: &str, value: Value) -> Result<Sets, AllocError> {
     Ok(Listed::new(vec![in alloc; (text(alloc, name)?, value)]?))
 }
 
@@ -39,56 +41,70 @@ fn silent_lines(rt: HostRuntime) {
     }
 }
 
+fn declared(
+    alloc: Global,
+    name: &str,
+    key: (Text, ColumnType),
+    column: (Text, ColumnType),
+) -> Result<Command, AllocError> {
+    Ok(Command::Table {
+        name: text(alloc, name)?,
+        key: Listed::new(vec![in alloc; key]?),
+        columns: Listed::new(vec![in alloc; column]?),
+    })
+}
+
 #[test]
-fn declarations(rt: HostRuntime) -> Result<(), Fail> {
+fn tables(rt: HostRuntime) -> Result<(), Fail> {
     let alloc = rt.alloc();
-    let length = read_command(alloc, b"length 007").ok().ok_or("a length")?;
-    assert!(rt; length == Command::Length(7));
-    let table = read_command(alloc, b"table t (id int key, a int)")
-        .ok()
-        .ok_or("a table")?;
-    let expected = Command::Table {
-        name: text(alloc, "t")?,
-        key: Listed::new(vec![in alloc; column(alloc, "id", ColumnType::Int)?]?),
-        columns: Listed::new(vec![in alloc; column(alloc, "a", ColumnType::Int)?]?),
+    assert!(rt; read_command(alloc, b"length 007") == Ok(Command::Length(7)));
+    let id = column(alloc, "id", ColumnType::Int)?;
+    let a = column(alloc, "a", ColumnType::Int)?;
+    let expected = declared(alloc, "t", id, a)?;
+    assert!(rt; read_command(alloc, b"table t (id int key, a int)") == Ok(expected));
+    let key = column(alloc, "key", ColumnType::Text)?;
+    let table = column(alloc, "table", ColumnType::Bool)?;
+    let expected = declared(alloc, "on", key, table)?;
+    assert!(rt; read_command(alloc, b" table  on(key text key,table bool ) ") == Ok(expected));
+    Ok(())
+}
+
+#[test]
+fn wide_tables(rt: HostRuntime) -> Result<(), Fail> {
+    let alloc = rt.alloc();
+    let line = b"table t (a int key, b text key, c bool, d int, e text)";
+    let Ok(Command::Table { key, columns, .. }) = read_command(alloc, line) else {
+        return Err("a table".into());
     };
-    assert!(rt; table == expected);
-    let wide = read_command(
-        alloc,
-        b" table  on(a text key,key bool key,b bool,table text ) ",
-    )
-    .ok()
-    .ok_or("a wide table")?;
-    let expected = Command::Table {
-        name: text(alloc, "on")?,
-        key: Listed::new(vec![in alloc;
-            column(alloc, "a", ColumnType::Text)?,
-            column(alloc, "key", ColumnType::Bool)?,
-        ]?),
-        columns: Listed::new(vec![in alloc;
-            column(alloc, "b", ColumnType::Bool)?,
-            column(alloc, "table", ColumnType::Text)?,
-        ]?),
-    };
-    assert!(rt; wide == expected);
-    let index = read_command(alloc, b"index i on t (a, b_2)")
-        .ok()
-        .ok_or("an index")?;
+    assert_eq!(rt; key.len(), 2);
+    assert_eq!(rt; columns.len(), 3);
+    Ok(())
+}
+
+#[test]
+fn indexes(rt: HostRuntime) -> Result<(), Fail> {
+    let alloc = rt.alloc();
     let expected = Command::Index {
         name: text(alloc, "i")?,
         table: text(alloc, "t")?,
         columns: Listed::new(vec![in alloc; text(alloc, "a")?, text(alloc, "b_2")?]?),
     };
-    assert!(rt; index == expected);
+    assert!(rt; read_command(alloc, b"index i on t (a, b_2)") == Ok(expected));
     Ok(())
 }
 
 #[test]
-fn words_and_leases(rt: HostRuntime) -> Result<(), Fail> {
+fn single_words(rt: HostRuntime) {
     let alloc = rt.alloc();
     assert!(rt; read_command(alloc, b"open") == Ok(Command::Open));
     assert!(rt; read_command(alloc, b"pairs ") == Ok(Command::Pairs));
     assert!(rt; read_command(alloc, b"check") == Ok(Command::Check));
+    assert!(rt; read_command(alloc, b"log") == Ok(Command::Log));
+}
+
+#[test]
+fn leases(rt: HostRuntime) -> Result<(), Fail> {
+    let alloc = rt.alloc();
     let expected = Command::Lease {
         server: text(alloc, "s")?,
         moment: 18446744073709551615,
@@ -99,78 +115,101 @@ fn words_and_leases(rt: HostRuntime) -> Result<(), Fail> {
 }
 
 #[test]
-fn transactions(rt: HostRuntime) -> Result<(), Fail> {
+fn prepared_work(rt: HostRuntime) -> Result<(), Fail> {
     let alloc = rt.alloc();
-    let inserted = read_command(alloc, b"txn s at 0: insert t (1) set a = 5")
-        .ok()
-        .ok_or("an insert")?;
-    let expected = Command::Txn {
-        server: text(alloc, "s")?,
-        moment: 0,
-        operations: Listed::new(vec![in alloc;
-            Operation::Insert {
-                table: text(alloc, "t")?,
-                key: key_of(alloc, 1)?,
-                sets: sets_of(alloc, "a", Value::Int(5))?,
-            },
-        ]?),
+    let expected = Command::Commit {
+        work: text(alloc, "w")?,
+        moment: 12,
     };
-    assert!(rt; inserted == expected);
-    let many = read_command(
-        alloc,
-        b"txn s at 3:insert t(2);update t (-9223372036854775808) set a=null;delete t (3)",
-    )
-    .ok()
-    .ok_or("three operations")?;
-    let expected = Command::Txn {
+    assert!(rt; read_command(alloc, b"commit w at 12") == Ok(expected));
+    let expected = Command::Prepare {
+        work: text(alloc, "w")?,
         server: text(alloc, "s")?,
-        moment: 3,
-        operations: Listed::new(vec![in alloc;
-            Operation::Insert {
-                table: text(alloc, "t")?,
-                key: key_of(alloc, 2)?,
-                sets: Listed::new(Vec::new(alloc)),
-            },
-            Operation::Update {
-                table: text(alloc, "t")?,
-                key: key_of(alloc, -9223372036854775808)?,
-                sets: sets_of(alloc, "a", Value::Null)?,
-            },
-            Operation::Delete {
-                table: text(alloc, "t")?,
-                key: key_of(alloc, 3)?,
-            },
-        ]?),
+        operations: Listed::new(vec![in alloc; deleted(alloc, 1)?]?),
     };
-    assert!(rt; many == expected);
+    assert!(rt; read_command(alloc, b"prepare w by s: delete t (1)") == Ok(expected));
+    Ok(())
+}
+
+fn inserted(alloc: Global, number: i64, sets: Sets) -> Result<Operation, AllocError> {
+    Ok(Operation::Insert {
+        table: text(alloc, "t")?,
+        key: key_of(alloc, number)?,
+        sets,
+    })
+}
+
+fn updated(alloc: Global, number: i64, sets: Sets) -> Result<Operation, AllocError> {
+    Ok(Operation::Update {
+        table: text(alloc, "t")?,
+        key: key_of(alloc, number)?,
+        sets,
+    })
+}
+
+fn deleted(alloc: Global, number: i64) -> Result<Operation, AllocError> {
+    Ok(Operation::Delete {
+        table: text(alloc, "t")?,
+        key: key_of(alloc, number)?,
+    })
+}
+
+fn txn_of(alloc: Global, moment: u64, operations: Vec<Operation>) -> Result<Command, AllocError> {
+    Ok(Command::Txn {
+        server: text(alloc, "s")?,
+        moment,
+        operations: Listed::new(operations),
+    })
+}
+
+#[test]
+fn one_operation(rt: HostRuntime) -> Result<(), Fail> {
+    let alloc = rt.alloc();
+    let sets = sets_of(alloc, "a", Value::Int(5))?;
+    let operations = vec![in alloc; inserted(alloc, 1, sets)?]?;
+    let expected = txn_of(alloc, 0, operations)?;
+    let read = read_command(alloc, b"txn s at 0: insert t (1) set a = 5");
+    assert!(rt; read == Ok(expected));
+    Ok(())
+}
+
+#[test]
+fn three_operations(rt: HostRuntime) -> Result<(), Fail> {
+    let alloc = rt.alloc();
+    let first = inserted(alloc, 2, Listed::new(Vec::new(alloc)))?;
+    let sets = sets_of(alloc, "a", Value::Null)?;
+    let second = updated(alloc, -9223372036854775808, sets)?;
+    let third = deleted(alloc, 3)?;
+    let expected = txn_of(alloc, 3, vec![in alloc; first, second, third]?)?;
+    let line = b"txn s at 3:insert t(2);update t (-9223372036854775808) set a=null;delete t (3)";
+    assert!(rt; read_command(alloc, line) == Ok(expected));
+    Ok(())
+}
+
+fn push_keys(out: &mut String, operations: &[Operation]) -> Result<(), AllocError> {
+    for operation in operations {
+        if let Operation::Delete { key, .. } = operation {
+            for value in key.as_slice() {
+                push_value(out, value)?;
+                out.push(' ')?;
+            }
+        }
+    }
     Ok(())
 }
 
 #[test]
 fn values_of_each_kind(rt: HostRuntime) -> Result<(), Fail> {
     let alloc = rt.alloc();
-    let line = "txn s at 0: delete t (true, false, null, -0, 9223372036854775807, 'it''s; é', '')";
-    let read = read_command(alloc, line.as_bytes()).ok().ok_or("a delete")?;
-    let key = vec![in alloc;
-        Value::Bool(true),
-        Value::Bool(false),
-        Value::Null,
-        Value::Int(0),
-        Value::Int(9223372036854775807),
-        Value::Text(text(alloc, "it's; é")?),
-        Value::Text(text(alloc, "")?),
-    ]?;
-    let expected = Command::Txn {
-        server: text(alloc, "s")?,
-        moment: 0,
-        operations: Listed::new(vec![in alloc;
-            Operation::Delete {
-                table: text(alloc, "t")?,
-                key: Listed::new(key),
-            },
-        ]?),
-    };
-    assert!(rt; read == expected);
+    let line = "txn s at 0: delete t (true,false,null, -0, 9223372036854775807, 'it''s; é', '')";
+    let mut out = String::new(alloc);
+    if let Ok(Command::Txn { operations, .. }) = read_command(alloc, line.as_bytes()) {
+        push_keys(&mut out, operations.as_slice())?;
+    }
+    assert_eq!(rt;
+        out.as_str(),
+        "true false null 0 9223372036854775807 'it''s; é' '' "
+    );
     Ok(())
 }
 
