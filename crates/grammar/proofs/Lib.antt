@@ -1,0 +1,4 @@
+pub mod Quotes
+pub mod Skips
+pub mod Cuts
+pub mod Doubling

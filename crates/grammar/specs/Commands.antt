@@ -1,0 +1,213 @@
+-- The productions of the grammar: what lists of tokens spell, read whole unless a name ends in `_at`.
+use Rattle.std.specs.Prelude.{ℕ, List, [], ◌∷◌, Option, Some, None, Result, Ok, Err, Bool, true, false, not, ◌&&◌, ◌||◌, if◌then◌else◌, codes, map, filter}
+use Rattle.std.specs.Option.{option_and_then}
+use Rattle.keycode.specs.declared.value.Value.{Value}
+use Rattle.row_map.specs.declared.shape.ColumnType.{ColumnType}
+use Rattle.grammar.specs.declared.token.Token.{Token}
+use Rattle.grammar.specs.declared.token.Mark.TheVariants as mark
+use Rattle.grammar.specs.declared.fault.LineFault.{LineFault}
+use Rattle.grammar.specs.declared.fault.LineFault.TheVariants.{Malformed}
+use Rattle.grammar.specs.declared.columns.Declared.{Declared}
+use Rattle.grammar.specs.declared.operation.Operation.{Operation}
+use Rattle.grammar.specs.declared.operation.Operation.TheVariants.{Insert, Update, Delete}
+use Rattle.grammar.specs.declared.command.Command.{Command}
+use Rattle.grammar.specs.declared.command.Command.TheVariants as command
+use Rattle.grammar.specs.Tokens.{tokens_of}
+use Rattle.grammar.specs.Productions.{◌>>=◌, first_by, after_first, at_end, is_mark, is_word, name_in, count_in, type_in, value_in, bracketed, each_between}
+
+-- `VALUE`
+unfoldable pub value_of : List Token → Option Value
+value_of ts = do
+  value ← first_by value_in ts
+  at_end value.0 value.1
+
+-- `COLUMN`
+unfoldable pub name_of : List Token → Option (List ℕ)
+name_of ts = do
+  name ← first_by name_in ts
+  at_end name.0 name.1
+
+-- `COLUMN = VALUE`
+unfoldable pub set_of : List Token → Option (List ℕ × Value)
+set_of ts = do
+  column ← first_by name_in ts
+  behind ← after_first (is_mark mark.Equal) column.1
+  value ← value_of behind
+  Some (column.0, value)
+
+-- `[key]`
+abbrev pub key_of : List Token → Option Bool
+key_of [] = Some false
+key_of (t ∷ ts) = if is_word (codes "key") t then at_end true ts else None
+
+-- `COLUMN TYPE [key]`
+unfoldable pub declared_of : List Token → Option Declared
+declared_of ts = do
+  name ← first_by name_in ts
+  kind ← first_by type_in name.1
+  is_key ← key_of kind.1
+  Some (record { name = name.0; kind = kind.0; is_key = is_key })
+
+-- whether no key column stands behind another column; before: whether the one before is a key column
+abbrev pub keys_lead : Bool → List Declared → Bool
+keys_lead before [] = true
+keys_lead before (d ∷ ds) = (before || not d.is_key) && keys_lead d.is_key ds
+
+-- whether there is a key column, and the key columns stand first
+abbrev pub keys_first : List Declared → Bool
+keys_first [] = false
+keys_first (d ∷ ds) = d.is_key && keys_lead true ds
+
+-- a column without its part in the key
+abbrev pub column_of : Declared → List ℕ × ColumnType
+column_of d = (d.name, d.kind)
+
+abbrev pub key_columns : List Declared → List (List ℕ × ColumnType)
+key_columns ds = map column_of (filter (λ d. d.is_key) ds)
+
+abbrev pub other_columns : List Declared → List (List ℕ × ColumnType)
+other_columns ds = map column_of (filter (λ d. not d.is_key) ds)
+
+-- `length N`, without its first word, as each command below
+unfoldable pub length_of : List Token → Option Command
+length_of ts = do
+  length ← first_by count_in ts
+  at_end (command.Length length.0) length.1
+
+-- the table of these columns
+abbrev pub table_with : List ℕ → List Declared → Option Command
+table_with name ds = if keys_first ds then Some (command.Table name (key_columns ds) (other_columns ds)) else None
+
+-- `table NAME ( COLUMN TYPE key {, COLUMN TYPE key} {, COLUMN TYPE} )`
+unfoldable pub table_of : List Token → Option Command
+table_of ts = do
+  name ← first_by name_in ts
+  inner ← bracketed name.1
+  end ← at_end (tt {0}) inner.1
+  columns ← each_between mark.Comma declared_of inner.0
+  table_with name.0 columns
+
+-- `index NAME on TABLE ( COLUMN {, COLUMN} )`
+unfoldable pub index_of : List Token → Option Command
+index_of ts = do
+  name ← first_by name_in ts
+  behind ← after_first (is_word (codes "on")) name.1
+  table ← first_by name_in behind
+  inner ← bracketed table.1
+  end ← at_end (tt {0}) inner.1
+  columns ← each_between mark.Comma name_of inner.0
+  Some (command.Index name.0 table.0 columns)
+
+-- `NAME at M`, and the tokens behind it
+unfoldable pub name_at_moment : List Token → Option ((List ℕ × ℕ) × List Token)
+name_at_moment ts = do
+  name ← first_by name_in ts
+  behind ← after_first (is_word (codes "at")) name.1
+  moment ← first_by count_in behind
+  Some ((name.0, moment.0), moment.1)
+
+-- `lease SERVER at M`
+unfoldable pub lease_of : List Token → Option Command
+lease_of ts = do
+  server ← name_at_moment ts
+  at_end (command.Lease server.0.0 server.0.1) server.1
+
+-- `( VALUE {, VALUE} )`, and the tokens behind it
+unfoldable pub tuple_at : List Token → Option (List Value × List Token)
+tuple_at ts = do
+  inner ← bracketed ts
+  values ← each_between mark.Comma value_of inner.0
+  Some (values, inner.1)
+
+-- `set COLUMN = VALUE {, COLUMN = VALUE}`
+unfoldable pub sets_of : List Token → Option (List (List ℕ × Value))
+sets_of ts = do
+  sets ← after_first (is_word (codes "set")) ts
+  each_between mark.Comma set_of sets
+
+-- the same, or nothing
+abbrev pub optional_sets_of : List Token → Option (List (List ℕ × Value))
+optional_sets_of [] = Some []
+optional_sets_of (t ∷ ts) = sets_of (t ∷ ts)
+
+-- `insert TABLE ( VALUE {, VALUE} ) [set COLUMN = VALUE {, COLUMN = VALUE}]`
+unfoldable pub insert_of : List Token → Option Operation
+insert_of ts = do
+  table ← first_by name_in ts
+  key ← tuple_at table.1
+  sets ← optional_sets_of key.1
+  Some (Insert table.0 key.0 sets)
+
+-- `update TABLE ( VALUE {, VALUE} ) set COLUMN = VALUE {, COLUMN = VALUE}`
+unfoldable pub update_of : List Token → Option Operation
+update_of ts = do
+  table ← first_by name_in ts
+  key ← tuple_at table.1
+  sets ← sets_of key.1
+  Some (Update table.0 key.0 sets)
+
+-- `delete TABLE ( VALUE {, VALUE} )`
+unfoldable pub delete_of : List Token → Option Operation
+delete_of ts = do
+  table ← first_by name_in ts
+  key ← tuple_at table.1
+  at_end (Delete table.0 key.0) key.1
+
+-- an operation, by its first word
+unfoldable pub operation_of : List Token → Option Operation
+operation_of [] = None
+operation_of (t ∷ ts) =
+    if is_word (codes "insert") t then insert_of ts
+    else (if is_word (codes "update") t then update_of ts
+    else (if is_word (codes "delete") t then delete_of ts
+    else None))
+
+-- `txn SERVER at M: OPERATION {; OPERATION}`
+unfoldable pub txn_of : List Token → Option Command
+txn_of ts = do
+  server ← name_at_moment ts
+  behind ← after_first (is_mark mark.Colon) server.1
+  operations ← each_between mark.Semicolon operation_of behind
+  Some (command.Txn server.0.0 server.0.1 operations)
+
+-- `prepare WORK by SERVER: OPERATION {; OPERATION}`
+unfoldable pub prepare_of : List Token → Option Command
+prepare_of ts = do
+  work ← first_by name_in ts
+  behind ← after_first (is_word (codes "by")) work.1
+  server ← first_by name_in behind
+  colon ← after_first (is_mark mark.Colon) server.1
+  operations ← each_between mark.Semicolon operation_of colon
+  Some (command.Prepare work.0 server.0 operations)
+
+-- `commit WORK at M`
+unfoldable pub commit_of : List Token → Option Command
+commit_of ts = do
+  work ← name_at_moment ts
+  at_end (command.Commit work.0.0 work.0.1) work.1
+
+-- a command, by its first word
+unfoldable pub command_of : List Token → Option Command
+command_of [] = None
+command_of (t ∷ ts) =
+    if is_word (codes "length") t then length_of ts
+    else (if is_word (codes "table") t then table_of ts
+    else (if is_word (codes "index") t then index_of ts
+    else (if is_word (codes "open") t then at_end command.Open ts
+    else (if is_word (codes "lease") t then lease_of ts
+    else (if is_word (codes "txn") t then txn_of ts
+    else (if is_word (codes "pairs") t then at_end command.Pairs ts
+    else (if is_word (codes "check") t then at_end command.Check ts
+    else (if is_word (codes "log") t then at_end command.Log ts
+    else (if is_word (codes "prepare") t then prepare_of ts
+    else (if is_word (codes "commit") t then commit_of ts
+    else None))))))))))
+
+-- what is spelled, or a bad line
+abbrev pub or_malformed : {A : Type 0} → Option A → Result A LineFault
+or_malformed None = Err Malformed
+or_malformed (Some x) = Ok x
+
+-- the command that the bytes of a line spell
+abbrev pub command_at : List ℕ → Result Command LineFault
+command_at line = or_malformed (option_and_then command_of (tokens_of line))

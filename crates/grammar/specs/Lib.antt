@@ -1,0 +1,5 @@
+pub mod Silent
+pub mod Tokens
+pub mod Productions
+pub mod Commands
+pub mod Printing

@@ -1,0 +1,211 @@
+ghost use Rattle.listed.specs.Answers.{GivesOr};
+ghost use Rattle.grammar.specs.declared.fault.LineFault.TheVariants.{Memory};
+ghost use Rattle.grammar.specs.Productions.{Gives};
+ghost use Rattle.grammar.specs.Commands.{length_of, table_of, index_of, name_at_moment, lease_of, txn_of, prepare_of, commit_of, command_of, command_at};
+
+use crate::columns::{Columns, Declared, keys_first, split};
+use crate::fault::LineFault;
+use crate::operation::Operation;
+use crate::production::read_each;
+use crate::reading::{after_mark, after_word, at_end, bracketed, count, is_word, name};
+use crate::token::{Mark, Token, tokens_of};
+use keycode::Text;
+use listed::Listed;
+use std::alloc::Global;
+
+/// What a line asks for. Names stay names: what they stand for is the caller's to look up. A moment is a point of the script's own time, which it counts in whole numbers.
+#[derive(Debug, Drop, PartialEq, Eq)]
+pub enum Command {
+    /// `length N`: a lease's length, in moments.
+    Length(u64),
+    /// `table NAME ( COLUMN TYPE key {, COLUMN TYPE key} {, COLUMN TYPE} )`: the primary key's columns, of which there is one at least, and the others.
+    Table {
+        name: Text,
+        key: Columns,
+        columns: Columns,
+    },
+    /// `index NAME on TABLE ( COLUMN {, COLUMN} )`
+    Index {
+        name: Text,
+        table: Text,
+        columns: Listed<Text>,
+    },
+    /// `open`: the world of the tables and indexes that were declared.
+    Open,
+    /// `lease SERVER at M`: a lease of the newest schema version, from the moment M on.
+    Lease {
+        server: Text,
+        moment: u64,
+    },
+    /// `txn SERVER at M: OPERATION {; OPERATION}`: a transaction under the server's lease.
+    Txn {
+        server: Text,
+        moment: u64,
+        operations: Listed<Operation>,
+    },
+    /// `pairs`: every pair of the store.
+    Pairs,
+    /// `check`: whether the pairs are those of the rows.
+    Check,
+    /// `log`: how many entries the log has.
+    Log,
+    /// `prepare WORK by SERVER: OPERATION {; OPERATION}`: a transaction under the server's lease, to be committed later.
+    Prepare {
+        work: Text,
+        server: Text,
+        operations: Listed<Operation>,
+    },
+    /// `commit WORK at M`: what was prepared under that name.
+    Commit {
+        work: Text,
+        moment: u64,
+    },
+}
+
+#[tactic(auto, unfolding(crate::specs::Commands::length_of))]
+fn length(tokens: &[Token<'_>]) -> Result<Command, LineFault>
+    ensures { Gives (λ x. x) result (length_of tokens.now) }
+{
+    let (length, rest) = count(tokens)?;
+    at_end(Command::Length(length), rest)
+}
+
+#[tactic(auto, unfolding(crate::specs::Commands::table_of))]
+fn table(alloc: Global, tokens: &[Token<'_>]) -> Result<Command, LineFault>
+    ensures { Gives (λ x. x) result (table_of tokens.now) }
+{
+    let (name, rest) = name(alloc, tokens)?;
+    let (inner, rest) = bracketed(rest)?;
+    at_end((), rest)?;
+    let columns = read_each::<Declared>(alloc, inner, Mark::Comma)?;
+    if !keys_first(columns.as_slice()) {
+        return Err(LineFault::Malformed);
+    }
+    let (key, columns) = split(alloc, columns)?;
+    Ok(Command::Table { name, key, columns })
+}
+
+#[tactic(auto, unfolding(crate::specs::Commands::index_of))]
+fn index(alloc: Global, tokens: &[Token<'_>]) -> Result<Command, LineFault>
+    ensures { Gives (λ x. x) result (index_of tokens.now) }
+{
+    let (index, rest) = name(alloc, tokens)?;
+    let rest = after_word(rest, b"on")?;
+    let (table, rest) = name(alloc, rest)?;
+    let (inner, rest) = bracketed(rest)?;
+    at_end((), rest)?;
+    let columns = read_each::<Text>(alloc, inner, Mark::Comma)?;
+    Ok(Command::Index {
+        name: index,
+        table,
+        columns,
+    })
+}
+
+/// A name, and the moment at which it is used.
+#[tactic(auto, unfolding(crate::specs::Commands::name_at_moment))]
+fn name_at_moment<'t, 'a>(
+    alloc: Global,
+    tokens: &'t [Token<'a>],
+) -> Result<((Text, u64), &'t [Token<'a>]), LineFault>
+    ensures { Gives (λ x. (x.0, x.1.now)) result (name_at_moment tokens.entry.now) }
+{
+    let (name, rest) = name(alloc, tokens)?;
+    let rest = after_word(rest, b"at")?;
+    let (moment, rest) = count(rest)?;
+    Ok(((name, moment), rest))
+}
+
+#[tactic(auto, unfolding(crate::specs::Commands::lease_of))]
+fn lease(alloc: Global, tokens: &[Token<'_>]) -> Result<Command, LineFault>
+    ensures { Gives (λ x. x) result (lease_of tokens.now) }
+{
+    let ((server, moment), rest) = name_at_moment(alloc, tokens)?;
+    at_end(Command::Lease { server, moment }, rest)
+}
+
+#[tactic(auto, unfolding(crate::specs::Commands::txn_of))]
+fn txn(alloc: Global, tokens: &[Token<'_>]) -> Result<Command, LineFault>
+    ensures { Gives (λ x. x) result (txn_of tokens.now) }
+{
+    let ((server, moment), rest) = name_at_moment(alloc, tokens)?;
+    let rest = after_mark(rest, Mark::Colon)?;
+    let operations = read_each::<Operation>(alloc, rest, Mark::Semicolon)?;
+    Ok(Command::Txn {
+        server,
+        moment,
+        operations,
+    })
+}
+
+#[tactic(auto, unfolding(crate::specs::Commands::prepare_of))]
+fn prepare(alloc: Global, tokens: &[Token<'_>]) -> Result<Command, LineFault>
+    ensures { Gives (λ x. x) result (prepare_of tokens.now) }
+{
+    let (work, rest) = name(alloc, tokens)?;
+    let rest = after_word(rest, b"by")?;
+    let (server, rest) = name(alloc, rest)?;
+    let rest = after_mark(rest, Mark::Colon)?;
+    let operations = read_each::<Operation>(alloc, rest, Mark::Semicolon)?;
+    Ok(Command::Prepare {
+        work,
+        server,
+        operations,
+    })
+}
+
+#[tactic(auto, unfolding(crate::specs::Commands::commit_of))]
+fn commit(alloc: Global, tokens: &[Token<'_>]) -> Result<Command, LineFault>
+    ensures { Gives (λ x. x) result (commit_of tokens.now) }
+{
+    let ((work, moment), rest) = name_at_moment(alloc, tokens)?;
+    at_end(Command::Commit { work, moment }, rest)
+}
+
+#[tactic(auto, unfolding(crate::specs::Commands::command_of))]
+fn spelled_command(alloc: Global, tokens: &[Token<'_>]) -> Result<Command, LineFault>
+    ensures { Gives (λ x. x) result (command_of tokens.now) }
+{
+    let [first, rest @ ..] = tokens else {
+        return Err(LineFault::Malformed);
+    };
+    if is_word(first, b"length") {
+        length(rest)
+    } else if is_word(first, b"table") {
+        table(alloc, rest)
+    } else if is_word(first, b"index") {
+        index(alloc, rest)
+    } else if is_word(first, b"open") {
+        at_end(Command::Open, rest)
+    } else if is_word(first, b"lease") {
+        lease(alloc, rest)
+    } else if is_word(first, b"txn") {
+        txn(alloc, rest)
+    } else if is_word(first, b"pairs") {
+        at_end(Command::Pairs, rest)
+    } else if is_word(first, b"check") {
+        at_end(Command::Check, rest)
+    } else if is_word(first, b"log") {
+        at_end(Command::Log, rest)
+    } else if is_word(first, b"prepare") {
+        prepare(alloc, rest)
+    } else if is_word(first, b"commit") {
+        commit(alloc, rest)
+    } else {
+        Err(LineFault::Malformed)
+    }
+}
+
+/// The command that a line spells.
+///
+/// `line` is the bytes of the line without its ending. How long it may be is the caller's to say, and a silent line spells no command. The refusals:
+/// `Malformed` where the line is not of the grammar, which also holds of a text that is not UTF-8 and of a number that does not fit its place, and `Memory`,
+/// in place of either answer, where memory ran out. A refusal leaves nothing behind.
+pub fn read_command(alloc: Global, line: &[u8]) -> Result<Command, LineFault>
+    ensures { GivesOr Memory (λ command. command) result (command_at line.now) }
+{
+    match tokens_of(alloc, line)? {
+        Some(tokens) => spelled_command(alloc, tokens.as_slice()),
+        None => Err(LineFault::Malformed),
+    }
+}

@@ -1,0 +1,24 @@
+//! The grammar of a script: from the bytes of a line to the command that they spell, and the printing of bytes and values.
+#![tactic(auto)]
+
+mod columns;
+mod command;
+mod fault;
+mod operation;
+mod part;
+mod printing;
+mod production;
+mod reading;
+mod silent;
+mod token;
+mod value;
+
+pub use columns::Columns;
+pub use command::{Command, read_command};
+pub use fault::LineFault;
+pub use operation::Operation;
+pub use printing::{push_hex, push_value};
+pub use silent::is_silent;
+
+#[cfg(test)]
+mod tests;

@@ -1,0 +1,43 @@
+ghost use Rattle.std.specs.Prelude.{List, Option};
+ghost use Rattle.grammar.specs.declared.token.Token.{Token};
+ghost use Rattle.grammar.specs.Productions.{Gives, each_between};
+
+use crate::fault::LineFault;
+use crate::reading::place;
+use crate::token::{Mark, Token};
+use listed::Listed;
+use std::alloc::Global;
+
+/// What a list of tokens spells, read whole.
+pub trait Production: Drop {
+    /// What the tokens spell, or `None` where they spell nothing.
+    ghost spelled: { List Token → Option Self };
+
+    /// Reads the tokens to their end.
+    fn read(alloc: Global, tokens: &[Token<'_>]) -> Result<Self, LineFault>
+        ensures { Gives (λ x. x) result (spelled tokens.now) };
+}
+
+/// What the parts spell that such marks stand between, each read whole.
+pub fn read_each<T: Production>(
+    alloc: Global,
+    tokens: &[Token<'_>],
+    separator: Mark,
+) -> Result<Listed<T>, LineFault>
+    ensures { Gives (λ x. x) result (each_between separator T.spelled tokens.now) }
+{
+    let mut items = Vec::new(alloc);
+    let mut rest = tokens;
+    'parts: loop {
+        match place(rest, separator) {
+            Some(i) => {
+                items.push(T::read(alloc, &rest[..i])?)?;
+                rest = &rest[i + 1..];
+            }
+            None => {
+                items.push(T::read(alloc, rest)?)?;
+                return Ok(Listed::new(items));
+            }
+        }
+    }
+}

@@ -1,0 +1,326 @@
+use super::*;
+use crate::token::{Mark, Token, tokens_of};
+use keycode::{Text, Value, Values};
+use listed::Listed;
+use row_map::ColumnType;
+use std::alloc::{AllocError, Global};
+use std::test::*;
+
+type Sets = Listed<(Text, Value)>;
+
+fn text(alloc: Global, word: &str) -> Result<Text, AllocError> {
+    Ok(Text::new(String::from_str(alloc, word)?))
+}
+
+fn column(alloc: Global, name: &str, kind: ColumnType) -> Result<(Text, ColumnType), AllocError> {
+    Ok((text(alloc, name)?, kind))
+}
+
+fn key_of(alloc: Global, number: i64) -> Result<Values, AllocError> {
+    Ok(Listed::new(vec![in alloc; Value::Int(number)]?))
+}
+
+fn sets_of(alloc: Global, name: &str, value: Value) -> Result<Sets, AllocError> {
+    Ok(Listed::new(vec![in alloc; (text(alloc, name)?, value)]?))
+}
+
+fn is_bad(alloc: Global, line: &str) -> bool {
+    matches!(
+        read_command(alloc, line.as_bytes()),
+        Err(LineFault::Malformed)
+    )
+}
+
+#[test]
+fn silent_lines(rt: HostRuntime) {
+    for line in ["", " ", "   ", "#", "# a remark", "#open"] {
+        assert!(rt; is_silent(line.as_bytes()), "at {line}");
+    }
+    for line in ["open", " open", " # no remark", "\t"] {
+        assert!(rt; !is_silent(line.as_bytes()), "at {line}");
+    }
+}
+
+fn declared(
+    alloc: Global,
+    name: &str,
+    key: (Text, ColumnType),
+    column: (Text, ColumnType),
+) -> Result<Command, AllocError> {
+    Ok(Command::Table {
+        name: text(alloc, name)?,
+        key: Listed::new(vec![in alloc; key]?),
+        columns: Listed::new(vec![in alloc; column]?),
+    })
+}
+
+#[test]
+fn tables(rt: HostRuntime) -> Result<(), Fail> {
+    let alloc = rt.alloc();
+    assert!(rt; read_command(alloc, b"length 007") == Ok(Command::Length(7)));
+    let id = column(alloc, "id", ColumnType::Int)?;
+    let a = column(alloc, "a", ColumnType::Int)?;
+    let expected = declared(alloc, "t", id, a)?;
+    assert!(rt; read_command(alloc, b"table t (id int key, a int)") == Ok(expected));
+    let key = column(alloc, "key", ColumnType::Text)?;
+    let table = column(alloc, "table", ColumnType::Bool)?;
+    let expected = declared(alloc, "on", key, table)?;
+    assert!(rt; read_command(alloc, b" table  on(key text key,table bool ) ") == Ok(expected));
+    Ok(())
+}
+
+#[test]
+fn wide_tables(rt: HostRuntime) -> Result<(), Fail> {
+    let alloc = rt.alloc();
+    let line = b"table t (a int key, b text key, c bool, d int, e text)";
+    let Ok(Command::Table { key, columns, .. }) = read_command(alloc, line) else {
+        return Err("a table".into());
+    };
+    assert_eq!(rt; key.len(), 2);
+    assert_eq!(rt; columns.len(), 3);
+    Ok(())
+}
+
+#[test]
+fn indexes(rt: HostRuntime) -> Result<(), Fail> {
+    let alloc = rt.alloc();
+    let expected = Command::Index {
+        name: text(alloc, "i")?,
+        table: text(alloc, "t")?,
+        columns: Listed::new(vec![in alloc; text(alloc, "a")?, text(alloc, "b_2")?]?),
+    };
+    assert!(rt; read_command(alloc, b"index i on t (a, b_2)") == Ok(expected));
+    Ok(())
+}
+
+#[test]
+fn single_words(rt: HostRuntime) {
+    let alloc = rt.alloc();
+    assert!(rt; read_command(alloc, b"open") == Ok(Command::Open));
+    assert!(rt; read_command(alloc, b"pairs ") == Ok(Command::Pairs));
+    assert!(rt; read_command(alloc, b"check") == Ok(Command::Check));
+    assert!(rt; read_command(alloc, b"log") == Ok(Command::Log));
+}
+
+#[test]
+fn leases(rt: HostRuntime) -> Result<(), Fail> {
+    let alloc = rt.alloc();
+    let expected = Command::Lease {
+        server: text(alloc, "s")?,
+        moment: 18446744073709551615,
+    };
+    let lease = read_command(alloc, b"lease s at 18446744073709551615");
+    assert!(rt; lease == Ok(expected));
+    Ok(())
+}
+
+#[test]
+fn prepared_work(rt: HostRuntime) -> Result<(), Fail> {
+    let alloc = rt.alloc();
+    let expected = Command::Commit {
+        work: text(alloc, "w")?,
+        moment: 12,
+    };
+    assert!(rt; read_command(alloc, b"commit w at 12") == Ok(expected));
+    let expected = Command::Prepare {
+        work: text(alloc, "w")?,
+        server: text(alloc, "s")?,
+        operations: Listed::new(vec![in alloc; deleted(alloc, 1)?]?),
+    };
+    assert!(rt; read_command(alloc, b"prepare w by s: delete t (1)") == Ok(expected));
+    Ok(())
+}
+
+fn inserted(alloc: Global, number: i64, sets: Sets) -> Result<Operation, AllocError> {
+    Ok(Operation::Insert {
+        table: text(alloc, "t")?,
+        key: key_of(alloc, number)?,
+        sets,
+    })
+}
+
+fn updated(alloc: Global, number: i64, sets: Sets) -> Result<Operation, AllocError> {
+    Ok(Operation::Update {
+        table: text(alloc, "t")?,
+        key: key_of(alloc, number)?,
+        sets,
+    })
+}
+
+fn deleted(alloc: Global, number: i64) -> Result<Operation, AllocError> {
+    Ok(Operation::Delete {
+        table: text(alloc, "t")?,
+        key: key_of(alloc, number)?,
+    })
+}
+
+fn txn_of(alloc: Global, moment: u64, operations: Vec<Operation>) -> Result<Command, AllocError> {
+    Ok(Command::Txn {
+        server: text(alloc, "s")?,
+        moment,
+        operations: Listed::new(operations),
+    })
+}
+
+#[test]
+fn one_operation(rt: HostRuntime) -> Result<(), Fail> {
+    let alloc = rt.alloc();
+    let sets = sets_of(alloc, "a", Value::Int(5))?;
+    let operations = vec![in alloc; inserted(alloc, 1, sets)?]?;
+    let expected = txn_of(alloc, 0, operations)?;
+    let read = read_command(alloc, b"txn s at 0: insert t (1) set a = 5");
+    assert!(rt; read == Ok(expected));
+    Ok(())
+}
+
+#[test]
+fn three_operations(rt: HostRuntime) -> Result<(), Fail> {
+    let alloc = rt.alloc();
+    let first = inserted(alloc, 2, Listed::new(Vec::new(alloc)))?;
+    let sets = sets_of(alloc, "a", Value::Null)?;
+    let second = updated(alloc, -9223372036854775808, sets)?;
+    let third = deleted(alloc, 3)?;
+    let expected = txn_of(alloc, 3, vec![in alloc; first, second, third]?)?;
+    let line = b"txn s at 3:insert t(2);update t (-9223372036854775808) set a=null;delete t (3)";
+    assert!(rt; read_command(alloc, line) == Ok(expected));
+    Ok(())
+}
+
+fn push_keys(out: &mut String, operations: &[Operation]) -> Result<(), AllocError> {
+    for operation in operations {
+        if let Operation::Delete { key, .. } = operation {
+            for value in key.as_slice() {
+                push_value(out, value)?;
+                out.push(' ')?;
+            }
+        }
+    }
+    Ok(())
+}
+
+#[test]
+fn values_of_each_kind(rt: HostRuntime) -> Result<(), Fail> {
+    let alloc = rt.alloc();
+    let line = "txn s at 0: delete t (true,false,null, -0, 9223372036854775807, 'it''s; é', '')";
+    let mut out = String::new(alloc);
+    if let Ok(Command::Txn { operations, .. }) = read_command(alloc, line.as_bytes()) {
+        push_keys(&mut out, operations.as_slice())?;
+    }
+    assert_eq!(rt;
+        out.as_str(),
+        "true false null 0 9223372036854775807 'it''s; é' '' "
+    );
+    Ok(())
+}
+
+#[test]
+fn bad_lines(rt: HostRuntime) {
+    let alloc = rt.alloc();
+    for line in [
+        "insrt",
+        "",
+        "Open",
+        "open open",
+        "5a",
+        "_a",
+        "length",
+        "length -1",
+        "length 5a",
+        "length 5_",
+        "length -",
+        "length 18446744073709551616",
+        "lease s at 0x",
+        "lease s at 0 0",
+        "lease s at -0",
+        "lease 5 at 0",
+        "lease s\tat 0",
+        "lease s at 0\r",
+        "lease s at >",
+        "table t ()",
+        "table t (a int)",
+        "table t (a int, b int key)",
+        "table t (a int key, b int, c int key)",
+        "table t (a int key,)",
+        "table t (a int key",
+        "table t (a int key) x",
+        "table t (a number key)",
+        "index i on t ()",
+        "index i on t (a,,b)",
+        "index i t (a)",
+        "txn s at 0:",
+        "txn s at 0 insert t (1)",
+        "txn s at 0: insert t (1);",
+        "txn s at 0: insert t ()",
+        "txn s at 0: insert t (1 2)",
+        "txn s at 0: insert t (1) set",
+        "txn s at 0: insert t (1) set a = 5,",
+        "txn s at 0: insert t (1) set a = b",
+        "txn s at 0: insert t (1) sets a = 5",
+        "txn s at 0: insert t (9223372036854775808)",
+        "txn s at 0: insert t (-9223372036854775809)",
+        "txn s at 0: insert t (')",
+        "txn s at 0: insert t (''')",
+        "txn s at 0: update t (1)",
+        "txn s at 0: delete t (1) set a = 5",
+        "txn s at 0: upsert t (1)",
+    ] {
+        assert!(rt; is_bad(alloc, line), "at {line}");
+    }
+    assert!(rt;
+        matches!(
+            read_command(alloc, b"txn s at 0: insert t ('\xff')"),
+            Err(LineFault::Malformed)
+        )
+    );
+}
+
+#[test]
+fn tokens_without_spaces(rt: HostRuntime) -> Result<(), Fail> {
+    let alloc = rt.alloc();
+    let tokens = tokens_of(alloc, b"between-1 and>=5-3<=t.*")?.ok_or("all are tokens")?;
+    assert_eq!(rt; tokens.len(), 10);
+    let [first, second, third, fourth, ..] = tokens.as_slice() else {
+        return Err("four tokens and more".into());
+    };
+    assert!(rt; matches!(first, Token::Word(word) if word.as_slice() == b"between".as_slice()));
+    assert!(rt;
+        matches!(
+            second,
+            Token::Number {
+                is_negative: true,
+                size: 1
+            }
+        )
+    );
+    assert!(rt; matches!(third, Token::Word(word) if word.as_slice() == b"and".as_slice()));
+    assert!(rt; matches!(fourth, Token::Mark(Mark::AtLeast)));
+    let bad = tokens_of(alloc, b"and>5")?;
+    assert!(rt; bad.is_none());
+    Ok(())
+}
+
+#[test]
+fn printed(rt: HostRuntime) -> Result<(), Fail> {
+    let alloc = rt.alloc();
+    let mut out = String::from_str(alloc, "row ")?;
+    push_hex(&mut out, &[0x52, 0, 0x0a, 0xf9, 0xff])?;
+    assert_eq!(rt; out.as_str(), "row 52000af9ff");
+    let values = vec![in alloc;
+        Value::Null,
+        Value::Bool(true),
+        Value::Bool(false),
+        Value::Int(-9223372036854775808),
+        Value::Int(42),
+        Value::Text(text(alloc, "it's 'é'")?),
+    ]?;
+    let mut out = String::new(alloc);
+    for value in &values {
+        push_value(&mut out, value)?;
+        out.push(' ')?;
+    }
+    assert_eq!(rt;
+        out.as_str(),
+        "null true false -9223372036854775808 42 'it''s ''é''' "
+    );
+    Ok(())
+}
