@@ -37,8 +37,10 @@ module _ (v : Version) (step : List Move) (sound : IsSoundVersion v) (allowed : 
     where
       s : (before after : List Move) × (step ≡ before ++ Enter fresh to ∷ after)
       s = split_at step (Enter fresh to) among
+
       r : (is_public (state_of v c) ≡ true) × (moves_element step c ≡ false)
       r = ready v step sound allowed s.0 s.1 fresh to s.2 c there
+
       by : Change step v.next c (element_at v c) (element_at (after_step v step) c) → element_at (after_step v step) c ≡ element_at v c
       by (Stays same) = same
       by (Enters f t _ le none is) = let wrong : false ≡ true = sym (ap (λ (o : Option ElementDef). is_public (state_or_absent o)) none) ∙ r.0 in cc
