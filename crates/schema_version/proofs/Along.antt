@@ -20,7 +20,7 @@ use Rattle.schema_version.specs.declared.step.StepFault.{StepFault}
 use Rattle.schema_version.specs.declared.step.StepFault.TheVariants.{Unknown, NotAdjacent, WrongWay, Dependent, NameTaken, Limit}
 use Rattle.schema_version.specs.Version.{Version, Table, table_at, element_at, state_of, state_or_absent, live, is_index, is_like, is_public, listed, IsLiveColumn, IsPublicColumn, count_live}
 use Rattle.schema_version.specs.Moves.{is_edge, way_after, as_element, in_state, moved, after_move, after_step, is_move_of, moves_element, is_unready, is_entry, is_entry_like, count_like, IsFirstSuch, IsIndexOn, IsLeastIndexOn, DependsOn, GoFault, MoveFault, IsWithinLimits, IsAllowed}
-use Rattle.schema_version.specs.Steps.{HasEdge, in_state_or_none}
+use Rattle.schema_version.specs.Steps.{HasEdge, IsOrdered, in_state_or_none}
 use Rattle.schema_version.specs.Deciding.{Answer, step_check, lists, is_column_of, is_within_limits}
 use Rattle.schema_version.specs.Sound.{IsSoundElement, IsSoundVersion}
 use Rattle.schema_version.proofs.Entries.{tells}
@@ -46,6 +46,10 @@ some_there : {X : Type 0} (o : Option X) → ¬ (IsNone o) → (x : X) × (o ≡
 some_there None h = absurd (h refl)
 some_there (Some x) h = (x, refl)
 
+-- a sound version is in order
+pub ordered_of : (v : Version) → IsSoundVersion v → IsOrdered v
+ordered_of v sound = record { numbered = λ n e at. (sound.elements n e at).own; below = λ n e at. (sound.elements n e at).given }
+
 -- a list of which none is the first that passes
 all_ready : (test : ℕ → Bool) (list : List ℕ) → ((on : ℕ) → ¬ (IsFirstSuch test list on)) → (c : ℕ) → Contains list c → test c ≡ false
 all_ready test list none c there =
@@ -57,7 +61,7 @@ all_ready test list none c there =
     by None e before after split passes = none_in test before after c (subst (λ l. find_by test l ≡ None) split e) passes
 
 -- where an index lists a column, there is the least one
-least_there : (v : Version) (column m : ℕ) → AreNumbered v → IsIndexOn v column m → (on : ℕ) × IsLeastIndexOn v column on
+pub least_there : (v : Version) (column m : ℕ) → AreNumbered v → IsIndexOn v column m → (on : ℕ) × IsLeastIndexOn v column on
 least_there v column m numbered (e, at, there) = by (find_by (lists column) (live v)) refl
   where
     by : (o : Option ElementDef) → find_by (lists column) (live v) ≡ o → (on : ℕ) × IsLeastIndexOn v column on
@@ -138,7 +142,7 @@ moved_tables u e WriteOnly = refl
 moved_tables u e Public = refl
 
 -- an element in another state is of its table, name and kind
-same_else : (e x : ElementDef) (to : ElementState) → in_state_or_none e to ≡ Some x → (x.table ≡ e.table) × (x.name ≡ e.name) × (x.kind ≡ e.kind)
+pub same_else : (e x : ElementDef) (to : ElementState) → in_state_or_none e to ≡ Some x → (x.table ≡ e.table) × (x.name ≡ e.name) × (x.kind ≡ e.kind)
 same_else e x Absent is = cc
 same_else e x DeleteOnly is = (ap (λ (y : ElementDef). y.table) (sym (some_same is)), ap (λ (y : ElementDef). y.name) (sym (some_same is)), ap (λ (y : ElementDef). y.kind) (sym (some_same is)))
 same_else e x WriteOnly is = (ap (λ (y : ElementDef). y.table) (sym (some_same is)), ap (λ (y : ElementDef). y.name) (sym (some_same is)), ap (λ (y : ElementDef). y.kind) (sym (some_same is)))
@@ -160,7 +164,7 @@ module _ (v : Version) (step : List Move) (sound : IsSoundVersion v) (allowed : 
       (or_false (moves_element earlier n) (moves_element rest n) (sym (any_append (is_move_of n) earlier rest) ∙ ap (λ l. moves_element l n) (sym split) ∙ still)).0
 
   -- the columns of an index that enters are public and don't move
-  ready : (earlier later : List Move) (fresh : NewElement) (to : ElementState) → step ≡ earlier ++ Enter fresh to ∷ later → (c : ℕ) → Contains (listed fresh.kind) c → (is_public (state_of v c) ≡ true) × (moves_element step c ≡ false)
+  pub ready : (earlier later : List Move) (fresh : NewElement) (to : ElementState) → step ≡ earlier ++ Enter fresh to ∷ later → (c : ℕ) → Contains (listed fresh.kind) c → (is_public (state_of v c) ≡ true) × (moves_element step c ≡ false)
   ready earlier later fresh to split c there =
       let none = all_ready (is_unready v step) (listed fresh.kind) (λ on first. allowed earlier later (Enter fresh to) (Dependent on) split first) c there in
       let both = or_false (not (is_public (state_of v c))) (moves_element step c) none in
@@ -171,16 +175,16 @@ module _ (v : Version) (step : List Move) (sound : IsSoundVersion v) (allowed : 
       not_not false e = cc
 
   columns_public : (earlier later : List Move) (fresh : NewElement) (to : ElementState) → step ≡ earlier ++ Enter fresh to ∷ later → (u : Version) → Along v earlier u
-    → (c : ℕ) → Contains (listed fresh.kind) c → IsPublicColumn u fresh.table c
+      → (c : ℕ) → Contains (listed fresh.kind) c → IsPublicColumn u fresh.table c
   columns_public earlier later fresh to split u along c there =
       let is : IsLiveColumn v fresh.table c = truly (is_column_of fresh.table (element_at v c)) (column_is v fresh.table c) (λ strange. allowed earlier later (Enter fresh to) Unknown split (inr (c, there, strange))) in
-      let r = ready earlier later fresh to split c there in
-      ( is.0
-      , is.1
-      , along.kept c is.0 is.2 (still_before earlier (Enter fresh to ∷ later) c split r.1)
-      , is.3
-      , is.4
-      , public_state (element_at v c) is.0 is.2 r.0
+      let r = ready earlier later fresh to split c there in (
+        is.0,
+        is.1,
+        along.kept c is.0 is.2 (still_before earlier (Enter fresh to ∷ later) c split r.1),
+        is.3,
+        is.4,
+        public_state (element_at v c) is.0 is.2 r.0,
       )
 
   limits : (earlier later : List Move) (fresh : NewElement) (to : ElementState) → step ≡ earlier ++ Enter fresh to ∷ later → IsWithinLimits v earlier fresh
@@ -218,23 +222,23 @@ module _ (v : Version) (step : List Move) (sound : IsSoundVersion v) (allowed : 
         next = (let next = along.next in let more = count_behind is_entry earlier (Enter fresh to) in omega (arith, next, more));
         from = λ n e at. elim (tells n u.next) [
           | inl p ↦ (let is : as_element u.next fresh to ≡ e = some_same (sym (inserted_here u.elements u.next n (as_element u.next fresh to) p.1) ∙ at) in
-            New fresh to (Contains-append_right earlier (Enter fresh to ∷ []) (Enter fresh to) (here (Enter fresh to) []))
-            (ap (λ (x : ElementDef). x.table) (sym is)) (ap (λ (x : ElementDef). x.name) (sym is)) (ap (λ (x : ElementDef). x.kind) (sym is)))
+              New fresh to (Contains-append_right earlier (Enter fresh to ∷ []) (Enter fresh to) (here (Enter fresh to) []))
+              (ap (λ (x : ElementDef). x.table) (sym is)) (ap (λ (x : ElementDef). x.name) (sym is)) (ap (λ (x : ElementDef). x.kind) (sym is)))
           | inr p ↦ from_longer v earlier (Enter fresh to) n e (along.from n e (sym (inserted_apart u.elements u.next n (as_element u.next fresh to) p.1) ∙ at))
         ];
         kept = λ n d at still.
-          inserted_apart u.elements u.next n (as_element u.next fresh to) (λ is. (let lt = (sound.elements n d at).given in let next = along.next in absurd (omega (arith, is, lt, next))))
-          ∙ along.kept n d at (unmoved earlier (Enter fresh to) n still).0;
+            inserted_apart u.elements u.next n (as_element u.next fresh to) (λ is. (let lt = (sound.elements n d at).given in let next = along.next in absurd (omega (arith, is, lt, next))))
+            ∙ along.kept n d at (unmoved earlier (Enter fresh to) n still).0;
         counts = λ table index.
-          let so_far = along.counts table index in
-          let more = count_insert (λ (e : ElementDef). (e.table == table) && is_like index e.kind) u.elements u.next (as_element u.next fresh to) in
-          let behind = count_behind (is_entry_like table index) earlier (Enter fresh to) in
-          omega (arith, so_far, more, behind);
+            let so_far = along.counts table index in
+            let more = count_insert (λ (e : ElementDef). (e.table == table) && is_like index e.kind) u.elements u.next (as_element u.next fresh to) in
+            let behind = count_behind (is_entry_like table index) earlier (Enter fresh to) in
+            omega (arith, so_far, more, behind);
       }
 
   -- no index lists a column that moves
   not_listed : (earlier later : List Move) (n : ℕ) (to : ElementState) (e : ElementDef) → step ≡ earlier ++ Go n to ∷ later → element_at v n ≡ Some e → (u : Version) → Along v earlier u → element_at u n ≡ Some e
-    → (m : ℕ) (index : ElementDef) → element_at u m ≡ Some index → ¬ (Contains (listed index.kind) n)
+      → (m : ℕ) (index : ElementDef) → element_at u m ≡ Some index → ¬ (Contains (listed index.kind) n)
   not_listed earlier later n to e split at u along now m x at_m there = by e.kind refl (along.from m x at_m)
     where
       by : (kind : Kind) → e.kind ≡ kind → From v earlier m x → ⊥
@@ -254,7 +258,7 @@ module _ (v : Version) (step : List Move) (sound : IsSoundVersion v) (allowed : 
           not_both (any_from (is_move_of n) step (Go n to) moves ((Decides-eqb n n).1 refl)) still
 
   along_moved : (earlier later : List Move) (n : ℕ) (to : ElementState) (e : ElementDef) → step ≡ earlier ++ Go n to ∷ later → element_at v n ≡ Some e → (u : Version) → Along v earlier u → element_at u n ≡ Some e
-    → Along v (earlier ++ Go n to ∷ []) (moved u (Some e) to)
+      → Along v (earlier ++ Go n to ∷ []) (moved u (Some e) to)
   along_moved earlier later n to e split at u along now =
       let has : HasEdge e.kind e.state to = edge e.kind e.state to (λ none. clear v step allowed earlier later n to e NotAdjacent split at (inl none)) in
       let unlisted = not_listed earlier later n to e split at u along now in
@@ -265,18 +269,18 @@ module _ (v : Version) (step : List Move) (sound : IsSoundVersion v) (allowed : 
         next = (let same = moved_next u (Some e) to in let next = along.next in let more = count_behind is_entry earlier (Go n to) in omega (arith, same, next, more));
         from = λ m x at_m. elim (tells m n) [
           | inl p ↦ (let same = same_else e x to (sym (moved_here u e n to own) ∙ ap (element_at (moved u (Some e) to)) (sym p.1) ∙ at_m) in
-            Old e (ap (element_at v) p.1 ∙ at) same.0 same.1 same.2)
+              Old e (ap (element_at v) p.1 ∙ at) same.0 same.1 same.2)
           | inr p ↦ from_longer v earlier (Go n to) m x (along.from m x (sym (moved_apart u (Some e) n m to (λ f same. ap (λ (y : ElementDef). y.number) (sym (some_same same)) ∙ own) p.1) ∙ at_m))
         ];
         kept = λ m d at_m still.
-          let two = unmoved earlier (Go n to) m still in
-          moved_apart u (Some e) n m to (λ f same. ap (λ (y : ElementDef). y.number) (sym (some_same same)) ∙ own) (λ is. not_both ((Decides-eqb n m).1 (sym is)) two.1)
-          ∙ along.kept m d at_m two.0;
+            let two = unmoved earlier (Go n to) m still in
+            moved_apart u (Some e) n m to (λ f same. ap (λ (y : ElementDef). y.number) (sym (some_same same)) ∙ own) (λ is. not_both ((Decides-eqb n m).1 (sym is)) two.1)
+            ∙ along.kept m d at_m two.0;
         counts = λ table index.
-          let so_far = along.counts table index in
-          let fewer = moved_count u n e along.sound now unlisted to table index in
-          let behind = count_behind (is_entry_like table index) earlier (Go n to) in
-          omega (arith, so_far, fewer, behind);
+            let so_far = along.counts table index in
+            let fewer = moved_count u n e along.sound now unlisted to table index in
+            let behind = count_behind (is_entry_like table index) earlier (Go n to) in
+            omega (arith, so_far, fewer, behind);
       }
 
   along_more : (earlier later : List Move) (m : Move) → step ≡ earlier ++ m ∷ later → (u : Version) → Along v earlier u → Along v (earlier ++ m ∷ []) (after_move u m)

@@ -64,8 +64,8 @@ fresh_names t names lawful apart name there =
     record {
       named = all_has IsName names name lawful there;
       apart = λ type key.
-        not_both (among names name there)
-        (unnot (is_among name names) (all_says (λ n. not (is_among n names)) (names_in t.key) name apart (each_has (λ (c : List ℕ × ColumnType). c.0) t.key (name, type) key)));
+          not_both (among names name there)
+          (unnot (is_among name names) (all_says (λ n. not (is_among n names)) (names_in t.key) name apart (each_has (λ (c : List ℕ × ColumnType). c.0) t.key (name, type) key)));
     }
 
 pub record HasNames (t : TableDef) : Type 0 where
@@ -127,18 +127,18 @@ table_in : (tables : List Table) (k : ℕ) (u : Version) (t : TableDef) → k �
 table_in tables k u t few placed l at =
     let n = has_names t l in
     let begin : AtTable tables k (names_in t.columns ++ names_in t.indexes) (length t.columns) (length t.indexes) u =
-      record {
-        sound = at.sound;
-        same = at.same;
-        below = λ m e there. (let lt = at.below m e there in omega (arith, lt));
-        free = λ m e there own name. (let lt = at.below m e there in absurd (omega (arith, lt, own)));
-        room_columns = (let none = none_counted tables k u false at in let most = l.few_columns in omega (arith, none, most));
-        room_indexes = (let none = none_counted tables k u true at in let most = l.few_indexes in omega (arith, none, most));
-        next = (let next = at.next in let a = l.few_columns in let b = l.few_indexes in omega (arith, next, a, b));
-      } in
+    record {
+      sound = at.sound;
+      same = at.same;
+      below = λ m e there. (let lt = at.below m e there in omega (arith, lt));
+      free = λ m e there own name. (let lt = at.below m e there in absurd (omega (arith, lt, own)));
+      room_columns = (let none = none_counted tables k u false at in let most = l.few_columns in omega (arith, none, most));
+      room_indexes = (let none = none_counted tables k u true at in let most = l.few_indexes in omega (arith, none, most));
+      next = (let next = at.next in let a = l.few_columns in let b = l.few_indexes in omega (arith, next, a, b));
+    } in
     let columns = columns_in tables k (table_of t) few placed t.columns (names_in t.indexes) (length t.indexes) u begin n.distinct (fresh_names t (names_in t.columns) n.columns n.columns_apart) in
     let indexes = indexes_in tables k (table_of t) few placed t u.next t.indexes (enter_public u (each (column_entry k) t.columns)) columns n.distinct_indexes (fresh_names t (names_in t.indexes) n.indexes n.indexes_apart) l.indexes
-      (numbered_columns t.columns u k) in
+    (numbered_columns t.columns u k) in
     subst (Between tables (k + 1)) (sym (public_append u (each (column_entry k) t.columns) (each (index_entry k u.next t.columns) t.indexes)))
     (record {
       sound = indexes.sound;

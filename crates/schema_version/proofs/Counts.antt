@@ -37,14 +37,14 @@ module _ {X : Type 0} (p : X → Bool) where
   count_same k v w (e ∷ es) found same =
       elim (tells k e.0) [
         | inl q ↦ (let is : e.1 ≡ w = some_is (sym (ap (λ b. cond b (Some e.1) (lookup (nat_eq k) es)) q.0) ∙ found) in
-          ap count (ap (λ b. if b then (e.0, v) ∷ es else e ∷ insert_entry nat_eq es k v) q.0)
-          ∙ more (e.0, v) es
-          ∙ ap (λ b. cond b 1 0 + count es) (same ∙ ap p (sym is))
-          ∙ sym (more e es))
+            ap count (ap (λ b. if b then (e.0, v) ∷ es else e ∷ insert_entry nat_eq es k v) q.0)
+            ∙ more (e.0, v) es
+            ∙ ap (λ b. cond b 1 0 + count es) (same ∙ ap p (sym is))
+            ∙ sym (more e es))
         | inr q ↦ ap count (ap (λ b. if b then (e.0, v) ∷ es else e ∷ insert_entry nat_eq es k v) q.0)
-          ∙ more e (insert_entry nat_eq es k v)
-          ∙ ap (λ n. cond (p e.1) 1 0 + n) (count_same k v w es (sym (ap (λ b. cond b (Some e.1) (lookup (nat_eq k) es)) q.0) ∙ found) same)
-          ∙ sym (more e es)
+            ∙ more e (insert_entry nat_eq es k v)
+            ∙ ap (λ n. cond (p e.1) 1 0 + n) (count_same k v w es (sym (ap (λ b. cond b (Some e.1) (lookup (nat_eq k) es)) q.0) ∙ found) same)
+            ∙ sym (more e es)
       ]
     where
       some_is : {x y : X} → Some x ≡ Some y → x ≡ y

@@ -119,7 +119,7 @@ module _ (tables : List Table) (k : ℕ) (table : Table) (few_tables : k ≤ 16)
     one_free n e there own later_on =
         elim (tells n u.next) [
           | inl p ↦ (let is : name ≡ e.name = ap (λ (x : ElementDef). x.name) (some_same (sym (inserted_here u.elements u.next n (as_element u.next (of_table k name kind) Public) p.1) ∙ there)) in
-            (first_apart name rest distinct).0 (subst (Contains rest) (sym is) later_on))
+              (first_apart name rest distinct).0 (subst (Contains rest) (sym is) later_on))
           | inr p ↦ at.free n e (sym (inserted_apart u.elements u.next n (as_element u.next (of_table k name kind) Public) p.1) ∙ there) own (later name e.name rest later_on)
         ]
 
@@ -136,14 +136,14 @@ module _ (tables : List Table) (k : ℕ) (table : Table) (few_tables : k ≤ 16)
         below = one_below u name (Optional type) rest more i at fresh distinct tt columns (omega (arith, is)) few;
         free = one_free u name (Optional type) rest more i at fresh distinct tt columns (omega (arith, is)) few;
         room_columns =
-          (let count = count_insert (λ (e : ElementDef). (e.table == k) && is_like false e.kind) u.elements u.next (as_element u.next (of_table k name (Optional type)) Public) in
-          let one = at_most_one ((k == k) && is_like false (Optional type)) in
-          omega (arith, room, is, count, one));
+            (let count = count_insert (λ (e : ElementDef). (e.table == k) && is_like false e.kind) u.elements u.next (as_element u.next (of_table k name (Optional type)) Public) in
+            let one = at_most_one ((k == k) && is_like false (Optional type)) in
+            omega (arith, room, is, count, one));
         room_indexes =
-          (let count = count_insert (λ (e : ElementDef). (e.table == k) && is_like true e.kind) u.elements u.next (as_element u.next (of_table k name (Optional type)) Public) in
-          let none = none_like (k == k) in
-          let room_i = at.room_indexes in
-          omega (arith, room_i, count, none));
+            (let count = count_insert (λ (e : ElementDef). (e.table == k) && is_like true e.kind) u.elements u.next (as_element u.next (of_table k name (Optional type)) Public) in
+            let none = none_like (k == k) in
+            let room_i = at.room_indexes in
+            omega (arith, room_i, count, none));
         next = (let next = at.next in omega (arith, next, is));
       }
     where
@@ -163,14 +163,14 @@ module _ (tables : List Table) (k : ℕ) (table : Table) (few_tables : k ≤ 16)
         below = one_below u name (Index numbers) rest c more at fresh distinct list columns (omega (arith, is)) few;
         free = one_free u name (Index numbers) rest c more at fresh distinct list columns (omega (arith, is)) few;
         room_columns =
-          (let count = count_insert (λ (e : ElementDef). (e.table == k) && is_like false e.kind) u.elements u.next (as_element u.next (of_table k name (Index numbers)) Public) in
-          let none = none_like (k == k) in
-          let room_c = at.room_columns in
-          omega (arith, room_c, count, none));
+            (let count = count_insert (λ (e : ElementDef). (e.table == k) && is_like false e.kind) u.elements u.next (as_element u.next (of_table k name (Index numbers)) Public) in
+            let none = none_like (k == k) in
+            let room_c = at.room_columns in
+            omega (arith, room_c, count, none));
         room_indexes =
-          (let count = count_insert (λ (e : ElementDef). (e.table == k) && is_like true e.kind) u.elements u.next (as_element u.next (of_table k name (Index numbers)) Public) in
-          let one = at_most_one ((k == k) && is_like true (Index numbers)) in
-          omega (arith, room, is, count, one));
+            (let count = count_insert (λ (e : ElementDef). (e.table == k) && is_like true e.kind) u.elements u.next (as_element u.next (of_table k name (Index numbers)) Public) in
+            let one = at_most_one ((k == k) && is_like true (Index numbers)) in
+            omega (arith, room, is, count, one));
         next = (let next = at.next in omega (arith, next, is));
       }
 
@@ -197,10 +197,10 @@ numbered_columns [] u k name known = cc
 numbered_columns (c ∷ columns) u k name known = by (bytes_eq c.0 name) refl (numbered_columns columns (entered u (column_entry k c) Public) k name)
   where
     by : (b : Bool) → bytes_eq c.0 name ≡ b → (is_among name (each (λ c. c.0) columns) ≡ true → IsNamedColumn (enter_public (entered u (column_entry k c) Public) (each (column_entry k) columns)) k (number_of (u.next + 1) columns name) name)
-      → IsNamedColumn (enter_public u (each (column_entry k) (c ∷ columns))) k (number_of u.next (c ∷ columns) name) name
+        → IsNamedColumn (enter_public u (each (column_entry k) (c ∷ columns))) k (number_of u.next (c ∷ columns) name) name
     by true is rest =
         let column : IsNamedColumn (entered u (column_entry k c) Public) k u.next name =
-          (as_element u.next (column_entry k c) Public, c.1, inserted_here u.elements u.next u.next (as_element u.next (column_entry k c) Public) refl, refl, refl, refl, (bytes_eq-Decides c.0 name).0 is) in
+        (as_element u.next (column_entry k c) Public, c.1, inserted_here u.elements u.next u.next (as_element u.next (column_entry k c) Public) refl, refl, refl, refl, (bytes_eq-Decides c.0 name).0 is) in
         subst (λ b. IsNamedColumn (enter_public u (each (column_entry k) (c ∷ columns))) k (if b then u.next else number_of (u.next + 1) columns name) name) (sym is)
         (named_stays (each (column_entry k) columns) (entered u (column_entry k c) Public) k u.next name (omega arith) column)
     by false is rest =
@@ -226,12 +226,12 @@ module _ (u : Version) (k first : ℕ) (columns : List (List ℕ × ColumnType))
       let two = both_true (is_among name (each (λ c. c.0) columns)) (list_all (λ n. is_among n (each (λ c. c.0) columns)) names) all in
       let apart = first_apart name names distinct in
       let alone : list_any (◌==◌ (number_of first columns name)) (each (number_of first columns) names) ≡ false =
-        not_true (list_any (◌==◌ (number_of first columns name)) (each (number_of first columns) names)) (λ found.
-        (let r = any_says (◌==◌ (number_of first columns name)) (each (number_of first columns) names) found in
-        let from = from_each (number_of first columns) names r.0 r.1 in
-        let is : number_of first columns name ≡ number_of first columns from.0 = (Decides-eqb (number_of first columns name) r.0).0 r.2 ∙ sym from.2 in
-        let one = same_name u k (number_of first columns name) (number_of first columns from.0) name from.0 is (known name two.0) (known from.0 (all_says (λ n. is_among n (each (λ c. c.0) columns)) names from.0 two.1 from.1)) in
-        apart.0 (subst (Contains names) (sym one) from.1))) in
+      not_true (list_any (◌==◌ (number_of first columns name)) (each (number_of first columns) names)) (λ found.
+      (let r = any_says (◌==◌ (number_of first columns name)) (each (number_of first columns) names) found in
+      let from = from_each (number_of first columns) names r.0 r.1 in
+      let is : number_of first columns name ≡ number_of first columns from.0 = (Decides-eqb (number_of first columns name) r.0).0 r.2 ∙ sym from.2 in
+      let one = same_name u k (number_of first columns name) (number_of first columns from.0) name from.0 is (known name two.0) (known from.0 (all_says (λ n. is_among n (each (λ c. c.0) columns)) names from.0 two.1 from.1)) in
+      apart.0 (subst (Contains names) (sym one) from.1))) in
       ap (λ b. not b && is_distinct_numbers (each (number_of first columns) names)) alone ∙ distinct_numbers names apart.1 two.1
 
   pub lawful_list : (names : List (List ℕ)) → 1 ≤ length names → length names ≤ max_listed → is_distinct names ≡ true → list_all (λ name. is_among name (each (λ c. c.0) columns)) names ≡ true → IsColumnList (Index (each (number_of first columns) names))

@@ -115,7 +115,7 @@ module _ (u : Version) (fresh : NewElement) (to : ElementState) (sound : IsSound
       by ((fresh.table == table) && is_like index fresh.kind) refl (count_insert (λ (e : ElementDef). (e.table == table) && is_like index e.kind) u.elements u.next (as_element u.next fresh to))
     where
       by : (b : Bool) → ((fresh.table == table) && is_like index fresh.kind) ≡ b → count_live (entered u fresh to) table index ≤ count_live u table index + cond ((fresh.table == table) && is_like index fresh.kind) 1 0
-        → count_live (entered u fresh to) table index ≤ max_like index
+          → count_live (entered u fresh to) table index ≤ max_like index
       by true is more =
           let told = counted_as table index (as_element u.next fresh to) is in
           let room : count_live u table index < max_like index = subst (λ t. count_live u t index < max_like index) told.0 (subst (λ i. count_live u fresh.table i < max_like i) (sym told.1) may.few) in
@@ -157,7 +157,6 @@ module _ (u : Version) (after : map.FinMap nat_cmp ElementDef) (n : ℕ) (sound 
     (same : (m : ℕ) → m ≢ n → map.get after m ≡ map.get u.elements m)
     (goes : (e : ElementDef) → map.get after n ≡ Some e → Follows u n e)
     (fewer : (table : ℕ) (index : Bool) → count_live (record u { elements = after }) table index ≤ count_live u table index) where
-
   abbrev then : Version
   then = record u { elements = after }
 
@@ -196,9 +195,9 @@ module _ (u : Version) (after : map.FinMap nat_cmp ElementDef) (n : ℕ) (sound 
         apart = λ taken. s.apart (subst (λ name. IsKeyName u d.table name) w.4 (subst (λ t. IsKeyName u t e.name) w.3 taken));
         list = subst IsColumnList (sym w.5) s.list;
         columns = λ c there.
-          let there_too : Contains (listed d.kind) c = subst (λ k. Contains (listed k) c) w.5 there in
-          subst (λ t. IsPublicColumn then t c) (sym w.3)
-          (column_apart d.table c (λ is. unlisted m d w.1 (subst (λ k. Contains (listed d.kind) k) is there_too)) (s.columns c there_too));
+            let there_too : Contains (listed d.kind) c = subst (λ k. Contains (listed k) c) w.5 there in
+            subst (λ t. IsPublicColumn then t c) (sym w.3)
+            (column_apart d.table c (λ is. unlisted m d w.1 (subst (λ k. Contains (listed d.kind) k) is there_too)) (s.columns c there_too));
       }
 
   own_names : HaveOwnNames then
@@ -237,7 +236,7 @@ module _ (u : Version) (n : ℕ) (e : ElementDef) (sound : IsSoundVersion u) (at
       kept_sound u (map.insert u.elements e.number (in_state e to)) n sound unlisted
       (λ m apart. inserted_apart u.elements e.number m (in_state e to) (λ is. apart (is ∙ own_number)))
       (λ x is. subst (Follows u n) (some_same (sym (inserted_here u.elements e.number n (in_state e to) (sym own_number)) ∙ is))
-        (record { old = e; at = at; own = refl; table = refl; name = refl; kind = refl; live = live; way = way }))
+      (record { old = e; at = at; own = refl; table = refl; name = refl; kind = refl; live = live; way = way }))
       (changed_count to)
 
   removed_sound : IsSoundVersion (record u { elements = map.remove u.elements e.number })

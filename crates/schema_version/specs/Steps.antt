@@ -9,6 +9,7 @@ use Rattle.schema_version.specs.declared.element.NewElement.{NewElement}
 use Rattle.schema_version.specs.declared.step.Move.{Move}
 use Rattle.schema_version.specs.declared.step.Move.TheVariants.{Enter, Go}
 use Rattle.schema_version.specs.Version.{Version, element_at, listed, state_of}
+use Rattle.schema_version.specs.Sound.{IsSoundVersion}
 use Rattle.schema_version.specs.Moves.{is_edge, as_element, in_state, after_step, IsAllowed}
 
 -- the element, or none where it is absent
@@ -38,10 +39,17 @@ pub record IsOrdered (version : Version) : Type 0 where
   pub numbered : (n : ℕ) (element : ElementDef) → element_at version n ≡ Some element → element.number ≡ n
   pub below : (n : ℕ) (element : ElementDef) → element_at version n ≡ Some element → n < version.next
 
--- the columns that a live index lists are public
-abbrev pub IsServed : Version → Type 0
-IsServed version = (n column : ℕ) (index : ElementDef) → element_at version n ≡ Some index → Contains (listed index.kind) column → state_of version column ≡ Public
-
 -- an allowed step takes each element at most one edge on, and gives new elements numbers that were never given
 abbrev pub StepsKeepToEdges : Type 0
 StepsKeepToEdges = (version : Version) (step : List Move) → IsOrdered version → IsAllowed version step → (n : ℕ) → StepOf version.next n (element_at version n) (element_at (after_step version step) n)
+
+-- an allowed step of a sound version gives a sound one
+abbrev pub StepsStaySound : Type 0
+StepsStaySound = (version : Version) (step : List Move) → IsSoundVersion version → IsAllowed version step → IsSoundVersion (after_step version step)
+
+-- the columns that an index lists, live before an allowed step or after it, are in that step what they were
+abbrev pub IndexedColumnsStay : Type 0
+IndexedColumnsStay =
+    (version : Version) (step : List Move) → IsSoundVersion version → IsAllowed version step → (n column : ℕ) (index : ElementDef)
+    → (element_at version n ≡ Some index) ⊎ (element_at (after_step version step) n ≡ Some index) → Contains (listed index.kind) column
+    → element_at (after_step version step) column ≡ element_at version column

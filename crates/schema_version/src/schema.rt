@@ -24,7 +24,9 @@ use row_map::ColumnType;
 use std::alloc::{AllocError, Global};
 use std::marker::Model;
 
-/// A version of the schema. Its tables never change, and its elements stand by rising number.
+/// A version of the schema: its tables, which no step changes, its live elements by number, and the next free number of an element.
+///
+/// Versions and their elements are those of "Online, Asynchronous Schema Change in F1" (Rae et al., 2013).
 #[derive(Drop)]
 pub struct Schema {
     tables: IndexMap<String, Columns>,
@@ -48,7 +50,7 @@ impl Model for Schema {
 }
 
 impl Schema {
-    /// What is true of every version. It takes no memory.
+    /// What is true of every version, for a caller's proof. It does nothing and takes no memory.
     pub fn known(&self)
         ensures { IsSoundVersion self.now }
     {
@@ -62,7 +64,7 @@ impl Schema {
         self.elements.get(&number)
     }
 
-    /// The state of the element of this number. One that isn't there is absent.
+    /// The state of the element of this number. A number that no live element has, 0 among them, is Absent.
     pub fn state(&self, element: u32) -> ElementState
         ensures { result ≡ state_of self.now element }
     {
@@ -79,14 +81,14 @@ impl Schema {
         self.elements.values().as_slice()
     }
 
-    /// The live element at this place among all, by rising number.
+    /// The live element at this place, from 0, among all live elements by rising number; None past the last.
     pub fn live(&self, place: usize) -> Option<&ElementDef>
         ensures { option_copied result ≡ slice_get (live self.now) place }
     {
         self.elements().get(place)
     }
 
-    /// The live element of the table under this name.
+    /// The live element under this name in the table of this number; None where there is none, or no such table.
     pub fn by_name(&self, table: u32, name: &str) -> Option<&ElementDef>
         ensures { option_copied result ≡ find (is_named_of table name.now) (live self.now) }
     {
@@ -118,7 +120,7 @@ impl Schema {
         Some(key.as_slice())
     }
 
-    /// The name of the table of this number.
+    /// The name of the table of this number, from 1; None for any other number.
     pub fn table_name(&self, table: u32) -> Option<&str>
         ensures { option_map (λ n. n.now) result ≡ option_map (λ t. t.name) (table_at self.now table) }
     {
@@ -126,7 +128,7 @@ impl Schema {
         Some(name.as_str())
     }
 
-    /// The number of the table of this name.
+    /// The number, from 1, of the table of this name; None where no table has it.
     pub fn table(&self, name: &str) -> Option<u32>
         ensures { result ≡ option_map (λ place. place + 1) (position (λ (t : Table). bytes_eq name.now t.name) self.now.tables) }
     {
@@ -170,8 +172,11 @@ impl Schema {
         })
     }
 
-    /// The version that a step gives, where each of its moves is allowed. The moves are tried in order, each against this version
-    /// and the whole step, and the first faulty move decides by its lowest fault.
+    /// The version that a step gives. The moves are tried in order, each against this version and the whole step, and an empty step
+    /// is allowed. Entered elements get the next numbers in the step's order.
+    ///
+    /// The first faulty move decides by its lowest fault, in the order of `StepFault`. Memory comes last: the whole step is tried
+    /// before the first growth, so it never stands in place of another fault. A refused call leaves nothing behind.
     pub fn apply(&self, step: &Step) -> Result<Schema, StepFault>
         ensures allowed { OnOk result (IsAllowed self.now step.now) }
         ensures after { IfOk result (λ then. then ≡ after_step self.now step.now) }
@@ -184,7 +189,13 @@ impl Schema {
         Ok(self.with_elements(elements, next)?)
     }
 
-    /// Version 1: the declared tables, whose columns and indexes are public and numbered table by table, columns first.
+    /// Version 1 of the declared tables. Elements are numbered from 1 table by table, a table's columns first and then its indexes, and
+    /// all of them are public. Tables are numbered from 1 in their order.
+    ///
+    /// BadTable comes where they may not be declared: other than 1 to 16 tables, 1 to 4 key columns, at most 32 columns and 16 indexes
+    /// a table and 1 to 4 distinct columns an index; a name that isn't 1 to 32 bytes, a letter and then letters, digits and
+    /// underscores; a name used twice among the tables or within one; an index over what is no column of its table outside the key.
+    /// Then Memory. All is tried before the first growth.
     pub fn declared(alloc: Global, tables: &[TableDef]) -> Result<Schema, DeclareFault>
         ensures lawful { OnOk result (IsLawful tables.now) }
         ensures first { IfOk result (λ schema. schema ≡ declared_of tables.now) }

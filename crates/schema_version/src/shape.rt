@@ -43,7 +43,8 @@ fn key_types(alloc: Global, key: &[(Text, ColumnType)]) -> Result<Vec<ColumnType
 }
 
 impl Schema {
-    /// The shape of a table, with the columns that are public.
+    /// The shape of the table of this number: its key's types, and its public columns with their types by rising number. None where
+    /// there is no such table. The only refusal is want of memory.
     pub fn shape(&self, alloc: Global, table: u32) -> Result<Option<TableShape>, AllocError>
         ensures { IfOk result (λ shape. shape ≡ shape_of self.now table) }
     {
