@@ -1,4 +1,4 @@
-use Rattle.std.proofs.Common.{◌≡◌, ◌∷◌, [], ◌++◌, Some, None, lit<, sym, subst}
+use Rattle.std.proofs.Common.{◌++◌, Some, None, lit<, sym, subst}
 use Rattle.std.specs.Str.{IsCharBoundary}
 use Rattle.std.proofs.lemmas.Str.{encode_ascii, IsUtf8-drop}
 use Rattle.std.proofs.lemmas.Str.Pattern.{split_once_first}

@@ -1,4 +1,4 @@
-use Rattle.std.proofs.Common.{◌≡◌, ◌∷◌, ◌++◌, take, drop}
+use Rattle.std.proofs.Common.{◌≡◌, ◌++◌, take, drop}
 use Rattle.std.specs.Option.{option_map}
 use Rattle.grammar.specs.Productions.{cut_at}
 use Rattle.grammar.proofs.reading.place.Given as goal
