@@ -33,7 +33,7 @@ fn add_index(
     ensures added { IfOk result (λ found. with_index tables.old.items name table.now columns ≡ (if found then Some tables.new.items else None)) }
     ensures kept { IfOk result (λ found. found ≡ false → tables.new.items ≡ tables.old.items) }
 {
-    for place in 0..tables.len() {
+    for place in 0..tables.as_slice().len() {
         if is_named(&tables[place], table) {
             let definition = &mut tables[place];
             definition.indexes.push((name, columns))?;

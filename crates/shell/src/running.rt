@@ -27,7 +27,15 @@ fn leased(alloc: Global, lease: &Lease) -> Result<String, AllocError>
     let version = lease.version;
     let granted = lease.granted;
     let until = lease.until;
-    format!(in alloc; "ok lease {version} {granted} {until}\n")
+    let mut text = String::new(alloc);
+    text.push_str("ok lease ")?;
+    write!(text, "{version}")?;
+    text.push_str(" ")?;
+    write!(text, "{granted}")?;
+    text.push_str(" ")?;
+    write!(text, "{until}")?;
+    text.push_str("\n")?;
+    Ok(text)
 }
 
 /// A name as a key.
