@@ -4,3 +4,5 @@ pub mod Prepare
 pub mod Made
 pub mod Code
 pub mod Inside
+pub mod Served
+pub mod Deciding

@@ -2,8 +2,10 @@
 //! schema version.
 #![tactic(auto)]
 
+mod checking;
 mod fault;
 mod op;
+mod parts;
 mod prepared;
 
 pub use fault::{PrepareFault, RowFault};
