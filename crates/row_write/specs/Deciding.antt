@@ -78,3 +78,8 @@ ops_check version (op ∷ ops) = or_else (op_check version op) (ops_check versio
 pub record AreKnown (op : RowOp) : Type 0 where
   pub key : AreValues (key_of op)
   pub values : AllByRecursion (λ (named : ℕ × Value). IsValue named.1) (named_of op)
+
+-- so are the values of the operations before the first with a fault
+abbrev pub AreKnownUntil : Version → List RowOp → Type 0
+AreKnownUntil version [] = Unit {0}
+AreKnownUntil version (op ∷ ops) = op_check version op ≡ None → AreKnown op × AreKnownUntil version ops

@@ -3,7 +3,7 @@ ghost use Rattle.std.specs.Prelude.{◌≡◌, ◌==◌, true, None};
 ghost use Rattle.std.specs.List.{find, list_any, AllByRecursion};
 ghost use Rattle.std.specs.Option.{option_copied};
 ghost use Rattle.keycode.specs.Valid.{IsValue, AreValues};
-ghost use Rattle.row_write.specs.Deciding.{is_shown as is_shown_of, column_type as column_type_of, first_hidden as first_hidden_of, suits as suits_of, suits_all as suits_all_of, is_key_for as is_key_for_of, are_distinct, is_typed as is_typed_of, op_check, ops_check, AreKnown};
+ghost use Rattle.row_write.specs.Deciding.{is_shown as is_shown_of, column_type as column_type_of, first_hidden as first_hidden_of, suits as suits_of, suits_all as suits_all_of, is_key_for as is_key_for_of, are_distinct, is_typed as is_typed_of, op_check, ops_check, AreKnown, AreKnownUntil};
 ghost use Rattle.schema_version.specs.Version.{is_public as is_public_of};
 
 use crate::fault::PrepareFault;
@@ -138,7 +138,7 @@ fn op_fault(schema: &Schema, op: &RowOp) -> Option<PrepareFault>
 /// The fault of the first operation with one.
 pub(crate) fn first_fault(schema: &Schema, ops: &[RowOp]) -> Option<PrepareFault>
     ensures test { result ≡ ops_check schema.now ops.now }
-    ensures known { result ≡ None → AllByRecursion AreKnown ops.now }
+    ensures known { AreKnownUntil schema.now ops.now }
 {
     for op in ops {
         if let Some(fault) = op_fault(schema, op) {
