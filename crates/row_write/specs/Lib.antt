@@ -6,3 +6,4 @@ pub mod Code
 pub mod Inside
 pub mod Served
 pub mod Deciding
+pub mod Entering

@@ -7,7 +7,10 @@ mod fault;
 mod op;
 mod parts;
 mod prepared;
+mod reads;
+mod served;
 
 pub use fault::{PrepareFault, RowFault};
 pub use op::{RowOp, RowOps, RowOutcome};
 pub use prepared::Prepared;
+pub use reads::reads_of;
