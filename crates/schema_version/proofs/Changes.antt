@@ -16,7 +16,7 @@ use Rattle.schema_version.proofs.Entries.{tells}
 use Rattle.schema_version.proofs.Lists.{here, later, here_or_later, some_same}
 
 -- a map after a write at k, at k and elsewhere
-inserted_here : (m : map.FinMap nat_cmp ElementDef) (k n : ℕ) (e : ElementDef) → n ≡ k → map.get (map.insert m k e) n ≡ Some e
+pub inserted_here : (m : map.FinMap nat_cmp ElementDef) (k n : ℕ) (e : ElementDef) → n ≡ k → map.get (map.insert m k e) n ≡ Some e
 inserted_here m k n e is = map.get-insert nat_cmp_total m k e n ∙ ap (λ b. cond b (Some e) (map.get m n)) (unsigned_tied n k ∙ at (tells n k))
   where
     at : ((nat_eq n k ≡ true) × (n ≡ k)) ⊎ ((nat_eq n k ≡ false) × (n ≢ k)) → nat_eq n k ≡ true
@@ -30,28 +30,28 @@ apart n k ne = unsigned_tied n k ∙ at (tells n k)
     at (inl p) = absurd (ne p.1)
     at (inr p) = p.0
 
-inserted_apart : (m : map.FinMap nat_cmp ElementDef) (k n : ℕ) (e : ElementDef) → n ≢ k → map.get (map.insert m k e) n ≡ map.get m n
+pub inserted_apart : (m : map.FinMap nat_cmp ElementDef) (k n : ℕ) (e : ElementDef) → n ≢ k → map.get (map.insert m k e) n ≡ map.get m n
 inserted_apart m k n e ne = map.get-insert nat_cmp_total m k e n ∙ ap (λ b. cond b (Some e) (map.get m n)) (apart n k ne)
 
-removed_here : (m : map.FinMap nat_cmp ElementDef) (k n : ℕ) → n ≡ k → map.get (map.remove m k) n ≡ None
+pub removed_here : (m : map.FinMap nat_cmp ElementDef) (k n : ℕ) → n ≡ k → map.get (map.remove m k) n ≡ None
 removed_here m k n is = map.get-remove nat_cmp_total m k n ∙ ap (λ b. cond b None (map.get m n)) (unsigned_tied n k ∙ at (tells n k))
   where
     at : ((nat_eq n k ≡ true) × (n ≡ k)) ⊎ ((nat_eq n k ≡ false) × (n ≢ k)) → nat_eq n k ≡ true
     at (inl p) = p.0
     at (inr p) = absurd (p.1 is)
 
-removed_apart : (m : map.FinMap nat_cmp ElementDef) (k n : ℕ) → n ≢ k → map.get (map.remove m k) n ≡ map.get m n
+pub removed_apart : (m : map.FinMap nat_cmp ElementDef) (k n : ℕ) → n ≢ k → map.get (map.remove m k) n ≡ map.get m n
 removed_apart m k n ne = map.get-remove nat_cmp_total m k n ∙ ap (λ b. cond b None (map.get m n)) (apart n k ne)
 
 -- ---- one move
 
-moved_here : (u : Version) (e : ElementDef) (n : ℕ) (to : ElementState) → e.number ≡ n → element_at (moved u (Some e) to) n ≡ in_state_or_none e to
+pub moved_here : (u : Version) (e : ElementDef) (n : ℕ) (to : ElementState) → e.number ≡ n → element_at (moved u (Some e) to) n ≡ in_state_or_none e to
 moved_here u e n Absent own = removed_here u.elements e.number n (sym own)
 moved_here u e n DeleteOnly own = inserted_here u.elements e.number n (in_state e DeleteOnly) (sym own)
 moved_here u e n WriteOnly own = inserted_here u.elements e.number n (in_state e WriteOnly) (sym own)
 moved_here u e n Public own = inserted_here u.elements e.number n (in_state e Public) (sym own)
 
-moved_apart : (u : Version) (o : Option ElementDef) (k n : ℕ) (to : ElementState) → ((e : ElementDef) → o ≡ Some e → e.number ≡ k) → n ≢ k → element_at (moved u o to) n ≡ element_at u n
+pub moved_apart : (u : Version) (o : Option ElementDef) (k n : ℕ) (to : ElementState) → ((e : ElementDef) → o ≡ Some e → e.number ≡ k) → n ≢ k → element_at (moved u o to) n ≡ element_at u n
 moved_apart u None k n to own ne = refl
 moved_apart u (Some e) k n Absent own ne = removed_apart u.elements e.number n (λ is. ne (is ∙ own e refl))
 moved_apart u (Some e) k n DeleteOnly own ne = inserted_apart u.elements e.number n (in_state e DeleteOnly) (λ is. ne (is ∙ own e refl))
@@ -60,16 +60,16 @@ moved_apart u (Some e) k n Public own ne = inserted_apart u.elements e.number n 
 
 -- ---- a version stays in order
 
-none_there : {X : Type 0} (x : X) (o : Option X) → o ≡ None → o ≡ Some x → ⊥
+pub none_there : {X : Type 0} (x : X) (o : Option X) → o ≡ None → o ≡ Some x → ⊥
 none_there x o a b = let wrong : None ≡ Some x = sym a ∙ b in cc
 
-in_state_number : (e x : ElementDef) (to : ElementState) → in_state_or_none e to ≡ Some x → x.number ≡ e.number
+pub in_state_number : (e x : ElementDef) (to : ElementState) → in_state_or_none e to ≡ Some x → x.number ≡ e.number
 in_state_number e x Absent is = cc
 in_state_number e x DeleteOnly is = ap (λ (y : ElementDef). y.number) (sym (some_same is))
 in_state_number e x WriteOnly is = ap (λ (y : ElementDef). y.number) (sym (some_same is))
 in_state_number e x Public is = ap (λ (y : ElementDef). y.number) (sym (some_same is))
 
-moved_next : (u : Version) (o : Option ElementDef) (to : ElementState) → (moved u o to).next ≡ u.next
+pub moved_next : (u : Version) (o : Option ElementDef) (to : ElementState) → (moved u o to).next ≡ u.next
 moved_next u None to = refl
 moved_next u (Some e) Absent = refl
 moved_next u (Some e) DeleteOnly = refl
@@ -142,7 +142,7 @@ go_on u moves next k n to (Some e) new ordered lt is once change =
       | inr p ↦ lifted (Go k to) moves next n (element_at u n) (element_at (moved u (Some e) to) n) new (moved_apart u (Some e) k n to (λ f same. ordered.numbered k f (is ∙ same)) p.1) change
     ]
 
-nothing_above : (u : Version) (n : ℕ) (o : Option ElementDef) → IsOrdered u → u.next ≤ n → element_at u n ≡ o → o ≡ None
+pub nothing_above : (u : Version) (n : ℕ) (o : Option ElementDef) → IsOrdered u → u.next ≤ n → element_at u n ≡ o → o ≡ None
 nothing_above u n None ordered le is = refl
 nothing_above u n (Some e) ordered le is = let lt = ordered.below n e is in absurd (omega (arith, lt, le))
 

@@ -60,7 +60,7 @@ column_type : (k : Kind) → Decides (is_column k) ((type : ColumnType) × (k �
 column_type (Optional type) = (λ e. (type, refl), λ h. refl)
 column_type (Index columns) = (λ e. cc, λ (type, h). cc)
 
-column_is : (v : Version) (t c : ℕ) → Decides (is_column_of t (element_at v c)) (IsLiveColumn v t c)
+pub column_is : (v : Version) (t c : ℕ) → Decides (is_column_of t (element_at v c)) (IsLiveColumn v t c)
 column_is v t c = by (element_at v c) refl
   where
     by : (o : Option ElementDef) → element_at v c ≡ o → Decides (is_column_of t o) (IsLiveColumn v t c)
@@ -154,13 +154,13 @@ within v earlier fresh =
 no_edge : (k : Kind) (from to : ElementState) → Decides (has_no_edge k from to) (HasNoEdge k from to)
 no_edge k from to = Decides-and (not (is_edge k Adding from to)) (not (is_edge k Dropping from to)) (is_false (is_edge k Adding from to)) (is_false (is_edge k Dropping from to))
 
-listing : (n : ℕ) (e : ElementDef) → Decides (lists n e) (Contains (listed e.kind) n)
+pub listing : (n : ℕ) (e : ElementDef) → Decides (lists n e) (Contains (listed e.kind) n)
 listing n e = (
   λ p. (let r = any_says (◌==◌ n) (listed e.kind) p in subst (Contains (listed e.kind)) (sym ((Decides-eqb n r.0).0 r.2)) r.1),
   λ there. any_from (◌==◌ n) (listed e.kind) n there ((Decides-eqb n n).1 refl),
 )
 
-least : (v : Version) (n : ℕ) → AreNumbered v → (o : Option ElementDef) → find (lists n) (live v) ≡ o → Finds (option_map (λ (e : ElementDef). e.number) o) (IsLeastIndexOn v n)
+pub least : (v : Version) (n : ℕ) → AreNumbered v → (o : Option ElementDef) → find (lists n) (live v) ≡ o → Finds (option_map (λ (e : ElementDef). e.number) o) (IsLeastIndexOn v n)
 least v n numbered None none = λ m index. none_passes (lists n) (map.entries v.elements) m index.0.0 none (sym (element_at-lookup v m) ∙ index.0.1) ((listing n index.0.0).1 index.0.2)
 least v n numbered (Some e) found =
     let r : IsLeast (lists n) (map.entries v.elements) e = first_is_least (lists n) (map.entries v.elements) e (map.entries_sorted v.elements) found in

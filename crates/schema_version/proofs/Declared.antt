@@ -12,11 +12,11 @@ use Rattle.schema_version.specs.Accepting.{names_in, are_apart, has_fair_sizes, 
 use Rattle.schema_version.proofs.Decides.{word, at_most, itself}
 use Rattle.schema_version.proofs.Lists.{not_both}
 
-both_true : (a b : Bool) → (a && b) ≡ true → (a ≡ true) × (b ≡ true)
+pub both_true : (a b : Bool) → (a && b) ≡ true → (a ≡ true) × (b ≡ true)
 both_true true b e = (refl, e)
 both_true false b e = cc
 
-and_true : (a b : Bool) → a ≡ true → b ≡ true → (a && b) ≡ true
+pub and_true : (a b : Bool) → a ≡ true → b ≡ true → (a && b) ≡ true
 and_true a b p q = ap (λ x. x && b) p ∙ q
 
 all_decides : {X : Type 0} (test : X → Bool) (P : X → Type 0) → ((x : X) → Decides (test x) (P x)) → (xs : List X) → Decides (list_all test xs) (AllByRecursion P xs)
@@ -31,11 +31,11 @@ or_assoc : (a b c : Bool) → ((a || b) || c) ≡ (a || (b || c))
 or_assoc true b c = refl
 or_assoc false b c = refl
 
-all_append : {X : Type 0} (test : X → Bool) (xs ys : List X) → list_all test (xs ++ ys) ≡ (list_all test xs && list_all test ys)
+pub all_append : {X : Type 0} (test : X → Bool) (xs ys : List X) → list_all test (xs ++ ys) ≡ (list_all test xs && list_all test ys)
 all_append test [] ys = refl
 all_append test (x ∷ xs) ys = ap (λ b. test x && b) (all_append test xs ys) ∙ sym (and_assoc (test x) (list_all test xs) (list_all test ys))
 
-any_append : {X : Type 0} (test : X → Bool) (xs ys : List X) → list_any test (xs ++ ys) ≡ (list_any test xs || list_any test ys)
+pub any_append : {X : Type 0} (test : X → Bool) (xs ys : List X) → list_any test (xs ++ ys) ≡ (list_any test xs || list_any test ys)
 any_append test [] ys = refl
 any_append test (x ∷ xs) ys = ap (λ b. test x || b) (any_append test xs ys) ∙ sym (or_assoc (test x) (list_any test xs) (list_any test ys))
 
@@ -51,7 +51,7 @@ shuffled false true false e f = refl
 shuffled false false true e f = refl
 shuffled false false false e f = refl
 
-distinct_append : (xs ys : List (List ℕ)) → is_distinct (xs ++ ys) ≡ (is_distinct xs && (is_distinct ys && are_apart xs ys))
+pub distinct_append : (xs ys : List (List ℕ)) → is_distinct (xs ++ ys) ≡ (is_distinct xs && (is_distinct ys && are_apart xs ys))
 distinct_append [] ys = and_same (is_distinct ys)
 distinct_append (x ∷ xs) ys =
     (λ i. not (any_append (λ other. bytes_eq other x) xs ys i) && distinct_append xs ys i)
@@ -65,7 +65,7 @@ ordered true true false true ki ci = refl
 ordered true true true false ki ci = refl
 ordered true true false false ki ci = refl
 
-distinct_names : (t : TableDef) → is_distinct (names_of t) ≡ (has_own_names t && has_names_apart t)
+pub distinct_names : (t : TableDef) → is_distinct (names_of t) ≡ (has_own_names t && has_names_apart t)
 distinct_names t =
     let k = names_in t.key in
     let c = names_in t.columns in

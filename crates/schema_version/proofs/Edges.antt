@@ -17,12 +17,12 @@ use Rattle.schema_version.specs.Steps.{Change, Stays, Enters, Goes, HasEdge, Ste
 use Rattle.schema_version.proofs.Lists.{here, any_from}
 use Rattle.schema_version.proofs.Changes.{change_of, AreKnown, AreMovedOnce}
 
-split_at : {X : Type 0} (xs : List X) (x : X) → Contains xs x → (before after : List X) × (xs ≡ before ++ x ∷ after)
+pub split_at : {X : Type 0} (xs : List X) (x : X) → Contains xs x → (before after : List X) × (xs ≡ before ++ x ∷ after)
 split_at [] x (k, below, is) = absurd (omega (arith, below))
 split_at (y ∷ xs) x (zero, below, is) = ([], xs, ap (λ z. z ∷ xs) is)
 split_at (y ∷ xs) x (suc k, below, is) = let r = split_at xs x (k, omega (arith, below), is) in (y ∷ r.0, r.1, ap (λ l. y ∷ l) r.2)
 
-edge : (kind : Kind) (from to : ElementState) → ¬ (HasNoEdge kind from to) → HasEdge kind from to
+pub edge : (kind : Kind) (from to : ElementState) → ¬ (HasNoEdge kind from to) → HasEdge kind from to
 edge kind from to h = by (is_edge kind Adding from to) (is_edge kind Dropping from to) refl refl
   where
     by : (a d : Bool) → is_edge kind Adding from to ≡ a → is_edge kind Dropping from to ≡ d → HasEdge kind from to
@@ -38,11 +38,11 @@ is_public_or_not WriteOnly = inr (λ e. cc)
 
 module _ (v : Version) (step : List Move) (allowed : IsAllowed v step) where
   -- a move of the step is one of a live element
-  is_live : (earlier later : List Move) (n : ℕ) (to : ElementState) → step ≡ earlier ++ Go n to ∷ later → (o : Option ElementDef) → element_at v n ≡ o → (e : ElementDef) × (o ≡ Some e)
+  pub is_live : (earlier later : List Move) (n : ℕ) (to : ElementState) → step ≡ earlier ++ Go n to ∷ later → (o : Option ElementDef) → element_at v n ≡ o → (e : ElementDef) × (o ≡ Some e)
   is_live earlier later n to split None is = absurd (allowed earlier later (Go n to) Unknown split (subst (λ o. GoFaultAt v step earlier n o to Unknown) (sym is) refl))
   is_live earlier later n to split (Some e) is = (e, refl)
 
-  clear : (earlier later : List Move) (n : ℕ) (to : ElementState) (e : ElementDef) (fault : StepFault) → step ≡ earlier ++ Go n to ∷ later → element_at v n ≡ Some e → ¬ (GoFaultAt v step earlier n (Some e) to fault)
+  pub clear : (earlier later : List Move) (n : ℕ) (to : ElementState) (e : ElementDef) (fault : StepFault) → step ≡ earlier ++ Go n to ∷ later → element_at v n ≡ Some e → ¬ (GoFaultAt v step earlier n (Some e) to fault)
   clear earlier later n to e fault split is h = allowed earlier later (Go n to) fault split (subst (λ o. GoFaultAt v step earlier n o to fault) (sym is) h)
 
   known : IsOrdered v → AreKnown v.next step
@@ -65,7 +65,7 @@ module _ (v : Version) (step : List Move) (allowed : IsAllowed v step) where
     once_from (earlier ++ Go n to ∷ []) moves (split ∙ sym (append_assoc earlier (Go n to ∷ []) moves)),
   )
 
-  own_way : (earlier later : List Move) (n : ℕ) (to : ElementState) (e : ElementDef) → step ≡ earlier ++ Go n to ∷ later → element_at v n ≡ Some e → (is_edge e.kind e.way e.state to ≡ true) ⊎ (e.state ≡ Public)
+  pub own_way : (earlier later : List Move) (n : ℕ) (to : ElementState) (e : ElementDef) → step ≡ earlier ++ Go n to ∷ later → element_at v n ≡ Some e → (is_edge e.kind e.way e.state to ≡ true) ⊎ (e.state ≡ Public)
   own_way earlier later n to e split is = by (is_edge e.kind e.way e.state to) refl (is_public_or_not e.state)
     where
       by : (b : Bool) → is_edge e.kind e.way e.state to ≡ b → (e.state ≡ Public) ⊎ (e.state ≢ Public) → (is_edge e.kind e.way e.state to ≡ true) ⊎ (e.state ≡ Public)

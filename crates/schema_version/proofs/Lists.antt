@@ -67,7 +67,7 @@ module _ (test : ℕ → Bool) where
         | false ↦ λ p q. let r = find_first xs y q in (x ∷ r.0, r.1, ap (λ l. x ∷ l) r.2, r.3, (p, r.4))
       ] refl e
 
-  none_in : (before after : List ℕ) (y : ℕ) → find test (before ++ y ∷ after) ≡ None → test y ≡ true → ⊥
+  pub none_in : (before after : List ℕ) (y : ℕ) → find test (before ++ y ∷ after) ≡ None → test y ≡ true → ⊥
   none_in [] after y e p = let q : Some y ≡ None = sym (ap (λ b. cond b (Some y) (find test after)) p) ∙ e in cc
   none_in (x ∷ before) after y e p =
       elim (test x) as (λ b. cond b (Some x) (find test (before ++ y ∷ after)) ≡ None → ⊥) [

@@ -17,7 +17,7 @@ use Rattle.schema_version.proofs.Chain.{Says}
 use Rattle.schema_version.proofs.Decides.{AreNumbered, move_says, within}
 
 -- what isn't false
-truly : {P : Type 0} (b : Bool) → Decides b P → ¬ (¬ P) → P
+pub truly : {P : Type 0} (b : Bool) → Decides b P → ¬ (¬ P) → P
 truly true d h = d.0 refl
 truly false d h = absurd (h (λ p. let wrong : false ≡ true = d.1 p in cc))
 

@@ -37,7 +37,7 @@ step_append : (v : Version) (xs ys : List Move) → after_step v (xs ++ ys) ≡ 
 step_append v [] ys = refl
 step_append v (x ∷ xs) ys = step_append (after_move v x) xs ys
 
-public_append : (v : Version) (xs ys : List NewElement) → enter_public v (xs ++ ys) ≡ enter_public (enter_public v xs) ys
+pub public_append : (v : Version) (xs ys : List NewElement) → enter_public v (xs ++ ys) ≡ enter_public (enter_public v xs) ys
 public_append v [] ys = refl
 public_append v (x ∷ xs) ys = public_append (entered v x Public) xs ys
 

@@ -6,6 +6,7 @@ ghost use Rattle.schema_version.specs.Held.{table_held, IsHeld, holding};
 ghost use Rattle.std.specs.Prelude.{◌≤◌, ◌⊎◌, IfOk, IfErr, OnOk, count_by};
 ghost use Rattle.schema_version.specs.Moves.{after_step, IsAllowed, IsRefused, is_entry};
 ghost use Rattle.schema_version.specs.Names.{max_elements};
+ghost use Rattle.schema_version.specs.Sound.{IsSoundVersion};
 ghost use Rattle.schema_version.specs.Declaring.{declared as declared_of, IsLawful};
 ghost use Rattle.schema_version.specs.declared.table.DeclareFault.TheVariants as declare;
 ghost use Rattle.schema_version.specs.declared.step.StepFault.TheVariants.{Memory};
@@ -47,6 +48,13 @@ impl Model for Schema {
 }
 
 impl Schema {
+    /// What is true of every version. It takes no memory.
+    pub fn known(&self)
+        ensures { IsSoundVersion self.now }
+    {
+        let _own = &self.elements;
+    }
+
     /// The live element of this number.
     pub(crate) fn element(&self, number: u32) -> Option<&ElementDef>
         ensures { option_copied result ≡ element_at self.now number }
@@ -131,6 +139,7 @@ impl Schema {
         ensures allowed { OnOk result (IsAllowed self.now step.now) }
         ensures refused { IfErr result (λ fault. IsRefused self.now step.now fault) }
         ensures room { OnOk result (self.now.next + count_by is_entry step.now ≤ max_elements + 1) }
+        ensures sound { OnOk result (IsSoundVersion (after_step self.now step.now)) }
     {
         let _own = &self.elements;
         self.check_step(step)
@@ -150,7 +159,8 @@ impl Schema {
         elements: IndexMap<u32, ElementDef>,
         next: u32,
     ) -> Result<Schema, AllocError>
-        requires { IsHeld elements.entries next }
+        requires held { IsHeld elements.entries next }
+        requires sound { IsSoundVersion (holding self.now elements.entries next) }
         ensures { IfOk result (λ made. made ≡ holding self.now elements.entries next) }
     {
         Ok(Schema {
