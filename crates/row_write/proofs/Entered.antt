@@ -1,5 +1,5 @@
 -- The entered keys are those that are read.
-use Rattle.std.proofs.Common.{◌≡◌, ◌↔◌, ℕ, ◌<◌, Bool, true, false, cond, List, [], ◌∷◌, length, Option, Some, None, option_map, ◌⊎◌, inl, inr, refl, sym, ap, subst, ◌∙◌, arith, Contains}
+use Rattle.std.proofs.Common.{◌≡◌, ◌↔◌, ℕ, Result, Ok, Err, IfOk, ◌<◌, Bool, true, false, cond, List, [], ◌∷◌, length, Option, Some, None, option_map, ◌⊎◌, inl, inr, refl, sym, ap, subst, ◌∙◌, arith, Contains}
 use Rattle.std.specs.FinMap.{get, insert, empty, get-empty}
 use Rattle.keycode.specs.Order.{bytes_cmp}
 use Rattle.keycode.proofs.Orders.{bytes_cmp_total, bytes_cmp-IsAntisymmetric}
@@ -117,3 +117,7 @@ module _ (v : Version) (served : IsServed v) where
     ],
     all_has ops empty q,
   )
+
+  pub reads_ok : {E : Type 0} (ops : List RowOp) (r : Result KeySet E) → IfOk r (λ set. set ≡ entered_all v empty ops) → IfOk r (λ set. (key : Bytes) → (get set key ≡ Some tt) ↔ IsRead v ops key)
+  reads_ok ops (Ok set) is = λ key. subst (λ (s : KeySet). (get s key ≡ Some tt) ↔ IsRead v ops key) (sym is) (reads_are ops key)
+  reads_ok ops (Err e) is = tt

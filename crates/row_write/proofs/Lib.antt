@@ -1,3 +1,4 @@
 pub mod Columns
 pub mod Decides
 pub mod Entered
+pub mod Sound

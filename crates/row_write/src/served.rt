@@ -7,5 +7,5 @@ use schema_version::Schema;
 pub(crate) fn served(schema: &Schema)
     ensures { IsServed schema.now }
 {
-    let _elements = schema.elements();
+    schema.known();
 }
