@@ -2,3 +2,4 @@ pub mod Columns
 pub mod Decides
 pub mod Entered
 pub mod Sound
+pub mod Viewed

@@ -7,3 +7,4 @@ pub mod Inside
 pub mod Served
 pub mod Deciding
 pub mod Entering
+pub mod Viewing

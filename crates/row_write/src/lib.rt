@@ -9,6 +9,7 @@ mod parts;
 mod prepared;
 mod reads;
 mod served;
+mod viewing;
 
 pub use fault::{PrepareFault, RowFault};
 pub use op::{RowOp, RowOps, RowOutcome};
