@@ -8,3 +8,5 @@ pub mod Served
 pub mod Deciding
 pub mod Entering
 pub mod Viewing
+pub mod Working
+pub mod RowCode

@@ -10,6 +10,7 @@ mod prepared;
 mod reads;
 mod served;
 mod viewing;
+mod working;
 
 pub use fault::{PrepareFault, RowFault};
 pub use op::{RowOp, RowOps, RowOutcome};
