@@ -3,3 +3,5 @@ pub mod Decides
 pub mod Entered
 pub mod Sound
 pub mod Viewed
+pub mod Worked
+pub mod Spelled

@@ -63,3 +63,8 @@ seen_at view op number = map.get view (row_code (table_of op) (key_of op) number
 -- whether the operation's row is there, and its cells of these columns
 abbrev pub IsSeen : View → RowOp → List (ℕ × ColumnType) → Bool → List (ℕ × Value) → Type 0
 IsSeen view op columns there cells = IsThere (seen_at view op 0) there × AreCells there (seen_at view op) columns cells
+
+-- the cells of a row that is there
+abbrev pub cells_there : Bool → List (ℕ × Value) → Option Cells
+cells_there true cells = Some (map.from_entries cells)
+cells_there false cells = None
