@@ -5,3 +5,4 @@ pub mod Sound
 pub mod Viewed
 pub mod Worked
 pub mod Spelled
+pub mod Keys

@@ -1,5 +1,5 @@
 -- What a view says of one row.
-use Rattle.std.specs.Prelude.{◌≡◌, ℕ, Bool, true, false, List, [], ◌∷◌, Option, Some, None, option_map, Result, Ok, Err, IsTrue, ◌⊎◌, if◌then◌else◌}
+use Rattle.std.specs.Prelude.{◌≡◌, ℕ, Bool, true, false, List, [], ◌∷◌, Option, Some, None, option_map, Result, Ok, Err, IsTrue, ◌↔◌, ◌⊎◌, if◌then◌else◌}
 use Rattle.std.specs.FinMap as map
 use Rattle.keycode.specs.declared.fault.KeyFault.{KeyFault}
 use Rattle.keycode.specs.declared.value.Value.{Value}
@@ -15,6 +15,7 @@ use Rattle.row_write.specs.declared.op.RowOp.{RowOp}
 use Rattle.row_write.specs.declared.fault.PrepareFault.{PrepareFault}
 use Rattle.row_write.specs.declared.fault.PrepareFault.TheVariants.{ViewMismatch, Memory}
 use Rattle.row_write.specs.Plain.{table_of, key_of}
+use Rattle.row_write.specs.Entering.{KeySet}
 
 -- a mismatch, and then the fact, or want of memory
 abbrev pub IsMissed : Type 0 → PrepareFault → Type 0
@@ -68,3 +69,7 @@ IsSeen view op columns there cells = IsThere (seen_at view op 0) there × AreCel
 abbrev pub cells_there : Bool → List (ℕ × Value) → Option Cells
 cells_there true cells = Some (map.from_entries cells)
 cells_there false cells = None
+
+-- what is read and what was read have the same keys
+abbrev pub HaveSameKeys : KeySet → View → Type 0
+HaveSameKeys reads view = (key : Bytes) → (map.get reads key ≡ Some tt) ↔ ((value : Option Bytes) × (map.get view key ≡ Some value))

@@ -7,6 +7,7 @@ mod fault;
 mod op;
 mod parts;
 mod prepared;
+mod reading;
 mod reads;
 mod served;
 mod viewing;
