@@ -6,9 +6,13 @@ use Rattle.std.specs.Cmp.{Equal-is}
 use Rattle.std.specs.FinMap.{FinMap, get, find, entries, get-entries}
 use Rattle.keycode.specs.Order.{bytes_cmp}
 use Rattle.keycode.proofs.Orders.{bytes_cmp_total, bytes_cmp-IsAntisymmetric}
-use Rattle.row_map.specs.Rows.{Bytes}
+use Rattle.row_map.specs.Rows.{Bytes, Rows}
 use Rattle.row_map.specs.Expect.{View}
 use Rattle.row_map.proofs.Entries.{each_entry}
+use Rattle.schema_version.specs.Version.{Version}
+use Rattle.row_write.specs.declared.op.RowOp.{RowOp}
+use Rattle.row_write.specs.Reads.{IsRead}
+use Rattle.row_write.specs.Prepare.{IsSpelledRow, Spells}
 use Rattle.row_write.specs.Entering.{KeySet}
 use Rattle.row_write.specs.Viewing.{HaveSameKeys}
 use Rattle.row_write.proofs.Decides.{both_true, and_true}
@@ -50,3 +54,13 @@ keys_tell reads view a b p q = (
     (p ∙ all_from (λ k. is_some (get view k)) reads (λ key x at. ap is_some ((same key).0 at).1))
     (q ∙ all_from (λ k. is_some (get reads k)) view (λ key value at. ap is_some ((same key).1 (value, at)))),
 )
+
+module _ (v : Version) (ops : List RowOp) (view : View) (reads : KeySet) (read : (key : Bytes) → (get reads key ≡ Some tt) ↔ IsRead v ops key) where
+  pub spelled_with : HaveSameKeys reads view → (rows : Rows) → AllByRecursion (IsSpelledRow v view rows) ops → Spells v ops view rows
+  spelled_with same rows all = record {
+    keys = λ key. (λ r. (same key).0 ((read key).1 r), λ seen. (read key).0 ((same key).1 seen));
+    spelled = all;
+  }
+
+  pub same_keys : (rows : Rows) → Spells v ops view rows → HaveSameKeys reads view
+  same_keys rows s key = (λ at. (s.keys key).0 ((read key).0 at), λ seen. (read key).1 ((s.keys key).1 seen))

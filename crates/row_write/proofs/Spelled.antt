@@ -1,5 +1,5 @@
 -- The row that is read is the row that the view spells.
-use Rattle.std.proofs.Common.{◌≡◌, ◌≢◌, ◌&&◌, ◌<◌, ◌+◌, ◌++◌, ℕ, Bool, true, false, cond, T, List, [], ◌∷◌, length, get_or, take, Option, Some, None, option_map, ◌⊎◌, inl, inr, refl, sym, ap, subst, ◌∙◌, arith, Contains, IsTrue}
+use Rattle.std.proofs.Common.{◌≡◌, ◌≢◌, ◌&&◌, ◌<◌, ◌+◌, ◌++◌, ℕ, zero, suc, Bool, true, false, cond, T, List, [], ◌∷◌, length, get_or, take, Option, Some, None, option_map, ◌⊎◌, inl, inr, refl, sym, ap, subst, ◌∙◌, arith, Contains, IsTrue}
 use Rattle.std.specs.List.{AllByRecursion}
 use Rattle.std.specs.declared.cmp.Ordering.{Ordering}
 use Rattle.std.specs.declared.cmp.Ordering.TheVariants.{Less, Equal, Greater}
@@ -176,3 +176,8 @@ module _ (v : Version) (served : IsServed v) (view : View) where
       AllByRecursion-take_more (IsSpelledRow v view next) ops i op lt
       (subst (λ (m : Rows). AllByRecursion (IsSpelledRow v view m) (take i ops)) (sym made) (still (take i ops) op rows (cells_there there cells) s all))
       (subst (IsSpelledRow v view next) is (to_row v view next op here_is))
+
+pub all_at : {X : Type 0} (P : X → Type 0) (xs : List X) (i : ℕ) (d : X) → i < length xs → AllByRecursion P xs → P (get_or xs i d)
+all_at P [] i d lt all = absurd (omega arith)
+all_at P (x ∷ xs) zero d lt all = all.0
+all_at P (x ∷ xs) (suc i) d lt all = all_at P xs i d (omega arith) all.1

@@ -8,13 +8,12 @@ use Rattle.keycode.specs.Order.{values_cmp}
 use Rattle.row_map.specs.declared.shape.Row.{Row}
 use Rattle.row_map.specs.Rows.{RowKey, Cells, Rows}
 use Rattle.row_map.specs.Writes.{written_all}
-use Rattle.element_state.specs.Operations.{cells_of}
 use Rattle.row_write.specs.declared.working.Mention.{Mention}
+use Rattle.row_write.specs.Viewing.{cells_there}
 
 -- the cells of a row that is there
 abbrev pub cells_if : Bool → Row → Option Cells
-cells_if true row = Some (cells_of row)
-cells_if false row = None
+cells_if there row = cells_there there row.cells
 
 abbrev pub mention_write : Mention → RowKey × Option Cells
 mention_write m = ((m.table, m.row.key), cells_if m.there m.row)

@@ -1,5 +1,5 @@
 //! The rows of a transaction, as its view spells them.
-ghost use Rattle.std.specs.Prelude.{◌≡◌, ◌↔◌, IsTrue, IsSome, Some, Option, Bool, List, ℕ, IfOk, IfErr, OnOk, is_some};
+ghost use Rattle.std.specs.Prelude.{◌≡◌, ◌↔◌, ◌&&◌, IsTrue, IsSome, Some, Option, Bool, List, ℕ, IfOk, IfErr, OnOk, is_some};
 ghost use Rattle.std.specs.List.{AllByRecursion, list_all};
 ghost use Rattle.std.specs.FinMap as map;
 ghost use Rattle.keycode.specs.declared.value.Value.{Value};
@@ -19,9 +19,29 @@ use crate::served::served;
 use crate::viewing::read_row;
 use crate::working::WorkRows;
 use byte_map::{Bytes, KeyMap};
-use row_map::{ReadSet, ReadView, Row};
+use keycode::Values;
+use listed::Listed;
+use row_map::{ColumnType, ReadSet, ReadView, Row};
 use schema_version::Schema;
-use std::alloc::Global;
+use std::alloc::{AllocError, Global};
+
+/// The public columns of a table.
+fn columns_of(
+    alloc: Global,
+    schema: &Schema,
+    table: u32,
+) -> Result<Listed<(u32, ColumnType)>, AllocError>
+    requires { IsSome (table_at schema.now table) }
+    ensures { IfOk result (λ columns. columns ≡ column_types schema.now table) }
+{
+    Ok(schema.shape(alloc, table)?.unwrap().columns)
+}
+
+fn copy_of(key: &Values) -> Result<Values, AllocError>
+    ensures { IfOk result (λ copy. copy ≡ key.now) }
+{
+    key.clone()
+}
 
 /// Reads the row of an operation.
 fn read_op(
@@ -35,9 +55,9 @@ fn read_op(
     ensures found { OnOk result ((there : Bool) × (cells : _) × IsSeen view.now op.now (column_types schema.now (table_of op.now)) there cells × (rows.new ≡ written rows.old (row_of op.now) (cells_there there cells))) }
     ensures missed { IfErr result (IsMissed ((there : Bool) (cells : _) → ¬ (IsSeen view.now op.now (column_types schema.now (table_of op.now)) there cells))) }
 {
-    let shape = schema.shape(alloc, op.table())?.unwrap();
-    let (there, cells) = read_row(alloc, view, op, shape.columns.as_slice())?;
-    let key = op.key().clone()?;
+    let columns = columns_of(alloc, schema, op.table())?;
+    let (there, cells) = read_row(alloc, view, op, columns.as_slice())?;
+    let key = copy_of(op.key())?;
     rows.put(op.table(), Row { key, cells }, there)?;
     Ok(())
 }
@@ -68,11 +88,19 @@ fn all_in<V, W>(entries: &[(Bytes, V)], other: &KeyMap<W>) -> bool
     entries.iter().all(|e| other.get(e.0.as_slice()).is_some())
 }
 
+fn are_both(a: bool, b: bool) -> bool
+    ensures { result ≡ (a && b) }
+{
+    a && b
+}
+
 /// Whether the view has the keys that are read, and no other.
 fn has_keys(reads: &ReadSet, view: &ReadView) -> bool
     ensures { IsTrue result ↔ HaveSameKeys reads.now view.now }
 {
-    all_in(reads.entries(), view) && all_in(view.entries(), reads)
+    let read = all_in(reads.entries(), view);
+    let seen = all_in(view.entries(), reads);
+    are_both(read, seen)
 }
 
 /// Rows that the view spells.
