@@ -10,3 +10,4 @@ pub mod Entering
 pub mod Viewing
 pub mod Working
 pub mod RowCode
+pub mod Running

@@ -3,6 +3,7 @@
 #![tactic(auto)]
 
 mod checking;
+mod editing;
 mod fault;
 mod op;
 mod parts;
@@ -12,6 +13,7 @@ mod reads;
 mod served;
 mod viewing;
 mod working;
+mod writing;
 
 pub use fault::{PrepareFault, RowFault};
 pub use op::{RowOp, RowOps, RowOutcome};
