@@ -6,3 +6,4 @@ pub mod Viewed
 pub mod Worked
 pub mod Spelled
 pub mod Keys
+pub mod Edited

@@ -41,17 +41,18 @@ fn write_exists(
     }
 }
 
-/// Writes what an element of the operation's table asks for.
+/// Writes what an element asks for, as if the row were one of its table.
 fn write_own(
     alloc: Global,
     definition: &ElementDef,
+    op: &RowOp,
     old: Option<&Row>,
     new: Option<&Row>,
     batch: &mut Batch,
 ) -> Result<(), AllocError>
-    requires { (before : _) (after : _) → option_map (λ r. r.now) old.entry ≡ Some before → option_map (λ r. r.now) new.entry ≡ Some after → before.key ≡ after.key }
-    ensures { (key : _) → IfSome old.entry (λ r. r.now.key ≡ key) → IfSome new.entry (λ r. r.now.key ≡ key)
-        → OnOk result (batch.new ≡ noted batch.old ((kind_meaning definition.now.number definition.now.kind).writes definition.now.state (change_at (definition.now.table, key) (option_map (λ r. cells_of r.now) old.entry) (option_map (λ r. cells_of r.now) new.entry)))) }
+    requires old { IfSome old (λ r. r.now.key ≡ key_of op.now) }
+    requires new { IfSome new (λ r. r.now.key ≡ key_of op.now) }
+    ensures { OnOk result (batch.new ≡ noted batch.old ((kind_meaning definition.now.number definition.now.kind).writes definition.now.state (change_at (definition.now.table, key_of op.now) (option_map (λ r. cells_of r.now) old.entry) (option_map (λ r. cells_of r.now) new.entry)))) }
 {
     let element = AnyElement::of(definition)?;
     match old {
@@ -64,4 +65,60 @@ fn write_own(
             Some(new) => element.on_update(alloc, definition.state, old, new, batch),
         },
     }
+}
+
+/// Writes what an element asks for. One of another table asks for nothing.
+fn write_element(
+    alloc: Global,
+    definition: &ElementDef,
+    op: &RowOp,
+    old: Option<&Row>,
+    new: Option<&Row>,
+    batch: &mut Batch,
+) -> Result<(), AllocError>
+    requires old { IfSome old (λ r. r.now.key ≡ key_of op.now) }
+    requires new { IfSome new (λ r. r.now.key ≡ key_of op.now) }
+    ensures { OnOk result (batch.new ≡ noted batch.old (element_writes definition.now (change_at (row_of op.now) (option_map (λ r. cells_of r.now) old.entry) (option_map (λ r. cells_of r.now) new.entry)))) }
+{
+    if op.table() == definition.table {
+        write_own(alloc, definition, op, old, new, batch)
+    } else {
+        Ok(())
+    }
+}
+
+fn write_elements(
+    alloc: Global,
+    definitions: &[ElementDef],
+    op: &RowOp,
+    old: Option<&Row>,
+    new: Option<&Row>,
+    batch: &mut Batch,
+) -> Result<(), AllocError>
+    requires old { IfSome old (λ r. r.now.key ≡ key_of op.now) }
+    requires new { IfSome new (λ r. r.now.key ≡ key_of op.now) }
+    ensures { OnOk result (batch.new ≡ noted batch.old (live_writes definitions.now (change_at (row_of op.now) (option_map (λ r. cells_of r.now) old.entry) (option_map (λ r. cells_of r.now) new.entry)))) }
+{
+    for definition in definitions {
+        write_element(alloc, definition, op, old, new, batch)?;
+    }
+    Ok(())
+}
+
+/// Writes what the operation's change asks for in the states of the schema.
+pub(crate) fn write_change(
+    alloc: Global,
+    schema: &Schema,
+    op: &RowOp,
+    old: Option<&Row>,
+    new: Option<&Row>,
+    batch: &mut Batch,
+) -> Result<(), AllocError>
+    requires old { IfSome old (λ r. r.now.key ≡ key_of op.now) }
+    requires new { IfSome new (λ r. r.now.key ≡ key_of op.now) }
+    ensures { OnOk result (batch.new ≡ noted batch.old (version_writes the_kinds (schema_of schema.now) (change_at (row_of op.now) (option_map (λ r. cells_of r.now) old.entry) (option_map (λ r. cells_of r.now) new.entry)))) }
+{
+    served(schema);
+    write_exists(alloc, op, old, new, batch)?;
+    write_elements(alloc, schema.elements(), op, old, new, batch)
 }
