@@ -7,3 +7,4 @@ pub mod Worked
 pub mod Spelled
 pub mod Keys
 pub mod Edited
+pub mod Wanted

@@ -101,17 +101,17 @@ module _ (there : Bool) (seen : ℕ → Option (Option Bytes)) where
 -- ---- the row of a key
 
 -- as IsSpelledRow says it of a row of the rows
-record IsSpelledAs (v : Version) (view : View) (key : RowKey) (row : Option Cells) : Type 0 where
-  absent : row ≡ None → get view (row_code key.0 key.1 0) ≡ Some None
-  present : (cells : Cells) → row ≡ Some cells → get view (row_code key.0 key.1 0) ≡ Some (Some [])
-  no_columns : (number : ℕ) (type : ColumnType) → IsPublicColumn v key.0 number type → row ≡ None → get view (row_code key.0 key.1 number) ≡ Some None
-  columns : (number : ℕ) (type : ColumnType) (cells : Cells) → IsPublicColumn v key.0 number type → row ≡ Some cells → get view (row_code key.0 key.1 number) ≡ Some (option_map code (get cells number))
-  typed : (number : ℕ) (type : ColumnType) (cells : Cells) (value : Value) → IsPublicColumn v key.0 number type → row ≡ Some cells → get cells number ≡ Some value → IsTrue (has_type type value) × IsStorable value
+pub record IsSpelledAs (v : Version) (view : View) (key : RowKey) (row : Option Cells) : Type 0 where
+  pub absent : row ≡ None → get view (row_code key.0 key.1 0) ≡ Some None
+  pub present : (cells : Cells) → row ≡ Some cells → get view (row_code key.0 key.1 0) ≡ Some (Some [])
+  pub no_columns : (number : ℕ) (type : ColumnType) → IsPublicColumn v key.0 number type → row ≡ None → get view (row_code key.0 key.1 number) ≡ Some None
+  pub columns : (number : ℕ) (type : ColumnType) (cells : Cells) → IsPublicColumn v key.0 number type → row ≡ Some cells → get view (row_code key.0 key.1 number) ≡ Some (option_map code (get cells number))
+  pub typed : (number : ℕ) (type : ColumnType) (cells : Cells) (value : Value) → IsPublicColumn v key.0 number type → row ≡ Some cells → get cells number ≡ Some value → IsTrue (has_type type value) × IsStorable value
 
 to_row : (v : Version) (view : View) (rows : Rows) (op : RowOp) → IsSpelledAs v view (row_of op) (get rows (row_of op)) → IsSpelledRow v view rows op
 to_row v view rows op s = record { absent = s.absent; present = s.present; no_columns = s.no_columns; columns = s.columns; typed = s.typed }
 
-of_row : (v : Version) (view : View) (rows : Rows) (op : RowOp) → IsSpelledRow v view rows op → IsSpelledAs v view (row_of op) (get rows (row_of op))
+pub of_row : (v : Version) (view : View) (rows : Rows) (op : RowOp) → IsSpelledRow v view rows op → IsSpelledAs v view (row_of op) (get rows (row_of op))
 of_row v view rows op s = record { absent = s.absent; present = s.present; no_columns = s.no_columns; columns = s.columns; typed = s.typed }
 
 module _ (v : Version) (served : IsServed v) (view : View) where
