@@ -8,7 +8,6 @@ use Rattle.std.specs.FinMap.{get, find, from_entries, get-from_entries, same_map
 use Rattle.std.specs.FinMap.Entries.{where_key, find-where_key}
 use Rattle.byte_map.proofs.Written.{get-written, same_or_apart, tied, apart}
 use Rattle.keycode.specs.declared.value.Value.{Value}
-use Rattle.keycode.specs.declared.value.Value.TheVariants.{Null}
 use Rattle.row_map.specs.Rows.{Cells}
 use Rattle.row_map.specs.Writes.{written}
 use Rattle.row_write.specs.Plain.{cell_of, with_cells}
@@ -90,10 +89,10 @@ placed cells n o = same_map nat_cmp_total nat_cmp-IsAntisymmetric _ _ (λ q.
     ∙ ap (cond (eq_by_cmp nat_cmp q n) o) (sym (get-from_entries nat_cmp_total cells q))
     ∙ sym (get-written nat_cmp_total nat_cmp-IsAntisymmetric (cells_in cells) n o q))
 
-pub with_more : (cells next : List (ℕ × Value)) (named : List (ℕ × Value)) (i : ℕ) (total : Cells) → i < length named
-    → next ≡ (cells_below (get_or named i (0, Null)).0 cells ++ with_front (get_or named i (0, Null)).0 (cell_of (get_or named i (0, Null)).1) []) ++ cells_above (get_or named i (0, Null)).0 cells
+pub with_more : (cells seen next : List (ℕ × Value)) (named : List (ℕ × Value)) (i : ℕ) (x : ℕ × Value) (total : Cells) → i < length named → x ≡ get_or named i x → seen ≡ cells
+    → next ≡ (cells_below x.0 seen ++ with_front x.0 (cell_of x.1) []) ++ cells_above x.0 seen
     → with_cells (cells_in cells) (drop i named) ≡ total → with_cells (cells_in next) (drop (i + 1) named) ≡ total
-with_more cells next named i total lt made so_far =
-    let x = get_or named i (0, Null) in
-    ap (λ (c : Cells). with_cells c (drop (i + 1) named)) (ap cells_in made ∙ placed cells x.0 (cell_of x.1))
-    ∙ sym (at_drop_more (with_cells (cells_in cells)) named i (0, Null) lt) ∙ so_far
+with_more cells seen next named i x total lt is same made so_far =
+    ap (λ (c : Cells). with_cells c (drop (i + 1) named)) (ap cells_in made ∙ placed seen x.0 (cell_of x.1) ∙ ap (λ (l : List (ℕ × Value)). written (cells_in l) x.0 (cell_of x.1)) same)
+    ∙ ap (λ (y : ℕ × Value). with_cells (written (cells_in cells) y.0 (cell_of y.1)) (drop (i + 1) named)) is
+    ∙ sym (at_drop_more (with_cells (cells_in cells)) named i x lt) ∙ so_far

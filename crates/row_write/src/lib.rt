@@ -10,6 +10,7 @@ mod parts;
 mod prepared;
 mod reading;
 mod reads;
+mod running;
 mod served;
 mod viewing;
 mod working;
