@@ -8,3 +8,4 @@ pub mod Spelled
 pub mod Keys
 pub mod Edited
 pub mod Wanted
+pub mod Ran
