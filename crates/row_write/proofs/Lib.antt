@@ -9,3 +9,4 @@ pub mod Keys
 pub mod Edited
 pub mod Wanted
 pub mod Ran
+pub mod Prepares

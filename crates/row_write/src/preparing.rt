@@ -67,8 +67,10 @@ fn prepare_ops(
     ensures sound { OnOk result (AllByRecursion (IsSound schema.now) ops.now × (length ops.now ≤ max_ops)) }
     ensures some_rows { OnOk result ((rows : Rows) × Spells schema.now ops.now view.now rows) }
     ensures prepared { IfOk result (λ done. IsPrepared schema.now ops.now view.now done.0 done.1) }
+    ensures clear { OnOk result (IsClear (Condition schema.now ops.now view.now)) }
     ensures refused { IfErr result (λ e. IsRefusal rank (Condition schema.now ops.now view.now) OutOfMemory e) }
 {
+    served(schema);
     check_ops(schema, ops)?;
     work_out(alloc, schema, view, ops)
 }
