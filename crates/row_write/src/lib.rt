@@ -2,10 +2,23 @@
 //! schema version.
 #![tactic(auto)]
 
+mod checking;
+mod editing;
 mod fault;
 mod op;
+mod parts;
 mod prepared;
+mod preparing;
+mod reading;
+mod reads;
+mod running;
+mod served;
+mod viewing;
+mod working;
+mod writing;
 
 pub use fault::{PrepareFault, RowFault};
 pub use op::{RowOp, RowOps, RowOutcome};
 pub use prepared::Prepared;
+pub use preparing::prepare;
+pub use reads::reads_of;

@@ -1,0 +1,12 @@
+pub mod Columns
+pub mod Decides
+pub mod Entered
+pub mod Sound
+pub mod Viewed
+pub mod Worked
+pub mod Spelled
+pub mod Keys
+pub mod Edited
+pub mod Wanted
+pub mod Ran
+pub mod Prepares

@@ -1,0 +1,173 @@
+-- One more operation of a run, and runs on rows that agree.
+use Rattle.std.proofs.Common.{◌≡◌, ◌≢◌, ◌<◌, ◌+◌, ◌++◌, ℕ, Bool, true, false, cond, List, [], ◌∷◌, length, get_or, drop, Option, Some, None, option_map, Result, Ok, Err, inl, inr, refl, sym, ap, ap₂, subst, ◌∙◌, IsTrue}
+use Rattle.std.proofs.lemmas.List.{at_drop_more, append-nil}
+use Rattle.std.specs.List.{AllByRecursion}
+use Rattle.std.specs.Ordering.{nat_cmp, eq_by_cmp}
+use Rattle.std.specs.Cmp.{nat_cmp_total}
+use Rattle.std.specs.FinMap.{get, empty, nat_cmp-IsAntisymmetric}
+use Rattle.byte_map.proofs.Written.{get-written, noted-append, written_here, written_apart, same_or_apart}
+use Rattle.keycode.specs.declared.value.Value.{Value}
+use Rattle.keycode.specs.Code.{code}
+use Rattle.keycode.specs.Valid.{IsValue}
+use Rattle.keycode.proofs.ByteOrder.{same_spelling}
+use Rattle.row_map.specs.declared.shape.ColumnType.{ColumnType}
+use Rattle.row_map.specs.Rows.{Bytes, RowKey, Cells, Rows}
+use Rattle.row_map.specs.Expect.{View}
+use Rattle.row_map.specs.Writes.{Writes, Batch, written, noted}
+use Rattle.row_map.proofs.Orders.{row_cmp_total, row_cmp-IsAntisymmetric}
+use Rattle.schema_version.specs.Version.{Version}
+use Rattle.schema_version.proofs.Lists.{some_same}
+use Rattle.element_state.specs.Elements.{Change, Alike, rows_after}
+use Rattle.element_state.specs.Schemas.{version_writes}
+use Rattle.element_state.specs.Versions.{the_kinds, schema_of}
+use Rattle.row_write.specs.declared.op.RowOp.{RowOp}
+use Rattle.row_write.specs.declared.op.RowOp.TheVariants.{Insert, Update, Delete}
+use Rattle.row_write.specs.declared.op.RowOutcome.{RowOutcome}
+use Rattle.row_write.specs.declared.fault.RowFault.{RowFault}
+use Rattle.row_write.specs.declared.fault.RowFault.TheVariants.{Duplicate, NoRow}
+use Rattle.row_write.specs.Plain.{cell_of, with_cells, table_of, row_of, change_of, change, go_on, applied, told, outcome}
+use Rattle.row_write.specs.Prepare.{IsSpelledRow, Spells, write_on, writes_of, accepted_writes, txn_writes, IsPrepared}
+use Rattle.row_write.specs.Served.{IsServed}
+use Rattle.row_write.specs.Running.{IsStep}
+use Rattle.row_write.proofs.Spelled.{IsSpelledAs, of_row}
+use Rattle.row_write.proofs.Wanted.{shown, column_shown, same_writes}
+
+-- ---- one more operation
+
+pub told_more : (v : Version) (rows then : Rows) (ops : List RowOp) (i place : ℕ) (op : RowOp) (b b_then : Batch) (total : Result Rows (ℕ × RowFault)) → i < length ops → op ≡ get_or ops i op → IsStep v rows op (Ok tt) then b b_then
+    → applied place rows (drop i ops) ≡ total → applied (place + 1) then (drop (i + 1) ops) ≡ total
+told_more v rows then ops i place op b b_then total lt is (made, done, rows_is, noted_is) so_far =
+    ap (λ (r : Rows). applied (place + 1) r (drop (i + 1) ops)) rows_is
+    ∙ sym (ap (λ r. go_on place rows r (λ new. applied (place + 1) new (drop (i + 1) ops))) done)
+    ∙ ap (λ (o : RowOp). applied place rows (o ∷ drop (i + 1) ops)) is
+    ∙ sym (at_drop_more (applied place rows) ops i op lt) ∙ so_far
+
+pub batch_more : (v : Version) (rows then : Rows) (ops : List RowOp) (i : ℕ) (op : RowOp) (b b_then total : Batch) → i < length ops → op ≡ get_or ops i op → IsStep v rows op (Ok tt) then b b_then
+    → noted b (writes_of v rows (drop i ops)) ≡ total → noted b_then (writes_of v then (drop (i + 1) ops)) ≡ total
+batch_more v rows then ops i op b b_then total lt is (made, done, rows_is, noted_is) so_far =
+    ap (λ (r : Rows). noted b_then (writes_of v r (drop (i + 1) ops))) rows_is
+    ∙ ap (λ (x : Batch). noted x (writes_of v (rows_after rows made) (drop (i + 1) ops))) noted_is
+    ∙ sym (noted-append (version_writes the_kinds (schema_of v) made) (writes_of v (rows_after rows made) (drop (i + 1) ops)) b)
+    ∙ sym (ap (λ r. noted b (write_on v rows r (λ new. writes_of v new (drop (i + 1) ops)))) done)
+    ∙ ap (λ (o : RowOp). noted b (writes_of v rows (o ∷ drop (i + 1) ops))) is
+    ∙ sym (ap (noted b) (at_drop_more (writes_of v rows) ops i op lt)) ∙ so_far
+
+-- ---- rows that agree
+
+cells_alike : (f : ℕ → Bool) (named : List (ℕ × Value)) (r s : Cells) → ((i : ℕ) → IsTrue (f i) → get r i ≡ get s i) → (i : ℕ) → IsTrue (f i) → get (with_cells r named) i ≡ get (with_cells s named) i
+cells_alike f [] r s h = h
+cells_alike f (x ∷ named) r s h = cells_alike f named (written r x.0 (cell_of x.1)) (written s x.0 (cell_of x.1)) (λ i t.
+    get-written nat_cmp_total nat_cmp-IsAntisymmetric r x.0 (cell_of x.1) i
+    ∙ ap (cond (eq_by_cmp nat_cmp i x.0) (cell_of x.1)) (h i t)
+    ∙ sym (get-written nat_cmp_total nat_cmp-IsAntisymmetric s x.0 (cell_of x.1) i))
+
+-- the same refusal, or changes of one row that agree
+AreSame : (ℕ → Bool) → RowKey → Result Change RowFault → Result Change RowFault → Type 0
+AreSame f key (Ok c) (Ok d) = (c.key ≡ key) × (d.key ≡ key) × Alike f c.old d.old × Alike f c.new d.new
+AreSame f key (Err a) (Err b) = a ≡ b
+AreSame f key _ _ = ⊥
+
+same_change : (f : ℕ → Bool) (o p : Option Cells) (op : RowOp) → Alike f o p → AreSame f (row_of op) (change_of o op) (change_of p op)
+unfolding AreSame
+same_change f None None (Insert table key cells) a = (refl, refl, tt, cells_alike f cells empty empty (λ i t. refl))
+same_change f None None (Update table key cells) a = refl
+same_change f None None (Delete table key) a = refl
+same_change f (Some r) (Some s) (Insert table key cells) a = refl
+same_change f (Some r) (Some s) (Update table key cells) a = (refl, refl, a, cells_alike f cells r s a)
+same_change f (Some r) (Some s) (Delete table key) a = (refl, refl, a, tt)
+same_change f None (Some s) op a = absurd a
+same_change f (Some r) None op a = absurd a
+
+abbrev no_pair : Option (Option Bytes)
+no_pair = Some None
+
+abbrev empty_pair : Option (Option Bytes)
+empty_pair = Some (Some [])
+
+not_both : {A : Type 0} → no_pair ≡ empty_pair → A
+not_both e = absurd cc
+
+module _ (v : Version) (served : IsServed v) where
+  -- two rows of the key that agree on the public columns of its table
+  abbrev AgreeAt : RowKey → Option Cells → Option Cells → Type 0
+  AgreeAt key o p = Alike (shown v key.0) o p
+
+  abbrev Agree : List RowOp → Rows → Rows → Type 0
+  Agree ops work rows = AllByRecursion (λ (op : RowOp). AgreeAt (row_of op) (get work (row_of op)) (get rows (row_of op))) ops
+
+  agree_after : (ops : List RowOp) (work rows : Rows) (key : RowKey) (o p : Option Cells) → AgreeAt key o p → Agree ops work rows → Agree ops (written work key o) (written rows key p)
+  agree_after [] work rows key o p a all = tt
+  agree_after (op ∷ ops) work rows key o p a all =
+      (elim (same_or_apart row_cmp_total row_cmp-IsAntisymmetric (row_of op) key) [
+        | inl same ↦
+            subst (λ (k : RowKey). AgreeAt k (get (written work key o) k) (get (written rows key p) k)) (sym same)
+            (subst (λ x. AgreeAt key x (get (written rows key p) key)) (sym (written_here row_cmp_total row_cmp-IsAntisymmetric work key o))
+            (subst (λ x. AgreeAt key o x) (sym (written_here row_cmp_total row_cmp-IsAntisymmetric rows key p)) a))
+        | inr other ↦
+            subst (λ x. AgreeAt (row_of op) x (get (written rows key p) (row_of op))) (sym (written_apart row_cmp_total row_cmp-IsAntisymmetric work key o (row_of op) other))
+            (subst (λ x. AgreeAt (row_of op) (get work (row_of op)) x) (sym (written_apart row_cmp_total row_cmp-IsAntisymmetric rows key p (row_of op) other)) all.0)
+      ], agree_after ops work rows key o p a all.1)
+
+  abbrev SameRun : ℕ → List RowOp → Rows → Rows → Type 0
+  SameRun place ops work rows = (told (applied place work ops) ≡ told (applied place rows ops)) × (writes_of v work ops ≡ writes_of v rows ops)
+
+  -- behind the answers of one operation on the two rows
+  abbrev SameStep : ℕ → List RowOp → Rows → Rows → Result Change RowFault → Result Change RowFault → Type 0
+  SameStep place ops work rows a b =
+      (told (go_on place work a (λ new. applied (place + 1) new ops)) ≡ told (go_on place rows b (λ new. applied (place + 1) new ops)))
+      × (write_on v work a (λ new. writes_of v new ops) ≡ write_on v rows b (λ new. writes_of v new ops))
+
+  ok_same : (ops : List RowOp) (place : ℕ) (work rows : Rows) (key : RowKey) (c d : Change) → Agree ops work rows → ((w r : Rows) → Agree ops w r → SameRun (place + 1) ops w r)
+      → c.key ≡ key → d.key ≡ key → AgreeAt key c.old d.old → AgreeAt key c.new d.new → SameStep place ops work rows (Ok c) (Ok d)
+  ok_same ops place work rows key c d all again left right old new =
+      let same : c.key ≡ d.key = left ∙ sym right in
+      let at = λ (x y : Option Cells) (a : AgreeAt key x y). subst (λ (k : RowKey). AgreeAt k x y) (sym left) a in
+      let after : Agree ops (rows_after work c) (rows_after rows d) =
+      subst (λ (k : RowKey). Agree ops (rows_after work c) (written rows k d.new)) same (agree_after ops work rows c.key c.new d.new (at c.new d.new new) all) in
+      let rest = again (rows_after work c) (rows_after rows d) after in
+      (rest.0, ap₂ (λ (a b : Writes). a ++ b) (same_writes v served c d same (at c.old d.old old) (at c.new d.new new)) rest.1)
+
+  step_same : (ops : List RowOp) (place : ℕ) (work rows : Rows) (key : RowKey) (a b : Result Change RowFault) → Agree ops work rows → ((w r : Rows) → Agree ops w r → SameRun (place + 1) ops w r)
+      → AreSame (shown v key.0) key a b → SameStep place ops work rows a b
+  unfolding AreSame
+  step_same ops place work rows key (Ok c) (Ok d) all again (left, right, old, new) = ok_same ops place work rows key c d all again left right old new
+  step_same ops place work rows key (Err x) (Err y) all again s = (ap (λ why. told (go_on place work (Err why) (λ new. applied (place + 1) new ops))) s, refl)
+  step_same ops place work rows key (Ok c) (Err y) all again s = absurd s
+  step_same ops place work rows key (Err x) (Ok d) all again s = absurd s
+
+  same_run : (ops : List RowOp) (place : ℕ) (work rows : Rows) → Agree ops work rows → SameRun place ops work rows
+  same_run [] place work rows all = (refl, refl)
+  same_run (op ∷ ops) place work rows all =
+      step_same ops place work rows (row_of op) (change work op) (change rows op) all.1 (λ w r h. same_run ops (place + 1) w r h) (same_change (shown v (table_of op)) (get work (row_of op)) (get rows (row_of op)) op all.0)
+
+  -- ---- rows that one view spells
+
+  value_one : (a b : Option Value) → option_map code a ≡ option_map code b → ((w : Value) → a ≡ Some w → IsValue w) → ((w : Value) → b ≡ Some w → IsValue w) → a ≡ b
+  value_one None None e p q = refl
+  value_one None (Some w) e p q = absurd (let x : None ≡ Some (code w) = e in cc)
+  value_one (Some w) None e p q = absurd (let x : Some (code w) ≡ None = e in cc)
+  value_one (Some w) (Some u) e p q =
+      let same : code w ≡ code u = some_same e in
+      ap Some (same_spelling w u [] [] (p w refl) (q u refl) (append-nil (code w) ∙ same ∙ sym (append-nil (code u)))).0
+
+  agree_as : (view : View) (key : RowKey) (o p : Option Cells) → IsSpelledAs v view key o → IsSpelledAs v view key p → AgreeAt key o p
+  agree_as view key None None s t = tt
+  agree_as view key None (Some r) s t = not_both (sym (s.absent refl) ∙ t.present r refl)
+  agree_as view key (Some r) None s t = not_both (sym (t.absent refl) ∙ s.present r refl)
+  agree_as view key (Some r) (Some u) s t = λ i is.
+      let has = column_shown v served key.0 i is in
+      value_one (get r i) (get u i)
+      (some_same (sym (s.columns i has.0 r has.1 refl) ∙ t.columns i has.0 u has.1 refl))
+      (λ w at. (s.typed i has.0 r w has.1 refl at).1.0)
+      (λ w at. (t.typed i has.0 u w has.1 refl at).1.0)
+
+  agree_all : (view : View) (ops : List RowOp) (work rows : Rows) → AllByRecursion (IsSpelledRow v view work) ops → AllByRecursion (IsSpelledRow v view rows) ops → Agree ops work rows
+  agree_all view [] work rows s t = tt
+  agree_all view (op ∷ ops) work rows s t =
+      (agree_as view (row_of op) (get work (row_of op)) (get rows (row_of op)) (of_row v view work op s.0) (of_row v view rows op t.0), agree_all view ops work rows s.1 t.1)
+
+  -- what is run on one of the rows that the view spells is right for all of them
+  pub prepared_for_all : (view : View) (ops : List RowOp) (work : Rows) (outcome_is : RowOutcome) (batch : Batch) → Spells v ops view work → outcome_is ≡ outcome work ops → batch ≡ noted empty (txn_writes v work ops) → IsPrepared v ops view outcome_is batch
+  prepared_for_all view ops work outcome_is batch spelled told_is batch_is rows also =
+      let s = same_run ops 0 work rows (agree_all view ops work rows spelled.spelled also.spelled) in
+      (told_is ∙ s.0, batch_is ∙ ap (noted empty) (ap₂ accepted_writes s.0 s.1))

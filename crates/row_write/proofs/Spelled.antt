@@ -1,0 +1,183 @@
+-- The row that is read is the row that the view spells.
+use Rattle.std.proofs.Common.{◌≡◌, ◌≢◌, ◌&&◌, ◌<◌, ◌+◌, ◌++◌, ℕ, zero, suc, Bool, true, false, cond, T, List, [], ◌∷◌, length, get_or, take, Option, Some, None, option_map, ◌⊎◌, inl, inr, refl, sym, ap, subst, ◌∙◌, arith, Contains, IsTrue}
+use Rattle.std.specs.List.{AllByRecursion}
+use Rattle.std.specs.declared.cmp.Ordering.{Ordering}
+use Rattle.std.specs.declared.cmp.Ordering.TheVariants.{Less, Equal, Greater}
+use Rattle.std.specs.Ordering.{nat_cmp, eq_by_cmp, is_lt, is_eq}
+use Rattle.std.specs.Cmp.{nat_cmp_total}
+use Rattle.std.specs.FinMap as map
+use Rattle.std.specs.FinMap.{get, find, from_entries, get-from_entries, is_sorted, nat_cmp-IsAntisymmetric}
+use Rattle.std.specs.FinMap.Entries.{below_all}
+use Rattle.listed.proofs.Steps.{AllByRecursion-take_more}
+use Rattle.byte_map.proofs.Written.{written_here, written_apart, same_or_apart, tied, apart}
+use Rattle.keycode.specs.declared.value.Value.{Value}
+use Rattle.keycode.specs.Code.{code}
+use Rattle.keycode.specs.Valid.{IsStorable}
+use Rattle.row_map.specs.declared.shape.ColumnType.{ColumnType}
+use Rattle.row_map.specs.Keys.{row_code}
+use Rattle.row_map.specs.Rows.{Bytes, RowKey, Cells, Rows}
+use Rattle.row_map.specs.Shape.{has_type}
+use Rattle.row_map.specs.Expect.{View}
+use Rattle.row_map.specs.Writes.{written}
+use Rattle.row_map.proofs.Orders.{row_cmp_total, row_cmp-IsAntisymmetric}
+use Rattle.schema_version.specs.Version.{Version}
+use Rattle.schema_version.specs.Shape.{column_types}
+use Rattle.schema_version.proofs.Lists.{here, later, here_or_later, some_same}
+use Rattle.row_write.specs.declared.op.RowOp.{RowOp}
+use Rattle.row_write.specs.Plain.{table_of, key_of, row_of}
+use Rattle.row_write.specs.Reads.{IsPublicColumn}
+use Rattle.row_write.specs.Prepare.{IsSpelledRow}
+use Rattle.row_write.specs.Served.{IsServed}
+use Rattle.row_write.specs.Viewing.{IsCell, IsThere, with_front, AreCells, seen_at, IsSeen, cells_there}
+use Rattle.row_write.proofs.Columns.{column_listed, listed_column, columns_rise}
+
+second : (a b : Bool) → T (a && b) → T b
+second true b h = h
+second false b h = absurd h
+
+first : (a b : Bool) → T (a && b) → T a
+first true b h = tt
+first false b h = absurd h
+
+less_apart : (r : Ordering) → T (is_lt r) → is_eq r ≡ false
+less_apart Less h = refl
+less_apart Equal h = absurd h
+less_apart Greater h = absurd h
+
+no_some : {A B : Type 0} (v : A) → None ≡ Some v → B
+no_some v e = absurd cc
+
+some_no : {A B : Type 0} (v : A) → Some v ≡ None → B
+some_no v e = absurd cc
+
+-- ---- the cells of columns, by number
+
+module _ (there : Bool) (seen : ℕ → Option (Option Bytes)) where
+  none_found : (columns : List (ℕ × ColumnType)) (cells : List (ℕ × Value)) (q : ℕ) → AreCells there seen columns cells → T (below_all nat_cmp q columns) → find nat_cmp q cells ≡ None
+  none_found [] cells q e below = ap (find nat_cmp q) e
+  none_found (c ∷ columns) cells q (cell, rest, i, e, more) below =
+      ap (find nat_cmp q) e ∙ past cell ∙ none_found columns rest q more (second _ _ below)
+    where
+      past : (o : Option Value) → find nat_cmp q (with_front c.0 o rest) ≡ find nat_cmp q rest
+      past None = refl
+      past (Some v) = ap (λ b. cond b (Some v) (find nat_cmp q rest)) (less_apart (nat_cmp q c.0) (first _ _ below))
+
+  cell_of : (columns : List (ℕ × ColumnType)) (cells : List (ℕ × Value)) (n : ℕ) (type : ColumnType) → T (is_sorted nat_cmp columns) → AreCells there seen columns cells → Contains columns (n, type) → IsCell type there (seen n) (find nat_cmp n cells)
+  cell_of [] cells n type sorted h (k, below, is) = absurd (omega (arith, below))
+  cell_of (c ∷ columns) cells n type sorted (cell, rest, i, e, more) at = elim (here_or_later c (n, type) columns at) [
+      | inl same ↦
+          subst (λ (d : ℕ × ColumnType). IsCell d.1 there (seen d.0) (find nat_cmp d.0 cells)) same
+          (subst (IsCell c.1 there (seen c.0)) (sym (ap (find nat_cmp c.0) e ∙ at_front cell)) i)
+      | inr later_on ↦ subst (λ l. IsCell type there (seen n) (find nat_cmp n l)) (sym e)
+          (subst (IsCell type there (seen n)) (sym (behind cell (above columns n type (first _ _ sorted) later_on))) (cell_of columns rest n type (second _ _ sorted) more later_on))
+    ]
+    where
+      at_front : (o : Option Value) → find nat_cmp c.0 (with_front c.0 o rest) ≡ o
+      at_front None = none_found columns rest c.0 more (first _ _ sorted)
+      at_front (Some v) = ap (λ b. cond b (Some v) (find nat_cmp c.0 rest)) (tied nat_cmp_total nat_cmp-IsAntisymmetric c.0)
+
+      above : (cs : List (ℕ × ColumnType)) (m : ℕ) (t : ColumnType) → T (below_all nat_cmp c.0 cs) → Contains cs (m, t) → m ≢ c.0
+      above [] m t below (k, lt, is) = absurd (omega (arith, lt))
+      above (d ∷ cs) m t below has = elim (here_or_later d (m, t) cs has) [
+          | inl same ↦ λ eq.
+              let less : T (is_lt (nat_cmp c.0 d.0)) = first _ _ below in
+              let one : d.0 ≡ c.0 = (λ i. (same i).0) ∙ eq in
+              let tie : is_eq (nat_cmp c.0 d.0) ≡ true = ap (λ x. eq_by_cmp nat_cmp c.0 x) one ∙ tied nat_cmp_total nat_cmp-IsAntisymmetric c.0 in
+              let wrong : false ≡ true = sym (less_apart (nat_cmp c.0 d.0) less) ∙ tie in
+              cc
+          | inr more_on ↦ above cs m t (second _ _ below) more_on
+        ]
+
+      behind : (o : Option Value) → n ≢ c.0 → find nat_cmp n (with_front c.0 o rest) ≡ find nat_cmp n rest
+      behind None ne = refl
+      behind (Some v) ne = ap (λ b. cond b (Some v) (find nat_cmp n rest)) (apart nat_cmp_total nat_cmp-IsAntisymmetric n c.0 ne)
+
+  cells_from : (columns : List (ℕ × ColumnType)) (cell : ℕ → Option Value) → ((n : ℕ) (type : ColumnType) → Contains columns (n, type) → IsCell type there (seen n) (cell n)) → (cells : List (ℕ × Value)) × AreCells there seen columns cells
+  cells_from [] cell h = ([], refl)
+  cells_from (c ∷ columns) cell h =
+      let r = cells_from columns cell (λ n type at. h n type (later c (n, type) columns at)) in
+      (with_front c.0 (cell c.0) r.0, (cell c.0, r.0, h c.0 c.1 (here c columns), refl, r.1))
+
+-- ---- the row of a key
+
+-- as IsSpelledRow says it of a row of the rows
+pub record IsSpelledAs (v : Version) (view : View) (key : RowKey) (row : Option Cells) : Type 0 where
+  pub absent : row ≡ None → get view (row_code key.0 key.1 0) ≡ Some None
+  pub present : (cells : Cells) → row ≡ Some cells → get view (row_code key.0 key.1 0) ≡ Some (Some [])
+  pub no_columns : (number : ℕ) (type : ColumnType) → IsPublicColumn v key.0 number type → row ≡ None → get view (row_code key.0 key.1 number) ≡ Some None
+  pub columns : (number : ℕ) (type : ColumnType) (cells : Cells) → IsPublicColumn v key.0 number type → row ≡ Some cells → get view (row_code key.0 key.1 number) ≡ Some (option_map code (get cells number))
+  pub typed : (number : ℕ) (type : ColumnType) (cells : Cells) (value : Value) → IsPublicColumn v key.0 number type → row ≡ Some cells → get cells number ≡ Some value → IsTrue (has_type type value) × IsStorable value
+
+to_row : (v : Version) (view : View) (rows : Rows) (op : RowOp) → IsSpelledAs v view (row_of op) (get rows (row_of op)) → IsSpelledRow v view rows op
+to_row v view rows op s = record { absent = s.absent; present = s.present; no_columns = s.no_columns; columns = s.columns; typed = s.typed }
+
+pub of_row : (v : Version) (view : View) (rows : Rows) (op : RowOp) → IsSpelledRow v view rows op → IsSpelledAs v view (row_of op) (get rows (row_of op))
+of_row v view rows op s = record { absent = s.absent; present = s.present; no_columns = s.no_columns; columns = s.columns; typed = s.typed }
+
+module _ (v : Version) (served : IsServed v) (view : View) where
+  seen_spelled : (op : RowOp) (there : Bool) (cells : List (ℕ × Value)) → IsSeen view op (column_types v (table_of op)) there cells → IsSpelledAs v view (row_of op) (cells_there there cells)
+  seen_spelled op true cells (exists, all) =
+      let cell = λ (n : ℕ) (type : ColumnType) (p : IsPublicColumn v (table_of op) n type). cell_of true (seen_at view op) (column_types v (table_of op)) cells n type (columns_rise v served (table_of op)) all (column_listed v served (table_of op) n type p) in
+      let read : (n : ℕ) (r : Cells) → cells_there true cells ≡ Some r → find nat_cmp n cells ≡ get r n = λ n r e. sym (get-from_entries nat_cmp_total cells n) ∙ ap (λ (m : Cells). get m n) (some_same e) in
+      record {
+        absent = λ e. some_no (from_entries {R = nat_cmp} cells) e;
+        present = λ r e. exists;
+        no_columns = λ n type p e. some_no (from_entries {R = nat_cmp} cells) e;
+        columns = λ n type r p e. (cell n type p).seen_is ∙ ap (λ o. Some (option_map code o)) (read n r e);
+        typed = λ n type r value p e at. (cell n type p).typed value (read n r e ∙ at);
+      }
+  seen_spelled op false cells (exists, all) =
+      let cell = λ (n : ℕ) (type : ColumnType) (p : IsPublicColumn v (table_of op) n type). cell_of false (seen_at view op) (column_types v (table_of op)) cells n type (columns_rise v served (table_of op)) all (column_listed v served (table_of op) n type p) in
+      record {
+        absent = λ e. exists;
+        present = λ r e. no_some r e;
+        no_columns = λ n type p e. (cell n type p).seen_is ∙ ap (λ o. Some (option_map code o)) ((cell n type p).absent refl);
+        columns = λ n type r p e. no_some r e;
+        typed = λ n type r value p e at. no_some r e;
+      }
+
+  spelled_seen : (op : RowOp) (row : Option Cells) → IsSpelledAs v view (row_of op) row → (there : Bool) × (cells : List (ℕ × Value)) × IsSeen view op (column_types v (table_of op)) there cells
+  spelled_seen op None s =
+      let r = cells_from false (seen_at view op) (column_types v (table_of op)) (λ n. None) (λ n type at. record {
+        seen_is = s.no_columns n type (listed_column v served (table_of op) n type at) refl;
+        absent = λ _. refl;
+        typed = λ value e. no_some value e;
+      }) in
+      (false, r.0, (s.absent refl, r.1))
+  spelled_seen op (Some cells) s =
+      let r = cells_from true (seen_at view op) (column_types v (table_of op)) (λ n. get cells n) (λ n type at. record {
+        seen_is = s.columns n type cells (listed_column v served (table_of op) n type at) refl;
+        absent = λ (e : true ≡ false). absurd cc;
+        typed = λ value e. s.typed n type cells value (listed_column v served (table_of op) n type at) refl e;
+      }) in
+      (true, r.0, (s.present cells refl, r.1))
+
+  pub spelled_is_seen : (op : RowOp) (rows : Rows) → IsSpelledRow v view rows op → (there : Bool) × (cells : List (ℕ × Value)) × IsSeen view op (column_types v (table_of op)) there cells
+  spelled_is_seen op rows s = spelled_seen op (get rows (row_of op)) (of_row v view rows op s)
+
+  -- ---- one more row that was read
+
+  still : (ops : List RowOp) (op : RowOp) (rows : Rows) (row : Option Cells) → IsSpelledAs v view (row_of op) row → AllByRecursion (IsSpelledRow v view rows) ops → AllByRecursion (IsSpelledRow v view (written rows (row_of op) row)) ops
+  still [] op rows row s all = tt
+  still (p ∷ ops) op rows row s all =
+      (to_row v view (written rows (row_of op) row) p (elim (same_or_apart row_cmp_total row_cmp-IsAntisymmetric (row_of p) (row_of op)) [
+        | inl same ↦
+            let at : get (written rows (row_of op) row) (row_of p) ≡ row = ap (get (written rows (row_of op) row)) same ∙ written_here row_cmp_total row_cmp-IsAntisymmetric rows (row_of op) row in
+            subst (IsSpelledAs v view (row_of p)) (sym at) (subst (λ (k : RowKey). IsSpelledAs v view k row) (sym same) s)
+        | inr other ↦ subst (IsSpelledAs v view (row_of p)) (sym (written_apart row_cmp_total row_cmp-IsAntisymmetric rows (row_of op) row (row_of p) other)) (of_row v view rows p all.0)
+      ]), still ops op rows row s all.1)
+
+  pub spelled_more : (ops : List RowOp) (i : ℕ) (op : RowOp) (rows next : Rows) (there : Bool) (cells : List (ℕ × Value)) → i < length ops → op ≡ get_or ops i op → IsSeen view op (column_types v (table_of op)) there cells
+      → next ≡ written rows (row_of op) (cells_there there cells) → AllByRecursion (IsSpelledRow v view rows) (take i ops) → AllByRecursion (IsSpelledRow v view next) (take (i + 1) ops)
+  spelled_more ops i op rows next there cells lt is seen made all =
+      let s = seen_spelled op there cells seen in
+      let key = row_of op in
+      let here_is : IsSpelledAs v view key (get next key) = subst (IsSpelledAs v view key) (sym (ap (λ (m : Rows). get m key) made ∙ written_here row_cmp_total row_cmp-IsAntisymmetric rows key (cells_there there cells))) s in
+      AllByRecursion-take_more (IsSpelledRow v view next) ops i op lt
+      (subst (λ (m : Rows). AllByRecursion (IsSpelledRow v view m) (take i ops)) (sym made) (still (take i ops) op rows (cells_there there cells) s all))
+      (subst (IsSpelledRow v view next) is (to_row v view next op here_is))
+
+pub all_at : {X : Type 0} (P : X → Type 0) (xs : List X) (i : ℕ) (d : X) → i < length xs → AllByRecursion P xs → P (get_or xs i d)
+all_at P [] i d lt all = absurd (omega arith)
+all_at P (x ∷ xs) zero d lt all = all.0
+all_at P (x ∷ xs) (suc i) d lt all = all_at P xs i d (omega arith) all.1

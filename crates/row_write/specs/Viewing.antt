@@ -1,0 +1,75 @@
+-- What a view says of one row.
+use Rattle.std.specs.Prelude.{◌≡◌, ℕ, Bool, true, false, List, [], ◌∷◌, Option, Some, None, option_map, Result, Ok, Err, IsTrue, ◌↔◌, ◌⊎◌, if◌then◌else◌}
+use Rattle.std.specs.FinMap as map
+use Rattle.keycode.specs.declared.fault.KeyFault.{KeyFault}
+use Rattle.keycode.specs.declared.value.Value.{Value}
+use Rattle.keycode.specs.Code.{code}
+use Rattle.keycode.specs.Reading.{value_at}
+use Rattle.keycode.specs.Valid.{IsStorable}
+use Rattle.row_map.specs.declared.shape.ColumnType.{ColumnType}
+use Rattle.row_map.specs.Keys.{row_code}
+use Rattle.row_map.specs.Rows.{Bytes, Cells}
+use Rattle.row_map.specs.Shape.{has_type}
+use Rattle.row_map.specs.Expect.{View}
+use Rattle.row_write.specs.declared.op.RowOp.{RowOp}
+use Rattle.row_write.specs.declared.fault.PrepareFault.{PrepareFault}
+use Rattle.row_write.specs.declared.fault.PrepareFault.TheVariants.{ViewMismatch, Memory}
+use Rattle.row_write.specs.Plain.{table_of, key_of}
+use Rattle.row_write.specs.Entering.{KeySet}
+
+-- a mismatch, and then the fact, or want of memory
+abbrev pub IsMissed : Type 0 → PrepareFault → Type 0
+IsMissed Fact fault = (fault ≡ Memory) ⊎ ((fault ≡ ViewMismatch) × Fact)
+
+-- the one value that the bytes spell
+abbrev pub whole : ColumnType → Result (Value × List ℕ) KeyFault → Result Value PrepareFault
+whole type (Ok (value, [])) = if has_type type value then Ok value else Err ViewMismatch
+whole type (Ok (value, b ∷ bytes)) = Err ViewMismatch
+whole type (Err fault) = Err ViewMismatch
+
+abbrev pub value_in : ColumnType → Bytes → Result Value PrepareFault
+value_in type bytes = whole type (value_at bytes)
+
+-- the bytes are the code of this value, which is of the type
+pub record IsSpelling (type : ColumnType) (bytes : Bytes) (value : Value) : Type 0 where
+  pub spelled : bytes ≡ code value
+  pub typed : IsTrue (has_type type value)
+  pub storable : IsStorable value
+
+-- the column's cell of a row that is there, or of one that isn't, from what was read at the column's key
+pub record IsCell (type : ColumnType) (there : Bool) (seen : Option (Option Bytes)) (cell : Option Value) : Type 0 where
+  pub seen_is : seen ≡ Some (option_map code cell)
+  pub absent : there ≡ false → cell ≡ None
+  pub typed : (value : Value) → cell ≡ Some value → IsTrue (has_type type value) × IsStorable value
+
+-- whether the row is there, from what was read at the key of its `exists` pair
+abbrev pub IsThere : Option (Option Bytes) → Bool → Type 0
+IsThere seen true = seen ≡ Some (Some [])
+IsThere seen false = seen ≡ Some None
+
+abbrev pub with_front : ℕ → Option Value → List (ℕ × Value) → List (ℕ × Value)
+with_front number None cells = cells
+with_front number (Some value) cells = (number, value) ∷ cells
+
+-- the cells of the columns, from what was read at their keys
+abbrev pub AreCells : Bool → (ℕ → Option (Option Bytes)) → List (ℕ × ColumnType) → List (ℕ × Value) → Type 0
+AreCells there seen [] cells = cells ≡ []
+AreCells there seen (column ∷ columns) cells =
+    (cell : Option Value) × (rest : List (ℕ × Value)) × IsCell column.1 there (seen column.0) cell × (cells ≡ with_front column.0 cell rest) × AreCells there seen columns rest
+
+-- what was read at the key of a pair of the operation's row
+abbrev pub seen_at : View → RowOp → ℕ → Option (Option Bytes)
+seen_at view op number = map.get view (row_code (table_of op) (key_of op) number)
+
+-- whether the operation's row is there, and its cells of these columns
+abbrev pub IsSeen : View → RowOp → List (ℕ × ColumnType) → Bool → List (ℕ × Value) → Type 0
+IsSeen view op columns there cells = IsThere (seen_at view op 0) there × AreCells there (seen_at view op) columns cells
+
+-- the cells of a row that is there
+abbrev pub cells_there : Bool → List (ℕ × Value) → Option Cells
+cells_there true cells = Some (map.from_entries cells)
+cells_there false cells = None
+
+-- what is read and what was read have the same keys
+abbrev pub HaveSameKeys : KeySet → View → Type 0
+HaveSameKeys reads view = (key : Bytes) → (map.get reads key ≡ Some tt) ↔ ((value : Option Bytes) × (map.get view key ≡ Some value))

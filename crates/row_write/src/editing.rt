@@ -1,0 +1,172 @@
+//! The row that an operation leaves.
+ghost use Rattle.std.specs.Prelude.{◌≡◌, ◌++◌, [], IfOk, OnOk, option_map};
+ghost use Rattle.std.specs.FinMap as map;
+ghost use Rattle.element_state.specs.Operations.{cells_of};
+ghost use Rattle.row_write.specs.Plain.{cell_of, with_cells as with_cells_of};
+ghost use Rattle.row_write.specs.Viewing.{with_front};
+ghost use Rattle.row_write.specs.Running.{cells_in, cells_below, cells_above, IsNext};
+
+use crate::fault::RowFault;
+use crate::op::RowOp;
+use keycode::{Value, Values};
+use listed::Listed;
+use row_map::Row;
+use std::alloc::{AllocError, Global};
+
+fn copy_value(value: &Value) -> Result<Value, AllocError>
+    ensures { IfOk result (λ copy. copy ≡ value.now) }
+{
+    value.clone()
+}
+
+/// A copy of a key.
+pub(crate) fn copy_key(key: &Values) -> Result<Values, AllocError>
+    ensures { IfOk result (λ copy. copy ≡ key.now) }
+{
+    key.clone()
+}
+
+fn copy_cells(cells: &Listed<(u32, Value)>) -> Result<Listed<(u32, Value)>, AllocError>
+    ensures { IfOk result (λ copy. copy ≡ cells.now) }
+{
+    cells.clone()
+}
+
+fn push_below(
+    out: &mut Vec<(u32, Value)>,
+    cells: &[(u32, Value)],
+    number: u32,
+) -> Result<(), AllocError>
+    ensures { OnOk result (out.new.items ≡ out.old.items ++ cells_below number cells.now) }
+{
+    for (other, value) in cells {
+        if *other < number {
+            let copy = copy_value(value)?;
+            out.push((*other, copy))?;
+        }
+    }
+    Ok(())
+}
+
+fn push_above(
+    out: &mut Vec<(u32, Value)>,
+    cells: &[(u32, Value)],
+    number: u32,
+) -> Result<(), AllocError>
+    ensures { OnOk result (out.new.items ≡ out.old.items ++ cells_above number cells.now) }
+{
+    for (other, value) in cells {
+        if number < *other {
+            let copy = copy_value(value)?;
+            out.push((*other, copy))?;
+        }
+    }
+    Ok(())
+}
+
+/// Adds a cell. Null is none.
+fn push_value(out: &mut Vec<(u32, Value)>, number: u32, value: &Value) -> Result<(), AllocError>
+    ensures { OnOk result (out.new.items ≡ out.old.items ++ with_front number (cell_of value.now) []) }
+{
+    match value {
+        Value::Null => Ok(()),
+        Value::Int(_) | Value::Text(_) | Value::Bool(_) => {
+            let copy = copy_value(value)?;
+            out.push((number, copy))?;
+            Ok(())
+        }
+    }
+}
+
+/// The cells with another value for one column.
+fn with_cell(
+    alloc: Global,
+    cells: &[(u32, Value)],
+    number: u32,
+    value: &Value,
+) -> Result<Listed<(u32, Value)>, AllocError>
+    ensures { IfOk result (λ next. next ≡ (cells_below number cells.now ++ with_front number (cell_of value.now) []) ++ cells_above number cells.now) }
+{
+    let mut next = Vec::new(alloc);
+    push_below(&mut next, cells, number)?;
+    push_value(&mut next, number, value)?;
+    push_above(&mut next, cells, number)?;
+    Ok(Listed::new(next))
+}
+
+/// The cells with the named values.
+fn with_cells(
+    alloc: Global,
+    cells: Listed<(u32, Value)>,
+    named: &[(u32, Value)],
+) -> Result<Listed<(u32, Value)>, AllocError>
+    ensures { IfOk result (λ next. cells_in next ≡ with_cells_of (cells_in cells) named.now) }
+{
+    let mut next = cells;
+    for (number, value) in named {
+        next = with_cell(alloc, next.as_slice(), *number, value)?;
+    }
+    Ok(next)
+}
+
+fn new_row(
+    alloc: Global,
+    key: &Values,
+    cells: Listed<(u32, Value)>,
+    named: &[(u32, Value)],
+) -> Result<Row, AllocError>
+    ensures key { IfOk result (λ row. row.key ≡ key.now) }
+    ensures cells { IfOk result (λ row. cells_of row ≡ with_cells_of (cells_in cells) named.now) }
+{
+    let cells = with_cells(alloc, cells, named)?;
+    let key = copy_key(key)?;
+    Ok(Row { key, cells })
+}
+
+fn inserted_row(
+    alloc: Global,
+    key: &Values,
+    named: &[(u32, Value)],
+) -> Result<Row, AllocError>
+    ensures key { IfOk result (λ row. row.key ≡ key.now) }
+    ensures cells { IfOk result (λ row. cells_of row ≡ with_cells_of map.empty named.now) }
+{
+    new_row(alloc, key, Listed::new(Vec::new(alloc)), named)
+}
+
+fn updated_row(
+    alloc: Global,
+    old: &Row,
+    key: &Values,
+    named: &[(u32, Value)],
+) -> Result<Row, AllocError>
+    ensures key { IfOk result (λ row. row.key ≡ key.now) }
+    ensures cells { IfOk result (λ row. cells_of row ≡ with_cells_of (cells_of old.now) named.now) }
+{
+    let cells = copy_cells(&old.cells)?;
+    new_row(alloc, key, cells, named)
+}
+
+/// The row that an operation leaves, if it leaves one, or why it is refused.
+pub(crate) fn next_row(
+    alloc: Global,
+    old: Option<&Row>,
+    op: &RowOp,
+) -> Result<Result<Option<Row>, RowFault>, AllocError>
+    ensures { IfOk result (λ next. IsNext (option_map (λ r. cells_of r.now) old.entry) op.now next) }
+{
+    match op {
+        RowOp::Insert { key, cells, .. } => match old {
+            Some(_) => Ok(Err(RowFault::Duplicate)),
+            None => Ok(Ok(Some(inserted_row(alloc, key, cells.as_slice())?))),
+        },
+        RowOp::Update { key, cells, .. } => match old {
+            Some(old) => Ok(Ok(Some(updated_row(alloc, old, key, cells.as_slice())?))),
+            None => Ok(Err(RowFault::NoRow)),
+        },
+        RowOp::Delete { .. } => match old {
+            Some(_) => Ok(Ok(None)),
+            None => Ok(Err(RowFault::NoRow)),
+        },
+    }
+}

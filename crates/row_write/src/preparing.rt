@@ -1,0 +1,116 @@
+//! Preparing a transaction from what was read.
+ghost use Rattle.std.specs.Prelude.{◌≡◌, ◌≤◌, length, IfOk, IfErr, OnOk};
+ghost use Rattle.std.specs.List.{AllByRecursion};
+ghost use Rattle.listed.specs.Refusal.{IsFirst, IsRefusal, IsClear};
+ghost use Rattle.row_map.specs.Rows.{Rows};
+ghost use Rattle.row_map.specs.Expect.{View};
+ghost use Rattle.row_write.specs.Prepare.{rank, Condition, max_ops, Spells, IsPrepared};
+ghost use Rattle.row_write.specs.Made.{IsSound, expects};
+ghost use Rattle.row_write.specs.Viewing.{IsMissed};
+ghost use Rattle.row_write.specs.declared.fault.PrepareFault.TheVariants.{Memory as OutOfMemory};
+
+use crate::checking::first_fault;
+use crate::fault::PrepareFault;
+use crate::op::{RowOp, RowOps, RowOutcome};
+use crate::prepared::Prepared;
+use crate::reading::spelled_rows;
+use crate::running::run;
+use crate::served::served;
+use lease::Lease;
+use listed::Counted;
+use row_map::{Batch, Expect, ReadView};
+use schema_version::Schema;
+use std::alloc::Global;
+
+/// The most operations of a transaction.
+const MAX_OPS: usize = 64;
+
+/// Whether the operations can be prepared, whatever was read.
+fn check_ops(schema: &Schema, ops: &[RowOp]) -> Result<(), PrepareFault>
+    ensures sound { OnOk result (AllByRecursion (IsSound schema.now) ops.now × (length ops.now ≤ max_ops)) }
+    ensures refused { IfErr result (λ e. (view : View) → IsFirst rank (Condition schema.now ops.now view) e) }
+{
+    served(schema);
+    if let Some(fault) = first_fault(schema, ops) {
+        return Err(fault);
+    }
+    if ops.len() > MAX_OPS {
+        return Err(PrepareFault::TooManyOps);
+    }
+    Ok(())
+}
+
+/// What the operations come to, and what they write, on any rows that the view spells.
+fn work_out(
+    alloc: Global,
+    schema: &Schema,
+    view: &ReadView,
+    ops: &[RowOp],
+) -> Result<(RowOutcome, Batch), PrepareFault>
+    requires { AllByRecursion (IsSound schema.now) ops.now }
+    ensures some_rows { OnOk result ((rows : Rows) × Spells schema.now ops.now view.now rows) }
+    ensures prepared { IfOk result (λ done. IsPrepared schema.now ops.now view.now done.0 done.1) }
+    ensures missed { IfErr result (IsMissed ((rows : Rows) → ¬ (Spells schema.now ops.now view.now rows))) }
+{
+    served(schema);
+    let rows = spelled_rows(alloc, schema, view, ops)?;
+    Ok(run(alloc, schema, rows, ops)?)
+}
+
+/// The outcome and the batch of a transaction, or its first fault.
+fn prepare_ops(
+    alloc: Global,
+    schema: &Schema,
+    view: &ReadView,
+    ops: &[RowOp],
+) -> Result<(RowOutcome, Batch), PrepareFault>
+    ensures sound { OnOk result (AllByRecursion (IsSound schema.now) ops.now × (length ops.now ≤ max_ops)) }
+    ensures some_rows { OnOk result ((rows : Rows) × Spells schema.now ops.now view.now rows) }
+    ensures prepared { IfOk result (λ done. IsPrepared schema.now ops.now view.now done.0 done.1) }
+    ensures clear { OnOk result (IsClear (Condition schema.now ops.now view.now)) }
+    ensures refused { IfErr result (λ e. IsRefusal rank (Condition schema.now ops.now view.now) OutOfMemory e) }
+{
+    served(schema);
+    check_ops(schema, ops)?;
+    work_out(alloc, schema, view, ops)
+}
+
+/// Prepares a transaction from what was read: what its operations come to on the rows that the view spells, and what they
+/// then write by the states of the schema. The operations act in turn, each seeing the ones before; with one that rows
+/// refuse, nothing is written. A transaction that is prepared expects to find again just what was read.
+///
+/// - `schema`: the version under which it is prepared.
+/// - `lease`: a lease of that version, kept for the commit and not looked at.
+/// - `ops`: at most 64 operations.
+/// - `view`: the keys that `reads_of` gives for them, each with its value or none.
+///
+/// The first operation with NoTable, NotPublic or WrongType decides by its lowest; then TooManyOps, then ViewMismatch. Want
+/// of memory may come in place of ViewMismatch alone. A refusal gives the operations back.
+pub fn prepare(
+    alloc: Global,
+    schema: Counted<Schema>,
+    lease: Lease,
+    ops: RowOps,
+    view: ReadView,
+) -> Result<Prepared, (PrepareFault, RowOps)>
+    ensures holds { IfOk result (λ p. (p.schema ≡ schema) × (p.lease ≡ lease) × (p.ops ≡ ops) × (p.expect ≡ expects view)) }
+    ensures clear { OnOk result (IsClear (Condition schema ops view)) }
+    ensures prepared { IfOk result (λ p. IsPrepared schema ops view p.told p.batch) }
+    ensures refused { IfErr result (λ e. IsRefusal rank (Condition schema ops view) OutOfMemory e.0) }
+    ensures returned { IfErr result (λ e. e.1 ≡ ops) }
+{
+    match prepare_ops(alloc, schema.get(), &view, ops.as_slice()) {
+        Err(fault) => Err((fault, ops)),
+        Ok((told, batch)) => Ok(Prepared {
+            schema,
+            lease,
+            ops,
+            expect: Expect {
+                points: view,
+                stretch: None,
+            },
+            batch,
+            told,
+        }),
+    }
+}
