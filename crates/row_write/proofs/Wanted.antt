@@ -23,7 +23,8 @@ use Rattle.schema_version.specs.Version.{Version, element_at, live, listed}
 use Rattle.schema_version.specs.Moves.{IsColumnList}
 use Rattle.schema_version.proofs.Lists.{any_says}
 use Rattle.element_state.specs.Elements.{Change, Alike, Meaning}
-use Rattle.element_state.specs.Exists.{exists_by, exists_meaning, exists_facts}
+use Rattle.element_state.specs.Exists.{exists_by, exists_meaning}
+use Rattle.element_state.specs.ExistsLaws.{exists_facts}
 use Rattle.element_state.specs.Index.{lists, IsLawfulIndex}
 use Rattle.element_state.specs.Column.{column_reads, IsLawfulColumn}
 use Rattle.element_state.specs.Kinds.{kind_meaning, IsLawfulKind, kind_laws}
