@@ -48,8 +48,10 @@ module _ (version : Version) (pairs : Pairs) where
   -- the counts of a tally are those of its parts
   pub tally_is : (es : List Pair) → (((tally version pairs es).rows ≡ count_by is_exists_pair es) × ((tally version pairs es).missing ≡ sum_by (missing_beside version pairs) es)) × ((tally version pairs es).extra ≡ count_by (λ pair. not (has_reason version pairs pair)) es)
   tally_is es = (
-    (is_sum_by (λ (l : List Pair). (tally version pairs l).rows) (λ pair. cond (is_exists_pair pair) 1 0) refl (λ x xs. refl) es,
-      is_sum_by (λ (l : List Pair). (tally version pairs l).missing) (missing_beside version pairs) refl (λ x xs. refl) es),
+    (
+      is_sum_by (λ (l : List Pair). (tally version pairs l).rows) (λ pair. cond (is_exists_pair pair) 1 0) refl (λ x xs. refl) es,
+      is_sum_by (λ (l : List Pair). (tally version pairs l).missing) (missing_beside version pairs) refl (λ x xs. refl) es,
+    ),
     is_sum_by (λ (l : List Pair). (tally version pairs l).extra) (λ pair. cond (not (has_reason version pairs pair)) 1 0) refl (λ x xs. refl) es,
   )
 

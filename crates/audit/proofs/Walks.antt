@@ -120,8 +120,6 @@ first_on from (e ∷ es) p sorted here above before =
           ∙ ap (λ (l : List Pair). p ∷ l) (sym (ap (λ b. cond b (e ∷ from_on (after p.0) es) (from_on (after p.0) es)) (passed e.0 p.0 Less less)))
     ] refl
   where
-
-
     skipped : (b : Bool) (e : Pair) (es : List Pair) → (b ≡ true → ⊥) → cond b (e ∷ es) es ≡ es
     skipped true e es n = absurd (n refl)
     skipped false e es n = refl

@@ -50,11 +50,7 @@ fn judged<V: PairView>(
 }
 
 // What all pairs count for.
-fn tallied<V: PairView>(
-    alloc: Global,
-    schema: &Schema,
-    view: &V,
-) -> Result<CheckReport, AllocError>
+fn tallied<V: PairView>(alloc: Global, schema: &Schema, view: &V) -> Result<CheckReport, AllocError>
     ensures { IfOk result (λ report. report ≡ tally schema.now (V.pairs view.now) (map.entries (V.pairs view.now))) }
 {
     let mut report = CheckReport {

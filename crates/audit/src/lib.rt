@@ -11,5 +11,5 @@ mod wanted;
 pub use counting::audit;
 pub use report::CheckReport;
 
-
-
+#[cfg(test)]
+mod tests;

@@ -6,10 +6,7 @@ use row_map::PairView;
 use std::alloc::{AllocError, Global};
 
 // The first pair whose key is not below this one.
-pub(crate) fn next_pair<'a, V: PairView>(
-    view: &'a V,
-    from: &[u8],
-) -> Option<(&'a [u8], &'a [u8])>
+pub(crate) fn next_pair<'a, V: PairView>(view: &'a V, from: &[u8]) -> Option<(&'a [u8], &'a [u8])>
     ensures found { IfSome result (λ p. rest (V.pairs view.now) from.now ≡ (p.0.now, p.1.now) ∷ rest (V.pairs view.now) (after p.0.now)) }
     ensures none { IfNone result (rest (V.pairs view.now) from.now ≡ []) }
 {
