@@ -1,0 +1,143 @@
+//! The rows that a store's pairs spell.
+ghost use Rattle.std.specs.Prelude.{◌≡◌, IfOk, option_map, filter_map};
+ghost use Rattle.schema_version.specs.Version.{is_public as is_public_of};
+ghost use Rattle.audit.specs.Spelled.{key_read, spelled as spelled_of, public_type as public_type_of, stored_cell as stored_cell_of, row_at as row_at_of, is_row as is_row_of};
+
+use keycode::{KeyFault, Value, Values, read_value};
+use listed::Listed;
+use row_map::{ColumnType, KeyOf, PairView, Row, column_key, exists_key, fits, read_key};
+use schema_version::{ElementDef, ElementState, Kind, Schema};
+use std::alloc::{AllocError, Global};
+
+// What a key is the key of, if it is one.
+#[tactic(auto)]
+pub(crate) fn key_of(alloc: Global, key: &[u8]) -> Result<Option<KeyOf>, AllocError>
+    ensures { IfOk result (λ found. found ≡ key_read key.now) }
+{
+    match read_key(alloc, key) {
+        Ok(found) => Ok(Some(found)),
+        Err(KeyFault::Memory) => Err(AllocError),
+        Err(_) => Ok(None),
+    }
+}
+
+// Whether the store has the `exists` pair of a row.
+pub(crate) fn is_row<V: PairView>(
+    alloc: Global,
+    view: &V,
+    table: u32,
+    key: &[Value],
+) -> Result<bool, AllocError>
+    ensures { IfOk result (λ there. there ≡ is_row_of (V.pairs view.now) table key.now) }
+{
+    let at = exists_key(alloc, table, key)?;
+    match key_of(alloc, at.as_slice())? {
+        Some(KeyOf::Exists { .. }) => Ok(view.get(at.as_slice()).is_some()),
+        _ => Ok(false),
+    }
+}
+
+// The value of a pair, if it is just one value of the type.
+fn spelled(
+    alloc: Global,
+    kind: ColumnType,
+    bytes: Option<&[u8]>,
+) -> Result<Option<Value>, AllocError>
+    ensures { IfOk result (λ value. value ≡ spelled_of kind (option_map (λ b. b.now) bytes.entry)) }
+{
+    let Some(bytes) = bytes else {
+        return Ok(None);
+    };
+    match read_value(alloc, bytes) {
+        Ok((value, rest)) => {
+            if rest.is_empty() && fits(kind, &value) {
+                Ok(Some(value))
+            } else {
+                Ok(None)
+            }
+        }
+        Err(KeyFault::Memory) => Err(AllocError),
+        Err(_) => Ok(None),
+    }
+}
+
+pub(crate) fn is_public(state: ElementState) -> bool
+    ensures { result ≡ is_public_of state }
+{
+    matches!(state, ElementState::Public)
+}
+
+// The type of a public column of the table.
+fn public_type(element: &ElementDef, table: u32) -> Option<ColumnType>
+    ensures { result ≡ public_type_of table element.now }
+{
+    if element.table != table || !is_public(element.state) {
+        return None;
+    }
+    match element.kind {
+        Kind::Index(_) => None,
+        Kind::Optional(kind) => Some(kind),
+    }
+}
+
+// The cell that a row has for an element.
+fn stored_cell<V: PairView>(
+    alloc: Global,
+    view: &V,
+    table: u32,
+    key: &[Value],
+    element: &ElementDef,
+) -> Result<Option<(u32, Value)>, AllocError>
+    ensures { IfOk result (λ cell. cell ≡ stored_cell_of (V.pairs view.now) table key.now element.now) }
+{
+    let Some(kind) = public_type(element, table) else {
+        return Ok(None);
+    };
+    let at = column_key(alloc, table, key, element.number)?;
+    match spelled(alloc, kind, view.get(at.as_slice()))? {
+        Some(value) => Ok(Some((element.number, value))),
+        None => Ok(None),
+    }
+}
+
+fn stored_cells<V: PairView>(
+    alloc: Global,
+    elements: &[ElementDef],
+    view: &V,
+    table: u32,
+    key: &[Value],
+) -> Result<Vec<(u32, Value)>, AllocError>
+    ensures { IfOk result (λ cells. cells.items ≡ filter_map (stored_cell_of (V.pairs view.now) table key.now) elements.now) }
+{
+    let mut cells = Vec::new(alloc);
+    for element in elements {
+        if let Some(cell) = stored_cell(alloc, view, table, key, element)? {
+            cells.push(cell)?;
+        }
+    }
+    Ok(cells)
+}
+
+// A copy of a key's values.
+fn copy_of(key: &Values) -> Result<Values, AllocError>
+    ensures { IfOk result (λ copy. copy ≡ key.now) }
+{
+    key.clone()
+}
+
+// The row of a primary key, as the store's pairs spell it.
+pub(crate) fn row_at<V: PairView>(
+    alloc: Global,
+    schema: &Schema,
+    view: &V,
+    table: u32,
+    key: &Values,
+) -> Result<Row, AllocError>
+    ensures { IfOk result (λ row. row ≡ row_at_of schema.now (V.pairs view.now) table key.now) }
+{
+    let cells = stored_cells(alloc, schema.elements(), view, table, key.as_slice())?;
+    Ok(Row {
+        key: copy_of(key)?,
+        cells: Listed::new(cells),
+    })
+}

@@ -1,0 +1,71 @@
+//! The pairs that indexes give rows.
+ghost use Rattle.std.specs.Prelude.{◌≡◌, IfOk, option_map, count_by};
+ghost use Rattle.audit.specs.Audit.{given as given_of, is_absent as is_absent_of, lacks as lacks_of};
+ghost use Rattle.schema_version.specs.Version.{live};
+
+use crate::spelled::is_public;
+use byte_map::Bytes;
+use element_state::{AnyElement, Element};
+use row_map::{PairView, Row};
+use schema_version::ElementDef;
+use std::alloc::{AllocError, Global};
+
+// The pair that an element gives a row of its table, where it is an index.
+pub(crate) fn given(
+    alloc: Global,
+    element: &ElementDef,
+    row: &Row,
+) -> Result<Option<(Bytes, Bytes)>, AllocError>
+    ensures { IfOk result (λ pair. pair ≡ given_of element.now row.now) }
+{
+    AnyElement::of(element)?.fill_of(alloc, row)
+}
+
+// Whether there is a pair to be, and the store hasn't got it.
+fn is_absent<V: PairView>(view: &V, pair: Option<&(Bytes, Bytes)>) -> bool
+    ensures { result ≡ is_absent_of (V.pairs view.now) (option_map (λ p. p.now) pair.entry) }
+{
+    match pair {
+        None => false,
+        Some((key, value)) => match view.get(key.as_slice()) {
+            None => true,
+            Some(found) => found != value.as_slice(),
+        },
+    }
+}
+
+// Whether the element is a public index of the table, and the store lacks the pair that it gives the row.
+fn lacks<V: PairView>(
+    alloc: Global,
+    view: &V,
+    table: u32,
+    row: &Row,
+    element: &ElementDef,
+) -> Result<bool, AllocError>
+    ensures { IfOk result (λ b. b ≡ lacks_of (V.pairs view.now) table row.now element.now) }
+{
+    if element.table != table || !is_public(element.state) {
+        return Ok(false);
+    }
+    let pair = given(alloc, element, row)?;
+    Ok(is_absent(view, pair.as_ref()))
+}
+
+// How many pairs of the row the public indexes lack.
+pub(crate) fn lacking<V: PairView>(
+    alloc: Global,
+    elements: &[ElementDef],
+    view: &V,
+    table: u32,
+    row: &Row,
+) -> Result<u64, AllocError>
+    ensures { IfOk result (λ n. n ≡ count_by (lacks_of (V.pairs view.now) table row.now) elements.now) }
+{
+    let mut count = 0u64;
+    for element in elements {
+        if lacks(alloc, view, table, row, element)? {
+            count += 1;
+        }
+    }
+    Ok(count)
+}
