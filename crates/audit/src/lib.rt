@@ -10,6 +10,7 @@ mod wanted;
 
 pub use counting::audit;
 pub use report::CheckReport;
+pub use walk::{key_after, next_pair};
 
 #[cfg(test)]
 mod tests;

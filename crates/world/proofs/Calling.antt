@@ -2,6 +2,8 @@
 use Rattle.std.proofs.Common.{◌≡◌, ℕ, ◌+◌, ◌<◌, ◌≤◌, max, List, [], ◌∷◌, ◌++◌, length, Option, Some, None, Result, Ok, Err, refl, sym, ap, subst, ◌∙◌, ◌⊎◌, inl, inr, Vec, Global, arith, Bool, cond, ne_eqb}
 use Rattle.std.specs.Prelude.{slice_get}
 use Rattle.std.specs.FinMap as map
+use Rattle.audit.specs.declared.report.CheckReport.{CheckReport}
+use Rattle.audit.specs.Audit.{IsAudit}
 use Rattle.listed.specs.Refusal.{IsClear, IsRefusal}
 use Rattle.lease.specs.declared.lease.Lease.{Lease}
 use Rattle.lease.specs.declared.fault.LeaseFault.{LeaseFault}
@@ -28,7 +30,7 @@ use Rattle.world.specs.declared.fault.CommitFault.{CommitFault}
 use Rattle.world.specs.declared.fault.CommitFault.TheVariants as commit_fault
 use Rattle.world.specs.declared.fault.GrantFault.TheVariants as grant_fault
 use Rattle.world.specs.declared.world.World.TheInside.{Inside}
-use Rattle.world.specs.Calls.{counted, newest_of, version_of, GrantCondition, LeaseAt, LeaseStep, CommitCondition, commit_rank, CommitAt}
+use Rattle.world.specs.Calls.{counted, newest_of, IsCheck, version_of, GrantCondition, LeaseAt, LeaseStep, CommitCondition, commit_rank, CommitAt}
 use Rattle.world.specs.Inside.{state_of, IsHeld}
 use Rattle.world.specs.Kept.{IsKept}
 use Rattle.world.specs.Replay.{Facts, State, facts_of, effect, opened, version_at}
@@ -287,3 +289,11 @@ pub done_held : (f : Inside) (now : ℕ) (p : PreparedTxn) (store : Pairs) (log 
     → kept ≡ record { moment = now; what = Txn p.lease p.ops } → log.items ≡ room.items ++ kept ∷ [] → room.items ≡ f.log.items → IsHeld (after_commit f store log now)
 done_held f now p store log room kept v set done is items made =
     commit_held f now p store log kept v.held v.made v.schema v.serves set.0 set.1 done is (items ∙ ap (λ (es : List Entry). es ++ kept ∷ []) made)
+
+-- ---- the newest version
+
+pub newest_is : (f : Inside) (s : State) → state_of f ≡ s → newest_of s ≡ Some f.schema
+newest_is f s view = subst (λ (x : State). newest_of x ≡ Some f.schema) view (ap (λ (vs : List Version). slice_get vs 0) (one_version (state_of f)))
+
+pub checked : (f : Inside) (s : State) (report : CheckReport) → state_of f ≡ s → IsAudit f.schema f.store report → IsCheck s report
+checked f s report view audit = (f.schema, newest_is f s view, subst (λ (x : State). IsAudit f.schema x.pairs report) view audit)

@@ -1,6 +1,8 @@
 -- What each call of the core may answer, and the state that it leaves.
 use Rattle.std.specs.Prelude.{◌≡◌, ◌≢◌, ℕ, ◌+◌, ◌<◌, ◌≤◌, max, List, [], ◌∷◌, ◌++◌, length, Option, Some, None, Result, Ok, Err, slice_get, ◌↔◌}
 use Rattle.std.specs.FinMap as map
+use Rattle.audit.specs.declared.report.CheckReport.{CheckReport}
+use Rattle.audit.specs.Audit.{IsAudit}
 use Rattle.keycode.specs.Order.{bytes_cmp}
 use Rattle.listed.specs.Refusal.{IsFirst, IsRefusal, IsClear}
 use Rattle.lease.specs.declared.lease.Lease.{Lease}
@@ -129,3 +131,7 @@ version_of state number = version_at (facts_of state).versions number
 abbrev pub IsReadView : State → map.FinMap bytes_cmp (Unit {0}) → View → Type 0
 IsReadView state keys view =
     (key : Bytes) (value : Option Bytes) → (map.get view key ≡ Some value) ↔ ((map.get keys key ≡ Some tt) × (map.get state.pairs key ≡ value))
+
+-- the audit of the pairs by the newest version
+abbrev pub IsCheck : State → CheckReport → Type 0
+IsCheck state report = (version : Version) × (newest_of state ≡ Some version) × IsAudit version state.pairs report

@@ -10,6 +10,7 @@ mod opening;
 mod reading;
 mod world;
 
+pub use audit::{CheckReport, audit};
 pub use committed::Committed;
 pub use config::Config;
 pub use entry::{Entry, Grant, Receipt, What};

@@ -2,7 +2,7 @@ ghost use Rattle.std.specs.Prelude.{◌≡◌, max, IfOk, IfErr, OnOk, OnErr, op
 ghost use Rattle.std.specs.FinMap as map;
 ghost use Rattle.lease.specs.Refusals.{Serves};
 ghost use Rattle.world.specs.Agreement.{Agrees};
-ghost use Rattle.world.specs.Calls.{OpenStep, LeaseStep, CommitStep, CommitAt, IsReadView, version_of};
+ghost use Rattle.world.specs.Calls.{OpenStep, LeaseStep, CommitStep, CommitAt, IsReadView, IsCheck, newest_of, version_of};
 ghost use Rattle.world.specs.Replay.{facts_of, IsReplayed};
 
 use crate::committed::Committed;
@@ -12,6 +12,7 @@ use crate::fault::{CommitFault, GrantFault, OpenFault};
 use crate::logging::{append, entry_pair, make_room, txn_of};
 use crate::opening::{begin, declare};
 use crate::reading::read_all;
+use audit::{CheckReport, audit};
 use lease::Timeline;
 use listed::Counted;
 use row_map::{PairView, ReadSet, ReadView};
@@ -112,6 +113,22 @@ impl World {
         ensures { IfOk result (λ view. IsReadView self.now keys.now view) }
     {
         read_all(alloc, &self.store, keys.entries())
+    }
+
+    /// The schema of the newest version, which is version 1 so far.
+    pub fn newest(&self) -> &Counted<Schema>
+        ensures newest { newest_of self.now ≡ Some result.now }
+        ensures first { result.now ≡ self.now.opening.schema }
+    {
+        &self.schema
+    }
+
+    /// Audits the pairs of the store by the newest version: how many rows there are, how many pairs are missing, and
+    /// how many are there without a reason. Refused for want of memory alone.
+    pub fn check(&self, alloc: Global) -> Result<CheckReport, AllocError>
+        ensures { IfOk result (λ report. IsCheck self.now report) }
+    {
+        audit(alloc, self.schema.get(), &self.store)
     }
 
     /// Commits a transaction that was prepared under version 1: it is logged and its batch is written, or the rows
