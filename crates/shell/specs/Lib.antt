@@ -1,6 +1,8 @@
 pub mod Texts
 pub mod Session
 pub mod Declaring
+pub mod Naming
+pub mod Transacting
 pub mod Running
 pub mod Replies
 pub mod Script

@@ -2,10 +2,12 @@
 #![tactic(auto)]
 
 mod declaring;
+mod naming;
 mod run;
 mod running;
 mod session;
 mod status;
+mod transacting;
 
 use std::io;
 use std::process::ExitCode;

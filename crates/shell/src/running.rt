@@ -1,16 +1,21 @@
 //! The lines behind `open`.
-ghost use Rattle.std.specs.Prelude.{◌≡◌, IfOk, string_bytes};
+ghost use Rattle.std.specs.Prelude.{◌≡◌, ◌++◌, IfOk, OnOk, false, codes, length, string_bytes};
+ghost use Rattle.std.specs.FinMap as map;
+ghost use Rattle.std.specs.List.{flat_map};
 ghost use Rattle.grammar.specs.declared.command.Command.TheVariants as command;
-ghost use Rattle.shell.specs.Running.{Answers};
-ghost use Rattle.shell.specs.Texts.{line, refused, grant_name, leased};
+ghost use Rattle.shell.specs.Running.{Answers, check_text};
+ghost use Rattle.shell.specs.declared.session.Session.TheVariants.{Running};
+ghost use Rattle.shell.specs.Texts.{line, refused, grant_name, leased, value_behind, pair_line};
 
 use crate::session::{Answer, Opened, Session, bad_line, reply};
+use crate::transacting::{push_number, transact, transacted_line};
+use audit::{key_after, next_pair};
 use byte_map::Bytes;
-use grammar::Command;
+use grammar::{Command, Operation, push_hex};
 use keycode::Text;
 use lease::Lease;
 use std::alloc::{AllocError, Global};
-use world::GrantFault;
+use world::{CheckReport, GrantFault, World};
 
 fn grant_refusal(alloc: Global, fault: GrantFault) -> Result<String, AllocError>
     ensures { IfOk result (λ text. string_bytes text ≡ line (refused (grant_name fault))) }
@@ -67,6 +72,104 @@ fn lease(
     }
 }
 
+fn no_server(alloc: Global, opened: Opened) -> Result<(Session, Answer), AllocError>
+    ensures session { IfOk result (λ x. x.0 ≡ Running opened) }
+    ensures text { IfOk result (λ x. string_bytes x.1.text ≡ line (refused (codes "NoServer"))) }
+    ensures good { IfOk result (λ x. x.1.is_bad ≡ false) }
+{
+    let answer = reply("refused NoServer\n".to_string(alloc)?);
+    Ok((Session::Running(opened), answer))
+}
+
+fn txn(
+    alloc: Global,
+    mut opened: Opened,
+    server: &Text,
+    moment: u64,
+    operations: &[Operation],
+) -> Result<(Session, Answer), AllocError>
+    ensures { IfOk result (λ x. Answers opened (command.Txn server.now moment operations.now) (string_bytes x.1.text) x.1.is_bad x.0) }
+{
+    let lease = match opened.leases.get(server.as_bytes()) {
+        Some(lease) => *lease,
+        None => return no_server(alloc, opened),
+    };
+    let how = transact(alloc, &mut opened.world, lease, moment, operations);
+    let answer = reply(transacted_line(alloc, &how)?);
+    Ok((Session::Running(opened), answer))
+}
+
+fn push_value(text: &mut String, value: &[u8]) -> Result<(), AllocError>
+    ensures { OnOk result (string_bytes text.new ≡ string_bytes text.old ++ value_behind value.now) }
+{
+    if value.is_empty() {
+        return Ok(());
+    }
+    text.push_str(" = ")?;
+    push_hex(text, value)
+}
+
+fn push_pair(text: &mut String, key: &[u8], value: &[u8]) -> Result<(), AllocError>
+    ensures { OnOk result (string_bytes text.new ≡ string_bytes text.old ++ pair_line (key.now, value.now)) }
+{
+    push_hex(text, key)?;
+    push_value(text, value)?;
+    text.push_str("\n")
+}
+
+// All pairs, a line each, and their number.
+fn all_pairs(alloc: Global, world: &World) -> Result<(String, u64), AllocError>
+    ensures text { IfOk result (λ x. string_bytes x.0 ≡ flat_map pair_line (map.entries world.now.pairs)) }
+    ensures number { IfOk result (λ x. x.1 ≡ length (map.entries world.now.pairs)) }
+{
+    let mut text = String::new(alloc);
+    let mut number = 0u64;
+    let mut from = Vec::new(alloc);
+    while let Some((key, value)) = next_pair(world, from.as_slice()) {
+        push_pair(&mut text, key, value)?;
+        if number == u64::MAX {
+            return Err(AllocError);
+        }
+        number += 1;
+        from = key_after(alloc, key)?;
+    }
+    Ok((text, number))
+}
+
+fn pairs(alloc: Global, opened: Opened) -> Result<(Session, Answer), AllocError>
+    ensures { IfOk result (λ x. Answers opened command.Pairs (string_bytes x.1.text) x.1.is_bad x.0) }
+{
+    let (mut text, number) = all_pairs(alloc, &opened.world)?;
+    text.push_str("ok pairs ")?;
+    push_number(&mut text, number)?;
+    text.push_str("\n")?;
+    Ok((Session::Running(opened), reply(text)))
+}
+
+fn checked(alloc: Global, report: CheckReport) -> Result<String, AllocError>
+    ensures { IfOk result (λ text. string_bytes text ≡ line (check_text report)) }
+{
+    let mut text = String::new(alloc);
+    text.push_str("ok rows ")?;
+    push_number(&mut text, report.rows)?;
+    text.push_str(" missing ")?;
+    push_number(&mut text, report.missing)?;
+    text.push_str(" extra ")?;
+    push_number(&mut text, report.extra)?;
+    text.push_str("\n")?;
+    Ok(text)
+}
+
+fn check(alloc: Global, opened: Opened) -> Result<(Session, Answer), AllocError>
+    ensures { IfOk result (λ x. Answers opened command.Check (string_bytes x.1.text) x.1.is_bad x.0) }
+{
+    let text = match opened.world.check(alloc) {
+        Ok(report) => checked(alloc, report)?,
+        Err(_) => "refused Memory\n".to_string(alloc)?,
+    };
+    Ok((Session::Running(opened), reply(text)))
+}
+
 /// What a line behind `open` answers, and what it leaves.
 pub(crate) fn answer(
     alloc: Global,
@@ -77,6 +180,13 @@ pub(crate) fn answer(
 {
     match command {
         Command::Lease { server, moment } => lease(alloc, opened, &server, moment),
+        Command::Txn {
+            server,
+            moment,
+            operations,
+        } => txn(alloc, opened, &server, moment, operations.as_slice()),
+        Command::Pairs => pairs(alloc, opened),
+        Command::Check => check(alloc, opened),
         _ => Ok((Session::Running(opened), bad_line(alloc)?)),
     }
 }

@@ -1,0 +1,158 @@
+//! A transaction of a script: it reads, is prepared and is committed at once.
+ghost use Rattle.std.specs.Prelude.{◌≡◌, ◌++◌, OnOk, IfOk, codes, string_bytes};
+ghost use Rattle.std.specs.Fmt.{decimal};
+ghost use Rattle.shell.specs.Naming.{resolved_all};
+ghost use Rattle.shell.specs.Texts.{line};
+ghost use Rattle.shell.specs.Transacting.{Transacts, prepare_name, commit_name, row_name, committed_text, transacted_text};
+
+use crate::naming::resolved_all;
+use grammar::{Operation, push_hex};
+use lease::Lease;
+use row_write::{PrepareFault, RowFault, prepare, reads_of};
+use std::alloc::{AllocError, Global};
+use world::{CommitFault, Committed, World};
+
+/// How a transaction ended.
+#[derive(Debug, Drop)]
+pub(crate) enum Transacted {
+    /// It was committed, or the rows refused it.
+    Ended(Committed),
+    /// It could not be prepared.
+    Unprepared(PrepareFault),
+    /// It was prepared and not committed.
+    Rejected(CommitFault),
+    /// Memory ran out before it was prepared.
+    OutOfMemory,
+}
+
+/// Reads what the operations need, prepares them and commits.
+pub(crate) fn transact(
+    alloc: Global,
+    world: &mut World,
+    lease: Lease,
+    moment: u64,
+    operations: &[Operation],
+) -> Transacted
+    ensures { Transacts world.old lease moment (resolved_all world.old.opening.schema operations.now) result world.new }
+{
+    let Ok(schema) = world.newest().clone() else {
+        return Transacted::OutOfMemory;
+    };
+    let Ok(ops) = resolved_all(alloc, schema.get(), operations) else {
+        return Transacted::OutOfMemory;
+    };
+    let Ok(keys) = reads_of(alloc, schema.get(), ops.as_slice()) else {
+        return Transacted::OutOfMemory;
+    };
+    let Ok(view) = world.read(alloc, &keys) else {
+        return Transacted::OutOfMemory;
+    };
+    let prepared = match prepare(alloc, schema, lease, ops, view) {
+        Ok(prepared) => prepared,
+        Err((fault, _)) => return Transacted::Unprepared(fault),
+    };
+    match world.commit(alloc, moment, prepared) {
+        Ok(done) => Transacted::Ended(done),
+        Err((fault, _)) => Transacted::Rejected(fault),
+    }
+}
+
+/// Adds a number in decimal.
+pub(crate) fn push_number(out: &mut String, number: u64) -> Result<(), AllocError>
+    ensures { OnOk result (string_bytes out.new ≡ string_bytes out.old ++ decimal number) }
+{
+    write!(out, "{number}")
+}
+
+fn push_prepare(out: &mut String, fault: PrepareFault) -> Result<(), AllocError>
+    ensures { OnOk result (string_bytes out.new ≡ string_bytes out.old ++ prepare_name fault) }
+{
+    match fault {
+        PrepareFault::NoTable => out.push_str("NoTable"),
+        PrepareFault::NotPublic { column } => {
+            out.push_str("NotPublic ")?;
+            push_number(out, u64::from(column))
+        }
+        PrepareFault::WrongType => out.push_str("WrongType"),
+        PrepareFault::TooManyOps => out.push_str("TooManyOps"),
+        PrepareFault::ViewMismatch => out.push_str("ViewMismatch"),
+        PrepareFault::Memory => out.push_str("Memory"),
+    }
+}
+
+fn push_ended(out: &mut String, until: u64, now: u64) -> Result<(), AllocError>
+    ensures { OnOk result (string_bytes out.new ≡ string_bytes out.old ++ codes "LeaseEnded " ++ decimal until ++ codes " " ++ decimal now) }
+{
+    out.push_str("LeaseEnded ")?;
+    push_number(out, until)?;
+    out.push_str(" ")?;
+    push_number(out, now)
+}
+
+fn push_commit(out: &mut String, fault: &CommitFault) -> Result<(), AllocError>
+    ensures { OnOk result (string_bytes out.new ≡ string_bytes out.old ++ commit_name fault.now) }
+{
+    match fault {
+        CommitFault::MomentTooLarge => out.push_str("MomentTooLarge"),
+        CommitFault::BadLease => out.push_str("BadLease"),
+        CommitFault::LeaseEnded { until, now } => push_ended(out, *until, *now),
+        CommitFault::Conflict { key } => {
+            out.push_str("Conflict ")?;
+            push_hex(out, key.as_slice())
+        }
+        CommitFault::Memory => out.push_str("Memory"),
+    }
+}
+
+fn push_row(out: &mut String, why: RowFault) -> Result<(), AllocError>
+    ensures { OnOk result (string_bytes out.new ≡ string_bytes out.old ++ row_name why) }
+{
+    match why {
+        RowFault::Duplicate => out.push_str("Duplicate"),
+        RowFault::NoRow => out.push_str("NoRow"),
+    }
+}
+
+fn push_committed(out: &mut String, done: &Committed) -> Result<(), AllocError>
+    ensures { OnOk result (string_bytes out.new ≡ string_bytes out.old ++ committed_text done.now) }
+{
+    match done {
+        Committed::Done(receipt) => {
+            out.push_str("ok done ")?;
+            push_number(out, receipt.place)
+        }
+        Committed::Refused { op, why } => {
+            out.push_str("ok refused ")?;
+            push_number(out, *op as u64)?;
+            out.push_str(" ")?;
+            push_row(out, *why)
+        }
+    }
+}
+
+fn push_transacted(out: &mut String, how: &Transacted) -> Result<(), AllocError>
+    ensures { OnOk result (string_bytes out.new ≡ string_bytes out.old ++ transacted_text how.now) }
+{
+    match how {
+        Transacted::Ended(done) => push_committed(out, done),
+        Transacted::Unprepared(fault) => {
+            out.push_str("refused ")?;
+            push_prepare(out, *fault)
+        }
+        Transacted::Rejected(fault) => {
+            out.push_str("refused ")?;
+            push_commit(out, fault)
+        }
+        Transacted::OutOfMemory => out.push_str("refused Memory"),
+    }
+}
+
+/// The reply to a transaction.
+pub(crate) fn transacted_line(alloc: Global, how: &Transacted) -> Result<String, AllocError>
+    ensures { IfOk result (λ text. string_bytes text ≡ line (transacted_text how.now)) }
+{
+    let mut text = String::new(alloc);
+    push_transacted(&mut text, how)?;
+    text.push_str("\n")?;
+    Ok(text)
+}
