@@ -50,21 +50,31 @@ fn moved(alloc: Global, schema: &Schema, to: ElementState) -> Result<Option<Sche
     Ok(schema.apply(&step).ok())
 }
 
-fn store(alloc: Global, pairs: &[(&[u8], &[u8])]) -> Result<KeyMap<Bytes>, AllocError> {
+fn put(
+    alloc: Global,
+    store: &mut KeyMap<Bytes>,
+    key: &[u8],
+    value: &[u8],
+) -> Result<(), AllocError> {
+    let key = Bytes::new(Vec::from_slice(alloc, key)?)?;
+    store.insert(key, Bytes::new(Vec::from_slice(alloc, value)?)?)
+}
+
+// A store with row 1, whose column 1 is 5, and the index's pair.
+fn whole(alloc: Global) -> Result<KeyMap<Bytes>, AllocError> {
     let mut store = KeyMap::new(alloc);
-    for (key, value) in pairs {
-        let key = Bytes::new(Vec::from_slice(alloc, *key)?)?;
-        store.insert(key, Bytes::new(Vec::from_slice(alloc, *value)?)?)?;
-    }
+    put(alloc, &mut store, ROW.as_slice(), &[])?;
+    put(alloc, &mut store, COLUMN.as_slice(), FIVE.as_slice())?;
+    put(alloc, &mut store, INDEX.as_slice(), &[])?;
     Ok(store)
 }
 
 fn counted(
     alloc: Global,
     schema: &Schema,
-    pairs: &[(&[u8], &[u8])],
+    store: &KeyMap<Bytes>,
 ) -> Result<(u64, u64, u64), AllocError> {
-    let report = audit(alloc, schema, &store(alloc, pairs)?)?;
+    let report = audit(alloc, schema, store)?;
     Ok((report.rows, report.missing, report.extra))
 }
 
@@ -72,30 +82,28 @@ fn counted(
 fn a_row_and_its_pairs(rt: HostRuntime) -> Result<(), Fail> {
     let alloc = rt.alloc();
     let schema = declared(alloc)?.ok_or("the table is lawful")?;
-    let none: [u8; 0] = [];
-    let row = (ROW.as_slice(), none.as_slice());
-    let column = (COLUMN.as_slice(), FIVE.as_slice());
-    let index = (INDEX.as_slice(), none.as_slice());
-    assert_eq!(rt; counted(alloc, &schema, [].as_slice())?, (0, 0, 0));
-    assert_eq!(rt;
-        counted(alloc, &schema, [row, column, index].as_slice())?,
-        (1, 0, 0)
-    );
-    assert_eq!(rt;
-        counted(alloc, &schema, [row, column].as_slice())?,
-        (1, 1, 0)
-    );
-    assert_eq!(rt; counted(alloc, &schema, [index].as_slice())?, (0, 0, 1));
-    assert_eq!(rt; counted(alloc, &schema, [column].as_slice())?, (0, 0, 1));
-    assert_eq!(rt;
-        counted(alloc, &schema, [column, index].as_slice())?,
-        (0, 0, 2)
-    );
-    let full = (INDEX.as_slice(), FIVE.as_slice());
-    assert_eq!(rt;
-        counted(alloc, &schema, [row, column, full].as_slice())?,
-        (1, 1, 1)
-    );
+    let mut store = KeyMap::new(alloc);
+    assert_eq!(rt; counted(alloc, &schema, &store)?, (0, 0, 0));
+    put(alloc, &mut store, INDEX.as_slice(), &[])?;
+    assert_eq!(rt; counted(alloc, &schema, &store)?, (0, 0, 1));
+    put(alloc, &mut store, COLUMN.as_slice(), FIVE.as_slice())?;
+    assert_eq!(rt; counted(alloc, &schema, &store)?, (0, 0, 2));
+    put(alloc, &mut store, ROW.as_slice(), &[])?;
+    assert_eq!(rt; counted(alloc, &schema, &store)?, (1, 0, 0));
+    put(alloc, &mut store, INDEX.as_slice(), FIVE.as_slice())?;
+    assert_eq!(rt; counted(alloc, &schema, &store)?, (1, 1, 1));
+    Ok(())
+}
+
+#[test]
+fn a_row_without_its_index_pair(rt: HostRuntime) -> Result<(), Fail> {
+    let alloc = rt.alloc();
+    let schema = declared(alloc)?.ok_or("the table is lawful")?;
+    let mut store = KeyMap::new(alloc);
+    put(alloc, &mut store, COLUMN.as_slice(), FIVE.as_slice())?;
+    assert_eq!(rt; counted(alloc, &schema, &store)?, (0, 0, 1));
+    put(alloc, &mut store, ROW.as_slice(), &[])?;
+    assert_eq!(rt; counted(alloc, &schema, &store)?, (1, 1, 0));
     Ok(())
 }
 
@@ -103,34 +111,20 @@ fn a_row_and_its_pairs(rt: HostRuntime) -> Result<(), Fail> {
 fn what_is_no_pair(rt: HostRuntime) -> Result<(), Fail> {
     let alloc = rt.alloc();
     let schema = declared(alloc)?.ok_or("the table is lawful")?;
-    let none: [u8; 0] = [];
-    let row = (ROW.as_slice(), none.as_slice());
-    let column = (COLUMN.as_slice(), FIVE.as_slice());
-    let index = (INDEX.as_slice(), none.as_slice());
+    let mut store = whole(alloc)?;
     for key in [[82, 0], [83, 0], [88, 0]] {
-        let bad = (key.as_slice(), none.as_slice());
-        assert_eq!(rt;
-            counted(alloc, &schema, [row, column, index, bad].as_slice())?,
-            (1, 0, 1)
-        );
+        put(alloc, &mut store, key.as_slice(), &[])?;
     }
-    for key in [NO_COLUMN, NO_ROW] {
-        let bad = (key.as_slice(), FIVE.as_slice());
-        assert_eq!(rt;
-            counted(alloc, &schema, [row, column, index, bad].as_slice())?,
-            (1, 0, 1)
-        );
-    }
-    let other = (OTHER_INDEX.as_slice(), none.as_slice());
-    assert_eq!(rt;
-        counted(alloc, &schema, [row, column, index, other].as_slice())?,
-        (1, 0, 1)
-    );
-    let valued = (ROW.as_slice(), FIVE.as_slice());
-    assert_eq!(rt;
-        counted(alloc, &schema, [valued, column, index].as_slice())?,
-        (1, 0, 0)
-    );
+    assert_eq!(rt; counted(alloc, &schema, &store)?, (1, 0, 3));
+    put(alloc, &mut store, NO_COLUMN.as_slice(), FIVE.as_slice())?;
+    assert_eq!(rt; counted(alloc, &schema, &store)?, (1, 0, 4));
+    put(alloc, &mut store, NO_ROW.as_slice(), FIVE.as_slice())?;
+    assert_eq!(rt; counted(alloc, &schema, &store)?, (1, 0, 5));
+    put(alloc, &mut store, OTHER_INDEX.as_slice(), &[])?;
+    assert_eq!(rt; counted(alloc, &schema, &store)?, (1, 0, 6));
+    // A row's pair may have a value.
+    put(alloc, &mut store, ROW.as_slice(), FIVE.as_slice())?;
+    assert_eq!(rt; counted(alloc, &schema, &store)?, (1, 0, 6));
     Ok(())
 }
 
@@ -138,56 +132,34 @@ fn what_is_no_pair(rt: HostRuntime) -> Result<(), Fail> {
 fn what_is_no_value(rt: HostRuntime) -> Result<(), Fail> {
     let alloc = rt.alloc();
     let schema = declared(alloc)?.ok_or("the table is lawful")?;
-    let none: [u8; 0] = [];
-    let row = (ROW.as_slice(), none.as_slice());
-    let index = (INDEX.as_slice(), none.as_slice());
-    let of_null = (INDEX_OF_NULL.as_slice(), none.as_slice());
-    assert_eq!(rt;
-        counted(alloc, &schema, [row, of_null].as_slice())?,
-        (1, 0, 0)
-    );
+    let mut store = KeyMap::new(alloc);
+    put(alloc, &mut store, ROW.as_slice(), &[])?;
+    put(alloc, &mut store, INDEX_OF_NULL.as_slice(), &[])?;
+    assert_eq!(rt; counted(alloc, &schema, &store)?, (1, 0, 0));
     for value in [[1, 1], [4, 1], [2, 128], [9, 9]] {
-        let column = (COLUMN.as_slice(), value.as_slice());
-        assert_eq!(rt;
-            counted(alloc, &schema, [row, column, of_null].as_slice())?,
-            (1, 0, 0)
-        );
-        assert_eq!(rt;
-            counted(alloc, &schema, [row, column, index].as_slice())?,
-            (1, 1, 1)
-        );
+        put(alloc, &mut store, COLUMN.as_slice(), value.as_slice())?;
+        assert_eq!(rt; counted(alloc, &schema, &store)?, (1, 0, 0));
     }
+    put(alloc, &mut store, COLUMN.as_slice(), FIVE.as_slice())?;
+    assert_eq!(rt; counted(alloc, &schema, &store)?, (1, 1, 1));
     Ok(())
 }
 
 #[test]
 fn an_index_that_is_not_public(rt: HostRuntime) -> Result<(), Fail> {
     let alloc = rt.alloc();
-    let none: [u8; 0] = [];
-    let row = (ROW.as_slice(), none.as_slice());
-    let column = (COLUMN.as_slice(), FIVE.as_slice());
-    let index = (INDEX.as_slice(), none.as_slice());
-    let of_null = (INDEX_OF_NULL.as_slice(), none.as_slice());
+    let mut lacking = KeyMap::new(alloc);
+    put(alloc, &mut lacking, ROW.as_slice(), &[])?;
+    put(alloc, &mut lacking, COLUMN.as_slice(), FIVE.as_slice())?;
+    let mut over = whole(alloc)?;
+    put(alloc, &mut over, INDEX_OF_NULL.as_slice(), &[])?;
     let mut schema = declared(alloc)?.ok_or("the table is lawful")?;
     for to in [ElementState::WriteOnly, ElementState::DeleteOnly] {
         schema = moved(alloc, &schema, to)?.ok_or("the step is allowed")?;
-        assert_eq!(rt;
-            counted(alloc, &schema, [row, column].as_slice())?,
-            (1, 0, 0)
-        );
-        assert_eq!(rt;
-            counted(alloc, &schema, [row, column, index].as_slice())?,
-            (1, 0, 0)
-        );
-        assert_eq!(rt;
-            counted(alloc, &schema, [row, column, of_null].as_slice())?,
-            (1, 0, 1)
-        );
+        assert_eq!(rt; counted(alloc, &schema, &lacking)?, (1, 0, 0));
+        assert_eq!(rt; counted(alloc, &schema, &over)?, (1, 0, 1));
     }
     let schema = moved(alloc, &schema, ElementState::Absent)?.ok_or("the step is allowed")?;
-    assert_eq!(rt;
-        counted(alloc, &schema, [row, column, index].as_slice())?,
-        (1, 0, 1)
-    );
+    assert_eq!(rt; counted(alloc, &schema, &over)?, (1, 0, 2));
     Ok(())
 }
