@@ -60,21 +60,42 @@ fn put(
     store.insert(key, Bytes::new(Vec::from_slice(alloc, value)?)?)
 }
 
-// A store with row 1, whose column 1 is 5, and the index's pair.
-fn whole(alloc: Global) -> Result<KeyMap<Bytes>, AllocError> {
+// What is counted in a store with row 1, if it is to be there, and with pairs under the keys of its column and of an index
+// where these have a value or a key.
+fn parts(
+    alloc: Global,
+    schema: &Schema,
+    row: bool,
+    column: &[u8],
+    index: &[u8],
+) -> Result<(u64, u64, u64), AllocError> {
+    let mut store = KeyMap::new(alloc);
+    if row {
+        put(alloc, &mut store, ROW.as_slice(), &[])?;
+    }
+    if !column.is_empty() {
+        put(alloc, &mut store, COLUMN.as_slice(), column)?;
+    }
+    if !index.is_empty() {
+        put(alloc, &mut store, index, &[])?;
+    }
+    let report = audit(alloc, schema, &store)?;
+    Ok((report.rows, report.missing, report.extra))
+}
+
+// What is counted where one pair is put over row 1 and all its pairs.
+fn over(
+    alloc: Global,
+    schema: &Schema,
+    key: &[u8],
+    value: &[u8],
+) -> Result<(u64, u64, u64), AllocError> {
     let mut store = KeyMap::new(alloc);
     put(alloc, &mut store, ROW.as_slice(), &[])?;
     put(alloc, &mut store, COLUMN.as_slice(), FIVE.as_slice())?;
     put(alloc, &mut store, INDEX.as_slice(), &[])?;
-    Ok(store)
-}
-
-fn counted(
-    alloc: Global,
-    schema: &Schema,
-    store: &KeyMap<Bytes>,
-) -> Result<(u64, u64, u64), AllocError> {
-    let report = audit(alloc, schema, store)?;
+    put(alloc, &mut store, key, value)?;
+    let report = audit(alloc, schema, &store)?;
     Ok((report.rows, report.missing, report.extra))
 }
 
@@ -82,49 +103,27 @@ fn counted(
 fn a_row_and_its_pairs(rt: HostRuntime) -> Result<(), Fail> {
     let alloc = rt.alloc();
     let schema = declared(alloc)?.ok_or("the table is lawful")?;
-    let mut store = KeyMap::new(alloc);
-    assert_eq!(rt; counted(alloc, &schema, &store)?, (0, 0, 0));
-    put(alloc, &mut store, INDEX.as_slice(), &[])?;
-    assert_eq!(rt; counted(alloc, &schema, &store)?, (0, 0, 1));
-    put(alloc, &mut store, COLUMN.as_slice(), FIVE.as_slice())?;
-    assert_eq!(rt; counted(alloc, &schema, &store)?, (0, 0, 2));
-    put(alloc, &mut store, ROW.as_slice(), &[])?;
-    assert_eq!(rt; counted(alloc, &schema, &store)?, (1, 0, 0));
-    put(alloc, &mut store, INDEX.as_slice(), FIVE.as_slice())?;
-    assert_eq!(rt; counted(alloc, &schema, &store)?, (1, 1, 1));
+    assert_eq!(rt; parts(alloc, &schema, false, &[], &[])?, (0, 0, 0));
+    assert_eq!(rt; parts(alloc, &schema, true, &FIVE, &INDEX)?, (1, 0, 0));
+    assert_eq!(rt; parts(alloc, &schema, true, &FIVE, &[])?, (1, 1, 0));
+    assert_eq!(rt; parts(alloc, &schema, false, &[], &INDEX)?, (0, 0, 1));
+    assert_eq!(rt; parts(alloc, &schema, false, &FIVE, &[])?, (0, 0, 1));
+    assert_eq!(rt; parts(alloc, &schema, false, &FIVE, &INDEX)?, (0, 0, 2));
     Ok(())
 }
 
 #[test]
-fn a_row_without_its_index_pair(rt: HostRuntime) -> Result<(), Fail> {
+fn one_pair_more(rt: HostRuntime) -> Result<(), Fail> {
     let alloc = rt.alloc();
     let schema = declared(alloc)?.ok_or("the table is lawful")?;
-    let mut store = KeyMap::new(alloc);
-    put(alloc, &mut store, COLUMN.as_slice(), FIVE.as_slice())?;
-    assert_eq!(rt; counted(alloc, &schema, &store)?, (0, 0, 1));
-    put(alloc, &mut store, ROW.as_slice(), &[])?;
-    assert_eq!(rt; counted(alloc, &schema, &store)?, (1, 1, 0));
-    Ok(())
-}
-
-#[test]
-fn what_is_no_pair(rt: HostRuntime) -> Result<(), Fail> {
-    let alloc = rt.alloc();
-    let schema = declared(alloc)?.ok_or("the table is lawful")?;
-    let mut store = whole(alloc)?;
     for key in [[82, 0], [83, 0], [88, 0]] {
-        put(alloc, &mut store, key.as_slice(), &[])?;
+        assert_eq!(rt; over(alloc, &schema, &key, &[])?, (1, 0, 1));
     }
-    assert_eq!(rt; counted(alloc, &schema, &store)?, (1, 0, 3));
-    put(alloc, &mut store, NO_COLUMN.as_slice(), FIVE.as_slice())?;
-    assert_eq!(rt; counted(alloc, &schema, &store)?, (1, 0, 4));
-    put(alloc, &mut store, NO_ROW.as_slice(), FIVE.as_slice())?;
-    assert_eq!(rt; counted(alloc, &schema, &store)?, (1, 0, 5));
-    put(alloc, &mut store, OTHER_INDEX.as_slice(), &[])?;
-    assert_eq!(rt; counted(alloc, &schema, &store)?, (1, 0, 6));
-    // A row's pair may have a value.
-    put(alloc, &mut store, ROW.as_slice(), FIVE.as_slice())?;
-    assert_eq!(rt; counted(alloc, &schema, &store)?, (1, 0, 6));
+    assert_eq!(rt; over(alloc, &schema, &NO_COLUMN, &FIVE)?, (1, 0, 1));
+    assert_eq!(rt; over(alloc, &schema, &NO_ROW, &FIVE)?, (1, 0, 1));
+    assert_eq!(rt; over(alloc, &schema, &OTHER_INDEX, &[])?, (1, 0, 1));
+    assert_eq!(rt; over(alloc, &schema, &ROW, &FIVE)?, (1, 0, 0));
+    assert_eq!(rt; over(alloc, &schema, &INDEX, &FIVE)?, (1, 1, 1));
     Ok(())
 }
 
@@ -132,34 +131,34 @@ fn what_is_no_pair(rt: HostRuntime) -> Result<(), Fail> {
 fn what_is_no_value(rt: HostRuntime) -> Result<(), Fail> {
     let alloc = rt.alloc();
     let schema = declared(alloc)?.ok_or("the table is lawful")?;
-    let mut store = KeyMap::new(alloc);
-    put(alloc, &mut store, ROW.as_slice(), &[])?;
-    put(alloc, &mut store, INDEX_OF_NULL.as_slice(), &[])?;
-    assert_eq!(rt; counted(alloc, &schema, &store)?, (1, 0, 0));
+    assert_eq!(rt;
+        parts(alloc, &schema, true, &[], &INDEX_OF_NULL)?,
+        (1, 0, 0)
+    );
     for value in [[1, 1], [4, 1], [2, 128], [9, 9]] {
-        put(alloc, &mut store, COLUMN.as_slice(), value.as_slice())?;
-        assert_eq!(rt; counted(alloc, &schema, &store)?, (1, 0, 0));
+        assert_eq!(rt;
+            parts(alloc, &schema, true, &value, &INDEX_OF_NULL)?,
+            (1, 0, 0)
+        );
+        assert_eq!(rt; parts(alloc, &schema, true, &value, &INDEX)?, (1, 1, 1));
     }
-    put(alloc, &mut store, COLUMN.as_slice(), FIVE.as_slice())?;
-    assert_eq!(rt; counted(alloc, &schema, &store)?, (1, 1, 1));
     Ok(())
 }
 
 #[test]
 fn an_index_that_is_not_public(rt: HostRuntime) -> Result<(), Fail> {
     let alloc = rt.alloc();
-    let mut lacking = KeyMap::new(alloc);
-    put(alloc, &mut lacking, ROW.as_slice(), &[])?;
-    put(alloc, &mut lacking, COLUMN.as_slice(), FIVE.as_slice())?;
-    let mut over = whole(alloc)?;
-    put(alloc, &mut over, INDEX_OF_NULL.as_slice(), &[])?;
     let mut schema = declared(alloc)?.ok_or("the table is lawful")?;
     for to in [ElementState::WriteOnly, ElementState::DeleteOnly] {
         schema = moved(alloc, &schema, to)?.ok_or("the step is allowed")?;
-        assert_eq!(rt; counted(alloc, &schema, &lacking)?, (1, 0, 0));
-        assert_eq!(rt; counted(alloc, &schema, &over)?, (1, 0, 1));
+        assert_eq!(rt; parts(alloc, &schema, true, &FIVE, &[])?, (1, 0, 0));
+        assert_eq!(rt; parts(alloc, &schema, true, &FIVE, &INDEX)?, (1, 0, 0));
+        assert_eq!(rt;
+            parts(alloc, &schema, true, &FIVE, &INDEX_OF_NULL)?,
+            (1, 0, 1)
+        );
     }
     let schema = moved(alloc, &schema, ElementState::Absent)?.ok_or("the step is allowed")?;
-    assert_eq!(rt; counted(alloc, &schema, &over)?, (1, 0, 2));
+    assert_eq!(rt; parts(alloc, &schema, true, &FIVE, &INDEX)?, (1, 0, 1));
     Ok(())
 }
