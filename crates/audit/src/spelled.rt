@@ -10,7 +10,6 @@ use schema_version::{ElementDef, ElementState, Kind, Schema};
 use std::alloc::{AllocError, Global};
 
 // What a key is the key of, if it is one.
-#[tactic(auto)]
 pub(crate) fn key_of(alloc: Global, key: &[u8]) -> Result<Option<KeyOf>, AllocError>
     ensures { IfOk result (λ found. found ≡ key_read key.now) }
 {

@@ -50,21 +50,52 @@ fn moved(alloc: Global, schema: &Schema, to: ElementState) -> Result<Option<Sche
     Ok(schema.apply(&step).ok())
 }
 
-fn store(alloc: Global, pairs: &[(&[u8], &[u8])]) -> Result<KeyMap<Bytes>, AllocError> {
-    let mut store = KeyMap::new(alloc);
-    for (key, value) in pairs {
-        let key = Bytes::new(Vec::from_slice(alloc, *key)?)?;
-        store.insert(key, Bytes::new(Vec::from_slice(alloc, *value)?)?)?;
-    }
-    Ok(store)
+fn put(
+    alloc: Global,
+    store: &mut KeyMap<Bytes>,
+    key: &[u8],
+    value: &[u8],
+) -> Result<(), AllocError> {
+    let key = Bytes::new(Vec::from_slice(alloc, key)?)?;
+    store.insert(key, Bytes::new(Vec::from_slice(alloc, value)?)?)
 }
 
-fn counted(
+// What is counted in a store with row 1, if it is to be there, and with pairs under the keys of its column and of an index
+// where these have a value or a key.
+fn parts(
     alloc: Global,
     schema: &Schema,
-    pairs: &[(&[u8], &[u8])],
+    row: bool,
+    column: &[u8],
+    index: &[u8],
 ) -> Result<(u64, u64, u64), AllocError> {
-    let report = audit(alloc, schema, &store(alloc, pairs)?)?;
+    let mut store = KeyMap::new(alloc);
+    if row {
+        put(alloc, &mut store, ROW.as_slice(), &[])?;
+    }
+    if !column.is_empty() {
+        put(alloc, &mut store, COLUMN.as_slice(), column)?;
+    }
+    if !index.is_empty() {
+        put(alloc, &mut store, index, &[])?;
+    }
+    let report = audit(alloc, schema, &store)?;
+    Ok((report.rows, report.missing, report.extra))
+}
+
+// What is counted where one pair is put over row 1 and all its pairs.
+fn over(
+    alloc: Global,
+    schema: &Schema,
+    key: &[u8],
+    value: &[u8],
+) -> Result<(u64, u64, u64), AllocError> {
+    let mut store = KeyMap::new(alloc);
+    put(alloc, &mut store, ROW.as_slice(), &[])?;
+    put(alloc, &mut store, COLUMN.as_slice(), FIVE.as_slice())?;
+    put(alloc, &mut store, INDEX.as_slice(), &[])?;
+    put(alloc, &mut store, key, value)?;
+    let report = audit(alloc, schema, &store)?;
     Ok((report.rows, report.missing, report.extra))
 }
 
@@ -72,65 +103,27 @@ fn counted(
 fn a_row_and_its_pairs(rt: HostRuntime) -> Result<(), Fail> {
     let alloc = rt.alloc();
     let schema = declared(alloc)?.ok_or("the table is lawful")?;
-    let none: [u8; 0] = [];
-    let row = (ROW.as_slice(), none.as_slice());
-    let column = (COLUMN.as_slice(), FIVE.as_slice());
-    let index = (INDEX.as_slice(), none.as_slice());
-    assert_eq!(rt; counted(alloc, &schema, [].as_slice())?, (0, 0, 0));
-    assert_eq!(rt;
-        counted(alloc, &schema, [row, column, index].as_slice())?,
-        (1, 0, 0)
-    );
-    assert_eq!(rt;
-        counted(alloc, &schema, [row, column].as_slice())?,
-        (1, 1, 0)
-    );
-    assert_eq!(rt; counted(alloc, &schema, [index].as_slice())?, (0, 0, 1));
-    assert_eq!(rt; counted(alloc, &schema, [column].as_slice())?, (0, 0, 1));
-    assert_eq!(rt;
-        counted(alloc, &schema, [column, index].as_slice())?,
-        (0, 0, 2)
-    );
-    let full = (INDEX.as_slice(), FIVE.as_slice());
-    assert_eq!(rt;
-        counted(alloc, &schema, [row, column, full].as_slice())?,
-        (1, 1, 1)
-    );
+    assert_eq!(rt; parts(alloc, &schema, false, &[], &[])?, (0, 0, 0));
+    assert_eq!(rt; parts(alloc, &schema, true, &FIVE, &INDEX)?, (1, 0, 0));
+    assert_eq!(rt; parts(alloc, &schema, true, &FIVE, &[])?, (1, 1, 0));
+    assert_eq!(rt; parts(alloc, &schema, false, &[], &INDEX)?, (0, 0, 1));
+    assert_eq!(rt; parts(alloc, &schema, false, &FIVE, &[])?, (0, 0, 1));
+    assert_eq!(rt; parts(alloc, &schema, false, &FIVE, &INDEX)?, (0, 0, 2));
     Ok(())
 }
 
 #[test]
-fn what_is_no_pair(rt: HostRuntime) -> Result<(), Fail> {
+fn one_pair_more(rt: HostRuntime) -> Result<(), Fail> {
     let alloc = rt.alloc();
     let schema = declared(alloc)?.ok_or("the table is lawful")?;
-    let none: [u8; 0] = [];
-    let row = (ROW.as_slice(), none.as_slice());
-    let column = (COLUMN.as_slice(), FIVE.as_slice());
-    let index = (INDEX.as_slice(), none.as_slice());
     for key in [[82, 0], [83, 0], [88, 0]] {
-        let bad = (key.as_slice(), none.as_slice());
-        assert_eq!(rt;
-            counted(alloc, &schema, [row, column, index, bad].as_slice())?,
-            (1, 0, 1)
-        );
+        assert_eq!(rt; over(alloc, &schema, &key, &[])?, (1, 0, 1));
     }
-    for key in [NO_COLUMN, NO_ROW] {
-        let bad = (key.as_slice(), FIVE.as_slice());
-        assert_eq!(rt;
-            counted(alloc, &schema, [row, column, index, bad].as_slice())?,
-            (1, 0, 1)
-        );
-    }
-    let other = (OTHER_INDEX.as_slice(), none.as_slice());
-    assert_eq!(rt;
-        counted(alloc, &schema, [row, column, index, other].as_slice())?,
-        (1, 0, 1)
-    );
-    let valued = (ROW.as_slice(), FIVE.as_slice());
-    assert_eq!(rt;
-        counted(alloc, &schema, [valued, column, index].as_slice())?,
-        (1, 0, 0)
-    );
+    assert_eq!(rt; over(alloc, &schema, &NO_COLUMN, &FIVE)?, (1, 0, 1));
+    assert_eq!(rt; over(alloc, &schema, &NO_ROW, &FIVE)?, (1, 0, 1));
+    assert_eq!(rt; over(alloc, &schema, &OTHER_INDEX, &[])?, (1, 0, 1));
+    assert_eq!(rt; over(alloc, &schema, &ROW, &FIVE)?, (1, 0, 0));
+    assert_eq!(rt; over(alloc, &schema, &INDEX, &FIVE)?, (1, 1, 1));
     Ok(())
 }
 
@@ -138,24 +131,16 @@ fn what_is_no_pair(rt: HostRuntime) -> Result<(), Fail> {
 fn what_is_no_value(rt: HostRuntime) -> Result<(), Fail> {
     let alloc = rt.alloc();
     let schema = declared(alloc)?.ok_or("the table is lawful")?;
-    let none: [u8; 0] = [];
-    let row = (ROW.as_slice(), none.as_slice());
-    let index = (INDEX.as_slice(), none.as_slice());
-    let of_null = (INDEX_OF_NULL.as_slice(), none.as_slice());
     assert_eq!(rt;
-        counted(alloc, &schema, [row, of_null].as_slice())?,
+        parts(alloc, &schema, true, &[], &INDEX_OF_NULL)?,
         (1, 0, 0)
     );
     for value in [[1, 1], [4, 1], [2, 128], [9, 9]] {
-        let column = (COLUMN.as_slice(), value.as_slice());
         assert_eq!(rt;
-            counted(alloc, &schema, [row, column, of_null].as_slice())?,
+            parts(alloc, &schema, true, &value, &INDEX_OF_NULL)?,
             (1, 0, 0)
         );
-        assert_eq!(rt;
-            counted(alloc, &schema, [row, column, index].as_slice())?,
-            (1, 1, 1)
-        );
+        assert_eq!(rt; parts(alloc, &schema, true, &value, &INDEX)?, (1, 1, 1));
     }
     Ok(())
 }
@@ -163,31 +148,17 @@ fn what_is_no_value(rt: HostRuntime) -> Result<(), Fail> {
 #[test]
 fn an_index_that_is_not_public(rt: HostRuntime) -> Result<(), Fail> {
     let alloc = rt.alloc();
-    let none: [u8; 0] = [];
-    let row = (ROW.as_slice(), none.as_slice());
-    let column = (COLUMN.as_slice(), FIVE.as_slice());
-    let index = (INDEX.as_slice(), none.as_slice());
-    let of_null = (INDEX_OF_NULL.as_slice(), none.as_slice());
     let mut schema = declared(alloc)?.ok_or("the table is lawful")?;
     for to in [ElementState::WriteOnly, ElementState::DeleteOnly] {
         schema = moved(alloc, &schema, to)?.ok_or("the step is allowed")?;
+        assert_eq!(rt; parts(alloc, &schema, true, &FIVE, &[])?, (1, 0, 0));
+        assert_eq!(rt; parts(alloc, &schema, true, &FIVE, &INDEX)?, (1, 0, 0));
         assert_eq!(rt;
-            counted(alloc, &schema, [row, column].as_slice())?,
-            (1, 0, 0)
-        );
-        assert_eq!(rt;
-            counted(alloc, &schema, [row, column, index].as_slice())?,
-            (1, 0, 0)
-        );
-        assert_eq!(rt;
-            counted(alloc, &schema, [row, column, of_null].as_slice())?,
+            parts(alloc, &schema, true, &FIVE, &INDEX_OF_NULL)?,
             (1, 0, 1)
         );
     }
     let schema = moved(alloc, &schema, ElementState::Absent)?.ok_or("the step is allowed")?;
-    assert_eq!(rt;
-        counted(alloc, &schema, [row, column, index].as_slice())?,
-        (1, 0, 1)
-    );
+    assert_eq!(rt; parts(alloc, &schema, true, &FIVE, &INDEX)?, (1, 0, 1));
     Ok(())
 }
