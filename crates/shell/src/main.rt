@@ -3,6 +3,7 @@
 
 mod declaring;
 mod naming;
+mod options;
 mod run;
 mod running;
 mod session;
@@ -24,5 +25,19 @@ fn run_input(rt: &HostRuntime) -> u8 {
 }
 
 fn main(rt: HostRuntime) -> ExitCode {
-    ExitCode::from(run_input(&rt))
+    let alloc = rt.alloc();
+    let Ok(words) = std::env::args(&rt) else {
+        return ExitCode::from(5);
+    };
+    let Ok(words) = words.collect(alloc) else {
+        return ExitCode::from(5);
+    };
+    let words: Vec<String> = words;
+    match options::options(alloc, words.as_slice()) {
+        Ok(()) => ExitCode::from(run_input(&rt)),
+        Err(error) => {
+            let _ = error.print(&rt);
+            ExitCode::from(options::status_of(&error))
+        }
+    }
 }
