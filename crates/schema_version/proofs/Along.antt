@@ -1,6 +1,6 @@
 -- An allowed step keeps what is true of every version: how the version after some of its moves goes back to the old one.
-use Rattle.std.proofs.Common.{◌≡◌, ◌≢◌, ℕ, ◌+◌, ◌<◌, ◌≤◌, Bool, true, false, cond, not, ◌&&◌, ◌||◌, ◌==◌, ◌⊎◌, List, [], ◌∷◌, ◌++◌, Option, Some, None, inl, inr, refl, sym, ap, subst, ◌∙◌, arith, Contains, Ok, Err, count_by, append_assoc, add-zero}
-use Rattle.std.specs.Prelude.{IsNone, IsTrue, OnOk}
+use Rattle.std.proofs.Common.{◌≡◌, ℕ, ◌+◌, ◌≤◌, Bool, true, false, cond, not, ◌&&◌, ◌||◌, ◌==◌, ◌⊎◌, List, [], ◌∷◌, ◌++◌, Option, Some, None, inl, inr, refl, sym, ap, subst, ◌∙◌, arith, Contains, Ok, Err, count_by, append_assoc, add-zero}
+use Rattle.std.specs.Prelude.{IsNone, OnOk}
 use Rattle.std.specs.List.{find as find_by, list_any}
 use Rattle.std.specs.FinMap as map
 use Rattle.std.proofs.lemmas.Bool.Decides.{Decides-eqb}
@@ -16,13 +16,12 @@ use Rattle.schema_version.specs.declared.element.ElementDef.{ElementDef}
 use Rattle.schema_version.specs.declared.element.NewElement.{NewElement}
 use Rattle.schema_version.specs.declared.step.Move.{Move}
 use Rattle.schema_version.specs.declared.step.Move.TheVariants.{Enter, Go}
-use Rattle.schema_version.specs.declared.step.StepFault.{StepFault}
-use Rattle.schema_version.specs.declared.step.StepFault.TheVariants.{Unknown, NotAdjacent, WrongWay, Dependent, NameTaken, Limit}
-use Rattle.schema_version.specs.Version.{Version, Table, table_at, element_at, state_of, state_or_absent, live, is_index, is_like, is_public, listed, IsLiveColumn, IsPublicColumn, count_live}
-use Rattle.schema_version.specs.Moves.{is_edge, way_after, as_element, in_state, moved, after_move, after_step, is_move_of, moves_element, is_unready, is_entry, is_entry_like, count_like, IsFirstSuch, IsIndexOn, IsLeastIndexOn, DependsOn, GoFault, MoveFault, IsWithinLimits, IsAllowed}
+use Rattle.schema_version.specs.declared.step.StepFault.TheVariants.{Unknown, NotAdjacent, Dependent, NameTaken, Limit}
+use Rattle.schema_version.specs.Version.{Version, table_at, element_at, state_of, state_or_absent, live, is_index, is_like, is_public, listed, IsLiveColumn, IsPublicColumn, count_live}
+use Rattle.schema_version.specs.Moves.{is_edge, way_after, as_element, moved, after_move, after_step, is_move_of, moves_element, is_unready, is_entry, is_entry_like, count_like, IsFirstSuch, IsIndexOn, IsLeastIndexOn, DependsOn, IsWithinLimits, IsAllowed}
 use Rattle.schema_version.specs.Steps.{HasEdge, IsOrdered, in_state_or_none}
 use Rattle.schema_version.specs.Deciding.{Answer, step_check, lists, is_column_of, is_within_limits}
-use Rattle.schema_version.specs.Sound.{IsSoundElement, IsSoundVersion}
+use Rattle.schema_version.specs.Sound.{IsSoundVersion}
 use Rattle.schema_version.proofs.Entries.{tells}
 use Rattle.schema_version.proofs.Lists.{here, some_same, not_both, any_from, find_first, none_in}
 use Rattle.schema_version.proofs.Live.{none_passes, element_at-lookup}

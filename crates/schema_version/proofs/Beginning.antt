@@ -1,7 +1,7 @@
 -- What is true of every version is true of the declared one.
-use Rattle.std.proofs.Common.{◌≡◌, ◌≢◌, ℕ, zero, suc, ◌+◌, ◌-◌, ◌*◌, ◌<◌, ◌≤◌, Bool, true, false, cond, not, ◌&&◌, ◌==◌, List, [], ◌∷◌, ◌++◌, length, Option, Some, None, inl, inr, refl, sym, ap, subst, ◌∙◌, arith, Contains, append_assoc, length-append}
+use Rattle.std.proofs.Common.{◌≡◌, ℕ, ◌+◌, ◌*◌, ◌<◌, ◌≤◌, Bool, true, false, not, ◌&&◌, ◌==◌, List, [], ◌∷◌, ◌++◌, length, Some, inl, inr, refl, sym, ap, subst, ◌∙◌, arith, Contains, append_assoc, length-append}
 use Rattle.std.specs.Prelude.{IsTrue, slice_get}
-use Rattle.std.specs.List.{list_all, AllByRecursion}
+use Rattle.std.specs.List.{AllByRecursion}
 use Rattle.std.specs.Ordering.{nat_cmp}
 use Rattle.std.specs.FinMap as map
 use Rattle.std.proofs.lemmas.Bool.Decides.{Decides-eqb}
@@ -12,8 +12,7 @@ use Rattle.schema_version.specs.declared.element.ElementDef.{ElementDef}
 use Rattle.schema_version.specs.declared.table.TableDef.{TableDef}
 use Rattle.schema_version.specs.Names.{IsName, is_among, is_distinct}
 use Rattle.schema_version.specs.Version.{Version, Table, table_at, element_at, is_like, count_live}
-use Rattle.schema_version.specs.Moves.{max_like}
-use Rattle.schema_version.specs.Declaring.{table_of, column_entry, index_entry, entries_of, enter_public, enter_tables, declared, names_of, IsLawfulTable, IsLawful}
+use Rattle.schema_version.specs.Declaring.{table_of, column_entry, index_entry, entries_of, enter_public, enter_tables, declared, IsLawfulTable, IsLawful}
 use Rattle.schema_version.specs.Accepting.{names_in, are_apart, has_own_names, has_names_apart, table_names}
 use Rattle.schema_version.specs.Sound.{IsSoundTable, IsSoundVersion}
 use Rattle.schema_version.proofs.Maps.{entries-empty}

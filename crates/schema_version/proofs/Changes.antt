@@ -1,5 +1,5 @@
 -- What the moves of a step do to each element, one by one.
-use Rattle.std.proofs.Common.{◌≡◌, ◌≢◌, ℕ, ◌+◌, ◌<◌, ◌≤◌, Bool, true, false, cond, List, [], ◌∷◌, Option, Some, None, ◌⊎◌, inl, inr, refl, sym, ap, subst, ◌∙◌, arith, nat_eq, Contains}
+use Rattle.std.proofs.Common.{◌≡◌, ◌≢◌, ℕ, ◌+◌, ◌<◌, ◌≤◌, true, false, cond, List, [], ◌∷◌, Option, Some, None, ◌⊎◌, inl, inr, refl, sym, ap, subst, ◌∙◌, arith, nat_eq, Contains}
 use Rattle.std.specs.Ordering.{nat_cmp, eq_by_cmp}
 use Rattle.std.specs.Cmp.{unsigned_tied}
 use Rattle.std.proofs.lemmas.Cmp.{nat_cmp_total}
@@ -13,7 +13,7 @@ use Rattle.schema_version.specs.Version.{Version, element_at}
 use Rattle.schema_version.specs.Moves.{as_element, in_state, moved, after_move, after_step}
 use Rattle.schema_version.specs.Steps.{Change, Stays, Enters, Goes, in_state_or_none, IsOrdered}
 use Rattle.schema_version.proofs.Entries.{tells}
-use Rattle.schema_version.proofs.Lists.{here, later, here_or_later, some_same}
+use Rattle.schema_version.proofs.Lists.{here, later, some_same}
 
 -- a map after a write at k, at k and elsewhere
 pub inserted_here : (m : map.FinMap nat_cmp ElementDef) (k n : ℕ) (e : ElementDef) → n ≡ k → map.get (map.insert m k e) n ≡ Some e

@@ -1,8 +1,8 @@
 -- The tests of a move decide why it isn't allowed.
-use Rattle.std.proofs.Common.{◌≡◌, ◌≢◌, ℕ, ◌+◌, ◌<◌, ◌≤◌, Bool, true, false, cond, not, ◌&&◌, ◌||◌, ◌==◌, List, [], ◌∷◌, ◌++◌, length, Option, Some, None, ◌⊎◌, inl, inr, refl, sym, ap, subst, ◌∙◌, arith, Contains, Ok, Err, if◌then◌else◌, is_some}
-use Rattle.std.specs.Prelude.{IsTrue, IsNone, bytes_eq, nat_lt, nat_le, count_by, option_map}
+use Rattle.std.proofs.Common.{◌≡◌, ◌≢◌, ℕ, ◌+◌, ◌≤◌, Bool, true, false, not, ◌&&◌, ◌||◌, ◌==◌, List, [], ◌∷◌, length, Option, Some, None, inl, inr, refl, sym, ap, subst, ◌∙◌, arith, Contains, Err, is_some}
+use Rattle.std.specs.Prelude.{IsTrue, bytes_eq, nat_lt, nat_le, count_by, option_map}
 use Rattle.std.specs.Bool.{Decides}
-use Rattle.std.specs.List.{list_any, list_all, find, AllByRecursion}
+use Rattle.std.specs.List.{list_any, list_all, find}
 use Rattle.std.proofs.lemmas.Bool.Decides.{Decides-and, Decides-or, Decides-not, Decides-eqb, Decides-ltb, Decides-like, leb_tells}
 use Rattle.std.proofs.lemmas.Slice.Eq.{bytes_eq-Decides}
 use Rattle.std.specs.FinMap as map
@@ -17,14 +17,14 @@ use Rattle.schema_version.specs.declared.element.NewElement.{NewElement}
 use Rattle.schema_version.specs.declared.step.Move.{Move}
 use Rattle.schema_version.specs.declared.step.Move.TheVariants.{Enter, Go}
 use Rattle.schema_version.specs.declared.step.StepFault.{StepFault}
-use Rattle.schema_version.specs.declared.step.StepFault.TheVariants.{Unknown, NotAdjacent, WrongWay, Dependent, NameTaken, Limit, Memory}
-use Rattle.schema_version.specs.Names.{IsName, is_name, is_word, is_letter, is_word_byte, max_listed, max_elements}
+use Rattle.schema_version.specs.declared.step.StepFault.TheVariants.{Unknown}
+use Rattle.schema_version.specs.Names.{IsName, is_name, is_letter, is_word_byte, max_listed, max_elements}
 use Rattle.schema_version.specs.Version.{Version, Table, table_at, element_at, live, is_index, is_public, is_column, is_named, listed, IsLiveColumn}
-use Rattle.schema_version.specs.Moves.{is_edge, moves_element, HasNoEdge, is_unready, is_distinct, count_like, max_like, is_entry, DependsOn, IsIndexOn, IsFirstSuch, IsLeastIndexOn, IsTaken, Enters, IsColumnList, IsWithinLimits, GoFault, GoFaultAt, MoveFault, rank}
+use Rattle.schema_version.specs.Moves.{is_edge, moves_element, HasNoEdge, is_unready, is_distinct, count_like, max_like, is_entry, DependsOn, IsFirstSuch, IsLeastIndexOn, IsTaken, Enters, IsColumnList, IsWithinLimits, GoFault, GoFaultAt, MoveFault, rank}
 use Rattle.schema_version.specs.Deciding.{has_no_edge, lists, stands_against, go_check, go_check_at, enter_check, move_check, is_column_of, are_columns_of, has_key_column, is_entry_named, is_taken, is_column_list, is_within_limits}
 use Rattle.schema_version.proofs.Lists.{any_says, any_from, all_says, all_fails, find_first, find_none, some_same, not_both}
 use Rattle.schema_version.proofs.Live.{IsLeast, first_is_least, none_passes, element_at-lookup, live_has, live_from}
-use Rattle.schema_version.proofs.Chain.{Finds, chain, AreTests, Says, chain_says}
+use Rattle.schema_version.proofs.Chain.{Finds, Says, chain_says}
 
 -- an element stands under its own number
 abbrev pub AreNumbered : Version → Type 0

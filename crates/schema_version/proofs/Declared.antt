@@ -1,10 +1,9 @@
 -- The tests of declared tables decide whether they may be declared.
-use Rattle.std.proofs.Common.{◌≡◌, ℕ, ◌≤◌, Bool, true, false, not, ◌&&◌, ◌||◌, List, [], ◌∷◌, ◌++◌, length, refl, sym, ap, subst, ◌∙◌}
-use Rattle.std.specs.Prelude.{IsTrue, nat_le, bytes_eq}
+use Rattle.std.proofs.Common.{◌≡◌, ℕ, ◌≤◌, Bool, true, false, not, ◌&&◌, ◌||◌, List, [], ◌∷◌, ◌++◌, length, refl, sym, ap, ◌∙◌}
+use Rattle.std.specs.Prelude.{nat_le, bytes_eq}
 use Rattle.std.specs.Bool.{Decides}
 use Rattle.std.specs.List.{list_any, list_all, AllByRecursion}
 use Rattle.std.proofs.lemmas.Bool.Decides.{Decides-and}
-use mathlib.Core.List.{map as each}
 use Rattle.schema_version.specs.declared.table.TableDef.{TableDef}
 use Rattle.schema_version.specs.Names.{IsName, is_name, is_among, is_distinct, max_tables, max_key_columns, max_columns, max_indexes, max_listed}
 use Rattle.schema_version.specs.Declaring.{names_of, IsLawfulIndex, IsLawfulTable, IsLawful}

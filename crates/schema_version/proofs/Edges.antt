@@ -1,5 +1,5 @@
 -- What an allowed step does to each element, and to the columns of indexes.
-use Rattle.std.proofs.Common.{◌≡◌, ◌≢◌, ℕ, zero, suc, ◌+◌, ◌<◌, ◌≤◌, Bool, true, false, not, ◌&&◌, ◌||◌, List, [], ◌∷◌, ◌++◌, length, Option, Some, None, ◌⊎◌, inl, inr, refl, sym, ap, subst, ◌∙◌, arith, append_assoc, Contains, nat_eq}
+use Rattle.std.proofs.Common.{◌≡◌, ◌≢◌, ℕ, zero, suc, Bool, true, false, List, [], ◌∷◌, ◌++◌, Option, Some, None, ◌⊎◌, inl, inr, refl, sym, ap, subst, ◌∙◌, arith, append_assoc, Contains}
 use Rattle.std.proofs.lemmas.Bool.Decides.{Decides-eqb}
 use Rattle.std.proofs.lemmas.List.Elements.{Contains-append_right}
 use Rattle.schema_version.specs.declared.element.ElementState.{ElementState}
@@ -12,7 +12,7 @@ use Rattle.schema_version.specs.declared.step.Move.TheVariants.{Enter, Go}
 use Rattle.schema_version.specs.declared.step.StepFault.{StepFault}
 use Rattle.schema_version.specs.declared.step.StepFault.TheVariants.{Unknown, NotAdjacent, WrongWay}
 use Rattle.schema_version.specs.Version.{Version, element_at}
-use Rattle.schema_version.specs.Moves.{is_edge, HasNoEdge, moves_element, is_move_of, GoFaultAt, MoveFault, IsAllowed, after_step}
+use Rattle.schema_version.specs.Moves.{is_edge, HasNoEdge, is_move_of, GoFaultAt, IsAllowed, after_step}
 use Rattle.schema_version.specs.Steps.{Change, Stays, Enters, Goes, HasEdge, StepOf, Same, New, Next, IsOrdered, StepsKeepToEdges}
 use Rattle.schema_version.proofs.Lists.{here, any_from}
 use Rattle.schema_version.proofs.Changes.{change_of, AreKnown, AreMovedOnce}

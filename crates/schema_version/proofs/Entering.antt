@@ -1,21 +1,20 @@
 -- What is true of every version stays true while the columns and indexes of a declared table enter.
-use Rattle.std.proofs.Common.{◌≡◌, ◌≢◌, ℕ, zero, suc, ◌+◌, ◌*◌, ◌<◌, ◌≤◌, Bool, true, false, cond, not, ◌&&◌, ◌||◌, ◌==◌, ◌⊎◌, List, [], ◌∷◌, ◌++◌, length, Option, Some, None, inl, inr, refl, sym, ap, subst, ◌∙◌, arith, Contains, if◌then◌else◌}
-use Rattle.std.specs.Prelude.{IsTrue, slice_get, bytes_eq}
+use Rattle.std.proofs.Common.{◌≡◌, ℕ, ◌+◌, ◌*◌, ◌<◌, ◌≤◌, Bool, true, false, cond, not, ◌&&◌, ◌||◌, ◌==◌, List, [], ◌∷◌, ◌++◌, length, Some, inl, inr, refl, sym, ap, subst, ◌∙◌, arith, Contains, if◌then◌else◌}
+use Rattle.std.specs.Prelude.{bytes_eq}
 use Rattle.std.specs.List.{list_any, list_all, AllByRecursion}
-use Rattle.std.specs.FinMap as map
 use Rattle.std.proofs.lemmas.Bool.Decides.{Decides-eqb}
 use Rattle.std.proofs.lemmas.List.{length-map}
 use Rattle.std.proofs.lemmas.Slice.Eq.{bytes_eq-Decides}
 use mathlib.Core.List.{map as each}
 use Rattle.row_map.specs.declared.shape.ColumnType.{ColumnType}
-use Rattle.schema_version.specs.declared.element.ElementState.TheVariants.{Absent, Public}
+use Rattle.schema_version.specs.declared.element.ElementState.TheVariants.{Public}
 use Rattle.schema_version.specs.declared.element.Kind.{Kind}
 use Rattle.schema_version.specs.declared.element.Kind.TheVariants.{Index, Optional}
 use Rattle.schema_version.specs.declared.element.ElementDef.{ElementDef}
 use Rattle.schema_version.specs.declared.element.NewElement.{NewElement}
 use Rattle.schema_version.specs.declared.table.TableDef.{TableDef}
-use Rattle.schema_version.specs.Names.{IsName, is_among, is_distinct, max_listed, max_elements}
-use Rattle.schema_version.specs.Version.{Version, Table, table_at, element_at, is_index, is_like, listed, IsPublicColumn, IsKeyName, count_live}
+use Rattle.schema_version.specs.Names.{IsName, is_among, is_distinct, max_listed}
+use Rattle.schema_version.specs.Version.{Version, Table, table_at, element_at, is_index, is_like, listed, IsPublicColumn, count_live}
 use Rattle.schema_version.specs.Moves.{as_element, entered, IsColumnList, max_like, is_distinct as is_distinct_numbers}
 use Rattle.schema_version.specs.Declaring.{number_of, column_entry, index_entry, enter_public, IsLawfulIndex}
 use Rattle.schema_version.specs.Sound.{IsSoundVersion}
@@ -24,7 +23,7 @@ use Rattle.schema_version.proofs.Lists.{here, later, here_or_later, some_same, n
 use Rattle.schema_version.proofs.Changes.{inserted_here, inserted_apart}
 use Rattle.schema_version.proofs.Declared.{both_true}
 use Rattle.schema_version.proofs.Counts.{count_insert}
-use Rattle.schema_version.proofs.Keeping.{MayEnter, enter_sound}
+use Rattle.schema_version.proofs.Keeping.{enter_sound}
 
 -- ---- lists and their names
 

@@ -1,5 +1,5 @@
 -- The columns that a live index lists don't change in an allowed step.
-use Rattle.std.proofs.Common.{◌≡◌, ℕ, Bool, true, false, not, ◌||◌, ◌⊎◌, List, ◌∷◌, ◌++◌, Option, Some, None, inl, inr, refl, sym, ap, subst, ◌∙◌, Contains}
+use Rattle.std.proofs.Common.{◌≡◌, ℕ, true, false, List, ◌∷◌, ◌++◌, Option, Some, inl, inr, refl, sym, ap, subst, ◌∙◌, Contains}
 use Rattle.std.proofs.lemmas.Bool.Decides.{Decides-eqb}
 use Rattle.schema_version.specs.declared.element.ElementState.{ElementState}
 use Rattle.schema_version.specs.declared.element.ElementDef.{ElementDef}
@@ -11,7 +11,7 @@ use Rattle.schema_version.specs.Version.{Version, element_at, state_of, state_or
 use Rattle.schema_version.specs.Moves.{after_step, is_move_of, moves_element, DependsOn, IsAllowed}
 use Rattle.schema_version.specs.Steps.{Change, Stays, Enters, Goes, StepsStaySound, IndexedColumnsStay}
 use Rattle.schema_version.specs.Sound.{IsSoundVersion}
-use Rattle.schema_version.proofs.Lists.{here, some_same, not_both, any_from}
+use Rattle.schema_version.proofs.Lists.{some_same, not_both, any_from}
 use Rattle.schema_version.proofs.Changes.{none_there}
 use Rattle.schema_version.proofs.Edges.{split_at, clear, change_at}
 use Rattle.schema_version.proofs.Along.{least_there, ready, step_sound, ordered_of, same_else}

@@ -1,5 +1,5 @@
 -- The tests of a step decide whether it is allowed, and why it isn't.
-use Rattle.std.proofs.Common.{◌≡◌, ℕ, ◌+◌, ◌<◌, ◌≤◌, List, [], ◌∷◌, ◌++◌, length, Ok, Err, refl, sym, ap, subst, ◌∙◌, arith, append_assoc, append-nil, add-zero, cond, count_by, Bool, true, false}
+use Rattle.std.proofs.Common.{◌≡◌, ◌+◌, ◌≤◌, List, [], ◌∷◌, ◌++◌, Ok, Err, refl, sym, ap, subst, ◌∙◌, arith, append_assoc, append-nil, add-zero, cond, count_by, Bool, true, false}
 use Rattle.std.specs.Prelude.{OnOk, IfErr}
 use Rattle.std.specs.Bool.{Decides}
 use Rattle.std.proofs.lemmas.List.Sums.{sum_by-cons, sum_by-append}

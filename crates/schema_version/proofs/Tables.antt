@@ -1,5 +1,5 @@
 -- Tables by their numbers and names.
-use Rattle.std.proofs.Common.{◌≡◌, ℕ, ◌-◌, ◌≤◌, List, Option, None, inl, inr, refl, sym, ap, subst, ◌∙◌, arith, if◌then◌else◌, String}
+use Rattle.std.proofs.Common.{◌≡◌, ℕ, ◌-◌, ◌≤◌, List, None, inl, inr, sym, ap, ◌∙◌, arith, if◌then◌else◌, String}
 use Rattle.std.specs.Prelude.{slice_get, position, bytes_eq}
 use Rattle.std.specs.String.{string_bytes}
 use Rattle.std.specs.Map.{keys_of}

@@ -1,6 +1,6 @@
 -- The tests by which declared tables are accepted.
-use Rattle.std.specs.Prelude.{ℕ, List, [], ◌∷◌, length, Bool, true, false, ◌&&◌, not, nat_le}
-use Rattle.std.specs.List.{list_all, list_any}
+use Rattle.std.specs.Prelude.{ℕ, List, length, Bool, ◌&&◌, not, nat_le}
+use Rattle.std.specs.List.{list_all}
 use mathlib.Core.List.{map as each}
 use Rattle.schema_version.specs.declared.table.TableDef.{TableDef}
 use Rattle.schema_version.specs.Names.{is_name, is_among, is_distinct, max_tables, max_key_columns, max_columns, max_indexes, max_listed}

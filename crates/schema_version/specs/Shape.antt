@@ -1,5 +1,5 @@
 -- The shape of a table as a version's public columns give it.
-use Rattle.std.specs.Prelude.{ℕ, List, Option, Some, None, ◌==◌, ◌&&◌, option_map, if◌then◌else◌}
+use Rattle.std.specs.Prelude.{ℕ, List, Option, None, ◌==◌, ◌&&◌, option_map, if◌then◌else◌}
 use Rattle.std.specs.List.{filter_map}
 use mathlib.Core.List.{map as each}
 use Rattle.row_map.specs.declared.shape.ColumnType.{ColumnType}

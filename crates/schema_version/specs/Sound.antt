@@ -1,5 +1,5 @@
 -- What is true of every version that a Schema stands for.
-use Rattle.std.specs.Prelude.{◌≡◌, ◌≢◌, ℕ, ◌+◌, ◌<◌, ◌≤◌, List, length, Bool, Option, Some, IsTrue, Contains}
+use Rattle.std.specs.Prelude.{◌≡◌, ◌≢◌, ℕ, ◌+◌, ◌<◌, ◌≤◌, length, Bool, Some, IsTrue, Contains}
 use Rattle.std.specs.List.{AllByRecursion}
 use mathlib.Core.List.{map as each}
 use Rattle.schema_version.specs.declared.element.ElementState.TheVariants.{Absent, Public}

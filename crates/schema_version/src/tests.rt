@@ -1,18 +1,17 @@
-ghost use Rattle.std.specs.Prelude.{◌<◌};
-
 use super::*;
 use crate::element::ElementState::{Absent, DeleteOnly, Public, WriteOnly};
 use keycode::Text;
 use listed::Listed;
 use row_map::ColumnType;
-use std::alloc::Global;
+use std::alloc::{AllocError, Global};
+use std::ops::RangeInclusive;
 use std::test::*;
 
-fn text(alloc: Global, name: &str) -> Result<Text, Fail> {
+fn text(alloc: Global, name: &str) -> Result<Text, AllocError> {
     Ok(Text::new(String::from_str(alloc, name)?))
 }
 
-fn texts(alloc: Global, names: &[&str]) -> Result<Listed<Text>, Fail> {
+fn texts(alloc: Global, names: &[&str]) -> Result<Listed<Text>, AllocError> {
     let mut all = Vec::new(alloc);
     for name in names {
         all.push(text(alloc, *name)?)?;
@@ -21,7 +20,7 @@ fn texts(alloc: Global, names: &[&str]) -> Result<Listed<Text>, Fail> {
 }
 
 // Columns of these names, all of them Int.
-fn ints(alloc: Global, names: &[&str]) -> Result<Columns, Fail> {
+fn ints(alloc: Global, names: &[&str]) -> Result<Columns, AllocError> {
     let mut columns = Vec::new(alloc);
     for name in names {
         columns.push((text(alloc, *name)?, ColumnType::Int))?;
@@ -29,224 +28,317 @@ fn ints(alloc: Global, names: &[&str]) -> Result<Columns, Fail> {
     Ok(Listed::new(columns))
 }
 
-fn table(
-    alloc: Global,
-    name: &str,
-    key: &[&str],
-    columns: &[&str],
-    indexes: &[(&str, &[&str])],
-) -> Result<TableDef, Fail> {
-    let mut listed = Vec::new(alloc);
-    for index in indexes {
-        listed.push((text(alloc, index.0)?, texts(alloc, index.1)?))?;
-    }
+// A table without indexes.
+fn bare(alloc: Global, name: &str, key: &[&str], columns: &[&str]) -> Result<TableDef, AllocError> {
     Ok(TableDef {
         name: text(alloc, name)?,
         key: ints(alloc, key)?,
         columns: ints(alloc, columns)?,
-        indexes: Listed::new(listed),
+        indexes: Listed::new(Vec::new(alloc)),
     })
 }
 
-fn declared(alloc: Global, table: TableDef) -> Result<Schema, Fail> {
-    let tables = vec![in alloc; table]?;
-    let schema = Schema::declared(alloc, &tables)
-        .ok()
-        .ok_or("the table may be declared")?;
-    Ok(schema)
+// The table with one more index.
+fn indexed(
+    alloc: Global,
+    table: TableDef,
+    name: &str,
+    columns: &[&str],
+) -> Result<TableDef, AllocError> {
+    let mut table = table;
+    table
+        .indexes
+        .push((text(alloc, name)?, texts(alloc, columns)?))?;
+    Ok(table)
+}
+
+fn alone(alloc: Global, table: TableDef) -> Result<Vec<TableDef>, AllocError> {
+    let mut tables = Vec::new(alloc);
+    tables.push(table)?;
+    Ok(tables)
+}
+
+fn declared(alloc: Global, table: TableDef) -> Result<Schema, DeclareFault> {
+    Schema::declared(alloc, &alone(alloc, table)?)
 }
 
 // table t (id int key, a int), index i on t (a)
-fn schema_q(alloc: Global) -> Result<Schema, Fail> {
-    declared(alloc, table(alloc, "t", &["id"], &["a"], &[("i", &["a"])])?)
+fn declared_q(alloc: Global) -> Result<Schema, DeclareFault> {
+    let table = bare(alloc, "t", &["id"], &["a"])?;
+    declared(alloc, indexed(alloc, table, "i", &["a"])?)
 }
 
-fn one(alloc: Global, a: Move) -> Result<Step, Fail> {
-    Ok(Listed::new(vec![in alloc; a]?))
-}
-
-fn two(alloc: Global, first: Move, second: Move) -> Result<Step, Fail> {
-    Ok(Listed::new(vec![in alloc; first, second]?))
+fn schema_q(alloc: Global) -> Result<Schema, StepFault> {
+    declared_q(alloc).map_err(|_| StepFault::Memory)
 }
 
 fn go(element: u32, to: ElementState) -> Move {
     Move::Go { element, to }
 }
 
-fn column(alloc: Global, name: &str, to: ElementState) -> Result<Move, Fail> {
+fn column(alloc: Global, name: &str) -> Result<Move, AllocError> {
     let fresh = NewElement {
         table: 1,
         name: text(alloc, name)?,
         kind: Kind::Optional(ColumnType::Int),
     };
-    Ok(Move::Enter { fresh, to })
+    Ok(Move::Enter {
+        fresh,
+        to: DeleteOnly,
+    })
 }
 
-fn index(alloc: Global, name: &str, columns: &[u32], to: ElementState) -> Result<Move, Fail> {
+fn index(alloc: Global, name: &str, columns: &[u32], to: ElementState) -> Result<Move, AllocError> {
+    let columns = Vec::from_slice(alloc, columns)?;
     let fresh = NewElement {
         table: 1,
         name: text(alloc, name)?,
-        kind: Kind::Index(Listed::new(Vec::from_slice(alloc, columns)?)),
+        kind: Kind::Index(Listed::new(columns)),
     };
     Ok(Move::Enter { fresh, to })
 }
 
-// Why a step of this one move is refused.
-fn refused(alloc: Global, schema: &Schema, a: Move) -> Result<Option<StepFault>, Fail> {
-    Ok(schema.apply(&one(alloc, a)?).err())
+fn one(alloc: Global, a: Move) -> Result<Step, AllocError> {
+    let mut step = Listed::new(Vec::new(alloc));
+    step.push(a)?;
+    Ok(step)
 }
 
-fn then(schema: &Schema, step: Step) -> Result<Schema, Fail> {
-    let next = schema.apply(&step).ok().ok_or("the step is allowed")?;
-    Ok(next)
+// The version after a step of this one move.
+fn after(alloc: Global, schema: &Schema, a: Move) -> Result<Schema, StepFault> {
+    schema.apply(&one(alloc, a)?)
+}
+
+// Why a step of this one move is refused.
+fn fault_of(alloc: Global, schema: &Schema, a: Move) -> Option<StepFault> {
+    after(alloc, schema, a).err()
+}
+
+fn refuses_go(
+    alloc: Global,
+    schema: &Schema,
+    element: u32,
+    to: ElementState,
+    fault: StepFault,
+) -> bool {
+    fault_of(alloc, schema, go(element, to)) == Some(fault)
+}
+
+fn refuses_index(
+    alloc: Global,
+    schema: &Schema,
+    name: &str,
+    columns: &[u32],
+    fault: StepFault,
+) -> Result<bool, AllocError> {
+    let entry = index(alloc, name, columns, DeleteOnly)?;
+    Ok(fault_of(alloc, schema, entry) == Some(fault))
+}
+
+fn refuses_column(
+    alloc: Global,
+    schema: &Schema,
+    name: &str,
+    fault: StepFault,
+) -> Result<bool, AllocError> {
+    Ok(fault_of(alloc, schema, column(alloc, name)?) == Some(fault))
+}
+
+fn refuses_public_index(alloc: Global, schema: &Schema) -> Result<bool, AllocError> {
+    let entry = index(alloc, "j", &[1], Public)?;
+    Ok(fault_of(alloc, schema, entry) == Some(StepFault::NotAdjacent))
+}
+
+fn are_moves_refused(alloc: Global, q: &Schema) -> Result<bool, AllocError> {
+    Ok(
+        refuses_public_index(alloc, q)?
+            && refuses_go(alloc, q, 1, DeleteOnly, StepFault::Dependent { on: 2 })
+            && refuses_go(alloc, q, 2, DeleteOnly, StepFault::NotAdjacent)
+            && refuses_column(alloc, q, "a", StepFault::NameTaken)?
+            && refuses_go(alloc, q, 3, Public, StepFault::Unknown),
+    )
+}
+
+fn refused_moves_hold(alloc: Global) -> Result<bool, StepFault> {
+    Ok(are_moves_refused(alloc, &schema_q(alloc)?)?)
 }
 
 #[test]
 fn refused_moves(rt: HostRuntime) -> Result<(), Fail> {
-    let alloc = rt.alloc();
-    let q = schema_q(alloc)?;
-    let j = index(alloc, "j", &[1], Public)?;
-    assert_eq!(rt; refused(alloc, &q, j)?, Some(StepFault::NotAdjacent));
-    assert_eq!(rt;
-        refused(alloc, &q, go(1, DeleteOnly))?,
-        Some(StepFault::Dependent { on: 2 })
-    );
-    assert_eq!(rt;
-        refused(alloc, &q, go(2, DeleteOnly))?,
-        Some(StepFault::NotAdjacent)
-    );
-    let a = column(alloc, "a", DeleteOnly)?;
-    assert_eq!(rt; refused(alloc, &q, a)?, Some(StepFault::NameTaken));
-    assert!(rt; q.by_name(1, "z").is_none());
-    assert_eq!(rt;
-        refused(alloc, &q, go(3, Public))?,
-        Some(StepFault::Unknown)
-    );
+    assert!(rt; refused_moves_hold(rt.alloc())?);
     Ok(())
+}
+
+// The name stands for the element of this number in the table.
+fn names(schema: &Schema, table: u32, name: &str, number: u32) -> bool {
+    match schema.by_name(table, name) {
+        Some(element) => element.number == number,
+        None => false,
+    }
+}
+
+fn added_column_goes_on(alloc: Global) -> Result<bool, StepFault> {
+    let q = schema_q(alloc)?;
+    let second = after(alloc, &q, column(alloc, "b")?)?;
+    Ok(names(&second, 1, "b", 3) && refuses_go(alloc, &second, 3, Absent, StepFault::WrongWay))
 }
 
 #[test]
 fn added_column_goes_its_way(rt: HostRuntime) -> Result<(), Fail> {
-    let alloc = rt.alloc();
-    let q = schema_q(alloc)?;
-    let second = then(&q, one(alloc, column(alloc, "b", DeleteOnly)?)?)?;
-    assert_eq!(rt; second.by_name(1, "b").map(|e| e.number), Some(3));
-    assert_eq!(rt;
-        refused(alloc, &second, go(3, Absent))?,
-        Some(StepFault::WrongWay)
-    );
+    assert!(rt; added_column_goes_on(rt.alloc())?);
     Ok(())
+}
+
+// The version after the index i of q went its way to absent.
+fn without_index(alloc: Global, q: &Schema) -> Result<Schema, StepFault> {
+    let leaving = after(alloc, q, go(2, WriteOnly))?;
+    let leaving = after(alloc, &leaving, go(2, DeleteOnly))?;
+    after(alloc, &leaving, go(2, Absent))
+}
+
+fn is_live(schema: &Schema, place: usize, number: u32) -> bool {
+    match schema.live(place) {
+        Some(element) => element.number == number && element.table == 1,
+        None => false,
+    }
+}
+
+fn has_new_index(again: &Schema) -> bool {
+    names(again, 1, "i", 3)
+        && again.state(2) == Absent
+        && again.state(3) == DeleteOnly
+        && is_live(again, 0, 1)
+        && is_live(again, 1, 3)
+        && again.live(2).is_none()
+}
+
+fn index_comes_back_with_3(alloc: Global) -> Result<bool, StepFault> {
+    let gone = without_index(alloc, &schema_q(alloc)?)?;
+    let again = after(alloc, &gone, index(alloc, "i", &[1], DeleteOnly)?)?;
+    Ok(gone.by_name(1, "i").is_none() && has_new_index(&again))
 }
 
 #[test]
 fn numbers_never_come_back(rt: HostRuntime) -> Result<(), Fail> {
-    let alloc = rt.alloc();
-    let q = schema_q(alloc)?;
-    let leaving = then(&q, one(alloc, go(2, WriteOnly))?)?;
-    let leaving = then(&leaving, one(alloc, go(2, DeleteOnly))?)?;
-    let gone = then(&leaving, one(alloc, go(2, Absent))?)?;
-    assert!(rt; gone.by_name(1, "i").is_none());
-    let again = then(&gone, one(alloc, index(alloc, "i", &[1], DeleteOnly)?)?)?;
-    assert_eq!(rt;
-        again.by_name(1, "i").map(|e| (e.number, e.way)),
-        Some((3, Way::Adding))
-    );
-    assert_eq!(rt; again.state(2), Absent);
-    assert_eq!(rt; again.live(1).map(|e| e.number), Some(3));
-    assert!(rt; again.live(2).is_none());
+    assert!(rt; index_comes_back_with_3(rt.alloc())?);
     Ok(())
+}
+
+fn has_tables_of_q(q: &Schema) -> bool {
+    q.known();
+    q.table("t") == Some(1)
+        && q.table("u").is_none()
+        && q.table_name(1) == Some("t")
+        && q.table_name(0).is_none()
+        && q.table_name(2).is_none()
+}
+
+fn has_elements_of_q(q: &Schema) -> bool {
+    names(q, 1, "i", 2)
+        && q.by_name(2, "i").is_none()
+        && q.state(0) == Absent
+        && q.state(1) == Public
+        && q.state(3) == Absent
+}
+
+fn reads_q(alloc: Global) -> Result<bool, StepFault> {
+    let q = schema_q(alloc)?;
+    Ok(has_tables_of_q(&q) && has_elements_of_q(&q))
 }
 
 #[test]
 fn readers(rt: HostRuntime) -> Result<(), Fail> {
-    let alloc = rt.alloc();
-    let q = schema_q(alloc)?;
-    q.known();
-    assert_eq!(rt; (q.table("t"), q.table("u")), (Some(1), None));
-    assert_eq!(rt; q.table_name(1), Some("t"));
-    assert_eq!(rt; (q.table_name(0), q.table_name(2)), (None, None));
-    assert_eq!(rt;
-        q.by_name(1, "i").map(|e| (e.number, e.table)),
-        Some((2, 1))
-    );
-    assert!(rt; q.by_name(2, "i").is_none());
-    assert_eq!(rt;
-        (q.state(0), q.state(1), q.state(3)),
-        (Absent, Public, Absent)
-    );
+    assert!(rt; reads_q(rt.alloc())?);
     Ok(())
+}
+
+// Table 1 has an Int as its key and these columns.
+fn has_shape(
+    alloc: Global,
+    schema: &Schema,
+    columns: &[(u32, ColumnType)],
+) -> Result<bool, AllocError> {
+    match schema.shape(alloc, 1)? {
+        None => Ok(false),
+        Some(shape) => Ok(
+            shape.number == 1
+                && shape.key.as_slice() == [ColumnType::Int].as_slice()
+                && shape.columns.as_slice() == columns,
+        ),
+    }
+}
+
+fn has_shape_of_q(alloc: Global) -> Result<bool, StepFault> {
+    let q = schema_q(alloc)?;
+    Ok(has_shape(alloc, &q, &[(1, ColumnType::Int)])? && q.shape(alloc, 2)?.is_none())
 }
 
 #[test]
 fn shapes(rt: HostRuntime) -> Result<(), Fail> {
-    let alloc = rt.alloc();
-    let q = schema_q(alloc)?;
-    let shape = q.shape(alloc, 1)?.ok_or("the table is there")?;
-    assert_eq!(rt; shape.number, 1);
-    assert_eq!(rt; shape.key.as_slice(), [ColumnType::Int].as_slice());
-    assert_eq!(rt; shape.columns.as_slice(), [(1, ColumnType::Int)].as_slice());
-    assert!(rt; q.shape(alloc, 2)?.is_none());
-    let empty: Step = Listed::new(Vec::new(alloc));
-    assert_eq!(rt; then(&q, empty)?.state(2), Public);
+    assert!(rt; has_shape_of_q(rt.alloc())?);
     Ok(())
 }
 
-#[test]
-fn columns_leave(rt: HostRuntime) -> Result<(), Fail> {
-    let alloc = rt.alloc();
-    let p = declared(alloc, table(alloc, "t", &["id"], &["a"], &[])?)?;
-    let both = two(
-        alloc,
-        go(1, DeleteOnly),
-        index(alloc, "i", &[1], DeleteOnly)?,
-    )?;
-    assert_eq!(rt; p.apply(&both).err(), Some(StepFault::Dependent { on: 1 }));
-    let leaving = then(&p, one(alloc, go(1, DeleteOnly))?)?;
-    let shape = leaving.shape(alloc, 1)?.ok_or("the table is there")?;
-    assert!(rt; shape.columns.as_slice().is_empty());
-    assert_eq!(rt;
-        refused(alloc, &leaving, go(1, Public))?,
-        Some(StepFault::WrongWay)
-    );
-    let gone = then(&leaving, one(alloc, go(1, Absent))?)?;
-    assert!(rt; gone.live(0).is_none());
-    Ok(())
+fn two(alloc: Global, first: Move, second: Move) -> Result<Step, AllocError> {
+    let mut step = one(alloc, first)?;
+    step.push(second)?;
+    Ok(step)
+}
+
+fn refuses_two(
+    alloc: Global,
+    schema: &Schema,
+    first: Move,
+    second: Move,
+    fault: StepFault,
+) -> Result<bool, AllocError> {
+    Ok(schema.apply(&two(alloc, first, second)?).err() == Some(fault))
+}
+
+fn refuses_late(alloc: Global, q: &Schema, first: Move, second: Move) -> Result<bool, AllocError> {
+    refuses_two(alloc, q, first, second, StepFault::NotAdjacent)
+}
+
+fn lowest_fault_is_given(alloc: Global) -> Result<bool, StepFault> {
+    let q = schema_q(alloc)?;
+    Ok(
+        refuses_index(alloc, &q, "a", &[2], StepFault::Unknown)?
+            && refuses_index(alloc, &q, "id", &[1, 1], StepFault::NameTaken)?,
+    )
+}
+
+fn first_faulty_move_decides(alloc: Global) -> Result<bool, StepFault> {
+    let q = schema_q(alloc)?;
+    Ok(
+        refuses_late(alloc, &q, go(2, Absent), go(9, Public))?
+            && refuses_late(alloc, &q, go(2, WriteOnly), go(2, WriteOnly))?,
+    )
 }
 
 // Of two faults of a move the lower one is given, and of two faulty moves the first one's.
 #[test]
 fn lowest_fault_of_first_faulty_move(rt: HostRuntime) -> Result<(), Fail> {
-    let alloc = rt.alloc();
-    let q = schema_q(alloc)?;
-    let lists_an_index = index(alloc, "a", &[2], Public)?;
-    assert_eq!(rt;
-        refused(alloc, &q, lists_an_index)?,
-        Some(StepFault::Unknown)
-    );
-    let lists_twice = index(alloc, "id", &[1, 1], DeleteOnly)?;
-    assert_eq!(rt;
-        refused(alloc, &q, lists_twice)?,
-        Some(StepFault::NameTaken)
-    );
-    let later = two(alloc, go(2, Absent), go(9, Public))?;
-    assert_eq!(rt; q.apply(&later).err(), Some(StepFault::NotAdjacent));
-    let moved_twice = two(alloc, go(2, WriteOnly), go(2, WriteOnly))?;
-    assert_eq!(rt; q.apply(&moved_twice).err(), Some(StepFault::NotAdjacent));
+    assert!(rt; lowest_fault_is_given(rt.alloc())?);
+    assert!(rt; first_faulty_move_decides(rt.alloc())?);
     Ok(())
+}
+
+fn refuses_b_twice(alloc: Global, q: &Schema) -> Result<bool, AllocError> {
+    let first = column(alloc, "b")?;
+    let second = column(alloc, "b")?;
+    refuses_two(alloc, q, first, second, StepFault::NameTaken)
+}
+
+fn faulty_step_leaves_nothing(alloc: Global) -> Result<bool, StepFault> {
+    let q = schema_q(alloc)?;
+    let is_refused = refuses_b_twice(alloc, &q)?;
+    let then = after(alloc, &q, column(alloc, "b")?)?;
+    Ok(is_refused && q.by_name(1, "b").is_none() && names(&then, 1, "b", 3))
 }
 
 #[test]
 fn faulty_second_move_leaves_nothing(rt: HostRuntime) -> Result<(), Fail> {
-    let alloc = rt.alloc();
-    let q = schema_q(alloc)?;
-    let b = column(alloc, "b", DeleteOnly)?;
-    let step = two(alloc, b.clone()?, b.clone()?)?;
-    assert_eq!(rt; q.apply(&step).err(), Some(StepFault::NameTaken));
-    assert!(rt; q.by_name(1, "b").is_none());
-    assert_eq!(rt;
-        then(&q, one(alloc, b)?)?.by_name(1, "b").map(|e| e.number),
-        Some(3)
-    );
+    assert!(rt; faulty_step_leaves_nothing(rt.alloc())?);
     Ok(())
 }
 
@@ -254,148 +346,144 @@ const LONGEST_NAME: &str = "n2345678901234567890123456789012";
 
 const LONG_NAME: &str = "n23456789012345678901234567890123";
 
+fn are_long_names_refused(alloc: Global) -> Result<bool, StepFault> {
+    let q = schema_q(alloc)?;
+    Ok(
+        refuses_column(alloc, &q, LONG_NAME, StepFault::Limit)?
+            && refuses_column(alloc, &q, "b-c", StepFault::Limit)?
+            && refuses_column(alloc, &q, "2b", StepFault::Limit)?,
+    )
+}
+
+fn is_longest_name_taken(alloc: Global) -> Result<bool, StepFault> {
+    let q = schema_q(alloc)?;
+    let then = after(alloc, &q, column(alloc, LONGEST_NAME)?)?;
+    Ok(names(&then, 1, LONGEST_NAME, 3))
+}
+
 #[test]
 fn names_over_their_limits(rt: HostRuntime) -> Result<(), Fail> {
-    let alloc = rt.alloc();
-    let q = schema_q(alloc)?;
-    let long = column(alloc, LONG_NAME, DeleteOnly)?;
-    assert_eq!(rt; refused(alloc, &q, long)?, Some(StepFault::Limit));
-    let dashed = column(alloc, "b-c", DeleteOnly)?;
-    assert_eq!(rt; refused(alloc, &q, dashed)?, Some(StepFault::Limit));
-    let digit = column(alloc, "2b", DeleteOnly)?;
-    assert_eq!(rt; refused(alloc, &q, digit)?, Some(StepFault::Limit));
-    then(&q, one(alloc, column(alloc, LONGEST_NAME, DeleteOnly)?)?)?;
+    assert!(rt; are_long_names_refused(rt.alloc())?);
+    assert!(rt; is_longest_name_taken(rt.alloc())?);
     Ok(())
+}
+
+fn letter(alloc: Global, byte: u8) -> Result<Option<Text>, AllocError> {
+    let mut bytes = Vec::new(alloc);
+    bytes.push(byte)?;
+    Ok(Text::from_utf8(bytes))
+}
+
+// Adds columns whose names are these letters.
+fn add_columns(
+    alloc: Global,
+    table: &mut TableDef,
+    letters: RangeInclusive<u8>,
+) -> Result<(), AllocError> {
+    for byte in letters {
+        if let Some(name) = letter(alloc, byte)? {
+            table.columns.push((name, ColumnType::Int))?;
+        }
+    }
+    Ok(())
+}
+
+// Adds indexes over the column A whose names are these letters.
+fn add_indexes(
+    alloc: Global,
+    table: &mut TableDef,
+    letters: RangeInclusive<u8>,
+) -> Result<(), AllocError> {
+    for byte in letters {
+        if let Some(name) = letter(alloc, byte)? {
+            table.indexes.push((name, texts(alloc, &["A"])?))?;
+        }
+    }
+    Ok(())
+}
+
+// A table t with columns named A to this letter.
+fn wide(alloc: Global, last: u8) -> Result<TableDef, AllocError> {
+    let mut table = bare(alloc, "t", &["id"], &[])?;
+    add_columns(alloc, &mut table, b'A'..=last)?;
+    Ok(table)
+}
+
+// A table t with the columns A to Z and a to f, 32 of them, and indexes named h to this letter.
+fn full(alloc: Global, last: u8) -> Result<TableDef, AllocError> {
+    let mut table = wide(alloc, b'Z')?;
+    add_columns(alloc, &mut table, b'a'..=b'f')?;
+    add_indexes(alloc, &mut table, b'h'..=last)?;
+    Ok(table)
+}
+
+fn schema_of(alloc: Global, table: TableDef) -> Result<Schema, StepFault> {
+    declared(alloc, table).map_err(|_| StepFault::Memory)
+}
+
+fn are_bad_lists_refused(alloc: Global) -> Result<bool, StepFault> {
+    let five = schema_of(alloc, wide(alloc, b'E')?)?;
+    Ok(
+        refuses_index(alloc, &five, "i", &[1, 2, 3, 4, 5], StepFault::Limit)?
+            && refuses_index(alloc, &five, "i", &[], StepFault::Limit)?
+            && refuses_index(alloc, &five, "i", &[1, 1], StepFault::Limit)?,
+    )
+}
+
+fn is_list_of_four_taken(alloc: Global) -> Result<bool, StepFault> {
+    let five = schema_of(alloc, wide(alloc, b'E')?)?;
+    let then = after(alloc, &five, index(alloc, "i", &[4, 3, 2, 1], DeleteOnly)?)?;
+    Ok(names(&then, 1, "i", 6))
 }
 
 #[test]
 fn lists_over_their_limits(rt: HostRuntime) -> Result<(), Fail> {
-    let alloc = rt.alloc();
-    let five = declared(
-        alloc,
-        table(alloc, "t", &["id"], &["a", "b", "c", "d", "e"], &[])?,
-    )?;
-    let long = index(alloc, "i", &[1, 2, 3, 4, 5], DeleteOnly)?;
-    assert_eq!(rt; refused(alloc, &five, long)?, Some(StepFault::Limit));
-    let none = index(alloc, "i", &[], DeleteOnly)?;
-    assert_eq!(rt; refused(alloc, &five, none)?, Some(StepFault::Limit));
-    let twice = index(alloc, "i", &[1, 1], DeleteOnly)?;
-    assert_eq!(rt; refused(alloc, &five, twice)?, Some(StepFault::Limit));
-    then(
-        &five,
-        one(alloc, index(alloc, "i", &[4, 3, 2, 1], DeleteOnly)?)?,
-    )?;
+    assert!(rt; are_bad_lists_refused(rt.alloc())?);
+    assert!(rt; is_list_of_four_taken(rt.alloc())?);
     Ok(())
 }
 
-// A name of its own for each number below 26.
-fn letters(alloc: Global, first: u8, i: u8) -> Result<Text, Fail>
-    requires { i < 100 }
-{
-    let bytes = Vec::from_array(alloc, [first, b'a' + i / 10, b'a' + i % 10])?;
-    let name = Text::from_utf8(bytes).ok_or("letters")?;
-    Ok(name)
-}
-
-// A table t with so many columns and so many indexes over the first of them.
-fn large(alloc: Global, columns: u8, indexes: u8) -> Result<TableDef, Fail>
-    requires columns { columns < 100 }
-    requires indexes { indexes < 100 }
-{
-    let mut def = table(alloc, "t", &["id"], &[], &[])?;
-    for i in 0..columns {
-        def.columns
-            .push((letters(alloc, b'c', i)?, ColumnType::Int))?;
-    }
-    for i in 0..indexes {
-        let listed = Listed::new(vec![in alloc; letters(alloc, b'c', 0)?]?);
-        def.indexes.push((letters(alloc, b'i', i)?, listed))?;
-    }
-    Ok(def)
+fn is_largest_full(alloc: Global) -> Result<bool, StepFault> {
+    let largest = schema_of(alloc, full(alloc, b'w')?)?;
+    Ok(
+        names(&largest, 1, "w", 48)
+            && refuses_column(alloc, &largest, "more", StepFault::Limit)?
+            && refuses_index(alloc, &largest, "more", &[1], StepFault::Limit)?,
+    )
 }
 
 #[test]
 fn counts_at_their_limits(rt: HostRuntime) -> Result<(), Fail> {
-    let alloc = rt.alloc();
-    let full = declared(alloc, large(alloc, 32, 16)?)?;
-    assert_eq!(rt; full.live(47).map(|e| e.number), Some(48));
-    let column_33 = column(alloc, "more", DeleteOnly)?;
-    assert_eq!(rt; refused(alloc, &full, column_33)?, Some(StepFault::Limit));
-    let index_17 = index(alloc, "more", &[1], DeleteOnly)?;
-    assert_eq!(rt; refused(alloc, &full, index_17)?, Some(StepFault::Limit));
+    assert!(rt; is_largest_full(rt.alloc())?);
     Ok(())
 }
 
-fn is_bad(alloc: Global, table: TableDef) -> Result<bool, Fail> {
-    let tables = vec![in alloc; table]?;
-    Ok(matches!(
-        Schema::declared(alloc, &tables),
-        Err(DeclareFault::BadTable)
-    ))
+fn is_bad(alloc: Global, table: TableDef) -> bool {
+    declared(alloc, table).err() == Some(DeclareFault::BadTable)
+}
+
+fn are_bad_counts_refused(alloc: Global) -> Result<bool, AllocError> {
+    let mut table = full(alloc, b'h')?;
+    add_columns(alloc, &mut table, b'z'..=b'z')?;
+    Ok(is_bad(alloc, table) && is_bad(alloc, full(alloc, b'x')?))
+}
+
+fn is_index_bad(alloc: Global, name: &str, columns: &[&str]) -> Result<bool, AllocError> {
+    let table = bare(alloc, "t", &["id"], &["a"])?;
+    Ok(is_bad(alloc, indexed(alloc, table, name, columns)?))
+}
+
+fn are_bad_indexes_refused(alloc: Global) -> Result<bool, AllocError> {
+    Ok(
+        is_index_bad(alloc, "a", &["a"])?
+            && is_index_bad(alloc, "i", &["id"])?
+            && is_index_bad(alloc, "i", &["a", "a"])?,
+    )
 }
 
 #[test]
-fn bad_counts_of_a_table(rt: HostRuntime) -> Result<(), Fail> {
-    let alloc = rt.alloc();
-    assert!(rt; is_bad(alloc, large(alloc, 33, 0)?)?);
-    assert!(rt; is_bad(alloc, large(alloc, 1, 17)?)?);
-    assert!(rt; is_bad(alloc, large(alloc, 0, 1)?)?);
-    assert!(rt; is_bad(alloc, table(alloc, "t", &[], &[], &[])?)?);
-    assert!(rt;
-        is_bad(
-            alloc,
-            table(alloc, "t", &["a", "b", "c", "d", "e"], &[], &[])?
-        )?
-    );
-    Ok(())
-}
-
-#[test]
-fn bad_names_of_a_table(rt: HostRuntime) -> Result<(), Fail> {
-    let alloc = rt.alloc();
-    assert!(rt; is_bad(alloc, table(alloc, LONG_NAME, &["id"], &[], &[])?)?);
-    assert!(rt; is_bad(alloc, table(alloc, "t", &["id"], &["id"], &[])?)?);
-    assert!(rt; is_bad(alloc, table(alloc, "t", &["id"], &["a"], &[("a", &["a"])])?)?);
-    assert!(rt;
-        is_bad(
-            alloc,
-            table(alloc, "t", &["id"], &["a"], &[("i", &["id"])])?
-        )?
-    );
-    assert!(rt;
-        is_bad(
-            alloc,
-            table(alloc, "t", &["id"], &["a"], &[("i", &["a", "a"])])?
-        )?
-    );
-    Ok(())
-}
-
-#[test]
-fn many_tables(rt: HostRuntime) -> Result<(), Fail> {
-    let alloc = rt.alloc();
-    let mut tables = Vec::new(alloc);
-    assert_eq!(rt;
-        Schema::declared(alloc, &tables).err(),
-        Some(DeclareFault::BadTable)
-    );
-    for i in 0..16 {
-        let mut def = table(alloc, "t", &["id"], &["x", "y"], &[("i", &["y", "x"])])?;
-        def.name = letters(alloc, b't', i)?;
-        tables.push(def)?;
-    }
-    let schema = Schema::declared(alloc, &tables).ok().ok_or("16 tables")?;
-    assert_eq!(rt; schema.table("tbf"), Some(16));
-    assert_eq!(rt; schema.by_name(16, "i").map(|e| e.number), Some(48));
-    tables.push(table(alloc, "q", &["id"], &[], &[])?)?;
-    assert_eq!(rt;
-        Schema::declared(alloc, &tables).err(),
-        Some(DeclareFault::BadTable)
-    );
-    let same = vec![in alloc; large(alloc, 0, 0)?, large(alloc, 0, 0)?]?;
-    assert_eq!(rt;
-        Schema::declared(alloc, &same).err(),
-        Some(DeclareFault::BadTable)
-    );
+fn bad_tables(rt: HostRuntime) -> Result<(), Fail> {
+    assert!(rt; are_bad_counts_refused(rt.alloc())?);
+    assert!(rt; are_bad_indexes_refused(rt.alloc())?);
     Ok(())
 }

@@ -1,4 +1,4 @@
-use Rattle.std.proofs.Common.{◌≡◌, ap, ◌∙◌, refl, Global}
+use Rattle.std.proofs.Common.{ap, ◌∙◌, refl, Global}
 use Rattle.std.specs.Prelude.{map}
 use Rattle.std.specs.String.{string_eq}
 use Rattle.schema_version.specs.Held.{table_held}

@@ -1,7 +1,7 @@
-use Rattle.std.proofs.Common.{ℕ, List, not, ◌∙◌}
+use Rattle.std.proofs.Common.{◌∙◌}
 use Rattle.std.specs.Prelude.{bytes_eq}
 use Rattle.schema_version.specs.declared.table.TableDef.{TableDef}
-use Rattle.schema_version.proofs.Lists.{any_through, all_through}
+use Rattle.schema_version.proofs.Lists.{any_through}
 use Rattle.schema_version.proofs.lawful.is_table_named.Goals as goal
 
 pub returns : goal.returns

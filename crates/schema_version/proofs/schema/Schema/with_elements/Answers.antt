@@ -1,8 +1,7 @@
-use Rattle.std.proofs.Common.{ℕ, ◌≤◌, length, sym, ap, subst, ◌∙◌, arith, Global}
+use Rattle.std.proofs.Common.{length, sym, ap, subst, ◌∙◌, arith, Global}
 use Rattle.std.proofs.lemmas.List.{length-map}
 use Rattle.std.specs.FinMap as map
 use Rattle.schema_version.specs.Held.{table_held}
-use Rattle.schema_version.specs.Names.{max_tables}
 use Rattle.schema_version.specs.Version.{Version}
 use Rattle.schema_version.specs.Sound.{IsSoundVersion}
 use Rattle.schema_version.proofs.schema.Schema.with_elements.Goals as goal
