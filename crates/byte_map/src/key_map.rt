@@ -9,7 +9,8 @@ use crate::sorted;
 use std::alloc::{AllocError, Global};
 use std::marker::Model;
 
-/// Values by keys, kept in the order of the keys. A key is looked up by a binary search.
+/// Values by keys that are byte strings, kept in the order of the keys and seen by contracts as the finite map of
+/// them. A key is looked up by halving; an entry that comes or goes moves those behind it.
 #[derive(Debug, Drop)]
 pub struct KeyMap<V> {
     entries: Vec<(Bytes, V)>,
@@ -31,7 +32,7 @@ impl<V> Model for KeyMap<V> {
 }
 
 impl<V> KeyMap<V> {
-    /// A map without entries. It takes no memory yet.
+    /// A map without entries. It takes no memory yet, which `alloc` gives later on.
     pub fn new(alloc: Global) -> KeyMap<V>
         ensures { result ≡ map.empty }
     {
@@ -55,14 +56,14 @@ impl<V> KeyMap<V> {
         self.entries.as_slice()
     }
 
-    /// The value of a key, if it has one.
+    /// The value of `key`, if it has one.
     pub fn get(&self, key: &[u8]) -> Option<&V>
         ensures { option_map (λ v. v.now) result ≡ map.get self.now key.now }
     {
         sorted::get(self.entries.as_slice(), key)
     }
 
-    /// The first entry at or after a key.
+    /// The entry of the least key that is not below `key`, if there is one.
     pub fn next_at(&self, key: &[u8]) -> Option<&(Bytes, V)>
         ensures found { IfSome result (λ e. IsNext self.now key.now e.now) }
         ensures none { IfNone result (HasNoNext self.now key.now) }
@@ -76,7 +77,8 @@ impl<V> KeyMap<V> {
         }
     }
 
-    /// The entries with keys from `low` to below `high`, in the order of their keys.
+    /// The entries with keys from `low`, which is included, to `high`, which is not, in the order of their keys. There
+    /// are none where `high` is not above `low`.
     pub fn range(&self, low: &[u8], high: &[u8]) -> &[(Bytes, V)]
         ensures { result.now ≡ within low.now high.now (map.entries self.now) }
     {
@@ -85,7 +87,8 @@ impl<V> KeyMap<V> {
 }
 
 impl<V: Drop> KeyMap<V> {
-    /// Gives a key a value, which replaces an earlier one. Refused for want of memory alone, and then unchanged.
+    /// Gives `key` the value `value`, which replaces an earlier one. Refused for want of memory alone; the map is then
+    /// unchanged, and both are let go.
     pub fn insert(&mut self, key: Bytes, value: V) -> Result<(), AllocError>
         ensures ok { OnOk result (self.new ≡ map.insert self.old key value) }
         ensures err { OnErr result (self.new ≡ self.old) }
@@ -94,8 +97,9 @@ impl<V: Drop> KeyMap<V> {
         Ok(())
     }
 
-    /// Makes all the writes in turn, each of a value or of a removal. The room for them is made before the
-    /// first: refused for want of memory alone, and then unchanged.
+    /// Makes all of `writes` in turn: a key gets the value that stands beside it, or loses its entry where none does.
+    /// The room for them is made before the first, so they are made all or not at all: refused for want of memory
+    /// alone, and the map is then unchanged.
     pub fn write_all(&mut self, writes: Vec<(Bytes, Option<V>)>) -> Result<(), AllocError>
         ensures ok { OnOk result (self.new ≡ written_all self.old writes.items) }
         ensures err { OnErr result (self.new ≡ self.old) }

@@ -9,16 +9,20 @@ ghost use Rattle.byte_map.specs.Walk.{within};
 use crate::bytes::Bytes;
 use std::alloc::AllocError;
 
-/// The place of a key, or as an error the place where it would go.
+/// The place of `key` among `entries`, or as an error the place where it would go.
 pub fn place<V>(entries: &[(Bytes, V)], key: &[u8]) -> Result<usize, usize>
     requires { IsSorted entries.now }
     ensures found { IfOk result (λ at. IsAt entries.now key.now at) }
     ensures absent { IfErr result (λ at. IsGap entries.now key.now at) }
 {
-    entries.binary_search_by(|entry| ensures { result ≡ bytes_cmp entry.now.0 key.entry.now } { entry.0.compare(key) })
+    entries.binary_search_by(
+        |entry|
+            ensures { result ≡ bytes_cmp entry.now.0 key.entry.now }
+        { entry.0.compare(key) },
+    )
 }
 
-/// The place of the first entry at or after a key, or the number of entries.
+/// The place of the first of `entries` whose key is not below `key`, or their number where there is none.
 pub fn first_from<V>(entries: &[(Bytes, V)], key: &[u8]) -> usize
     requires { IsSorted entries.now }
     ensures { IsFirstFrom entries.now key.now result }
@@ -29,7 +33,7 @@ pub fn first_from<V>(entries: &[(Bytes, V)], key: &[u8]) -> usize
     }
 }
 
-/// The value of a key, if it has one.
+/// The value of `key` among `entries`, if it has one.
 pub fn get<'a, V>(entries: &'a [(Bytes, V)], key: &[u8]) -> Option<&'a V>
     requires { IsSorted entries.now }
     ensures { option_map (λ v. v.now) result ≡ find bytes_cmp key.now entries.now }
@@ -40,9 +44,13 @@ pub fn get<'a, V>(entries: &'a [(Bytes, V)], key: &[u8]) -> Option<&'a V>
     }
 }
 
-/// Gives a key a value, or removes its entry. Refused for want of memory alone, and then unchanged; it takes none
-/// where the vector has room for one entry more.
-pub fn write<V: Drop>(entries: &mut Vec<(Bytes, V)>, key: Bytes, change: Option<V>) -> Result<(), AllocError>
+/// Gives `key` the value of `change`, or removes its entry where that is `None`. Refused for want of memory alone,
+/// and `entries` are then unchanged; it takes none where the vector has room for one entry more.
+pub fn write<V: Drop>(
+    entries: &mut Vec<(Bytes, V)>,
+    key: Bytes,
+    change: Option<V>,
+) -> Result<(), AllocError>
     requires { IsSorted entries.old.items }
     ensures ok { OnOk result (entries.new.items ≡ changed entries.old.items key change) }
     ensures err { OnErr result (entries.new.items ≡ entries.old.items) }
@@ -65,7 +73,7 @@ pub fn write<V: Drop>(entries: &mut Vec<(Bytes, V)>, key: Bytes, change: Option<
     }
 }
 
-/// The entries with keys from `low` to below `high`.
+/// Those of `entries` with keys from `low`, which is included, to `high`, which is not.
 pub fn range<'a, V>(entries: &'a [(Bytes, V)], low: &[u8], high: &[u8]) -> &'a [(Bytes, V)]
     requires { IsSorted entries.now }
     ensures { result.now ≡ within low.now high.now entries.now }
@@ -74,7 +82,7 @@ pub fn range<'a, V>(entries: &'a [(Bytes, V)], low: &[u8], high: &[u8]) -> &'a [
     rest.split_at(first_from(rest, high)).0
 }
 
-/// Makes all the writes in turn. The room for them is there already.
+/// Makes all of `writes` in turn, each as `write` does. The room for them is there already, so none is refused.
 pub fn write_all<V: Drop>(entries: &mut Vec<(Bytes, V)>, writes: Vec<(Bytes, Option<V>)>)
     requires sorted { IsSorted entries.old.items }
     requires room { vec_len entries.old + vec_len writes ≤ vec_capacity entries.old }
