@@ -87,7 +87,6 @@ distinct_is (c ∷ cs) =
 module _ (v : Version) (served : IsServed v) where
   -- ---- named columns
 
-
   abbrev FirstIn : ℕ → List (ℕ × Value) → ℕ → Type 0
   FirstIn table cells column =
       (before after : List (ℕ × Value)) × (value : Value) × (cells ≡ before ++ (column, value) ∷ after)

@@ -53,9 +53,9 @@ front_apart n q (Some v) ne = ap (λ b. cond b (Some v) None) (apart nat_cmp_tot
 
 one_side : (n q : ℕ) → q ≢ n → (o : Option Value) → or_then (cond (nat_lt q n) o None) (cond (nat_lt n q) o None) ≡ o
 one_side n q ne o = elim (cases_lt q n) [
-    | inl low ↦ ap (λ b. or_then (cond b o None) (cond (nat_lt n q) o None)) (lt-ltb q n low) ∙ ap (λ b. or_then o (cond b o None)) (le-ltb n q (omega (arith, low))) ∙ or_none o
-    | inr high ↦ ap (λ b. or_then (cond b o None) (cond (nat_lt n q) o None)) (le-ltb q n high) ∙ none_or (cond (nat_lt n q) o None) ∙ ap (λ b. cond b o None) (lt-ltb n q (above high))
-  ]
+  | inl low ↦ ap (λ b. or_then (cond b o None) (cond (nat_lt n q) o None)) (lt-ltb q n low) ∙ ap (λ b. or_then o (cond b o None)) (le-ltb n q (omega (arith, low))) ∙ or_none o
+  | inr high ↦ ap (λ b. or_then (cond b o None) (cond (nat_lt n q) o None)) (le-ltb q n high) ∙ none_or (cond (nat_lt n q) o None) ∙ ap (λ b. cond b o None) (lt-ltb n q (above high))
+]
   where
     above : n ≤ q → n < q
     above le = omega (arith, le, ne)

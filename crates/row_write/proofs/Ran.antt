@@ -97,16 +97,18 @@ module _ (v : Version) (served : IsServed v) where
 
   agree_after : (ops : List RowOp) (work rows : Rows) (key : RowKey) (o p : Option Cells) → AgreeAt key o p → Agree ops work rows → Agree ops (written work key o) (written rows key p)
   agree_after [] work rows key o p a all = tt
-  agree_after (op ∷ ops) work rows key o p a all =
-      (elim (same_or_apart row_cmp_total row_cmp-IsAntisymmetric (row_of op) key) [
-        | inl same ↦
-            subst (λ (k : RowKey). AgreeAt k (get (written work key o) k) (get (written rows key p) k)) (sym same)
-            (subst (λ x. AgreeAt key x (get (written rows key p) key)) (sym (written_here row_cmp_total row_cmp-IsAntisymmetric work key o))
-            (subst (λ x. AgreeAt key o x) (sym (written_here row_cmp_total row_cmp-IsAntisymmetric rows key p)) a))
-        | inr other ↦
-            subst (λ x. AgreeAt (row_of op) x (get (written rows key p) (row_of op))) (sym (written_apart row_cmp_total row_cmp-IsAntisymmetric work key o (row_of op) other))
-            (subst (λ x. AgreeAt (row_of op) (get work (row_of op)) x) (sym (written_apart row_cmp_total row_cmp-IsAntisymmetric rows key p (row_of op) other)) all.0)
-      ], agree_after ops work rows key o p a all.1)
+  agree_after (op ∷ ops) work rows key o p a all = (
+    elim (same_or_apart row_cmp_total row_cmp-IsAntisymmetric (row_of op) key) [
+      | inl same ↦
+          subst (λ (k : RowKey). AgreeAt k (get (written work key o) k) (get (written rows key p) k)) (sym same)
+          (subst (λ x. AgreeAt key x (get (written rows key p) key)) (sym (written_here row_cmp_total row_cmp-IsAntisymmetric work key o))
+          (subst (λ x. AgreeAt key o x) (sym (written_here row_cmp_total row_cmp-IsAntisymmetric rows key p)) a))
+      | inr other ↦
+          subst (λ x. AgreeAt (row_of op) x (get (written rows key p) (row_of op))) (sym (written_apart row_cmp_total row_cmp-IsAntisymmetric work key o (row_of op) other))
+          (subst (λ x. AgreeAt (row_of op) (get work (row_of op)) x) (sym (written_apart row_cmp_total row_cmp-IsAntisymmetric rows key p (row_of op) other)) all.0)
+    ],
+    agree_after ops work rows key o p a all.1,
+  )
 
   abbrev SameRun : ℕ → List RowOp → Rows → Rows → Type 0
   SameRun place ops work rows = (told (applied place work ops) ≡ told (applied place rows ops)) × (writes_of v work ops ≡ writes_of v rows ops)

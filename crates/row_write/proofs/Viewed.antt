@@ -53,9 +53,9 @@ whole_fault : (type : ColumnType) (r : Result (Value × List ℕ) KeyFault) (e :
 whole_fault type (Err f) e p = sym (err_fault ViewMismatch e p)
 whole_fault type (Ok (w, b ∷ rest)) e p = sym (err_fault ViewMismatch e p)
 whole_fault type (Ok (w, [])) e p = elim (has_type type w) as (λ b. cond b (of_fault w) (Err ViewMismatch) ≡ Err e → e ≡ ViewMismatch) [
-    | true ↦ λ q. absurd cc
-    | false ↦ λ q. sym (err_fault ViewMismatch e q)
-  ] p
+  | true ↦ λ q. absurd cc
+  | false ↦ λ q. sym (err_fault ViewMismatch e q)
+] p
 
 pub spelled_found : (r : Result Value PrepareFault) (type : ColumnType) (bytes : Bytes) → IsBytes bytes → GivesOr Memory (λ x. x) r (value_in type bytes) → IfOk r (λ value. IsSpelling type bytes value)
 spelled_found (Ok v) type bytes fits h = whole_says bytes type v fits (value_at bytes) refl h

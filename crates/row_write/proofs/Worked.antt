@@ -58,9 +58,9 @@ last_cells table key before (x ∷ ms) m e =
 
 row_if_key : (x : Mention) (r : Row) → row_if x ≡ Some r → r ≡ x.row
 row_if_key x r e = elim x.there as (λ b. cond b (Some x.row) None ≡ Some r → r ≡ x.row) [
-    | true ↦ λ p. sym (some_same p)
-    | false ↦ λ p. absurd (let y : None ≡ Some r = p in cc)
-  ] e
+  | true ↦ λ p. sym (some_same p)
+  | false ↦ λ p. absurd (let y : None ≡ Some r = p in cc)
+] e
 
 last_key : (table : ℕ) (key : List Value) (before : Option Row) (ms : List Mention) (r : Row) → (before ≡ Some r → r.key ≡ key) → last_row table key before ms ≡ Some r → r.key ≡ key
 last_key table key before [] r h e = h e

@@ -14,8 +14,7 @@ returns-clause-found c =
     let cells = c.in_ok-there.cells in
     let key : c.in_ok-key.key ≡ key_of c.args.op.now = c.in_ok-key.ensures ∙ c.key.ensures in
     let row : RowKey = (c.table-2.result, c.in_ok-key.key) in
-    let is : row ≡ row_of c.args.op.now = λ i. (c.table-2.ensures i, key i) in
-    (
+    let is : row ≡ row_of c.args.op.now = λ i. (c.table-2.ensures i, key i) in (
       there,
       cells,
       subst (λ (columns : List (ℕ × ColumnType)). IsSeen c.args.view.now c.args.op.now columns there cells) (c.as_slice.ensures ∙ c.in_ok-columns.ensures ∙ ap (column_types c.args.schema.now) c.table.ensures) c.in_ok-there.ensures.found,
