@@ -1,5 +1,5 @@
 -- The entered keys are those that are read.
-use Rattle.std.proofs.Common.{◌≡◌, ◌↔◌, ℕ, Result, Ok, Err, IfOk, ◌<◌, Bool, true, false, cond, List, [], ◌∷◌, length, Option, Some, None, option_map, ◌⊎◌, inl, inr, refl, sym, ap, subst, ◌∙◌, arith, Contains}
+use Rattle.std.proofs.Common.{◌≡◌, ◌↔◌, ℕ, Result, Ok, Err, IfOk, List, [], ◌∷◌, Option, Some, None, option_map, ◌⊎◌, inl, inr, refl, sym, ap, subst, ◌∙◌, arith, Contains}
 use Rattle.std.specs.FinMap.{get, insert, empty, get-empty}
 use Rattle.keycode.specs.Order.{bytes_cmp}
 use Rattle.keycode.proofs.Orders.{bytes_cmp_total, bytes_cmp-IsAntisymmetric}
@@ -10,10 +10,10 @@ use Rattle.row_map.specs.Keys.{row_code}
 use Rattle.row_map.specs.Rows.{Bytes}
 use Rattle.schema_version.specs.Version.{Version, Table, table_at}
 use Rattle.schema_version.specs.Shape.{column_types, key_types, shape_of}
-use Rattle.schema_version.proofs.Lists.{here, later, here_or_later, some_same}
+use Rattle.schema_version.proofs.Lists.{here, later, here_or_later}
 use Rattle.row_write.specs.declared.op.RowOp.{RowOp}
 use Rattle.row_write.specs.Plain.{table_of, key_of}
-use Rattle.row_write.specs.Reads.{IsPublicColumn, IsRowKey, IsRead}
+use Rattle.row_write.specs.Reads.{IsRowKey, IsRead}
 use Rattle.row_write.specs.Served.{IsServed}
 use Rattle.row_write.specs.Entering.{KeySet, entered, column_keys, keys_in, op_keys, entered_all}
 use Rattle.row_write.proofs.Columns.{column_listed, listed_column}

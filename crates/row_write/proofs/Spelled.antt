@@ -1,11 +1,10 @@
 -- The row that is read is the row that the view spells.
-use Rattle.std.proofs.Common.{◌≡◌, ◌≢◌, ◌&&◌, ◌<◌, ◌+◌, ◌++◌, ℕ, zero, suc, Bool, true, false, cond, T, List, [], ◌∷◌, length, get_or, take, Option, Some, None, option_map, ◌⊎◌, inl, inr, refl, sym, ap, subst, ◌∙◌, arith, Contains, IsTrue}
+use Rattle.std.proofs.Common.{◌≡◌, ◌≢◌, ◌&&◌, ◌<◌, ◌+◌, ℕ, zero, suc, Bool, true, false, cond, T, List, [], ◌∷◌, length, get_or, take, Option, Some, None, option_map, inl, inr, refl, sym, ap, subst, ◌∙◌, arith, Contains, IsTrue}
 use Rattle.std.specs.List.{AllByRecursion}
 use Rattle.std.specs.declared.cmp.Ordering.{Ordering}
 use Rattle.std.specs.declared.cmp.Ordering.TheVariants.{Less, Equal, Greater}
 use Rattle.std.specs.Ordering.{nat_cmp, eq_by_cmp, is_lt, is_eq}
 use Rattle.std.specs.Cmp.{nat_cmp_total}
-use Rattle.std.specs.FinMap as map
 use Rattle.std.specs.FinMap.{get, find, from_entries, get-from_entries, is_sorted, nat_cmp-IsAntisymmetric}
 use Rattle.std.specs.FinMap.Entries.{below_all}
 use Rattle.listed.proofs.Steps.{AllByRecursion-take_more}
@@ -24,11 +23,11 @@ use Rattle.schema_version.specs.Version.{Version}
 use Rattle.schema_version.specs.Shape.{column_types}
 use Rattle.schema_version.proofs.Lists.{here, later, here_or_later, some_same}
 use Rattle.row_write.specs.declared.op.RowOp.{RowOp}
-use Rattle.row_write.specs.Plain.{table_of, key_of, row_of}
+use Rattle.row_write.specs.Plain.{table_of, row_of}
 use Rattle.row_write.specs.Reads.{IsPublicColumn}
 use Rattle.row_write.specs.Prepare.{IsSpelledRow}
 use Rattle.row_write.specs.Served.{IsServed}
-use Rattle.row_write.specs.Viewing.{IsCell, IsThere, with_front, AreCells, seen_at, IsSeen, cells_there}
+use Rattle.row_write.specs.Viewing.{IsCell, with_front, AreCells, seen_at, IsSeen, cells_there}
 use Rattle.row_write.proofs.Columns.{column_listed, listed_column, columns_rise}
 
 second : (a b : Bool) → T (a && b) → T b

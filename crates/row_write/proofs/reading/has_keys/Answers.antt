@@ -1,4 +1,4 @@
-use Rattle.std.proofs.Common.{◌≡◌, ◌↔◌, ◌∙◌, sym, ap, subst, Bool, IsTrue, is_some}
+use Rattle.std.proofs.Common.{◌↔◌, ◌∙◌, sym, ap, subst, Bool, IsTrue, is_some}
 use Rattle.std.specs.FinMap.{get}
 use Rattle.std.specs.List.{list_all}
 use Rattle.row_write.specs.Viewing.{HaveSameKeys}

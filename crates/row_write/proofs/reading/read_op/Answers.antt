@@ -1,5 +1,4 @@
 use Rattle.std.proofs.Common.{◌≡◌, ◌∙◌, ap, subst, ℕ, List}
-use Rattle.keycode.specs.declared.value.Value.{Value}
 use Rattle.row_map.specs.declared.shape.ColumnType.{ColumnType}
 use Rattle.row_map.specs.Rows.{RowKey}
 use Rattle.row_map.specs.Writes.{written}
