@@ -1,5 +1,5 @@
 -- The public columns of a table, by number and as a list.
-use Rattle.std.proofs.Common.{◌≡◌, ◌==◌, ◌&&◌, ℕ, Bool, true, false, cond, T, List, [], ◌∷◌, Option, Some, None, option_map, inl, inr, refl, sym, ap, subst, ◌∙◌, eqb-true, eq-eqb, Contains, arith, ◌<◌}
+use Rattle.std.proofs.Common.{◌≡◌, ◌==◌, ◌&&◌, ℕ, Bool, true, false, cond, T, List, [], ◌∷◌, Option, Some, None, option_map, inl, inr, refl, sym, ap, subst, ◌∙◌, eqb-true, eq-eqb, Contains, arith}
 use Rattle.std.specs.List.{find, filter_map, cons_option, AllByRecursion}
 use Rattle.std.specs.Ordering.{nat_cmp, is_lt}
 use Rattle.std.specs.FinMap.{entries, entries_sorted, is_sorted, nat_cmp-IsAntisymmetric}
@@ -154,7 +154,7 @@ module _ (v : Version) (served : IsServed v) where
       → (element.table ≡ table) × (element.state ≡ Public) × (element.kind ≡ Optional type) × (element.number ≡ number)
   listed_one table element number type =
       elim ((element.table == table) && is_public element.state) as (λ b. ((element.table == table) && is_public element.state) ≡ b → cond b (option_map {U = ℕ × ColumnType} (λ (t : ColumnType). (element.number, t)) (type_of_kind element.kind)) None ≡ Some (number, type)
-          → (element.table ≡ table) × (element.state ≡ Public) × (element.kind ≡ Optional type) × (element.number ≡ number)) [
+      → (element.table ≡ table) × (element.state ≡ Public) × (element.kind ≡ Optional type) × (element.number ≡ number)) [
         | true ↦ λ p e.
             let b = both_true (element.table == table) (is_public element.state) p in
             let k = typed (type_of_kind element.kind) e in
@@ -188,7 +188,6 @@ module _ (v : Version) (served : IsServed v) where
 
   abbrev Numbered : List (ℕ × ElementDef) → Type 0
   Numbered = AllByRecursion (λ e. e.1.number ≡ e.0)
-
 
   below_columns : (table q : ℕ) (es : List (ℕ × ElementDef)) → Numbered es → T (below_all nat_cmp q es) → T (below_all nat_cmp q (filter_map (public_column table) (each (λ (e : ℕ × ElementDef). e.1) es)))
   below_columns table q [] n h = tt

@@ -1,5 +1,5 @@
 -- The tests find the faults.
-use Rattle.std.proofs.Common.{◌≡◌, ◌≢◌, ◌==◌, ◌&&◌, ◌||◌, ◌<◌, ◌≤◌, ◌++◌, ℕ, Bool, true, false, cond, List, [], ◌∷◌, length, Option, Some, None, option_map, ◌⊎◌, inl, inr, refl, sym, ap, subst, ◌∙◌, arith, IsNone, is_some, IsTrue, not}
+use Rattle.std.proofs.Common.{◌≡◌, ◌==◌, ◌&&◌, ◌||◌, ◌<◌, ◌≤◌, ◌++◌, ℕ, Bool, true, false, cond, List, [], ◌∷◌, length, Option, Some, None, option_map, inl, inr, refl, sym, ap, subst, ◌∙◌, arith, is_some, not}
 use Rattle.std.proofs.lemmas.Bool.{leb-true}
 use Rattle.std.specs.List.{list_any, AllByRecursion}
 use Rattle.std.specs.Cmp.Lexicographic.{pointwise}
@@ -20,7 +20,7 @@ use Rattle.row_write.specs.declared.fault.PrepareFault.{PrepareFault}
 use Rattle.row_write.specs.declared.fault.PrepareFault.TheVariants.{NoTable, NotPublic, WrongType, TooManyOps, ViewMismatch, Memory}
 use Rattle.row_write.specs.Plain.{table_of, key_of, named_of}
 use Rattle.row_write.specs.Reads.{IsPublicColumn}
-use Rattle.row_write.specs.Prepare.{IsKeyFor, Suits, IsTyped, HasColumn, IsFirstHidden, rank, OpFault, IsFirstOpFault, Condition}
+use Rattle.row_write.specs.Prepare.{Suits, IsTyped, HasColumn, IsFirstHidden, rank, OpFault, IsFirstOpFault, Condition}
 use Rattle.row_write.specs.Made.{IsSound}
 use Rattle.row_write.specs.Served.{IsServed}
 use Rattle.row_write.specs.Deciding.{column_type, first_hidden, suits, suits_all, are_distinct, is_key_for, is_typed, check_named, check_table, op_check, or_else, ops_check, AreKnown, AreKnownUntil}
@@ -86,7 +86,6 @@ distinct_is (c ∷ cs) =
 
 module _ (v : Version) (served : IsServed v) where
   -- ---- named columns
-
 
   abbrev FirstIn : ℕ → List (ℕ × Value) → ℕ → Type 0
   FirstIn table cells column =

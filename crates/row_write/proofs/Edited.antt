@@ -1,11 +1,11 @@
 -- Cells with another value in one place.
-use Rattle.std.proofs.Common.{◌≡◌, ◌≢◌, ◌<◌, ◌≤◌, ◌+◌, ◌++◌, ℕ, Bool, true, false, cond, List, [], ◌∷◌, length, get_or, drop, Option, Some, None, nat_lt, inl, inr, refl, sym, ap, subst, ◌∙◌, arith, append_assoc}
+use Rattle.std.proofs.Common.{◌≡◌, ◌≢◌, ◌<◌, ◌≤◌, ◌+◌, ◌++◌, ℕ, Bool, true, false, cond, List, [], ◌∷◌, length, get_or, drop, Option, Some, None, nat_lt, inl, inr, refl, sym, ap, ◌∙◌, arith}
 use Rattle.std.proofs.lemmas.Bool.{lt-ltb, le-ltb, cases_lt}
 use Rattle.std.proofs.lemmas.List.{at_drop_more}
 use Rattle.std.specs.Ordering.{nat_cmp, eq_by_cmp}
 use Rattle.std.specs.Cmp.{nat_cmp_total}
-use Rattle.std.specs.FinMap.{get, find, from_entries, get-from_entries, same_map, nat_cmp-IsAntisymmetric}
-use Rattle.std.specs.FinMap.Entries.{where_key, find-where_key}
+use Rattle.std.specs.FinMap.{find, get-from_entries, same_map, nat_cmp-IsAntisymmetric}
+use Rattle.std.specs.FinMap.Entries.{find-where_key}
 use Rattle.byte_map.proofs.Written.{get-written, same_or_apart, tied, apart}
 use Rattle.keycode.specs.declared.value.Value.{Value}
 use Rattle.row_map.specs.Rows.{Cells}
@@ -53,9 +53,9 @@ front_apart n q (Some v) ne = ap (λ b. cond b (Some v) None) (apart nat_cmp_tot
 
 one_side : (n q : ℕ) → q ≢ n → (o : Option Value) → or_then (cond (nat_lt q n) o None) (cond (nat_lt n q) o None) ≡ o
 one_side n q ne o = elim (cases_lt q n) [
-    | inl low ↦ ap (λ b. or_then (cond b o None) (cond (nat_lt n q) o None)) (lt-ltb q n low) ∙ ap (λ b. or_then o (cond b o None)) (le-ltb n q (omega (arith, low))) ∙ or_none o
-    | inr high ↦ ap (λ b. or_then (cond b o None) (cond (nat_lt n q) o None)) (le-ltb q n high) ∙ none_or (cond (nat_lt n q) o None) ∙ ap (λ b. cond b o None) (lt-ltb n q (above high))
-  ]
+  | inl low ↦ ap (λ b. or_then (cond b o None) (cond (nat_lt n q) o None)) (lt-ltb q n low) ∙ ap (λ b. or_then o (cond b o None)) (le-ltb n q (omega (arith, low))) ∙ or_none o
+  | inr high ↦ ap (λ b. or_then (cond b o None) (cond (nat_lt n q) o None)) (le-ltb q n high) ∙ none_or (cond (nat_lt n q) o None) ∙ ap (λ b. cond b o None) (lt-ltb n q (above high))
+]
   where
     above : n ≤ q → n < q
     above le = omega (arith, le, ne)

@@ -1,5 +1,5 @@
 -- The entered keys are those that are read.
-use Rattle.std.proofs.Common.{◌≡◌, ◌↔◌, ℕ, Result, Ok, Err, IfOk, ◌<◌, Bool, true, false, cond, List, [], ◌∷◌, length, Option, Some, None, option_map, ◌⊎◌, inl, inr, refl, sym, ap, subst, ◌∙◌, arith, Contains}
+use Rattle.std.proofs.Common.{◌≡◌, ◌↔◌, ℕ, Result, Ok, Err, IfOk, List, [], ◌∷◌, Option, Some, None, option_map, ◌⊎◌, inl, inr, refl, sym, ap, subst, ◌∙◌, arith, Contains}
 use Rattle.std.specs.FinMap.{get, insert, empty, get-empty}
 use Rattle.keycode.specs.Order.{bytes_cmp}
 use Rattle.keycode.proofs.Orders.{bytes_cmp_total, bytes_cmp-IsAntisymmetric}
@@ -10,14 +10,13 @@ use Rattle.row_map.specs.Keys.{row_code}
 use Rattle.row_map.specs.Rows.{Bytes}
 use Rattle.schema_version.specs.Version.{Version, Table, table_at}
 use Rattle.schema_version.specs.Shape.{column_types, key_types, shape_of}
-use Rattle.schema_version.proofs.Lists.{here, later, here_or_later, some_same}
+use Rattle.schema_version.proofs.Lists.{here, later, here_or_later}
 use Rattle.row_write.specs.declared.op.RowOp.{RowOp}
 use Rattle.row_write.specs.Plain.{table_of, key_of}
-use Rattle.row_write.specs.Reads.{IsPublicColumn, IsRowKey, IsRead}
+use Rattle.row_write.specs.Reads.{IsRowKey, IsRead}
 use Rattle.row_write.specs.Served.{IsServed}
 use Rattle.row_write.specs.Entering.{KeySet, entered, column_keys, keys_in, op_keys, entered_all}
 use Rattle.row_write.proofs.Columns.{column_listed, listed_column}
-
 
 insert_here : (m : KeySet) (q : Bytes) → get (insert m q tt) q ≡ Some tt
 insert_here m q = written_here bytes_cmp_total bytes_cmp-IsAntisymmetric m q (Some tt)
@@ -25,42 +24,42 @@ insert_here m q = written_here bytes_cmp_total bytes_cmp-IsAntisymmetric m q (So
 entered_kept : (keys : List Bytes) (m : KeySet) (q : Bytes) → get m q ≡ Some tt → get (entered m keys) q ≡ Some tt
 entered_kept [] m q e = e
 entered_kept (k ∷ keys) m q e = entered_kept keys (insert m k tt) q (elim (same_or_apart bytes_cmp_total bytes_cmp-IsAntisymmetric q k) [
-    | inl same ↦ subst (λ x. get (insert m k tt) x ≡ Some tt) (sym same) (insert_here m k)
-    | inr other ↦ written_apart bytes_cmp_total bytes_cmp-IsAntisymmetric m k (Some tt) q other ∙ e
-  ])
+  | inl same ↦ subst (λ x. get (insert m k tt) x ≡ Some tt) (sym same) (insert_here m k)
+  | inr other ↦ written_apart bytes_cmp_total bytes_cmp-IsAntisymmetric m k (Some tt) q other ∙ e
+])
 
 entered_has : (keys : List Bytes) (m : KeySet) (q : Bytes) → Contains keys q → get (entered m keys) q ≡ Some tt
 entered_has [] m q (k, below, is) = absurd (omega (arith, below))
 entered_has (k ∷ keys) m q there = elim (here_or_later k q keys there) [
-    | inl same ↦ entered_kept keys (insert m k tt) q (subst (λ x. get (insert m k tt) x ≡ Some tt) same (insert_here m k))
-    | inr more ↦ entered_has keys (insert m k tt) q more
-  ]
+  | inl same ↦ entered_kept keys (insert m k tt) q (subst (λ x. get (insert m k tt) x ≡ Some tt) same (insert_here m k))
+  | inr more ↦ entered_has keys (insert m k tt) q more
+]
 
 entered_from : (keys : List Bytes) (m : KeySet) (q : Bytes) → get (entered m keys) q ≡ Some tt → Contains keys q ⊎ (get m q ≡ Some tt)
 entered_from [] m q e = inr e
 entered_from (k ∷ keys) m q e = elim (entered_from keys (insert m k tt) q e) [
-    | inl more ↦ inl (later k q keys more)
-    | inr now ↦ elim (same_or_apart bytes_cmp_total bytes_cmp-IsAntisymmetric q k) [
-      | inl same ↦ inl (subst (Contains (k ∷ keys)) (sym same) (here k keys))
-      | inr other ↦ inr (sym (written_apart bytes_cmp_total bytes_cmp-IsAntisymmetric m k (Some tt) q other) ∙ now)
-    ]
+  | inl more ↦ inl (later k q keys more)
+  | inr now ↦ elim (same_or_apart bytes_cmp_total bytes_cmp-IsAntisymmetric q k) [
+    | inl same ↦ inl (subst (Contains (k ∷ keys)) (sym same) (here k keys))
+    | inr other ↦ inr (sym (written_apart bytes_cmp_total bytes_cmp-IsAntisymmetric m k (Some tt) q other) ∙ now)
   ]
+]
 
 -- ---- the keys of one row
 
 column_key_has : (op : RowOp) (columns : List (ℕ × ColumnType)) (c : ℕ × ColumnType) → Contains columns c → Contains (column_keys op columns) (row_code (table_of op) (key_of op) c.0)
 column_key_has op [] c (k, below, is) = absurd (omega (arith, below))
 column_key_has op (d ∷ columns) c there = elim (here_or_later d c columns there) [
-    | inl same ↦ subst (λ (x : ℕ × ColumnType). Contains (column_keys op (d ∷ columns)) (row_code (table_of op) (key_of op) x.0)) same (here (row_code (table_of op) (key_of op) d.0) (column_keys op columns))
-    | inr more ↦ later (row_code (table_of op) (key_of op) d.0) (row_code (table_of op) (key_of op) c.0) (column_keys op columns) (column_key_has op columns c more)
-  ]
+  | inl same ↦ subst (λ (x : ℕ × ColumnType). Contains (column_keys op (d ∷ columns)) (row_code (table_of op) (key_of op) x.0)) same (here (row_code (table_of op) (key_of op) d.0) (column_keys op columns))
+  | inr more ↦ later (row_code (table_of op) (key_of op) d.0) (row_code (table_of op) (key_of op) c.0) (column_keys op columns) (column_key_has op columns c more)
+]
 
 column_key_from : (op : RowOp) (columns : List (ℕ × ColumnType)) (q : Bytes) → Contains (column_keys op columns) q → (c : ℕ × ColumnType) × Contains columns c × (q ≡ row_code (table_of op) (key_of op) c.0)
 column_key_from op [] q (k, below, is) = absurd (omega (arith, below))
 column_key_from op (d ∷ columns) q there = elim (here_or_later (row_code (table_of op) (key_of op) d.0) q (column_keys op columns) there) [
-    | inl same ↦ (d, here d columns, sym same)
-    | inr more ↦ let r = column_key_from op columns q more in (r.0, later d r.0 columns r.1, r.2)
-  ]
+  | inl same ↦ (d, here d columns, sym same)
+  | inr more ↦ let r = column_key_from op columns q more in (r.0, later d r.0 columns r.1, r.2)
+]
 
 module _ (v : Version) (served : IsServed v) where
   abbrev InTable : RowOp → Bytes → Type 0
@@ -82,10 +81,13 @@ module _ (v : Version) (served : IsServed v) where
   op_key_from op q there =
       elim (table_at v (table_of op)) as (λ o. table_at v (table_of op) ≡ o → Contains (keys_in op (shape_from op o)) q → InTable op q) [
         | None ↦ λ _ t. absurd (omega (arith, t.1))
-        | Some table ↦ λ at t. ((table, at), elim (here_or_later (row_code (table_of op) (key_of op) 0) q (column_keys op (column_types v (table_of op))) t) [
-          | inl same ↦ inl (sym same)
-          | inr more ↦ (let r = column_key_from op (column_types v (table_of op)) q more in inr (r.0.0, r.0.1, listed_column v served (table_of op) r.0.0 r.0.1 r.1, r.2))
-        ])
+        | Some table ↦ λ at t. (
+          (table, at),
+          elim (here_or_later (row_code (table_of op) (key_of op) 0) q (column_keys op (column_types v (table_of op))) t) [
+            | inl same ↦ inl (sym same)
+            | inr more ↦ (let r = column_key_from op (column_types v (table_of op)) q more in inr (r.0.0, r.0.1, listed_column v served (table_of op) r.0.0 r.0.1 r.1, r.2))
+          ],
+        )
       ] refl there
 
   all_kept : (ops : List RowOp) (m : KeySet) (q : Bytes) → get m q ≡ Some tt → get (entered_all v m ops) q ≡ Some tt
@@ -95,19 +97,19 @@ module _ (v : Version) (served : IsServed v) where
   all_has : (ops : List RowOp) (m : KeySet) (q : Bytes) → IsRead v ops q → get (entered_all v m ops) q ≡ Some tt
   all_has [] m q (op, (k, below, is), table, key) = absurd (omega (arith, below))
   all_has (p ∷ ops) m q (op, there, table, key) = elim (here_or_later p op ops there) [
-      | inl same ↦ all_kept ops (entered m (op_keys v p)) q (entered_has (op_keys v p) m q (op_key_has p q (subst (λ o. InTable o q) (sym same) (table, key))))
-      | inr more ↦ all_has ops (entered m (op_keys v p)) q (op, more, table, key)
-    ]
+    | inl same ↦ all_kept ops (entered m (op_keys v p)) q (entered_has (op_keys v p) m q (op_key_has p q (subst (λ o. InTable o q) (sym same) (table, key))))
+    | inr more ↦ all_has ops (entered m (op_keys v p)) q (op, more, table, key)
+  ]
 
   all_from : (ops : List RowOp) (m : KeySet) (q : Bytes) → get (entered_all v m ops) q ≡ Some tt → IsRead v ops q ⊎ (get m q ≡ Some tt)
   all_from [] m q e = inr e
   all_from (op ∷ ops) m q e = elim (all_from ops (entered m (op_keys v op)) q e) [
-      | inl more ↦ inl (more.0, later op more.0 ops more.1, more.2, more.3)
-      | inr now ↦ elim (entered_from (op_keys v op) m q now) [
-        | inl there ↦ (let r = op_key_from op q there in inl (op, here op ops, r.0, r.1))
-        | inr old ↦ inr old
-      ]
+    | inl more ↦ inl (more.0, later op more.0 ops more.1, more.2, more.3)
+    | inr now ↦ elim (entered_from (op_keys v op) m q now) [
+      | inl there ↦ (let r = op_key_from op q there in inl (op, here op ops, r.0, r.1))
+      | inr old ↦ inr old
     ]
+  ]
 
   pub reads_are : (ops : List RowOp) (q : Bytes) → (get (entered_all v empty ops) q ≡ Some tt) ↔ IsRead v ops q
   reads_are ops q = (

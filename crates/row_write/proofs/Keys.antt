@@ -1,5 +1,5 @@
 -- Two maps with the same keys, by tests of their entries.
-use Rattle.std.proofs.Common.{◌≡◌, ◌↔◌, ◌&&◌, ℕ, Bool, true, false, cond, List, [], ◌∷◌, Option, Some, None, is_some, refl, sym, ap, subst, ◌∙◌, IsTrue}
+use Rattle.std.proofs.Common.{◌≡◌, ◌↔◌, ◌&&◌, Bool, true, false, cond, List, [], ◌∷◌, Option, Some, None, is_some, refl, sym, ap, ◌∙◌, IsTrue}
 use Rattle.std.specs.List.{list_all, AllByRecursion}
 use Rattle.std.specs.Ordering.{eq_by_cmp}
 use Rattle.std.specs.Cmp.{Equal-is}
@@ -45,14 +45,14 @@ pub keys_tell : (reads : KeySet) (view : View) (a b : Bool) → a ≡ list_all (
     → IsTrue (a && b) ↔ HaveSameKeys reads view
 keys_tell reads view a b p q = (
   λ e.
-    let t = both_true a b e in
-    λ key. (
-      λ at. there_is (get view key) (all_says (λ k. is_some (get view k)) reads (sym p ∙ t.0) key tt at),
-      λ (value, at). (there_is (get reads key) (all_says (λ k. is_some (get reads k)) view (sym q ∙ t.1) key value at)).1,
-    ),
+      let t = both_true a b e in
+      λ key. (
+        λ at. there_is (get view key) (all_says (λ k. is_some (get view k)) reads (sym p ∙ t.0) key tt at),
+        λ (value, at). (there_is (get reads key) (all_says (λ k. is_some (get reads k)) view (sym q ∙ t.1) key value at)).1,
+      ),
   λ same. and_true a b
-    (p ∙ all_from (λ k. is_some (get view k)) reads (λ key x at. ap is_some ((same key).0 at).1))
-    (q ∙ all_from (λ k. is_some (get reads k)) view (λ key value at. ap is_some ((same key).1 (value, at)))),
+      (p ∙ all_from (λ k. is_some (get view k)) reads (λ key x at. ap is_some ((same key).0 at).1))
+      (q ∙ all_from (λ k. is_some (get reads k)) view (λ key value at. ap is_some ((same key).1 (value, at)))),
 )
 
 module _ (v : Version) (ops : List RowOp) (view : View) (reads : KeySet) (read : (key : Bytes) → (get reads key ≡ Some tt) ↔ IsRead v ops key) where

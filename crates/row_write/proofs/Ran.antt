@@ -1,5 +1,5 @@
 -- One more operation of a run, and runs on rows that agree.
-use Rattle.std.proofs.Common.{◌≡◌, ◌≢◌, ◌<◌, ◌+◌, ◌++◌, ℕ, Bool, true, false, cond, List, [], ◌∷◌, length, get_or, drop, Option, Some, None, option_map, Result, Ok, Err, inl, inr, refl, sym, ap, ap₂, subst, ◌∙◌, IsTrue}
+use Rattle.std.proofs.Common.{◌≡◌, ◌<◌, ◌+◌, ◌++◌, ℕ, Bool, cond, List, [], ◌∷◌, length, get_or, drop, Option, Some, None, option_map, Result, Ok, Err, inl, inr, refl, sym, ap, ap₂, subst, ◌∙◌, IsTrue}
 use Rattle.std.proofs.lemmas.List.{at_drop_more, append-nil}
 use Rattle.std.specs.List.{AllByRecursion}
 use Rattle.std.specs.Ordering.{nat_cmp, eq_by_cmp}
@@ -10,7 +10,6 @@ use Rattle.keycode.specs.declared.value.Value.{Value}
 use Rattle.keycode.specs.Code.{code}
 use Rattle.keycode.specs.Valid.{IsValue}
 use Rattle.keycode.proofs.ByteOrder.{same_spelling}
-use Rattle.row_map.specs.declared.shape.ColumnType.{ColumnType}
 use Rattle.row_map.specs.Rows.{Bytes, RowKey, Cells, Rows}
 use Rattle.row_map.specs.Expect.{View}
 use Rattle.row_map.specs.Writes.{Writes, Batch, written, noted}
@@ -24,7 +23,6 @@ use Rattle.row_write.specs.declared.op.RowOp.{RowOp}
 use Rattle.row_write.specs.declared.op.RowOp.TheVariants.{Insert, Update, Delete}
 use Rattle.row_write.specs.declared.op.RowOutcome.{RowOutcome}
 use Rattle.row_write.specs.declared.fault.RowFault.{RowFault}
-use Rattle.row_write.specs.declared.fault.RowFault.TheVariants.{Duplicate, NoRow}
 use Rattle.row_write.specs.Plain.{cell_of, with_cells, table_of, row_of, change_of, change, go_on, applied, told, outcome}
 use Rattle.row_write.specs.Prepare.{IsSpelledRow, Spells, write_on, writes_of, accepted_writes, txn_writes, IsPrepared}
 use Rattle.row_write.specs.Served.{IsServed}
@@ -97,16 +95,18 @@ module _ (v : Version) (served : IsServed v) where
 
   agree_after : (ops : List RowOp) (work rows : Rows) (key : RowKey) (o p : Option Cells) → AgreeAt key o p → Agree ops work rows → Agree ops (written work key o) (written rows key p)
   agree_after [] work rows key o p a all = tt
-  agree_after (op ∷ ops) work rows key o p a all =
-      (elim (same_or_apart row_cmp_total row_cmp-IsAntisymmetric (row_of op) key) [
-        | inl same ↦
-            subst (λ (k : RowKey). AgreeAt k (get (written work key o) k) (get (written rows key p) k)) (sym same)
-            (subst (λ x. AgreeAt key x (get (written rows key p) key)) (sym (written_here row_cmp_total row_cmp-IsAntisymmetric work key o))
-            (subst (λ x. AgreeAt key o x) (sym (written_here row_cmp_total row_cmp-IsAntisymmetric rows key p)) a))
-        | inr other ↦
-            subst (λ x. AgreeAt (row_of op) x (get (written rows key p) (row_of op))) (sym (written_apart row_cmp_total row_cmp-IsAntisymmetric work key o (row_of op) other))
-            (subst (λ x. AgreeAt (row_of op) (get work (row_of op)) x) (sym (written_apart row_cmp_total row_cmp-IsAntisymmetric rows key p (row_of op) other)) all.0)
-      ], agree_after ops work rows key o p a all.1)
+  agree_after (op ∷ ops) work rows key o p a all = (
+    elim (same_or_apart row_cmp_total row_cmp-IsAntisymmetric (row_of op) key) [
+      | inl same ↦
+          subst (λ (k : RowKey). AgreeAt k (get (written work key o) k) (get (written rows key p) k)) (sym same)
+          (subst (λ x. AgreeAt key x (get (written rows key p) key)) (sym (written_here row_cmp_total row_cmp-IsAntisymmetric work key o))
+          (subst (λ x. AgreeAt key o x) (sym (written_here row_cmp_total row_cmp-IsAntisymmetric rows key p)) a))
+      | inr other ↦
+          subst (λ x. AgreeAt (row_of op) x (get (written rows key p) (row_of op))) (sym (written_apart row_cmp_total row_cmp-IsAntisymmetric work key o (row_of op) other))
+          (subst (λ x. AgreeAt (row_of op) (get work (row_of op)) x) (sym (written_apart row_cmp_total row_cmp-IsAntisymmetric rows key p (row_of op) other)) all.0)
+    ],
+    agree_after ops work rows key o p a all.1,
+  )
 
   abbrev SameRun : ℕ → List RowOp → Rows → Rows → Type 0
   SameRun place ops work rows = (told (applied place work ops) ≡ told (applied place rows ops)) × (writes_of v work ops ≡ writes_of v rows ops)

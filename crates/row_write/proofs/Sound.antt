@@ -1,6 +1,5 @@
 -- What row writes need of a version is true of every sound one.
-use Rattle.std.proofs.Common.{◌≡◌, ◌<◌, ◌≤◌, ◌+◌, arith}
-use Rattle.schema_version.specs.Names.{max_elements}
+use Rattle.std.proofs.Common.{arith}
 use Rattle.schema_version.specs.Version.{Version}
 use Rattle.schema_version.specs.Sound.{IsSoundVersion}
 use Rattle.row_write.specs.Served.{IsServed}

@@ -1,11 +1,10 @@
 -- The row that is read is the row that the view spells.
-use Rattle.std.proofs.Common.{◌≡◌, ◌≢◌, ◌&&◌, ◌<◌, ◌+◌, ◌++◌, ℕ, zero, suc, Bool, true, false, cond, T, List, [], ◌∷◌, length, get_or, take, Option, Some, None, option_map, ◌⊎◌, inl, inr, refl, sym, ap, subst, ◌∙◌, arith, Contains, IsTrue}
+use Rattle.std.proofs.Common.{◌≡◌, ◌≢◌, ◌&&◌, ◌<◌, ◌+◌, ℕ, zero, suc, Bool, true, false, cond, T, List, [], ◌∷◌, length, get_or, take, Option, Some, None, option_map, inl, inr, refl, sym, ap, subst, ◌∙◌, arith, Contains, IsTrue}
 use Rattle.std.specs.List.{AllByRecursion}
 use Rattle.std.specs.declared.cmp.Ordering.{Ordering}
 use Rattle.std.specs.declared.cmp.Ordering.TheVariants.{Less, Equal, Greater}
 use Rattle.std.specs.Ordering.{nat_cmp, eq_by_cmp, is_lt, is_eq}
 use Rattle.std.specs.Cmp.{nat_cmp_total}
-use Rattle.std.specs.FinMap as map
 use Rattle.std.specs.FinMap.{get, find, from_entries, get-from_entries, is_sorted, nat_cmp-IsAntisymmetric}
 use Rattle.std.specs.FinMap.Entries.{below_all}
 use Rattle.listed.proofs.Steps.{AllByRecursion-take_more}
@@ -24,11 +23,11 @@ use Rattle.schema_version.specs.Version.{Version}
 use Rattle.schema_version.specs.Shape.{column_types}
 use Rattle.schema_version.proofs.Lists.{here, later, here_or_later, some_same}
 use Rattle.row_write.specs.declared.op.RowOp.{RowOp}
-use Rattle.row_write.specs.Plain.{table_of, key_of, row_of}
+use Rattle.row_write.specs.Plain.{table_of, row_of}
 use Rattle.row_write.specs.Reads.{IsPublicColumn}
 use Rattle.row_write.specs.Prepare.{IsSpelledRow}
 use Rattle.row_write.specs.Served.{IsServed}
-use Rattle.row_write.specs.Viewing.{IsCell, IsThere, with_front, AreCells, seen_at, IsSeen, cells_there}
+use Rattle.row_write.specs.Viewing.{IsCell, with_front, AreCells, seen_at, IsSeen, cells_there}
 use Rattle.row_write.proofs.Columns.{column_listed, listed_column, columns_rise}
 
 second : (a b : Bool) → T (a && b) → T b
@@ -65,12 +64,12 @@ module _ (there : Bool) (seen : ℕ → Option (Option Bytes)) where
   cell_of : (columns : List (ℕ × ColumnType)) (cells : List (ℕ × Value)) (n : ℕ) (type : ColumnType) → T (is_sorted nat_cmp columns) → AreCells there seen columns cells → Contains columns (n, type) → IsCell type there (seen n) (find nat_cmp n cells)
   cell_of [] cells n type sorted h (k, below, is) = absurd (omega (arith, below))
   cell_of (c ∷ columns) cells n type sorted (cell, rest, i, e, more) at = elim (here_or_later c (n, type) columns at) [
-      | inl same ↦
-          subst (λ (d : ℕ × ColumnType). IsCell d.1 there (seen d.0) (find nat_cmp d.0 cells)) same
-          (subst (IsCell c.1 there (seen c.0)) (sym (ap (find nat_cmp c.0) e ∙ at_front cell)) i)
-      | inr later_on ↦ subst (λ l. IsCell type there (seen n) (find nat_cmp n l)) (sym e)
-          (subst (IsCell type there (seen n)) (sym (behind cell (above columns n type (first _ _ sorted) later_on))) (cell_of columns rest n type (second _ _ sorted) more later_on))
-    ]
+    | inl same ↦
+        subst (λ (d : ℕ × ColumnType). IsCell d.1 there (seen d.0) (find nat_cmp d.0 cells)) same
+        (subst (IsCell c.1 there (seen c.0)) (sym (ap (find nat_cmp c.0) e ∙ at_front cell)) i)
+    | inr later_on ↦ subst (λ l. IsCell type there (seen n) (find nat_cmp n l)) (sym e)
+        (subst (IsCell type there (seen n)) (sym (behind cell (above columns n type (first _ _ sorted) later_on))) (cell_of columns rest n type (second _ _ sorted) more later_on))
+  ]
     where
       at_front : (o : Option Value) → find nat_cmp c.0 (with_front c.0 o rest) ≡ o
       at_front None = none_found columns rest c.0 more (first _ _ sorted)
@@ -79,14 +78,14 @@ module _ (there : Bool) (seen : ℕ → Option (Option Bytes)) where
       above : (cs : List (ℕ × ColumnType)) (m : ℕ) (t : ColumnType) → T (below_all nat_cmp c.0 cs) → Contains cs (m, t) → m ≢ c.0
       above [] m t below (k, lt, is) = absurd (omega (arith, lt))
       above (d ∷ cs) m t below has = elim (here_or_later d (m, t) cs has) [
-          | inl same ↦ λ eq.
-              let less : T (is_lt (nat_cmp c.0 d.0)) = first _ _ below in
-              let one : d.0 ≡ c.0 = (λ i. (same i).0) ∙ eq in
-              let tie : is_eq (nat_cmp c.0 d.0) ≡ true = ap (λ x. eq_by_cmp nat_cmp c.0 x) one ∙ tied nat_cmp_total nat_cmp-IsAntisymmetric c.0 in
-              let wrong : false ≡ true = sym (less_apart (nat_cmp c.0 d.0) less) ∙ tie in
-              cc
-          | inr more_on ↦ above cs m t (second _ _ below) more_on
-        ]
+        | inl same ↦ λ eq.
+            let less : T (is_lt (nat_cmp c.0 d.0)) = first _ _ below in
+            let one : d.0 ≡ c.0 = (λ i. (same i).0) ∙ eq in
+            let tie : is_eq (nat_cmp c.0 d.0) ≡ true = ap (λ x. eq_by_cmp nat_cmp c.0 x) one ∙ tied nat_cmp_total nat_cmp-IsAntisymmetric c.0 in
+            let wrong : false ≡ true = sym (less_apart (nat_cmp c.0 d.0) less) ∙ tie in
+            cc
+        | inr more_on ↦ above cs m t (second _ _ below) more_on
+      ]
 
       behind : (o : Option Value) → n ≢ c.0 → find nat_cmp n (with_front c.0 o rest) ≡ find nat_cmp n rest
       behind None ne = refl
@@ -159,13 +158,15 @@ module _ (v : Version) (served : IsServed v) (view : View) where
 
   still : (ops : List RowOp) (op : RowOp) (rows : Rows) (row : Option Cells) → IsSpelledAs v view (row_of op) row → AllByRecursion (IsSpelledRow v view rows) ops → AllByRecursion (IsSpelledRow v view (written rows (row_of op) row)) ops
   still [] op rows row s all = tt
-  still (p ∷ ops) op rows row s all =
-      (to_row v view (written rows (row_of op) row) p (elim (same_or_apart row_cmp_total row_cmp-IsAntisymmetric (row_of p) (row_of op)) [
-        | inl same ↦
-            let at : get (written rows (row_of op) row) (row_of p) ≡ row = ap (get (written rows (row_of op) row)) same ∙ written_here row_cmp_total row_cmp-IsAntisymmetric rows (row_of op) row in
-            subst (IsSpelledAs v view (row_of p)) (sym at) (subst (λ (k : RowKey). IsSpelledAs v view k row) (sym same) s)
-        | inr other ↦ subst (IsSpelledAs v view (row_of p)) (sym (written_apart row_cmp_total row_cmp-IsAntisymmetric rows (row_of op) row (row_of p) other)) (of_row v view rows p all.0)
-      ]), still ops op rows row s all.1)
+  still (p ∷ ops) op rows row s all = (
+    to_row v view (written rows (row_of op) row) p (elim (same_or_apart row_cmp_total row_cmp-IsAntisymmetric (row_of p) (row_of op)) [
+      | inl same ↦
+          let at : get (written rows (row_of op) row) (row_of p) ≡ row = ap (get (written rows (row_of op) row)) same ∙ written_here row_cmp_total row_cmp-IsAntisymmetric rows (row_of op) row in
+          subst (IsSpelledAs v view (row_of p)) (sym at) (subst (λ (k : RowKey). IsSpelledAs v view k row) (sym same) s)
+      | inr other ↦ subst (IsSpelledAs v view (row_of p)) (sym (written_apart row_cmp_total row_cmp-IsAntisymmetric rows (row_of op) row (row_of p) other)) (of_row v view rows p all.0)
+    ]),
+    still ops op rows row s all.1,
+  )
 
   pub spelled_more : (ops : List RowOp) (i : ℕ) (op : RowOp) (rows next : Rows) (there : Bool) (cells : List (ℕ × Value)) → i < length ops → op ≡ get_or ops i op → IsSeen view op (column_types v (table_of op)) there cells
       → next ≡ written rows (row_of op) (cells_there there cells) → AllByRecursion (IsSpelledRow v view rows) (take i ops) → AllByRecursion (IsSpelledRow v view next) (take (i + 1) ops)

@@ -1,7 +1,7 @@
 -- What a view says of a row, cell by cell.
-use Rattle.std.proofs.Common.{◌≡◌, ◌≢◌, ◌<◌, ◌+◌, ◌++◌, ℕ, zero, suc, Bool, true, false, cond, List, [], ◌∷◌, length, get_or, take, Option, Some, None, option_map, Result, Ok, Err, IfOk, IfErr, ◌⊎◌, inl, inr, refl, sym, ap, subst, ◌∙◌, arith}
+use Rattle.std.proofs.Common.{◌≡◌, ◌<◌, ◌+◌, ◌++◌, ℕ, zero, suc, Bool, true, false, cond, List, [], ◌∷◌, length, get_or, take, Option, Some, None, Result, Ok, Err, IfOk, IfErr, inl, inr, refl, sym, ap, subst, ◌∙◌, arith}
 use Rattle.std.proofs.lemmas.List.{append-nil, take_more}
-use Rattle.listed.specs.Answers.{FailsOr, GivesOr}
+use Rattle.listed.specs.Answers.{GivesOr}
 use Rattle.keycode.specs.declared.fault.KeyFault.{KeyFault}
 use Rattle.keycode.specs.declared.value.Value.{Value}
 use Rattle.keycode.specs.Code.{code}
@@ -13,7 +13,7 @@ use Rattle.row_map.specs.Rows.{Bytes}
 use Rattle.row_map.specs.Shape.{has_type}
 use Rattle.row_write.specs.declared.fault.PrepareFault.{PrepareFault}
 use Rattle.row_write.specs.declared.fault.PrepareFault.TheVariants.{ViewMismatch, Memory}
-use Rattle.row_write.specs.Viewing.{IsMissed, whole, value_in, IsSpelling, IsCell, IsThere, with_front, AreCells}
+use Rattle.row_write.specs.Viewing.{IsMissed, whole, value_in, IsSpelling, IsCell, with_front, AreCells}
 
 pub missed_map : {A B : Type 0} (e : PrepareFault) → (A → B) → IsMissed A e → IsMissed B e
 missed_map e f (inl m) = inl m
@@ -53,9 +53,9 @@ whole_fault : (type : ColumnType) (r : Result (Value × List ℕ) KeyFault) (e :
 whole_fault type (Err f) e p = sym (err_fault ViewMismatch e p)
 whole_fault type (Ok (w, b ∷ rest)) e p = sym (err_fault ViewMismatch e p)
 whole_fault type (Ok (w, [])) e p = elim (has_type type w) as (λ b. cond b (of_fault w) (Err ViewMismatch) ≡ Err e → e ≡ ViewMismatch) [
-    | true ↦ λ q. absurd cc
-    | false ↦ λ q. sym (err_fault ViewMismatch e q)
-  ] p
+  | true ↦ λ q. absurd cc
+  | false ↦ λ q. sym (err_fault ViewMismatch e q)
+] p
 
 pub spelled_found : (r : Result Value PrepareFault) (type : ColumnType) (bytes : Bytes) → IsBytes bytes → GivesOr Memory (λ x. x) r (value_in type bytes) → IfOk r (λ value. IsSpelling type bytes value)
 spelled_found (Ok v) type bytes fits h = whole_says bytes type v fits (value_at bytes) refl h

@@ -1,9 +1,8 @@
 -- What a version's elements write, one after another, and that it depends on the public columns of the table alone.
-use Rattle.std.proofs.Common.{◌≡◌, ◌==◌, ◌&&◌, ◌<◌, ◌≤◌, ◌+◌, ◌^◌, ◌++◌, ℕ, zero, suc, Bool, true, false, cond, T, List, [], ◌∷◌, length, Option, Some, None, is_some, refl, sym, ap, ap₂, subst, ◌∙◌, arith, eqb, eqb-true, Contains, IsTrue}
+use Rattle.std.proofs.Common.{◌≡◌, ◌&&◌, ◌≤◌, ◌++◌, ℕ, zero, suc, Bool, true, false, cond, T, List, [], ◌∷◌, Option, Some, None, is_some, refl, sym, ap, ap₂, subst, ◌∙◌, arith, eqb, eqb-true, Contains, IsTrue}
 use Rattle.std.proofs.lemmas.Bool.Decides.{nat_tests}
 use Rattle.std.specs.List.{AllByRecursion}
-use Rattle.std.specs.declared.cmp.Ordering.{Ordering}
-use Rattle.std.specs.declared.cmp.Ordering.TheVariants.{Less, Equal, Greater}
+use Rattle.std.specs.declared.cmp.Ordering.TheVariants.{Less}
 use Rattle.std.specs.Ordering.{nat_cmp, is_lt}
 use Rattle.std.specs.Cmp.{nat_cmp_total}
 use Rattle.std.specs.FinMap.{get, entries, entries_sorted, from_entries, from_sorted, is_sorted, same_map, get-from_entries, get-from_sorted, entries-from_sorted, nat_cmp-IsAntisymmetric}
@@ -23,15 +22,14 @@ use Rattle.schema_version.specs.Version.{Version, element_at, live, listed}
 use Rattle.schema_version.specs.Moves.{IsColumnList}
 use Rattle.schema_version.proofs.Lists.{any_says}
 use Rattle.element_state.specs.Elements.{Change, Alike, Meaning}
-use Rattle.element_state.specs.Exists.{exists_by, exists_meaning}
+use Rattle.element_state.specs.Exists.{exists_by}
 use Rattle.element_state.specs.ExistsLaws.{exists_facts}
-use Rattle.element_state.specs.Index.{lists, IsLawfulIndex}
-use Rattle.element_state.specs.Column.{column_reads, IsLawfulColumn}
+use Rattle.element_state.specs.Index.{lists}
+use Rattle.element_state.specs.Column.{column_reads}
 use Rattle.element_state.specs.Kinds.{kind_meaning, IsLawfulKind, kind_laws}
 use Rattle.element_state.specs.Schemas.{Entry, writes_of, version_writes}
 use Rattle.element_state.specs.Tables.{within}
 use Rattle.element_state.specs.Versions.{ElementKind, meaning_of, the_kinds, entry_of, row_entry, schema_of}
-use Rattle.row_write.specs.Reads.{IsPublicColumn}
 use Rattle.row_write.specs.Prepare.{HasColumn}
 use Rattle.row_write.specs.Served.{IsServed}
 use Rattle.row_write.specs.Deciding.{column_type}

@@ -1,18 +1,16 @@
 -- The row that the last mention leaves is the row of the map.
-use Rattle.std.proofs.Common.{◌≡◌, ◌==◌, ◌&&◌, ◌++◌, ℕ, Bool, true, false, cond, List, [], ◌∷◌, Option, Some, None, option_map, refl, sym, ap, subst, ◌∙◌, IfSome, eqb-true, eq-eqb}
-use Rattle.std.specs.declared.cmp.Ordering.{Ordering}
-use Rattle.std.specs.declared.cmp.Ordering.TheVariants.{Less, Equal, Greater}
-use Rattle.std.specs.Ordering.{nat_cmp, eq_by_cmp, is_eq, ordering_then}
-use Rattle.std.specs.Cmp.{Equal-is, nat_cmp_total, tied_itself, eq_by_cmp_equiv}
-use Rattle.std.specs.FinMap.{get, empty, get-empty, nat_cmp-IsAntisymmetric}
+use Rattle.std.proofs.Common.{◌≡◌, ◌==◌, ◌++◌, ℕ, Bool, true, false, cond, List, [], ◌∷◌, Option, Some, None, option_map, refl, sym, ap, ◌∙◌, IfSome, eqb-true, eq-eqb}
+use Rattle.std.specs.Ordering.{eq_by_cmp, is_eq}
+use Rattle.std.specs.Cmp.{Equal-is}
+use Rattle.std.specs.FinMap.{get, empty, get-empty}
 use mathlib.Core.List.{map as each}
 use Rattle.std.proofs.lemmas.List.{map-append}
 use Rattle.keycode.specs.declared.value.Value.{Value}
 use Rattle.keycode.specs.Order.{values_cmp}
 use Rattle.keycode.proofs.Orders.{values_cmp-IsAntisymmetric, values_cmp_total}
-use Rattle.byte_map.proofs.Written.{get-written, written_all-append, same_or_apart, tied, apart}
+use Rattle.byte_map.proofs.Written.{get-written, written_all-append, tied, apart}
 use Rattle.row_map.specs.declared.shape.Row.{Row}
-use Rattle.row_map.specs.Rows.{RowKey, Cells, Rows, row_cmp}
+use Rattle.row_map.specs.Rows.{RowKey, Rows, row_cmp}
 use Rattle.row_map.specs.Writes.{written, written_all}
 use Rattle.row_map.proofs.Orders.{row_cmp_total, row_cmp-IsAntisymmetric}
 use Rattle.element_state.specs.Operations.{cells_of}
@@ -58,9 +56,9 @@ last_cells table key before (x ∷ ms) m e =
 
 row_if_key : (x : Mention) (r : Row) → row_if x ≡ Some r → r ≡ x.row
 row_if_key x r e = elim x.there as (λ b. cond b (Some x.row) None ≡ Some r → r ≡ x.row) [
-    | true ↦ λ p. sym (some_same p)
-    | false ↦ λ p. absurd (let y : None ≡ Some r = p in cc)
-  ] e
+  | true ↦ λ p. sym (some_same p)
+  | false ↦ λ p. absurd (let y : None ≡ Some r = p in cc)
+] e
 
 last_key : (table : ℕ) (key : List Value) (before : Option Row) (ms : List Mention) (r : Row) → (before ≡ Some r → r.key ≡ key) → last_row table key before ms ≡ Some r → r.key ≡ key
 last_key table key before [] r h e = h e

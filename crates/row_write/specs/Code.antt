@@ -19,7 +19,7 @@ use Rattle.row_write.specs.Made.{PreparedTxn}
 abbrev pub prepared_code : Coded PreparedTxn
 prepared_code =
     code_by (Version × (Lease × (List RowOp × (Expect × (Batch × RowOutcome)))))
-      (coded× version_code (coded× lease.the_row.coded (coded× (coded_list op.the_row.coded) (coded× expect.the_row.coded (coded× (map.code {R = bytes_cmp} (coded_list coded_ℕ) (coded_option (coded_list coded_ℕ))) outcome.the_row.coded)))))
-      (λ p. (p.schema, (p.lease, (p.ops, (p.expect, (p.batch, p.told))))))
-      (λ t. record { schema = t.0; lease = t.1.0; ops = t.1.1.0; expect = t.1.1.1.0; batch = t.1.1.1.1.0; told = t.1.1.1.1.1 })
-      (λ _. refl)
+    (coded× version_code (coded× lease.the_row.coded (coded× (coded_list op.the_row.coded) (coded× expect.the_row.coded (coded× (map.code {R = bytes_cmp} (coded_list coded_ℕ) (coded_option (coded_list coded_ℕ))) outcome.the_row.coded)))))
+    (λ p. (p.schema, (p.lease, (p.ops, (p.expect, (p.batch, p.told))))))
+    (λ t. record { schema = t.0; lease = t.1.0; ops = t.1.1.0; expect = t.1.1.1.0; batch = t.1.1.1.1.0; told = t.1.1.1.1.1 })
+    (λ _. refl)

@@ -1,7 +1,6 @@
 -- The keys of the operations' rows, entered one after another.
 use Rattle.std.specs.Prelude.{ℕ, List, [], ◌∷◌, Option, Some, None}
 use Rattle.std.specs.FinMap as map
-use mathlib.Core.List.{map as each}
 use Rattle.keycode.specs.Order.{bytes_cmp}
 use Rattle.row_map.specs.declared.shape.ColumnType.{ColumnType}
 use Rattle.row_map.specs.declared.shape.TableShape.{TableShape}

@@ -12,6 +12,7 @@ ghost use Rattle.row_write.specs.Prepare.{IsSpelledRow, Spells};
 ghost use Rattle.row_write.specs.Made.{IsSound};
 ghost use Rattle.row_write.specs.Viewing.{IsMissed, IsSeen, cells_there, HaveSameKeys};
 
+use crate::editing::copy_key;
 use crate::fault::PrepareFault;
 use crate::op::RowOp;
 use crate::reads::reads_of;
@@ -19,7 +20,6 @@ use crate::served::served;
 use crate::viewing::read_row;
 use crate::working::WorkRows;
 use byte_map::{Bytes, KeyMap};
-use keycode::Values;
 use listed::Listed;
 use row_map::{ColumnType, ReadSet, ReadView, Row};
 use schema_version::Schema;
@@ -37,12 +37,6 @@ fn columns_of(
     Ok(schema.shape(alloc, table)?.unwrap().columns)
 }
 
-fn copy_of(key: &Values) -> Result<Values, AllocError>
-    ensures { IfOk result (λ copy. copy ≡ key.now) }
-{
-    key.clone()
-}
-
 /// Reads the row of an operation.
 fn read_op(
     alloc: Global,
@@ -57,7 +51,7 @@ fn read_op(
 {
     let columns = columns_of(alloc, schema, op.table())?;
     let (there, cells) = read_row(alloc, view, op, columns.as_slice())?;
-    let key = copy_of(op.key())?;
+    let key = copy_key(op.key())?;
     rows.put(op.table(), Row { key, cells }, there)?;
     Ok(())
 }

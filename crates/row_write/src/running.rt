@@ -18,12 +18,7 @@ use schema_version::Schema;
 use std::alloc::{AllocError, Global};
 
 /// Keeps the operation's row, or that it is gone.
-fn keep(
-    alloc: Global,
-    rows: &mut WorkRows,
-    op: &RowOp,
-    new: Option<Row>,
-) -> Result<(), AllocError>
+fn keep(alloc: Global, rows: &mut WorkRows, op: &RowOp, new: Option<Row>) -> Result<(), AllocError>
     requires { IfSome new (λ row. row.key ≡ key_of op.now) }
     ensures { OnOk result (rows.new ≡ written rows.old (row_of op.now) (option_map cells_of new)) }
 {

@@ -103,7 +103,11 @@ fn read_cell(
     seen_cell(alloc, kind, there, view.get(key.as_slice()))
 }
 
-fn push_cell(cells: &mut Vec<(u32, Value)>, number: u32, cell: Option<Value>) -> Result<(), AllocError>
+fn push_cell(
+    cells: &mut Vec<(u32, Value)>,
+    number: u32,
+    cell: Option<Value>,
+) -> Result<(), AllocError>
     ensures { OnOk result (cells.new.items ≡ cells.old.items ++ with_front number cell []) }
 {
     if let Some(value) = cell {

@@ -1,4 +1,4 @@
-use Rattle.std.proofs.Common.{◌≡◌, ◌↔◌, ◌∙◌, sym, ap, subst, Bool, IsTrue, is_some}
+use Rattle.std.proofs.Common.{◌↔◌, ◌∙◌, sym, ap, subst, Bool, IsTrue, is_some}
 use Rattle.std.specs.FinMap.{get}
 use Rattle.std.specs.List.{list_all}
 use Rattle.row_write.specs.Viewing.{HaveSameKeys}
@@ -9,5 +9,5 @@ pub returns : goal.returns
 returns c =
     subst (λ (b : Bool). IsTrue b ↔ HaveSameKeys c.args.reads.now c.args.view.now) (sym c.are_both.ensures)
     (keys_tell c.args.reads.now c.args.view.now c.all_in-read.result c.all_in-seen.result
-      (c.all_in-read.ensures ∙ ap (λ es. list_all (λ e. is_some (get c.args.view.now e.0)) es) c.entries.ensures.all)
-      (c.all_in-seen.ensures ∙ ap (λ es. list_all (λ e. is_some (get c.args.reads.now e.0)) es) c.entries-2.ensures.all))
+    (c.all_in-read.ensures ∙ ap (λ es. list_all (λ e. is_some (get c.args.view.now e.0)) es) c.entries.ensures.all)
+    (c.all_in-seen.ensures ∙ ap (λ es. list_all (λ e. is_some (get c.args.reads.now e.0)) es) c.entries-2.ensures.all))

@@ -1,4 +1,4 @@
-use Rattle.std.proofs.Common.{◌≡◌, get_or, subst, sym}
+use Rattle.std.proofs.Common.{get_or, subst, sym}
 use Rattle.std.proofs.lemmas.Result.{err_from_is_err_and}
 use Rattle.row_write.specs.declared.op.RowOp.{RowOp}
 use Rattle.row_write.specs.Prepare.{IsSpelledRow}
@@ -10,10 +10,10 @@ pub returns-in_err-read_op-clause-missed : goal.returns-in_err-read_op-clause-mi
 returns-in_err-read_op-clause-missed c =
     let p = err_from_is_err_and c.from_residual.result c.from_residual.ensures.1 in
     rw (p.1, p.2) (missed_map c.in_err-read_op.field-0.0 (λ never rows all.
-      let P = λ (o : RowOp). IsSpelledRow c.args.schema.now c.args.view.now rows o in
-      let here : P (get_or c.args.ops.now c.loop-op.op-index c.op-item.result) = all_at P c.args.ops.now c.loop-op.op-index c.op-item.result c.loop-op-test.true all in
-      let s = spelled_is_seen c.args.schema.now c.served.ensures c.args.view.now c.op-item.result rows (subst P (sym c.op-item.is) here) in
-      never s.0 s.1 s.2) c.in_err-read_op.ensures.missed)
+    let P = λ (o : RowOp). IsSpelledRow c.args.schema.now c.args.view.now rows o in
+    let here : P (get_or c.args.ops.now c.loop-op.op-index c.op-item.result) = all_at P c.args.ops.now c.loop-op.op-index c.op-item.result c.loop-op-test.true all in
+    let s = spelled_is_seen c.args.schema.now c.served.ensures c.args.view.now c.op-item.result rows (subst P (sym c.op-item.is) here) in
+    never s.0 s.1 s.2) c.in_err-read_op.ensures.missed)
 
 pub loop-op-preserved : goal.loop-op-preserved
 loop-op-preserved c =

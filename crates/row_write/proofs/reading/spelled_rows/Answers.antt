@@ -1,4 +1,4 @@
-use Rattle.std.proofs.Common.{◌≡◌, inl, inr, refl, sym, ◌∙◌, true, false}
+use Rattle.std.proofs.Common.{◌≡◌, inr, refl, sym, ◌∙◌, true, false}
 use Rattle.std.proofs.lemmas.Result.{IfOk-weaker, IfErr-weaker}
 use Rattle.row_write.proofs.Viewed.{missed_map}
 use Rattle.row_write.proofs.Keys.{spelled_with, same_keys}
@@ -6,10 +6,13 @@ use Rattle.row_write.proofs.reading.spelled_rows.Goals as goal
 
 pub returns-then-not-has_keys-clause-missed : goal.returns-then-not-has_keys-clause-missed
 returns-then-not-has_keys-clause-missed c =
-    inr (refl, λ rows s.
-      let same = c.has_keys.ensures.1 (same_keys c.args.schema.now c.args.ops.now c.args.view.now c.in_ok-reads.reads c.in_ok-reads.ensures rows s) in
-      let wrong : true ≡ false = sym same ∙ c.if-not-has_keys.true in
-      cc)
+    inr (
+      refl,
+      λ rows s.
+          let same = c.has_keys.ensures.1 (same_keys c.args.schema.now c.args.ops.now c.args.view.now c.in_ok-reads.reads c.in_ok-reads.ensures rows s) in
+          let wrong : true ≡ false = sym same ∙ c.if-not-has_keys.true in
+          cc,
+    )
 
 pub returns-clause-found : goal.returns-clause-found
 returns-clause-found c = IfOk-weaker c.read_rows.result _ _ (λ rows all.
