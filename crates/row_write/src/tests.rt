@@ -189,9 +189,7 @@ fn what_is_prepared_is_kept(rt: HostRuntime) -> Result<(), Fail> {
     assert_eq!(rt; prepared.schema().get().table("t"), Some(1));
     assert_eq!(rt; *prepared.lease(), lease());
     assert!(rt; matches!(prepared.ops(), [RowOp::Delete { table: 1, .. }]));
-    let (kept, ops) = prepared.into_parts();
-    assert_eq!(rt; kept, lease());
-    assert_eq!(rt; ops.len(), 1);
+    assert_eq!(rt; prepared.ops_copied()?.len(), 1);
     Ok(())
 }
 
