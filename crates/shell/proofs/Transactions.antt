@@ -22,15 +22,17 @@ module _ (w : State) (s : Version) (ops given : List RowOp) (same : s ≡ w.open
   pub read_of : (keys : map.FinMap bytes_cmp (Unit {0})) (view : View) → ((key : Bytes) → (map.get keys key ≡ Some tt) ↔ IsRead s ops key) → IsReadView w keys view → IsReadOf w given view
   read_of keys view keyed read =
       let keyed_so : ((key : Bytes) → (map.get keys key ≡ Some tt) ↔ IsRead w.opening.schema given key) =
-          subst (λ (o : List RowOp). (key : Bytes) → (map.get keys key ≡ Some tt) ↔ IsRead w.opening.schema o key) named
-            (subst (λ (v : Version). (key : Bytes) → (map.get keys key ≡ Some tt) ↔ IsRead v ops key) same keyed) in
-      λ key value. ((λ e. ((keyed_so key).0 ((read key value).0 e).0, ((read key value).0 e).1)),
-        (λ q. (read key value).1 ((keyed_so key).1 q.0, q.1)))
+      subst (λ (o : List RowOp). (key : Bytes) → (map.get keys key ≡ Some tt) ↔ IsRead w.opening.schema o key) named
+      (subst (λ (v : Version). (key : Bytes) → (map.get keys key ≡ Some tt) ↔ IsRead v ops key) same keyed) in
+      λ key value. (
+        (λ e. ((keyed_so key).0 ((read key value).0 e).0, ((read key value).0 e).1)),
+        (λ q. (read key value).1 ((keyed_so key).1 q.0, q.1)),
+      )
 
   pub refused_of : (view : View) (fault : PrepareFault) → IsRefusal rank (Condition s ops view) prepare.Memory fault → IsRefusal rank (Condition w.opening.schema given view) prepare.Memory fault
   refused_of view fault refusal =
       subst (λ (o : List RowOp). IsRefusal rank (Condition w.opening.schema o view) prepare.Memory fault) named
-        (subst (λ (v : Version). IsRefusal rank (Condition v ops view) prepare.Memory fault) same refusal)
+      (subst (λ (v : Version). IsRefusal rank (Condition v ops view) prepare.Memory fault) same refusal)
 
   pub prepared_for : (lease : Lease) (view : View) (p : PreparedTxn) → IsReadOf w given view → (p.schema ≡ s) × (p.lease ≡ lease) × (p.ops ≡ ops) × (p.expect ≡ expects view) → IsPreparedFor w lease given p
   prepared_for lease view p read holds = record {

@@ -18,4 +18,4 @@ pub txn_under : (opened : Opened) (server : List ℕ) (lease : Lease) (moment : 
     → TxnUnder opened (map.get opened.leases server) moment operations text bad (Running (record opened { world = world }))
 txn_under opened server lease moment operations how world text bad found done told good =
     subst (λ (o : Option Lease). TxnUnder opened o moment operations text bad (Running (record opened { world = world }))) (sym found)
-      (how, world, done, (told, good), refl)
+    (how, world, done, (told, good), refl)

@@ -16,7 +16,7 @@ returns-then-is_named-clause-added c =
     let lt = in_list c.loop-place.place _ c.loop-place.tables.items _ c.loop-place-test.true c.as_slice-place-end.ensures.value c.loop-place.invariant.same in
     ap (λ ts. with_index ts c.args.name c.args.table.now c.args.columns) (sym c.loop-place.invariant.same)
     ∙ added_at c.args.name c.args.table.now c.args.columns c.loop-place.tables.items c.loop-place.place c.index.result.now c.index_mut-definition.result.now c.push.new.self lt c.index.ensures c.index_mut-definition.ensures.value (sym c.is_named.ensures ∙ c.if-is_named.true)
-      c.loop-place.invariant.split c.in_ok-push.ensures.items
+    c.loop-place.invariant.split c.in_ok-push.ensures.items
 
 pub returns-clause-added : goal.returns-clause-added
 returns-clause-added c =

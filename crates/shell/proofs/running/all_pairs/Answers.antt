@@ -19,9 +19,9 @@ pub loop-key-preserved : goal.loop-key-preserved
 loop-key-preserved c =
     let cut = ap (rest c.args.world.now.pairs) (sym c.as_slice.ensures.value) ∙ c.in-Some.ensures.found in
     let next = ap (rest c.args.world.now.pairs) (sym c.in_ok-from.ensures) in
-    let here = cut ∙ ap (λ l. (c.in-Some.key.now, c.in-Some.value.now) ∷ l) next in
-    ( told_more _ _ _ _ _ _ here c.loop-key.invariant.0 c.in_ok-push_pair.ensures
-    , counted_more _ _ _ _ _ _ here c.loop-key.invariant.1 refl
+    let here = cut ∙ ap (λ l. (c.in-Some.key.now, c.in-Some.value.now) ∷ l) next in (
+      told_more _ _ _ _ _ _ here c.loop-key.invariant.0 c.in_ok-push_pair.ensures,
+      counted_more _ _ _ _ _ _ here c.loop-key.invariant.1 refl,
     )
 
 pub returns-clause-text : goal.returns-clause-text

@@ -10,9 +10,11 @@ returns-in_ok-insert-in-Ok c = (
   Ok c.in-Ok.grant,
   c.lease.new.self,
   c.in-Ok.ensures.step,
-  ((c.reply-answer.ensures.text ∙ c.in_ok-leased-in-Ok.ensures, c.reply-answer.ensures.good),
-   ap (λ m. let s : Session = Running (record { world = c.lease.new.self; leases = m }) in s)
-     (c.in_ok-insert-in-Ok.ensures.ok ∙ ap (λ k. map.insert c.args.opened.leases k c.in-Ok.grant.lease) c.in_ok-name.ensures)),
+  (
+    (c.reply-answer.ensures.text ∙ c.in_ok-leased-in-Ok.ensures, c.reply-answer.ensures.good),
+    ap (λ m. let s : Session = Running (record { world = c.lease.new.self; leases = m }) in s)
+        (c.in_ok-insert-in-Ok.ensures.ok ∙ ap (λ k. map.insert c.args.opened.leases k c.in-Ok.grant.lease) c.in_ok-name.ensures),
+  ),
 )
 
 pub returns-in_ok-grant_refusal-in-Err : goal.returns-in_ok-grant_refusal-in-Err
@@ -20,6 +22,8 @@ returns-in_ok-grant_refusal-in-Err c = (
   Err c.in-Err.fault,
   c.lease.new.self,
   c.in-Err.ensures.step,
-  ((c.reply-answer-in-Err.ensures.text ∙ c.in_ok-grant_refusal-in-Err.ensures, c.reply-answer-in-Err.ensures.good),
-   ap (λ w. let s : Session = Running (record { world = w; leases = c.args.opened.leases }) in s) c.in-Err.ensures.step.1),
+  (
+    (c.reply-answer-in-Err.ensures.text ∙ c.in_ok-grant_refusal-in-Err.ensures, c.reply-answer-in-Err.ensures.good),
+    ap (λ w. let s : Session = Running (record { world = w; leases = c.args.opened.leases }) in s) c.in-Err.ensures.step.1,
+  ),
 )

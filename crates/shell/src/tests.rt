@@ -1,0 +1,125 @@
+//! Scripts whose replies were worked out by hand, from the bytes of the script to the bytes of the replies.
+
+use crate::run::run_script;
+use std::alloc::Global;
+
+// Whether a script gets just these replies, with so many bad lines.
+fn answers(alloc: Global, script: &str, replies: &str, bad: u64) -> bool {
+    let mut input = script.as_bytes();
+    let mut output = Vec::new(alloc);
+    match run_script(alloc, &mut input, &mut output) {
+        Ok(summary) => summary.bad == bad && output.as_slice() == replies.as_bytes(),
+        Err(_) => false,
+    }
+}
+
+const FIRST_RUN: &str = "table t (id int key, a int)\n\
+    index i on t (a)\n\
+    open\n\
+    lease s at 0\n\
+    txn s at 0: insert t (1) set a = 5\n\
+    pairs\n\
+    txn s at 0: update t (1) set a = 5\n\
+    check\n";
+
+const FIRST_RUN_REPLIES: &str = "ok\n\
+    ok\n\
+    ok version 1\n\
+    ok lease 1 0 10\n\
+    ok done 2\n\
+    520000000102800000000000000100000000\n\
+    520000000102800000000000000100000001 = 028000000000000005\n\
+    5800000002028000000000000005028000000000000001\n\
+    ok pairs 3\n\
+    ok done 3\n\
+    ok rows 1 missing 0 extra 0\n";
+
+const NULL_IS_INDEXED: &str = "table t (id int key, a int)\n\
+    index i on t (a)\n\
+    open\n\
+    lease s at 0\n\
+    txn s at 0: insert t (2)\n\
+    pairs\n";
+
+const NULL_IS_INDEXED_REPLIES: &str = "ok\n\
+    ok\n\
+    ok version 1\n\
+    ok lease 1 0 10\n\
+    ok done 2\n\
+    520000000102800000000000000200000000\n\
+    580000000201028000000000000002\n\
+    ok pairs 2\n";
+
+const BAD_LINE: &str = "insrt\n";
+
+const BAD_LINE_REPLIES: &str = "bad line\n";
+
+const REFUSED_OPERATIONS: &str = "table t (id int key, a int)\n\
+    open\n\
+    lease s at 0\n\
+    txn s at 0: insert t (1); insert t (2); insert t (1)\n\
+    txn s at 0: delete t (1)\n\
+    pairs\n";
+
+const REFUSED_OPERATIONS_REPLIES: &str = "ok\n\
+    ok version 1\n\
+    ok lease 1 0 10\n\
+    ok refused 2 Duplicate\n\
+    ok refused 0 NoRow\n\
+    ok pairs 0\n";
+
+const LEASE_ENDS: &str = "table t (id int key, a int)\n\
+    open\n\
+    txn s at 0: insert t (1)\n\
+    lease s at 10\n\
+    txn s at 19: insert t (1)\n\
+    txn s at 20: insert t (2)\n";
+
+const LEASE_ENDS_REPLIES: &str = "ok\n\
+    ok version 1\n\
+    refused NoServer\n\
+    ok lease 1 10 20\n\
+    ok done 2\n\
+    refused LeaseEnded 20 20\n";
+
+#[test]
+fn first_run(rt: HostRuntime) {
+    assert!(rt; answers(rt.alloc(), FIRST_RUN, FIRST_RUN_REPLIES, 0));
+}
+
+#[test]
+fn null_is_indexed(rt: HostRuntime) {
+    assert!(rt; answers(rt.alloc(), NULL_IS_INDEXED, NULL_IS_INDEXED_REPLIES, 0));
+}
+
+#[test]
+fn bad_line(rt: HostRuntime) {
+    assert!(rt; answers(rt.alloc(), BAD_LINE, BAD_LINE_REPLIES, 1));
+}
+
+#[test]
+fn empty_script(rt: HostRuntime) {
+    assert!(rt; answers(rt.alloc(), "", "", 0));
+}
+
+#[test]
+fn no_table_of_this_name(rt: HostRuntime) {
+    assert!(rt; answers(rt.alloc(), "index i on t (a)\n", "bad line\n", 1));
+}
+
+#[test]
+fn refused_operations(rt: HostRuntime) {
+    assert!(rt;
+        answers(
+            rt.alloc(),
+            REFUSED_OPERATIONS,
+            REFUSED_OPERATIONS_REPLIES,
+            0
+        )
+    );
+}
+
+#[test]
+fn lease_ends(rt: HostRuntime) {
+    assert!(rt; answers(rt.alloc(), LEASE_ENDS, LEASE_ENDS_REPLIES, 0));
+}
