@@ -1,3 +1,4 @@
+//! A script from its bytes to the bytes of its replies.
 ghost use Rattle.std.specs.Prelude.{◌≡◌, ◌++◌, ◌+◌, ◌<◌, ◌≤◌, List, ℕ, length, IfOk, IfErr, OnOk, OnErr};
 ghost use Rattle.std.specs.Io.KnownBytes.{Keeps, Appends};
 ghost use Rattle.shell.specs.Script.{limit, Answered, Ran, IsRead, AppendsFront};
@@ -7,26 +8,36 @@ use std::alloc::Global;
 use std::io::{Read, Write};
 use thiserror::Error;
 
+/// What came of a script that was run to its end.
 #[derive(Clone, Copy, Debug, PartialEq, Eq)]
 pub struct Summary {
+    /// How many lines it has, with blank lines and remarks.
     pub lines: u64,
+    /// How many of them are bad.
     pub bad: u64,
 }
 
+/// Why a script was not run to its end.
 #[derive(Clone, Copy, Debug, Drop, PartialEq, Eq, Error)]
 pub enum ScriptFault {
+    /// The reader failed; nothing was written.
     #[error("read")]
     Read,
+    /// The script has more than 16,777,216 bytes; nothing was written.
     #[error("too long")]
     TooLong,
+    /// The script is no UTF-8; nothing was written.
     #[error("not utf-8")]
     NotUtf8,
+    /// The writer failed or took nothing; a front of the replies was written.
     #[error("write")]
     Write,
+    /// Memory ran out; a front of the replies was written.
     #[error("memory")]
     Memory,
 }
 
+// The longest script, in bytes.
 const LIMIT: usize = 16_777_216;
 
 /// All that is left to read, or the first fault.
@@ -92,6 +103,10 @@ fn answer_lines<W: Write>(alloc: Global, text: &str, writer: &mut W) -> Result<S
 }
 
 /// Reads a script to its end, and writes the reply to each line when the line is done.
+///
+/// Refused where the reader fails (`Read`), and then where the script is too long (`TooLong`) or no UTF-8 (`NotUtf8`):
+/// nothing is written. Refused later where the writer fails (`Write`) or memory runs out (`Memory`): what was written
+/// is a front of the replies.
 pub fn run_script<R: Read, W: Write>(
     alloc: Global,
     reader: &mut R,

@@ -1,3 +1,4 @@
+//! What stands between two lines of a script, and the reply to a line.
 ghost use Rattle.std.specs.Prelude.{◌≡◌, IfOk, string_bytes, true, false};
 ghost use Rattle.shell.specs.Texts.{bad_line};
 ghost use Rattle.shell.specs.Session.{empty, nothing_declared};

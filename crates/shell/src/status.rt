@@ -1,3 +1,4 @@
+//! The exit status of the program.
 ghost use Rattle.std.specs.Prelude.{◌≡◌};
 ghost use Rattle.shell.specs.Status.{status_of};
 
