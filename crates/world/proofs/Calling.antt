@@ -174,15 +174,14 @@ pub commit_held : (f : Inside) (now : ℕ) (p : PreparedTxn) (store : Pairs) (lo
 commit_held f now p store log kept h made schema v holds laid_is done is items =
     let d = due f now p made schema v holds in
     held_after f (after_commit f store log now) (record { moment = now; what = Txn p.lease p.ops }) h (txn_state f now p store log kept h d laid_is is items) refl refl
-      (txn_kept (state_of f) now now p d h.kept (sym (due_outcome (state_of f) now p d h.kept) ∙ done))
+    (txn_kept (state_of f) now now p d h.kept (sym (due_outcome (state_of f) now p d h.kept) ∙ done))
 
 pub commit_done : (f : Inside) (now place : ℕ) (p : PreparedTxn) (store : Pairs) (log : Vec Entry Global) (entry kept : Entry) → IsHeld f → IsMade p → p.schema ≡ f.schema → Serves (facts_of (state_of f)).line p.lease now
     → Holds p.expect f.store → store ≡ laid p.batch f.store → p.told ≡ Done → entry ≡ record { moment = now; what = Txn p.lease p.ops } → kept ≡ record { moment = now; what = Txn p.lease p.ops }
     → log.items ≡ f.log.items ++ kept ∷ [] → place ≡ length f.log.items + 1
     → CommitAt (state_of f) now p (Ok (committed.Done (record { place = place; entry = entry }))) (state_of (after_commit f store log now))
 commit_done f now place p store log entry kept h made schema v holds laid_is done first second items at =
-    let d = due f now p made schema v holds in
-    (
+    let d = due f now p made schema v holds in (
       commit_clear (state_of f) now p v holds,
       sym (due_outcome (state_of f) now p d h.kept) ∙ done,
       record { entry = first; place = at; state = txn_state f now p store log kept h d laid_is second items ∙ ap (effect (state_of f)) (sym first) },
@@ -235,7 +234,7 @@ pub lease_step : (f : Inside) (s : State) (log room : Vec Entry Global) (now mom
 lease_step f s log room now moment place lease schema entry kept h view counted_at v granted same first second items made at =
     let done = lease_done f log now place lease schema entry kept h v.moment (ok_one lease (granted_at f.line now) (granted v.moment)) same first second (items ∙ ap (λ (es : List Entry). es ++ kept ∷ []) made) (at ∙ ap (λ (es : List Entry). length es + 1) made) in
     subst (λ (n : ℕ). LeaseAt s n (Ok (record { lease = lease; schema = schema; receipt = record { place = place; entry = entry } })) (state_of (after_lease f log now))) (counted_is f s h view moment now counted_at)
-      (subst (λ (x : State). LeaseAt x now (Ok (record { lease = lease; schema = schema; receipt = record { place = place; entry = entry } })) (state_of (after_lease f log now))) view done)
+    (subst (λ (x : State). LeaseAt x now (Ok (record { lease = lease; schema = schema; receipt = record { place = place; entry = entry } })) (state_of (after_lease f log now))) view done)
 
 pub commit_unheld : (f : Inside) (s : State) (moment now : ℕ) (p : PreparedTxn) (lease : Lease) (fault : LeaseFault) (told_as : CommitFault) → IsHeld f → state_of f ≡ s → now ≡ max moment f.moment → lease ≡ p.lease
     → IsFirst lease_rank (LeaseCondition f.line lease now) fault → told_as ≡ lease_told fault → CommitAt s (counted s moment) p (Err told_as) s
@@ -243,7 +242,7 @@ commit_unheld f s moment now p lease fault told_as h view counted_at same first 
     let line : f.line ≡ (facts_of s).line = line_is f s h view in
     let on_line : IsFirst lease_rank (LeaseCondition (facts_of s).line p.lease now) fault = subst (λ (l : Lease). IsFirst lease_rank (LeaseCondition (facts_of s).line l now) fault) same (subst (λ (l : Timeline). IsFirst lease_rank (LeaseCondition l lease now) fault) line first) in
     subst (λ (r : CommitFault). CommitAt s (counted s moment) p (Err r) s) (sym is)
-      (subst (λ (n : ℕ). CommitAt s n p (Err (lease_told fault)) s) (counted_is f s h view moment now counted_at) (lease_refused s now p fault on_line))
+    (subst (λ (n : ℕ). CommitAt s n p (Err (lease_told fault)) s) (counted_is f s h view moment now counted_at) (lease_refused s now p fault on_line))
 
 -- what a commit may count on: its lease serves, and it is one of the version
 pub record IsServed (f : Inside) (now : ℕ) (p : PreparedTxn) : Type 0 where
@@ -264,7 +263,7 @@ pub step_failed : (f : Inside) (s : State) (now : ℕ) (p : PreparedTxn) (fault 
     → as_told ≡ set_told fault → CommitAt s now p (Err as_told) (state_of (with_store f store log))
 step_failed f s now p fault as_told store log view v set items is =
     subst (λ (r : CommitFault). CommitAt s now p (Err r) (state_of (with_store f store log))) (sym is)
-      (subst (λ (x : State). CommitAt x now p (Err (set_told fault)) (state_of (with_store f store log))) view (commit_failed f now p fault store log v.serves set items))
+    (subst (λ (x : State). CommitAt x now p (Err (set_told fault)) (state_of (with_store f store log))) view (commit_failed f now p fault store log v.serves set items))
 
 pub step_short : (s g : State) (now : ℕ) (p : PreparedTxn) (as_told : CommitFault) → Serves (facts_of s).line p.lease now → g ≡ s → as_told ≡ commit_fault.Memory → CommitAt s now p (Err as_told) g
 step_short s g now p as_told v same is =
@@ -283,7 +282,7 @@ pub step_done : (f : Inside) (s : State) (now place : ℕ) (p : PreparedTxn) (st
     → CommitAt s now p (Ok (committed.Done (record { place = place; entry = entry }))) (state_of (after_commit f store log now))
 step_done f s now place p store log room entry kept view v set done first second items made at =
     subst (λ (x : State). CommitAt x now p (Ok (committed.Done (record { place = place; entry = entry }))) (state_of (after_commit f store log now))) view
-      (commit_done f now place p store log entry kept v.held v.made v.schema v.serves set.0 set.1 done first second (items ∙ ap (λ (es : List Entry). es ++ kept ∷ []) made) (at ∙ ap (λ (es : List Entry). length es + 1) made))
+    (commit_done f now place p store log entry kept v.held v.made v.schema v.serves set.0 set.1 done first second (items ∙ ap (λ (es : List Entry). es ++ kept ∷ []) made) (at ∙ ap (λ (es : List Entry). length es + 1) made))
 
 pub done_held : (f : Inside) (now : ℕ) (p : PreparedTxn) (store : Pairs) (log room : Vec Entry Global) (kept : Entry) → IsServed f now p → Holds p.expect f.store × (store ≡ laid p.batch f.store) → p.told ≡ Done
     → kept ≡ record { moment = now; what = Txn p.lease p.ops } → log.items ≡ room.items ++ kept ∷ [] → room.items ≡ f.log.items → IsHeld (after_commit f store log now)

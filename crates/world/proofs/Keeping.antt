@@ -170,9 +170,9 @@ txn_kept state now moment prepared d k done =
     let pairs : written_all state.pairs (all_writes the_kinds (schema_of version) (changes rows ops)) ≡ pairs_by (facts_of state) state.pairs (Txn prepared.lease ops)
     = ap (written_all state.pairs) (makes.1 ∙ sym writes) ∙ ap (λ (v : Option Version). written_all state.pairs (writes_under v rows ops)) (sym (version_of_lease state now prepared.lease d.honest)) in
     kept_on state (record { moment = moment; what = Txn prepared.lease ops }) k
-      (subst (λ (p : Pairs). Invariant the_kinds (record (core_of state) { pairs = p; rows = transacted rows ops })) pairs
-        (subst (λ (r : Rows). Invariant the_kinds (record (core_of state) { pairs = written_all state.pairs (all_writes the_kinds (schema_of version) (changes rows ops)); rows = r })) makes.0 core))
-      (subst (AreLawfulRows version) makes.0 steps.1)
+    (subst (λ (p : Pairs). Invariant the_kinds (record (core_of state) { pairs = p; rows = transacted rows ops })) pairs
+    (subst (λ (r : Rows). Invariant the_kinds (record (core_of state) { pairs = written_all state.pairs (all_writes the_kinds (schema_of version) (changes rows ops)); rows = r })) makes.0 core))
+    (subst (AreLawfulRows version) makes.0 steps.1)
 
 -- ---- the agreement of the pairs with the rows
 

@@ -133,8 +133,8 @@ new_hidden : (version : Version) (op : RowOp) (base : Cells) → IsSound version
 new_hidden version op base sound n hidden =
     with_cells_apart n (named_of op) base
     (all_map (λ (m : ℕ × Value). HasColumn version (table_of op) m.0) (λ (m : ℕ × Value). n ≢ m.0)
-     (λ m has same. hidden (ap (λ (x : ℕ). state_of (map.get (schema_of version) x)) same ∙ public_state version (table_of op) m.0 has.0 has.1))
-     (named_of op) sound.public)
+    (λ m has same. hidden (ap (λ (x : ℕ). state_of (map.get (schema_of version) x)) same ∙ public_state version (table_of op) m.0 has.0 has.1))
+    (named_of op) sound.public)
 
 -- the row of an operation can be named
 row_named : (version : Version) (op : RowOp) (cells : Cells) → AreTablesSmall version → IsSound version op → ((n : ℕ) (v : Value) → map.get cells n ≡ Some v → IsFine version n v) → IsStorableRow (row_of op) cells

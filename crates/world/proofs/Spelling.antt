@@ -97,7 +97,7 @@ column_exact version P R all fit table n type column =
     in_words element home kind public d =
         subst (λ (t : ℕ). Demand (within t (column_meaning n)) Public P R) home
         (subst (λ (k : Kind). Demand (within element.table (kind_meaning n k)) Public P R) kind
-         (subst (λ (q : ElementState). Demand (within element.table (kind_meaning n element.kind)) q P R) public d))
+        (subst (λ (q : ElementState). Demand (within element.table (kind_meaning n element.kind)) q P R) public d))
 
 in_table : (table : ℕ) (o : Option Bytes) (v : Bytes) → o ≡ Some v → cond (eqb table table) o None ≡ Some v
 in_table table o v e = ap (λ (b : Bool). cond b o None) (eq-eqb table table refl) ∙ e

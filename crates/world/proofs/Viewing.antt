@@ -35,7 +35,7 @@ get_noted pairs view (k ∷ ks) q =
     get_noted pairs (map.insert view k.0 (map.get pairs k.0)) ks q
     ∙ ap (or_read (find bytes_cmp q ks) (map.get pairs q)) (map.get-insert bytes_cmp_total view k.0 (map.get pairs k.0) q)
     ∙ read_step (find bytes_cmp q ks) (eq_by_cmp bytes_cmp q k.0) (map.get pairs k.0) (map.get pairs q) (map.get view q)
-      (λ e. ap (map.get pairs) (sym (bytes_cmp-IsAntisymmetric q k.0 ((Equal-is (bytes_cmp q k.0)).0 e))))
+    (λ e. ap (map.get pairs) (sym (bytes_cmp-IsAntisymmetric q k.0 ((Equal-is (bytes_cmp q k.0)).0 e))))
 
 said : (f : Option (Unit {0})) (present value : Option Bytes) → or_read f present None ≡ Some value → (f ≡ Some tt) × (present ≡ value)
 said None present value e = none_some value e
@@ -45,8 +45,7 @@ pub read_view : (state : State) (pairs : Pairs) (keys : map.FinMap bytes_cmp (Un
 read_view state pairs keys view same is key value =
     let is_read : map.get view key ≡ or_read (map.get keys key) (map.get state.pairs key) None
     = ap (λ (v : View). map.get v key) is ∙ get_noted pairs map.empty (map.entries keys) key
-      ∙ (λ i. or_read (sym (map.get-entries keys key) i) (map.get (same i) key) (map.get-empty bytes_cmp key i)) in
-    (
+    ∙ (λ i. or_read (sym (map.get-entries keys key) i) (map.get (same i) key) (map.get-empty bytes_cmp key i)) in (
       λ at. said (map.get keys key) (map.get state.pairs key) value (sym is_read ∙ at),
       λ both. is_read ∙ (λ i. or_read (both.0 i) (both.1 i) None),
     )

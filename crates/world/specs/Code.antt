@@ -13,6 +13,6 @@ use Rattle.world.specs.Replay.{State}
 abbrev pub state_code : Coded State
 state_code =
     code_by (ℕ × (Version × (List Entry × Pairs))) (coded× coded_ℕ (coded× version_code (coded× (coded_list entry.the_row.coded) (map.code {R = bytes_cmp} (coded_list coded_ℕ) (coded_list coded_ℕ)))))
-      (λ s. (s.opening.length, (s.opening.schema, (s.log, s.pairs))))
-      (λ t. record { opening = record { length = t.0; schema = t.1.0 }; log = t.1.1.0; pairs = t.1.1.1 })
-      (λ _. refl)
+    (λ s. (s.opening.length, (s.opening.schema, (s.log, s.pairs))))
+    (λ t. record { opening = record { length = t.0; schema = t.1.0 }; log = t.1.1.0; pairs = t.1.1.1 })
+    (λ _. refl)

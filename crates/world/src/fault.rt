@@ -6,9 +6,9 @@ ghost use Rattle.world.specs.Told.{set_told, lease_told};
 
 use byte_map::Bytes;
 use lease::LeaseFault;
-use txn_store::SetFault;
 use std::alloc::AllocError;
 use thiserror::Error;
+use txn_store::SetFault;
 
 /// Why no world was opened. Of several reasons the first in this order is told.
 #[derive(Clone, Copy, Debug, PartialEq, Eq, Error)]

@@ -9,7 +9,11 @@ use row_write::Prepared;
 use std::alloc::{AllocError, Global};
 
 /// An entry, and the same for a receipt.
-pub(crate) fn entry_pair(alloc: Global, moment: u64, what: What) -> Result<(Entry, Entry), AllocError>
+pub(crate) fn entry_pair(
+    alloc: Global,
+    moment: u64,
+    what: What,
+) -> Result<(Entry, Entry), AllocError>
     ensures first { IfOk result (λ both. both.0 ≡ record { moment = moment; what = what }) }
     ensures second { IfOk result (λ both. both.1 ≡ record { moment = moment; what = what }) }
 {

@@ -11,8 +11,8 @@ returns-in_err-test_and_set c =
     let v = served_by c.self.inside c.args.self.now c.args.now c.args.prepared.now c.self.invariant c.self.view_is c.made.ensures c.requires.schema c.requires.serves in
     let p = err_from_is_err_and c.from_residual-in_err-test_and_set.result c.from_residual-in_err-test_and_set.ensures.1 in
     let s =
-        subst (λ b. Sets c.args.prepared.now.expect b c.self.inside.store (Err c.in_err-test_and_set.field-0.0) c.test_and_set.new.self) c.batch.ensures
-          (subst (λ e. Sets e c.batch.result.now c.self.inside.store (Err c.in_err-test_and_set.field-0.0) c.test_and_set.new.self) c.expect.ensures c.in_err-test_and_set.ensures) in
+    subst (λ b. Sets c.args.prepared.now.expect b c.self.inside.store (Err c.in_err-test_and_set.field-0.0) c.test_and_set.new.self) c.batch.ensures
+    (subst (λ e. Sets e c.batch.result.now c.self.inside.store (Err c.in_err-test_and_set.field-0.0) c.test_and_set.new.self) c.expect.ensures c.in_err-test_and_set.ensures) in
     record { step = rw p.1 (step_failed c.self.inside c.args.self.now c.args.now c.args.prepared.now c.in_err-test_and_set.field-0.0 p.0 c.test_and_set.new.self c.make_room.new.log c.self.view_is v s c.in_ok-make_room.ensures.items p.2) }
 
 pub invariant_of-self-2 : goal.invariant_of-self-2

@@ -8,7 +8,7 @@ grant-requires c = begun c.self.inside c.self.invariant c.max-now.result
 pub invariant_of-self-2 : goal.invariant_of-self-2
 invariant_of-self-2 c =
     lease_held c.self.inside c.append.new.log c.max-now.result c.in-Ok.lease c.in_ok-entry.kept c.self.invariant c.in_ok-entry.ensures.second
-      (c.append.ensures ∙ ap (λ es. es ++ c.in_ok-entry.kept ∷ []) c.in_ok-make_room.ensures.items)
+    (c.append.ensures ∙ ap (λ es. es ++ c.in_ok-entry.kept ∷ []) c.in_ok-make_room.ensures.items)
 
 pub returns : goal.returns
 returns c = record {
