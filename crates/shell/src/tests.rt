@@ -1,7 +1,64 @@
 //! Scripts whose replies were worked out by hand, from the bytes of the script to the bytes of the replies.
 
-use crate::run::run_script;
+use crate::run::{ScriptFault, run_script};
 use std::alloc::Global;
+use std::io;
+use std::io::{Read, Write};
+
+/// A reader that fails.
+#[derive(Drop)]
+struct Broken;
+
+impl Read for Broken {
+    fn read(&mut self, _: &mut [u8]) -> io::Result<usize> {
+        Err(io::Error::from(io::ErrorKind::TimedOut))
+    }
+}
+
+/// A writer that takes so many bytes, and then fails.
+#[derive(Drop)]
+struct Limited {
+    bytes: Vec<u8>,
+    room: usize,
+}
+
+impl Write for Limited {
+    fn write(&mut self, buf: &[u8]) -> io::Result<usize> {
+        let count = buf.len().min(self.room);
+        if count == 0 {
+            return Err(io::Error::from(io::ErrorKind::TimedOut));
+        }
+        self.room -= count;
+        self.bytes.extend_from_slice(&buf[..count])?;
+        Ok(count)
+    }
+
+    fn flush(&mut self) -> io::Result<()> {
+        Ok(())
+    }
+}
+
+// Whether just so many bytes of the first run's replies go out through a writer that takes no more.
+fn is_cut(alloc: Global, room: usize) -> bool {
+    let mut input = FIRST_RUN.as_bytes();
+    let bytes = Vec::new(alloc);
+    let mut output = Limited { bytes, room };
+    match run_script(alloc, &mut input, &mut output) {
+        Err(ScriptFault::Write) => {
+            FIRST_RUN_REPLIES.as_bytes().get(..room) == Some(output.bytes.as_slice())
+        }
+        _ => false,
+    }
+}
+
+// Whether nothing is written where the reader fails.
+fn is_unread(alloc: Global) -> bool {
+    let mut output = Vec::new(alloc);
+    match run_script(alloc, &mut Broken, &mut output) {
+        Err(ScriptFault::Read) => output.is_empty(),
+        _ => false,
+    }
+}
 
 // Whether a script gets just these replies, with so many bad lines.
 fn answers(alloc: Global, script: &str, replies: &str, bad: u64) -> bool {
@@ -122,4 +179,16 @@ fn refused_operations(rt: HostRuntime) {
 #[test]
 fn lease_ends(rt: HostRuntime) {
     assert!(rt; answers(rt.alloc(), LEASE_ENDS, LEASE_ENDS_REPLIES, 0));
+}
+
+#[test]
+fn reader_that_fails(rt: HostRuntime) {
+    assert!(rt; is_unread(rt.alloc()));
+}
+
+#[test]
+fn writer_that_fails_after_each_count(rt: HostRuntime) {
+    for room in 0..FIRST_RUN_REPLIES.len() {
+        assert!(rt; is_cut(rt.alloc(), room));
+    }
 }
