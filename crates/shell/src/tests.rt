@@ -139,6 +139,41 @@ const LEASE_ENDS_REPLIES: &str = "ok\n\
     ok done 2\n\
     refused LeaseEnded 20 20\n";
 
+// A compound key, a text with a quote, a bool: each value spelled by its code, by hand.
+const KINDS: &str = "table p (id int key, name text key, ok bool, note text)\n\
+    index by_ok on p (ok, note)\n\
+    open\n\
+    lease s at 0\n\
+    txn s at 0: insert p (1, 'it''s') set ok = true, note = 'a'\n\
+    pairs\n\
+    check\n";
+
+const KINDS_REPLIES: &str = "ok\n\
+    ok\n\
+    ok version 1\n\
+    ok lease 1 0 10\n\
+    ok done 2\n\
+    52000000010280000000000000010369742773000100000000\n\
+    52000000010280000000000000010369742773000100000001 = 0401\n\
+    52000000010280000000000000010369742773000100000002 = 03610001\n\
+    580000000304010361000102800000000000000103697427730001\n\
+    ok pairs 4\n\
+    ok rows 1 missing 0 extra 0\n";
+
+const REFUSED_OPENINGS: &str = "length 0\n\
+    table t (id int key)\n\
+    open\n\
+    table t (id int key)\n\
+    table t (id int key)\n\
+    open\n";
+
+const REFUSED_OPENINGS_REPLIES: &str = "ok\n\
+    ok\n\
+    refused BadLength\n\
+    ok\n\
+    ok\n\
+    refused BadTable\n";
+
 #[test]
 fn first_run(rt: HostRuntime) {
     assert!(rt; answers(rt.alloc(), FIRST_RUN, FIRST_RUN_REPLIES, 0));
@@ -191,4 +226,14 @@ fn writer_that_fails_after_each_count(rt: HostRuntime) {
     for room in 0..FIRST_RUN_REPLIES.len() {
         assert!(rt; is_cut(rt.alloc(), room));
     }
+}
+
+#[test]
+fn kinds_of_value(rt: HostRuntime) {
+    assert!(rt; answers(rt.alloc(), KINDS, KINDS_REPLIES, 0));
+}
+
+#[test]
+fn refused_openings(rt: HostRuntime) {
+    assert!(rt; answers(rt.alloc(), REFUSED_OPENINGS, REFUSED_OPENINGS_REPLIES, 0));
 }
