@@ -6,9 +6,9 @@ use Rattle.std.proofs.lemmas.List.Recursion.{is_sum_by}
 use Rattle.row_map.specs.Rows.{Bytes, Pairs}
 use Rattle.schema_version.specs.Version.{Version}
 use Rattle.audit.specs.declared.report.CheckReport.{CheckReport}
-use Rattle.audit.specs.Walk.{rest, after}
+use Rattle.row_map.specs.Walk.{rest, after}
 use Rattle.audit.specs.Audit.{Pair, IsAudit, is_exists_pair, missing_beside, has_reason, judged, added, tally}
-use Rattle.audit.proofs.Walks.{rest_all}
+use Rattle.row_map.proofs.Walks.{rest_all}
 
 abbrev none : CheckReport
 none = record { rows = 0; missing = 0; extra = 0 }

@@ -5,12 +5,10 @@ mod counting;
 mod reason;
 mod report;
 mod spelled;
-mod walk;
 mod wanted;
 
 pub use counting::audit;
 pub use report::CheckReport;
-pub use walk::{key_after, next_pair};
 
 #[cfg(test)]
 mod tests;

@@ -17,6 +17,7 @@ use Rattle.row_map.specs.Expect.{View}
 use Rattle.row_map.specs.Writes.{Writes, Batch, noted}
 use Rattle.schema_version.specs.Version.{Version, Table, table_at}
 use Rattle.schema_version.specs.Moves.{is_distinct}
+use Rattle.element_state.specs.Consistent.{IsKeyFor}
 use Rattle.element_state.specs.Elements.{Change, rows_after}
 use Rattle.element_state.specs.Schemas.{version_writes}
 use Rattle.element_state.specs.Versions.{the_kinds, schema_of}
@@ -30,10 +31,6 @@ use Rattle.row_write.specs.Plain.{table_of, key_of, named_of, row_of, change, ou
 use Rattle.row_write.specs.Reads.{IsPublicColumn, IsRead}
 
 -- ---- why an operation cannot be prepared
-
--- a key: a value of each key column's type, hence no Null and no text over the limit
-abbrev pub IsKeyFor : List (List ℕ × ColumnType) → List Value → Type 0
-IsKeyFor columns key = IsTrue (pointwise has_type (each (λ (column : List ℕ × ColumnType). column.1) columns) key) × AllByRecursion IsStorable key
 
 -- a value that a column may be given: one of its type, or Null for none
 abbrev pub Suits : ColumnType → Value → Type 0

@@ -4,8 +4,8 @@ use Rattle.std.proofs.lemmas.List.{append-nil}
 use Rattle.std.specs.List.{flat_map}
 use Rattle.std.specs.FinMap as map
 use Rattle.row_map.specs.Rows.{Bytes, Pairs}
-use Rattle.audit.specs.Walk.{rest, after}
-use Rattle.audit.proofs.Walks.{rest_all}
+use Rattle.row_map.specs.Walk.{rest, after}
+use Rattle.row_map.proofs.Walks.{rest_all}
 use Rattle.shell.specs.Texts.{pair_line}
 
 pub told_more : (text more : List ℕ) (pair : Bytes × Bytes) (here next : List (Bytes × Bytes)) (all : List ℕ) → here ≡ pair ∷ next → text ++ flat_map pair_line here ≡ all → more ≡ text ++ pair_line pair → more ++ flat_map pair_line next ≡ all

@@ -9,11 +9,12 @@ ghost use Rattle.shell.specs.Texts.{line, refused, grant_name, leased, value_beh
 
 use crate::session::{Answer, Opened, Session, bad_line, reply};
 use crate::transacting::{push_number, transact, transacted_line};
-use audit::{key_after, next_pair};
+
 use byte_map::Bytes;
 use grammar::{Command, Operation, push_hex};
 use keycode::Text;
 use lease::Lease;
+use row_map::{key_after, next_pair};
 use std::alloc::{AllocError, Global};
 use world::{CheckReport, GrantFault, World};
 

@@ -29,7 +29,7 @@ use Rattle.world.specs.declared.entry.Entry.{Entry}
 use Rattle.world.specs.declared.entry.What.{What}
 use Rattle.world.specs.declared.entry.What.TheVariants.{Lease as Granted, Txn}
 use Rattle.world.specs.Agreement.{Agrees}
-use Rattle.world.specs.Consistent.{IsConsistent, DemandOf, AreLawfulRows}
+use Rattle.element_state.specs.Consistent.{IsConsistent, DemandOf, AreLawfulRows}
 use Rattle.world.specs.Kept.{AreTablesSmall, AreNumbersFit, core_of, IsKept}
 use Rattle.world.specs.Replay.{Opening, Facts, start, version_at, writes_under, pairs_by, rows_by, after, after_all, State, facts_of, opened, effect, IsReplayed}
 use Rattle.world.proofs.Changes.{changes, all_applied}

@@ -31,9 +31,10 @@ use Rattle.row_write.specs.declared.op.RowOp.TheVariants.{Insert, Update, Delete
 use Rattle.row_write.specs.declared.fault.RowFault.{RowFault}
 use Rattle.row_write.specs.Plain.{cell_of, with_cells, table_of, key_of, named_of, row_of, change_of, change}
 use Rattle.row_write.specs.Reads.{IsPublicColumn}
-use Rattle.row_write.specs.Prepare.{HasColumn, IsKeyFor, Suits}
+use Rattle.element_state.specs.Consistent.{IsKeyFor}
+use Rattle.row_write.specs.Prepare.{HasColumn, Suits}
 use Rattle.row_write.specs.Made.{IsSound}
-use Rattle.world.specs.Consistent.{IsLawfulRow, AreLawfulRows}
+use Rattle.element_state.specs.Consistent.{IsLawfulRow, AreLawfulRows}
 use Rattle.world.specs.Kept.{AreTablesSmall}
 use Rattle.world.proofs.Changes.{changes, change_on, with_cells_all, with_cells_apart, all_map, public_state}
 

@@ -37,7 +37,7 @@ use Rattle.row_write.specs.Plain.{table_of, key_of, row_of}
 use Rattle.row_write.specs.Reads.{IsPublicColumn, IsRead}
 use Rattle.row_write.specs.Prepare.{IsSpelledRow, Spells}
 use Rattle.row_write.specs.Made.{IsSound, expects}
-use Rattle.world.specs.Consistent.{IsLawfulRow, AreLawfulRows}
+use Rattle.element_state.specs.Consistent.{IsLawfulRow, AreLawfulRows}
 use Rattle.world.specs.Kept.{AreTablesSmall, AreNumbersFit}
 use Rattle.world.proofs.Operating.{key_values}
 

@@ -6,7 +6,7 @@ use Rattle.schema_version.specs.Version.{Version, Table, table_at, element_at}
 use Rattle.element_state.specs.Core.{Core, Invariant}
 use Rattle.element_state.specs.Schemas.{AreLawful}
 use Rattle.element_state.specs.Versions.{ElementKind, the_kinds, schema_of}
-use Rattle.world.specs.Consistent.{AreLawfulRows}
+use Rattle.element_state.specs.Consistent.{AreLawfulRows}
 use Rattle.world.specs.Replay.{State, facts_of, IsReplayed}
 
 -- what a version's tables are: their numbers fit the keys, and they have 1 to 4 key columns

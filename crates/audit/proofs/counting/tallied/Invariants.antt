@@ -1,6 +1,6 @@
 use Rattle.std.proofs.Common.{◌≡◌, length}
 use Rattle.std.specs.FinMap as map
-use Rattle.audit.specs.Walk.{rest}
+use Rattle.row_map.specs.Walk.{rest}
 use Rattle.audit.specs.Audit.{added, tally}
 use Rattle.audit.proofs.counting.tallied.Given as goal
 

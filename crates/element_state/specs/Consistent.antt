@@ -1,5 +1,8 @@
 -- When a store agrees with a schema version and with rows.
 use Rattle.std.specs.Prelude.{◌≡◌, ◌≢◌, ℕ, ◌≤◌, List, Option, Some, None, IsTrue}
+use Rattle.std.specs.List.{AllByRecursion}
+use Rattle.std.specs.Cmp.Lexicographic.{pointwise}
+use mathlib.Core.List.{map as each}
 use Rattle.std.specs.FinMap as map
 use Rattle.keycode.specs.declared.value.Value.{Value}
 use Rattle.keycode.specs.declared.value.Value.TheVariants.{Null}
@@ -14,12 +17,15 @@ use Rattle.element_state.specs.Elements.{Empty, Exact, Demand, AreFormed}
 use Rattle.element_state.specs.Exists.{exists_meaning}
 use Rattle.element_state.specs.Kinds.{kind_meaning}
 use Rattle.element_state.specs.Tables.{within}
-use Rattle.row_write.specs.Prepare.{IsKeyFor}
 
 -- what a version demands of the pairs of an element: what its state does, and none of one that the version lacks
 abbrev pub DemandOf : ℕ → Option ElementDef → Pairs → Rows → Type 0
 DemandOf number None pairs rows = Empty number pairs
 DemandOf number (Some element) pairs rows = Demand (within element.table (kind_meaning number element.kind)) element.state pairs rows
+
+-- a key: a value of each key column's type, hence no Null and no text over the limit
+abbrev pub IsKeyFor : List (List ℕ × ColumnType) → List Value → Type 0
+IsKeyFor columns key = IsTrue (pointwise has_type (each (λ (column : List ℕ × ColumnType). column.1) columns) key) × AllByRecursion IsStorable key
 
 -- the row is of one of the version's tables, and its values are of their columns' types
 pub record IsLawfulRow (version : Version) (key : RowKey) (cells : Cells) : Type 0 where
