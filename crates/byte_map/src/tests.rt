@@ -106,3 +106,13 @@ fn sorted_entries(rt: HostRuntime) -> Result<(), Fail> {
     assert!(rt; sorted::get(entries, &[2]) == Some(&20));
     Ok(())
 }
+
+#[test]
+fn taken_out(rt: HostRuntime) -> Result<(), Fail> {
+    let mut map = evens(rt.alloc())?;
+    assert!(rt; map.take(&[3]).is_none());
+    assert!(rt; map.take(&[4]) == Some(40));
+    assert!(rt; map.get(&[4]).is_none());
+    assert_eq!(rt; map.len(), 2);
+    Ok(())
+}
