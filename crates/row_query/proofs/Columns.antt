@@ -1,5 +1,5 @@
 -- The public columns of a table, by number and as a list.
-use Rattle.std.proofs.Common.{◌≡◌, ◌==◌, ◌&&◌, ◌||◌, ℕ, Bool, true, false, cond, T, List, [], ◌∷◌, Option, Some, None, filter, inl, inr, refl, sym, ap, subst, ◌∙◌, eqb-true, eq-eqb, Contains, arith, true≢false, is_some}
+use Rattle.std.proofs.Common.{◌≡◌, ◌==◌, ◌&&◌, ◌||◌, ℕ, Bool, true, false, cond, T, List, [], ◌∷◌, Some, None, filter, inl, inr, refl, sym, ap, subst, ◌∙◌, eqb-true, eq-eqb, Contains, arith, true≢false, is_some}
 use Rattle.std.specs.declared.cmp.Ordering.TheVariants.{Less}
 use Rattle.std.specs.List.{find, AllByRecursion}
 use Rattle.std.specs.List.Sorted.{IsStrictlySortedBy}
@@ -208,8 +208,7 @@ module _ (v : Version) (sound : IsSoundVersion v) where
       let r = named_says table (live v) number e in
       let a = both_true ((r.0.table == table) && is_public r.0.state) (is_column r.0.kind) r.2 in
       let b = both_true (r.0.table == table) (is_public r.0.state) a.0 in
-      let k = column_kind r.0.kind a.1 in
-      (
+      let k = column_kind r.0.kind a.1 in (
         k.0,
         record {
           element = r.0;

@@ -1,5 +1,5 @@
 -- The tests find the fault that decides.
-use Rattle.std.proofs.Common.{◌≡◌, ◌≢◌, ◌&&◌, ◌||◌, ◌<◌, ◌++◌, ℕ, Bool, true, false, cond, List, [], ◌∷◌, Option, Some, None, Result, Ok, Err, option_map, inl, inr, refl, sym, ap, subst, ◌∙◌, arith, is_some, IsTrue, true≢false}
+use Rattle.std.proofs.Common.{◌≡◌, ◌≢◌, ◌&&◌, ◌||◌, ◌<◌, ◌++◌, ℕ, Bool, true, false, cond, List, [], ◌∷◌, Option, Some, None, Result, Ok, Err, option_map, inl, inr, refl, sym, ap, subst, ◌∙◌, arith, is_some, true≢false}
 use Rattle.std.specs.Prelude.{IfErr, OnOk}
 use Rattle.std.specs.List.{AllByRecursion}
 use Rattle.std.specs.Cmp.Lexicographic.{pointwise}
@@ -20,7 +20,7 @@ use Rattle.row_query.specs.declared.query.Cond.{Cond}
 use Rattle.row_query.specs.declared.query.Cond.TheVariants.{Key, Equal, Between}
 use Rattle.row_query.specs.declared.query.Query.{Query}
 use Rattle.row_query.specs.Checked.{column_type, is_key_for, is_bound, tested, condition_check, conditions_check, columns_check, check_in, query_check}
-use Rattle.row_query.specs.Refused.{IsColumn, IsHidden, Part, Named, Where, parts, IsTypedKey, IsBadBound, PartFault, rank, IsFirstPartFault, IsRefused, IsSound}
+use Rattle.row_query.specs.Refused.{IsColumn, IsHidden, Part, Named, Where, parts, IsBadBound, PartFault, rank, IsFirstPartFault, IsRefused, IsSound}
 use Rattle.row_query.proofs.Columns.{column_says, column_from}
 
 abbrev pub Checks : Type 0

@@ -1,5 +1,5 @@
 -- The rows that an index gives are the plain answer.
-use Rattle.std.proofs.Common.{◌≡◌, ℕ, drop, ◌<◌, ◌+◌, true, false, cond, ◌&&◌, ◌||◌, ◌==◌, not, List, [], ◌∷◌, ◌++◌, Some, None, refl, sym, ap, subst, ◌∙◌, is_some, unwrap_or, Ok, arith, true≢false, length}
+use Rattle.std.proofs.Common.{◌≡◌, ℕ, drop, ◌<◌, ◌+◌, true, false, cond, ◌&&◌, ◌||◌, ◌==◌, not, List, [], ◌∷◌, ◌++◌, Some, None, refl, sym, ap, subst, ◌∙◌, unwrap_or, Ok, arith, true≢false, length}
 use mathlib.Core.List.{map as each}
 use Rattle.std.proofs.lemmas.List.{append-nil}
 use Rattle.std.specs.declared.cmp.Ordering.TheVariants.{Less, Equal, Greater}
@@ -38,7 +38,7 @@ use Rattle.row_query.specs.Checked.{public_numbers, IsKnown, AreKnown}
 use Rattle.row_query.specs.Path.{is_on, leads, serves}
 use Rattle.row_query.specs.Bounds.{leading, from_bytes, to_bytes, low_bound, high_bound, key_of_index, index_key_in, gathered}
 use Rattle.element_state.specs.Elements.{HasForm}
-use Rattle.row_query.proofs.Premise.{HasExactly, IsIndexed, Reads}
+use Rattle.row_query.proofs.Premise.{HasExactly, Reads}
 use Rattle.row_query.proofs.Sorted.{all_found}
 use Rattle.row_map.proofs.Stretches.{stretch_sorted, find_stretch}
 use Rattle.std.specs.Cmp.{Equal-is}

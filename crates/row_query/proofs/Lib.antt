@@ -7,3 +7,4 @@ pub mod Rows
 pub mod Decides
 pub mod Tested
 pub mod Indexed
+pub mod Unique

@@ -205,8 +205,7 @@ module _ (version : Version) (sound : IsSoundVersion version) (rows : Rows) (pai
         let home : s.key.0 ≡ element.table = eqb-true s.key.0 element.table (some_in (eqb s.key.0 element.table) (Some []) value s.value_is).0 in
         let row : IsStorableRow s.key s.cells = held s.key s.cells s.there in
         let same : Index element.number (indexed columns s.cells ++ s.key.1) ≡ Index element.number values =
-        same_key (Index element.number (indexed columns s.cells ++ s.key.1)) (Index element.number values) (index_is_key element.number columns lawful_index s.key s.cells row) form s.key_is in
-        (
+        same_key (Index element.number (indexed columns s.cells ++ s.key.1)) (Index element.number values) (index_is_key element.number columns lawful_index s.key s.cells row) form s.key_is in (
           s.key.1,
           s.cells,
           ap (λ (t : ℕ). map.get rows (t, s.key.1)) (sym home) ∙ s.there,

@@ -6,13 +6,13 @@ use Rattle.std.proofs.lemmas.Bool.Decides.{nat_tests}
 use Rattle.std.specs.declared.cmp.Ordering.{Ordering}
 use Rattle.std.specs.declared.cmp.Ordering.TheVariants.{Less, Equal, Greater}
 use Rattle.std.specs.Ordering.{is_lt, eq_by_cmp, nat_cmp, ordering_then}
-use Rattle.std.specs.Cmp.{IsTotalOrder, nat_cmp_total, on_total, then_total, tied_itself}
+use Rattle.std.specs.Cmp.{nat_cmp_total, tied_itself}
 use Rattle.std.specs.Cmp.Lexicographic.{slice_cmp}
 use Rattle.std.specs.Int.{w32, to_be_bytes}
 use Rattle.std.specs.List.{AllByRecursion, filter, filter_map, cons_option, list_any, list_all}
 use Rattle.std.specs.List.Sorted.{IsStrictlySortedBy}
 use Rattle.std.specs.FinMap as map
-use Rattle.std.specs.FinMap.{IsAntisymmetric, nat_cmp-IsAntisymmetric}
+use Rattle.std.specs.FinMap.{nat_cmp-IsAntisymmetric}
 use Rattle.std.specs.FinMap.Entries.{find, is_sorted, same_entries, find-where_key, is_sorted-where_key}
 use Rattle.keycode.specs.declared.value.Value.{Value}
 use Rattle.keycode.specs.declared.value.Value.TheVariants.{Null, Int, Text, Bool as Flag}
@@ -20,7 +20,7 @@ use Rattle.keycode.specs.Code.{code, codes_of}
 use Rattle.keycode.specs.Order.{values_cmp}
 use Rattle.keycode.specs.Valid.{IsValue, IsShort}
 use Rattle.keycode.proofs.Fields.{value_again}
-use Rattle.keycode.proofs.Orders.{values_cmp_total, bytes_cmp_total, bytes_cmp-IsAntisymmetric}
+use Rattle.keycode.proofs.Orders.{bytes_cmp_total, bytes_cmp-IsAntisymmetric}
 use Rattle.row_map.specs.declared.shape.Row.{Row}
 use Rattle.row_map.specs.declared.key.KeyOf.{KeyOf}
 use Rattle.row_map.specs.declared.key.KeyOf.TheVariants.{Exists, Column, Index}
@@ -32,7 +32,7 @@ use Rattle.keycode.specs.Order.{bytes_cmp}
 use Rattle.row_query.specs.declared.query.Cond.{Cond}
 use Rattle.row_query.specs.declared.query.Cond.TheVariants.{Key, Equal as Same, Between}
 use Rattle.row_query.specs.declared.query.Query.{Query}
-use Rattle.row_map.specs.Rows.{Bytes, RowKey, row_cmp, Cells, Rows, Pairs, value_or_null}
+use Rattle.row_map.specs.Rows.{RowKey, row_cmp, Cells, Rows, Pairs, value_or_null}
 use Rattle.row_map.proofs.Orders.{row_cmp_total, row_cmp-IsAntisymmetric}
 use Rattle.row_query.specs.Answer.{meets, is_asked, is_named, cut, plain_answer}
 use Rattle.row_query.specs.Bounds.{table_end}
@@ -40,7 +40,7 @@ use Rattle.schema_version.specs.Version.{Version, live}
 use Rattle.element_state.specs.Elements.{HasForm}
 use Rattle.row_query.proofs.Premise.{Reads}
 use Rattle.row_map.specs.Walk.{stretch}
-use Rattle.row_map.specs.Ranges.{is_within, table_prefix, index_prefix}
+use Rattle.row_map.specs.Ranges.{is_within, table_prefix}
 use Rattle.row_query.specs.Found.{only_value, value_of, value_from, cell_in, cells_in, value_in, row_of, row_in, key_of_row, row_key_in, row_of_key, row_at, rows_at}
 use Rattle.row_query.specs.Checked.{public_numbers}
 use Rattle.row_query.proofs.Sorted.{kept, find_kept, sorted_kept, passing, sorted_filter, find_filter, all_found, member_of, sorted_map, all_given, same_given, tied}

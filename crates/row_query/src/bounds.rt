@@ -50,7 +50,8 @@ pub(crate) fn high_of(alloc: Global, number: u32, condition: &Cond) -> Result<Ve
         Cond::Equal { value, .. } => push_value(&mut out, value)?,
         Cond::Between { high: None, .. } => (),
         Cond::Between {
-            high: Some(high), ..
+            high: Some(high),
+            ..
         } => push_value(&mut out, high)?,
     }
     out.push(5)?;

@@ -47,9 +47,7 @@ fn column_type(elements: &[ElementDef], table: u32, number: u32) -> Option<Colum
 fn is_public_column(element: &ElementDef, table: u32) -> bool
     ensures { result ≡ is_public_column_of table element.now }
 {
-    element.table == table
-        && is_public(element.state)
-        && matches!(element.kind, Kind::Optional(_))
+    element.table == table && is_public(element.state) && matches!(element.kind, Kind::Optional(_))
 }
 
 /// The numbers of the public columns of a table, rising.

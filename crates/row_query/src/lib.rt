@@ -7,6 +7,7 @@ mod checking;
 mod conditions;
 mod fault;
 mod gathering;
+mod laws;
 mod path;
 mod query;
 mod reading;
@@ -14,5 +15,9 @@ mod scan;
 
 pub use answering::answer;
 pub use fault::QueryFault;
+pub use laws::one_refusal;
 pub use path::path_of;
 pub use query::{Cond, Path, Query};
+
+#[cfg(test)]
+mod tests;

@@ -63,11 +63,7 @@ fn row_key(alloc: Global, table: u32, bytes: &[u8]) -> Result<Option<Values>, Al
         Err(KeyFault::Memory) => Err(AllocError),
         Err(_) => Ok(None),
         Ok(KeyOf::Exists { table: of, key }) => {
-            if of == table {
-                Ok(Some(key))
-            } else {
-                Ok(None)
-            }
+            if of == table { Ok(Some(key)) } else { Ok(None) }
         }
         Ok(_) => Ok(None),
     }
