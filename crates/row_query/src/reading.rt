@@ -1,11 +1,9 @@
 //! Values and cells, read from pairs.
-ghost use Rattle.std.specs.Prelude.{◌≡◌, option_map, unwrap_or, IfOk, filter, IfSome};
+ghost use Rattle.std.specs.Prelude.{◌≡◌, option_map, IfOk, filter};
 ghost use Rattle.std.specs.Ordering.{nat_cmp};
-ghost use Rattle.std.specs.FinMap as map;
 ghost use Rattle.std.specs.FinMap.{find};
-ghost use Rattle.keycode.specs.declared.value.Value.TheVariants.{Null};
 ghost use Rattle.row_query.specs.Answer.{is_named};
-ghost use Rattle.row_query.specs.Found.{value_of, value_from, cell_in, cells_in, value_in};
+ghost use Rattle.row_query.specs.Found.{value_of, cell_in, cells_in};
 
 use keycode::{KeyFault, Value, read_value};
 use listed::Listed;
