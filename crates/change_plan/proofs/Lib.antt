@@ -1,0 +1,10 @@
+pub mod Steps
+pub mod Bounds
+pub mod Named
+pub mod Least
+pub mod Trips
+pub mod Lawful
+pub mod Batch
+pub mod Fitting
+pub mod Target
+pub mod Room

@@ -1,0 +1,12 @@
+//! Least plans: the steps that bring a batch of changes to a schema about, as few as there can be.
+#![tactic(auto)]
+
+mod change;
+mod fault;
+mod laws;
+mod least_plan;
+
+pub use change::Change;
+pub use fault::PlanFault;
+pub use laws::schedules_are_least;
+pub use least_plan::{LeastPlan, PlanStep, Reorg};
