@@ -24,7 +24,10 @@ use Rattle.change_plan.specs.declared.fault.PlanFault.{PlanFault}
 use Rattle.change_plan.specs.declared.fault.PlanFault.TheVariants.{Unknown}
 use Rattle.change_plan.specs.Batches.{named_index, named_column, lists_added, is_under_dropped, drops_index, drops_column, is_same_name}
 use Rattle.change_plan.specs.Refusals.{ChangeFault, IsPlannable}
-use Rattle.change_plan.specs.Schedule.{Pace, ColumnIn, IndexIn, IndexInLate, IndexOut, ColumnOut, ColumnOutLate, state_at, Trip, move_of, trip_out, trip_of, trips_from, trips, is_early, is_late, column_number}
+use Rattle.change_plan.specs.declared.trip.Pace.{Pace}
+use Rattle.change_plan.specs.declared.trip.Pace.TheVariants.{ColumnIn, IndexIn, IndexInLate, IndexOut, ColumnOut, ColumnOutLate}
+use Rattle.change_plan.specs.declared.trip.Trip.{Trip}
+use Rattle.change_plan.specs.Schedule.{state_at, move_of, trip_out, trip_of, trips_from, trips, is_early, is_late, column_number}
 use Rattle.change_plan.proofs.Named.{contains_cases, contains_middle, split_at, ordered}
 use Rattle.change_plan.proofs.Least.{index_there, column_there}
 use Rattle.change_plan.proofs.Lawful.{next_at}

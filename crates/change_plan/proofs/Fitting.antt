@@ -24,7 +24,10 @@ use Rattle.change_plan.specs.declared.fault.PlanFault.{PlanFault}
 use Rattle.change_plan.specs.declared.fault.PlanFault.TheVariants.{Unknown, NameTaken, StillIndexed, InChange, Limit}
 use Rattle.change_plan.specs.Batches.{named, named_index, named_column, only_if, lists_added, is_under_dropped, drops_index, drops_column, adds, adds_column, lists, drops_index_on}
 use Rattle.change_plan.specs.Refusals.{ChangeFault, IsPlannable, IsListed, IsTaken, is_addition, IsColumnList as IsNameList}
-use Rattle.change_plan.specs.Schedule.{Pace, ColumnIn, IndexInLate, IndexOut, ColumnOut, ColumnOutLate, Trip, trip_out, trip_of, trips_from, trips, is_early, is_late, column_number, added_number, number_or}
+use Rattle.change_plan.specs.declared.trip.Pace.{Pace}
+use Rattle.change_plan.specs.declared.trip.Pace.TheVariants.{ColumnIn, IndexInLate, IndexOut, ColumnOut, ColumnOutLate}
+use Rattle.change_plan.specs.declared.trip.Trip.{Trip}
+use Rattle.change_plan.specs.Schedule.{trip_out, trip_of, trips_from, trips, is_early, is_late, column_number, added_number, number_or}
 use Rattle.change_plan.proofs.Named.{contains_first, contains_later, contains_cases, contains_none, contains_middle, split_at, any_element, same_name, named_there, not_named, and_true, ordered}
 use Rattle.change_plan.proofs.Least.{index_there, column_there, public_if_not_in_change, adds_column_is, column_type, none_if_not_some}
 use Rattle.change_plan.proofs.Trips.{find_trip, is_in, is_of_index, element_of}

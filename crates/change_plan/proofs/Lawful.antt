@@ -24,7 +24,10 @@ use Rattle.schema_version.specs.Moves.{is_edge, is_move_of, moves_element, is_en
 use Rattle.schema_version.specs.Steps.{IsOrdered, in_state_or_none}
 use Rattle.change_plan.proofs.Steps.{same_or_apart, Becomes, Stays, Comes, Goes, Midway, after_allowed, not_both, not_given}
 use Rattle.change_plan.specs.Plans.{AreAllowed, after_plan, work_before, work_of}
-use Rattle.change_plan.specs.Schedule.{steps_from, Pace, ColumnIn, IndexIn, IndexInLate, IndexOut, ColumnOut, ColumnOutLate, state_at, Trip, move_between, move_of, work_of_trip}
+use Rattle.change_plan.specs.declared.trip.Pace.{Pace}
+use Rattle.change_plan.specs.declared.trip.Pace.TheVariants.{ColumnIn, IndexIn, IndexInLate, IndexOut, ColumnOut, ColumnOutLate}
+use Rattle.change_plan.specs.declared.trip.Trip.{Trip}
+use Rattle.change_plan.specs.Schedule.{steps_from, state_at, move_between, move_of, work_of_trip}
 use Rattle.std.proofs.lemmas.List.Elements.{Contains-append_left as contains_left}
 use Rattle.change_plan.proofs.Named.{contains_first, contains_later, contains_middle, split_at}
 use Rattle.change_plan.proofs.Trips.{is_in, is_of_index, way_on, element_of, here, IsRun, Leg, Rests, Starts, Runs, leg, rests_move, rests_work, starts_move, starts_work, Source, source, find_trip, quiet, late_index_sees, leaving_index_sees, new_column_sees, late_column_sees}

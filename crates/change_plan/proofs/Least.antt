@@ -21,7 +21,9 @@ use Rattle.change_plan.specs.declared.least_plan.PlanStep.{PlanStep}
 use Rattle.change_plan.specs.Plans.{after_plan, AreAllowed, IsTarget, IsLawful, Adds, IsAddition, IsColumnNamed}
 use Rattle.change_plan.specs.Batches.{named, named_index, named_column, only_if, adds_column, lists_added, lists, drops_index_on, is_under_dropped}
 use Rattle.change_plan.specs.Refusals.{ChangeFault, IsPlannable, IsInChange}
-use Rattle.change_plan.specs.Schedule.{Trip, timetable, longest, steps_from, trip_out, trip_of, trips_from, trips, schedule, IndexIn, IndexInLate, ColumnOut, ColumnOutLate}
+use Rattle.change_plan.specs.declared.trip.Pace.TheVariants.{IndexIn, IndexInLate, ColumnOut, ColumnOutLate}
+use Rattle.change_plan.specs.declared.trip.Trip.{Trip}
+use Rattle.change_plan.specs.Schedule.{timetable, longest, steps_from, trip_out, trip_of, trips_from, trips, schedule}
 use Rattle.change_plan.proofs.Bounds.{height, height_in, IsWithin, one_element, two_dropped, two_added, still_in_the_end}
 use Rattle.change_plan.proofs.Named.{named_there, not_named, any_element, same_name, split_at, contains_none, contains_cases, contains_first, contains_later}
 

@@ -10,7 +10,7 @@ use Rattle.schema_version.specs.declared.element.ElementState.TheVariants.{Absen
 use Rattle.schema_version.specs.declared.element.Kind.TheVariants.{Index}
 use Rattle.schema_version.specs.declared.element.ElementDef.{ElementDef}
 use Rattle.schema_version.specs.declared.step.Move.{Move}
-use Rattle.schema_version.specs.Version.{Version, is_index, is_column, is_like}
+use Rattle.schema_version.specs.Version.{Version, is_index, is_column, is_like, count_live}
 use Rattle.schema_version.specs.Sound.{IsSoundVersion}
 use Rattle.schema_version.specs.Moves.{is_entry_like, count_like, max_like}
 use Rattle.change_plan.specs.declared.change.Change.{Change}
@@ -19,7 +19,9 @@ use Rattle.change_plan.specs.declared.fault.PlanFault.TheVariants.{Limit}
 use Rattle.change_plan.specs.Plans.{IsLeast}
 use Rattle.change_plan.specs.Batches.{named_index, named_column, lists_added, is_under_dropped}
 use Rattle.change_plan.specs.Refusals.{IsPlannable, adds_like, IsOver}
-use Rattle.change_plan.specs.Schedule.{IndexIn, IndexInLate, IndexOut, ColumnOut, ColumnOutLate, state_at, Trip, move_of, trip_out, trip_of, trips_from, trips, schedule, is_early, is_late, column_number}
+use Rattle.change_plan.specs.declared.trip.Pace.TheVariants.{IndexIn, IndexInLate, IndexOut, ColumnOut, ColumnOutLate}
+use Rattle.change_plan.specs.declared.trip.Trip.{Trip}
+use Rattle.change_plan.specs.Schedule.{state_at, move_of, trip_out, trip_of, trips_from, trips, schedule, is_early, is_late, column_number}
 use Rattle.change_plan.proofs.Lawful.{HasRoom, entered_like}
 use Rattle.change_plan.proofs.Batch.{out_trip, From, EarlyIndex, LateIndex, NewColumn, OldIndex, OldColumn, OldLateColumn, Placed, placed, count_first, count_split, starts_column, starts_index, starts_late, never_starts_index, never_starts_column, never_starts_late}
 use Rattle.change_plan.proofs.Fitting.{clear, column_kind, column_if, Place, has_change}
@@ -142,9 +144,9 @@ module _ (old : Version) (sound : IsSoundVersion old) (all : List Change) (plann
       fits table index is_table is_kind fewer not_over =
           subst (λ t. count_like now (flat_map (move_of time) done) t (is_index trip.fresh.kind) < max_like (is_index trip.fresh.kind)) (sym is_table)
           (subst (λ i. count_like now (flat_map (move_of time) done) table i < max_like i) (sym is_kind)
-          (elim (cases_lt (max_like index) (count_like old [] table index + count_by (adds_like table index) all)) [
+          (elim (cases_lt (max_like index) (count_live old table index + count_by (adds_like table index) all)) [
             | inl over ↦ absurd (not_over (inl over))
-            | inr within ↦ let none : ◌≡◌ {A = ℕ} (count_by (is_entry_like table index) []) 0 = refl in omega (arith, at.like table index)
+            | inr within ↦ omega (arith, at.like table index)
           ]))
 
       early_fits : (table : ℕ) (index : Bool) → time ≡ 0 → is_early all p.change ≡ true → adds_like table index p.change ≡ true → entered_like (trips old all) table index time + count_by (is_entry_like table index) (flat_map (move_of time) done) < count_by (adds_like table index) all

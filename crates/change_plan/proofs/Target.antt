@@ -16,7 +16,10 @@ use Rattle.change_plan.specs.declared.fault.PlanFault.TheVariants.{Unknown, Stil
 use Rattle.change_plan.specs.Plans.{IsTarget, IsLeast, Drops, Adds, IsAddition, IsColumnNamed}
 use Rattle.change_plan.specs.Batches.{named_index, named_column, lists_added, is_under_dropped, adds_column, drops_column}
 use Rattle.change_plan.specs.Refusals.{IsPlannable}
-use Rattle.change_plan.specs.Schedule.{Pace, ColumnIn, IndexIn, IndexInLate, IndexOut, ColumnOut, ColumnOutLate, timetable, state_at, Trip, longest, trips, schedule, is_early, column_number, added_number, number_or}
+use Rattle.change_plan.specs.declared.trip.Pace.{Pace}
+use Rattle.change_plan.specs.declared.trip.Pace.TheVariants.{ColumnIn, IndexIn, IndexInLate, IndexOut, ColumnOut, ColumnOutLate}
+use Rattle.change_plan.specs.declared.trip.Trip.{Trip}
+use Rattle.change_plan.specs.Schedule.{timetable, state_at, longest, trips, schedule, is_early, column_number, added_number, number_or}
 use Rattle.change_plan.proofs.Named.{contains_first, contains_later, contains_cases, contains_none, ordered}
 use Rattle.change_plan.proofs.Least.{index_there, column_there, index_columns, column_type, schedule_short}
 use Rattle.change_plan.proofs.Trips.{find_trip, is_in, element_of, here, arrived_in, arrived_out}

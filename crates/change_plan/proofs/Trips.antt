@@ -19,7 +19,10 @@ use Rattle.schema_version.specs.Version.{is_index}
 use Rattle.schema_version.specs.Moves.{is_edge, is_move_of, moves_element}
 use Rattle.change_plan.proofs.Steps.{same_or_apart}
 use Rattle.change_plan.specs.Plans.{work_by_kind}
-use Rattle.change_plan.specs.Schedule.{Pace, ColumnIn, IndexIn, IndexInLate, IndexOut, ColumnOut, ColumnOutLate, departure, timetable, walk, state_at, Trip, move_between, work_between, move_of}
+use Rattle.change_plan.specs.declared.trip.Pace.{Pace}
+use Rattle.change_plan.specs.declared.trip.Pace.TheVariants.{ColumnIn, IndexIn, IndexInLate, IndexOut, ColumnOut, ColumnOutLate}
+use Rattle.change_plan.specs.declared.trip.Trip.{Trip}
+use Rattle.change_plan.specs.Schedule.{departure, timetable, walk, state_at, move_between, work_between, move_of}
 use Rattle.change_plan.proofs.Named.{contains_first, contains_later, contains_cases, contains_none}
 
 abbrev pub is_in : Pace → Bool

@@ -4,10 +4,10 @@ use Rattle.std.specs.List.{list_any}
 use Rattle.listed.specs.Refusal.{IsFirst}
 use Rattle.schema_version.specs.declared.element.ElementState.TheVariants.{Public}
 use Rattle.schema_version.specs.declared.element.ElementDef.{ElementDef}
-use Rattle.schema_version.specs.Version.{Version, table_at, element_at, is_index, is_like, listed, IsKeyName}
+use Rattle.schema_version.specs.Version.{Version, table_at, element_at, is_index, is_like, listed, IsKeyName, count_live}
 use Rattle.schema_version.specs.Names as names
 use Rattle.schema_version.specs.Names.{IsName, max_listed, max_elements}
-use Rattle.schema_version.specs.Moves.{count_like, max_like}
+use Rattle.schema_version.specs.Moves.{max_like}
 use Rattle.change_plan.specs.declared.change.Change.{Change}
 use Rattle.change_plan.specs.declared.change.Change.TheVariants.{AddIndex, DropIndex, AddColumn, DropColumn}
 use Rattle.change_plan.specs.declared.fault.PlanFault.{PlanFault}
@@ -62,7 +62,7 @@ is_addition change = false
 -- the counts of live elements with all that the batch adds, and of all elements ever
 abbrev pub IsOver : Version → List Change → ℕ → Bool → Type 0
 IsOver old all table index =
-    (max_like index < count_like old [] table index + count_by (adds_like table index) all)
+    (max_like index < count_live old table index + count_by (adds_like table index) all)
     ⊎ (max_elements + 1 < old.next + count_by is_addition all)
 
 abbrev pub IsColumnList : List (List ℕ) → Type 0

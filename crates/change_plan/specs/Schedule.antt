@@ -14,19 +14,13 @@ use Rattle.change_plan.specs.declared.change.Change.{Change}
 use Rattle.change_plan.specs.declared.change.Change.TheVariants.{AddIndex, DropIndex, AddColumn, DropColumn}
 use Rattle.change_plan.specs.declared.least_plan.Reorg.{Reorg}
 use Rattle.change_plan.specs.declared.least_plan.PlanStep.{PlanStep}
+use Rattle.change_plan.specs.declared.trip.Pace.{Pace}
+use Rattle.change_plan.specs.declared.trip.Pace.TheVariants.{ColumnIn, IndexIn, IndexInLate, IndexOut, ColumnOut, ColumnOutLate}
+use Rattle.change_plan.specs.declared.trip.Trip.{Trip}
 use Rattle.change_plan.specs.Plans.{work_by_kind}
 use Rattle.change_plan.specs.Batches.{named_index, named_column, adds_column, lists_added, is_under_dropped}
 
 -- ---- timetables
-
--- an added index waits for the columns that the batch adds, a dropped column for the dropped indexes that list it
-pub data Pace : Type 0 where
-  ColumnIn : Pace
-  IndexIn : Pace
-  IndexInLate : Pace
-  IndexOut : Pace
-  ColumnOut : Pace
-  ColumnOutLate : Pace
 
 -- the state before the first step
 abbrev pub departure : Pace → ElementState
@@ -57,12 +51,7 @@ state_at pace time = walk (departure pace) (timetable pace) time
 
 -- ---- trips
 
--- an element that the batch adds or drops
-pub record Trip : Type 0 where
-  pub pace : Pace
-  pub number : ℕ
-  pub fresh : NewElement
-
+-- the move of an element from one state to another
 abbrev pub move_between : ℕ → NewElement → ElementState → ElementState → List Move
 move_between number fresh Absent Absent = []
 move_between number fresh Absent to = Enter fresh to ∷ []

@@ -2,9 +2,15 @@
 #![tactic(auto)]
 
 mod change;
+mod changes;
 mod fault;
+mod finding;
 mod laws;
 mod least_plan;
+mod names;
+mod numbering;
+mod refusing;
+mod trip;
 
 pub use change::Change;
 pub use fault::PlanFault;
