@@ -8,3 +8,7 @@ pub mod Batch
 pub mod Fitting
 pub mod Target
 pub mod Room
+pub mod Growing
+pub mod Chain
+pub mod Decides
+pub mod Checking

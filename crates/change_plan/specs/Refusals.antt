@@ -1,5 +1,5 @@
 -- Why a batch of changes can't be planned.
-use Rattle.std.specs.Prelude.{◌≡◌, ◌≢◌, ℕ, ◌+◌, ◌≤◌, List, [], ◌∷◌, ◌++◌, length, count_by, Bool, true, false, ◌&&◌, ◌==◌, Option, Some, None, IsTrue, IsNone, IsSome, Contains, ◌⊎◌, ◌<◌}
+use Rattle.std.specs.Prelude.{◌≡◌, ◌≢◌, ℕ, ◌+◌, ◌≤◌, List, ◌∷◌, ◌++◌, length, count_by, Bool, true, false, ◌&&◌, ◌==◌, Option, Some, None, IsTrue, IsNone, IsSome, Contains, ◌⊎◌, ◌<◌}
 use Rattle.std.specs.List.{list_any}
 use Rattle.listed.specs.Refusal.{IsFirst}
 use Rattle.schema_version.specs.declared.element.ElementState.TheVariants.{Public}

@@ -13,9 +13,19 @@ pub enum Change {
         columns: Listed<Text>,
     },
     /// The table's index of this name goes.
-    DropIndex { table: u32, name: Text },
+    DropIndex {
+        table: u32,
+        name: Text,
+    },
     /// A new column of the table, of an optional kind.
-    AddColumn { table: u32, name: Text, kind: Kind },
+    AddColumn {
+        table: u32,
+        name: Text,
+        kind: Kind,
+    },
     /// The table's column of this name goes.
-    DropColumn { table: u32, name: Text },
+    DropColumn {
+        table: u32,
+        name: Text,
+    },
 }

@@ -104,7 +104,9 @@ pub(crate) fn adds_like(change: &Change, table: u32, index: bool) -> bool
     match change {
         Change::AddIndex { table: other, .. } => *other == table && index,
         Change::AddColumn {
-            table: other, kind, ..
+            table: other,
+            kind,
+            ..
         } => *other == table && is_like(index, kind),
         Change::DropIndex { .. } | Change::DropColumn { .. } => false,
     }

@@ -9,10 +9,13 @@ mod laws;
 mod least_plan;
 mod names;
 mod numbering;
+mod planning;
 mod refusing;
+mod stepping;
 mod trip;
 
 pub use change::Change;
 pub use fault::PlanFault;
 pub use laws::schedules_are_least;
 pub use least_plan::{LeastPlan, PlanStep, Reorg};
+pub use planning::plan_from;

@@ -77,7 +77,9 @@ fn is_column_in_change(schema: &Schema, table: u32, name: &Text) -> bool
 fn any_in_change(schema: &Schema, table: u32, columns: &[Text]) -> bool
     ensures { result ≡ list_any (λ column. is_in_change_of (named_column_of schema.now table column)) columns.now }
 {
-    columns.iter().any(|c| is_column_in_change(schema, table, c))
+    columns
+        .iter()
+        .any(|c| is_column_in_change(schema, table, c))
 }
 
 // Whether this is an index that lists the column and that the batch doesn't drop.
