@@ -19,3 +19,6 @@ pub use fault::PlanFault;
 pub use laws::schedules_are_least;
 pub use least_plan::{LeastPlan, PlanStep, Reorg};
 pub use planning::plan_from;
+
+#[cfg(test)]
+mod tests;
