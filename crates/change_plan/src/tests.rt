@@ -33,7 +33,10 @@ fn declared(alloc: Global, table: TableDef) -> Result<Schema, PlanFault>
     ensures { IfOk result (λ schema. schema.next ≡ 1 + length table.columns + length table.indexes) }
 {
     let tables = vec![in alloc; table]?;
-    Schema::declared(alloc, &tables).map_err(|_| PlanFault::Memory)
+    match Schema::declared(alloc, &tables) {
+        Ok(schema) => Ok(schema),
+        Err(_) => Err(PlanFault::Memory),
+    }
 }
 
 // table t (id int key, a int), with these indexes
@@ -181,16 +184,11 @@ fn plan_of(steps: Vec<PlanStep>) -> LeastPlan {
 }
 
 // A new index over a live column: it enters, becomes write-only, and is filled before it is public.
-fn added(
-    alloc: Global,
-    name: &str,
-    number: u32,
-    column: u32,
-) -> Result<Vec<PlanStep>, AllocError> {
+fn added(alloc: Global, name: &str, number: u32, column: u32) -> Result<Vec<PlanStep>, AllocError> {
     let steps = vec![in alloc;
         enters(alloc, name, index_on(alloc, column)?)?,
         go(alloc, None, number, WriteOnly)?,
-        go(alloc, Some(Reorg::Fill(number)), number, Public)?
+        go(alloc, Some(Reorg::Fill(number)), number, Public)?,
     ]?;
     Ok(steps)
 }
@@ -200,7 +198,7 @@ fn dropped(alloc: Global) -> Result<Vec<PlanStep>, AllocError> {
     let steps = vec![in alloc;
         go(alloc, None, 2, WriteOnly)?,
         go(alloc, None, 2, DeleteOnly)?,
-        go(alloc, Some(Reorg::Clear(2)), 2, Absent)?
+        go(alloc, Some(Reorg::Clear(2)), 2, Absent)?,
     ]?;
     Ok(steps)
 }
@@ -330,7 +328,11 @@ fn leaving_index(rt: HostRuntime) -> Result<(), Fail> {
 
 // The second change of an element is refused, and so is what stands behind it, but its fault is not told.
 fn refuses_second_change(alloc: Global) -> Result<bool, PlanFault> {
-    let changes = vec![in alloc; drop_index(alloc, "i")?, drop_index(alloc, "i")?, add_column(alloc, "a")?]?;
+    let changes = vec![in alloc;
+        drop_index(alloc, "i")?,
+        drop_index(alloc, "i")?,
+        add_column(alloc, "a")?,
+    ]?;
     let planned = plan_from(alloc, &schema_q(alloc)?, 3, &changes);
     Ok(is_refused(planned, PlanFault::Unknown))
 }
