@@ -1,0 +1,14 @@
+pub mod Steps
+pub mod Bounds
+pub mod Named
+pub mod Least
+pub mod Trips
+pub mod Lawful
+pub mod Batch
+pub mod Fitting
+pub mod Target
+pub mod Room
+pub mod Growing
+pub mod Chain
+pub mod Decides
+pub mod Checking

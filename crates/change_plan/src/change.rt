@@ -1,0 +1,31 @@
+use keycode::Text;
+use listed::Listed;
+use schema_version::Kind;
+
+/// One change of a schema, by names. A batch of them is planned as one: an index may be added over columns that the batch adds, and a
+/// column may be dropped with the indexes that list it.
+#[derive(Clone, Debug, PartialEq, Eq, Drop)]
+pub enum Change {
+    /// A new index of the table over these columns, live or added by the batch, in this order.
+    AddIndex {
+        table: u32,
+        name: Text,
+        columns: Listed<Text>,
+    },
+    /// The table's index of this name goes.
+    DropIndex {
+        table: u32,
+        name: Text,
+    },
+    /// A new column of the table, of an optional kind.
+    AddColumn {
+        table: u32,
+        name: Text,
+        kind: Kind,
+    },
+    /// The table's column of this name goes.
+    DropColumn {
+        table: u32,
+        name: Text,
+    },
+}

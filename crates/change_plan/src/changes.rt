@@ -1,0 +1,212 @@
+ghost use Rattle.std.specs.Prelude.{◌≡◌, ◌&&◌, ◌==◌, bytes_eq};
+ghost use Rattle.std.specs.List.{list_any};
+ghost use Rattle.change_plan.specs.Batches.{is_same_name as is_same_name_of, adds_column as adds_column_of, adds as adds_of, drops_index as drops_index_of, drops_column as drops_column_of, lists_added as lists_added_of, drops_index_on as drops_index_on_of, is_under_dropped as is_under_dropped_of};
+ghost use Rattle.change_plan.specs.Refusals.{adds_like as adds_like_of, is_addition as is_addition_of};
+ghost use Rattle.change_plan.specs.Deciding.{adds_index_on as adds_index_on_of};
+ghost use Rattle.change_plan.specs.Schedule.{is_early as is_early_of, is_late as is_late_of};
+
+use crate::change::Change;
+use crate::finding::{is_like, lists, named_index};
+use keycode::Text;
+use schema_version::Schema;
+
+fn is_same_name(table: u32, name: &Text, other: u32, own: &Text) -> bool
+    ensures { result ≡ is_same_name_of table name.now other own.now }
+{
+    table == other && name.as_bytes() == own.as_bytes()
+}
+
+/// Whether the change adds the table's column of this name.
+pub(crate) fn adds_column(change: &Change, table: u32, name: &Text) -> bool
+    ensures { result ≡ adds_column_of table name.now change.now }
+{
+    match change {
+        Change::AddColumn {
+            table: other,
+            name: own,
+            ..
+        } => is_same_name(table, name, *other, own),
+        Change::AddIndex { .. } | Change::DropIndex { .. } | Change::DropColumn { .. } => false,
+    }
+}
+
+// Whether the change adds an element of this name to the table.
+fn adds(change: &Change, table: u32, name: &Text) -> bool
+    ensures { result ≡ adds_of table name.now change.now }
+{
+    match change {
+        Change::AddIndex {
+            table: other,
+            name: own,
+            ..
+        } => is_same_name(table, name, *other, own),
+        Change::AddColumn {
+            table: other,
+            name: own,
+            ..
+        } => is_same_name(table, name, *other, own),
+        Change::DropIndex { .. } | Change::DropColumn { .. } => false,
+    }
+}
+
+// Whether the change drops the table's index of this name.
+fn drops_index(change: &Change, table: u32, name: &Text) -> bool
+    ensures { result ≡ drops_index_of table name.now change.now }
+{
+    match change {
+        Change::DropIndex {
+            table: other,
+            name: own,
+        } => is_same_name(table, name, *other, own),
+        Change::AddIndex { .. } | Change::AddColumn { .. } | Change::DropColumn { .. } => false,
+    }
+}
+
+// Whether the change drops the table's column of this name.
+fn drops_column(change: &Change, table: u32, name: &Text) -> bool
+    ensures { result ≡ drops_column_of table name.now change.now }
+{
+    match change {
+        Change::DropColumn {
+            table: other,
+            name: own,
+        } => is_same_name(table, name, *other, own),
+        Change::AddIndex { .. } | Change::DropIndex { .. } | Change::AddColumn { .. } => false,
+    }
+}
+
+fn any_named(names: &[Text], name: &Text) -> bool
+    ensures { result ≡ list_any (λ other. bytes_eq other name.now) names.now }
+{
+    names
+        .iter()
+        .any(|other| other.as_bytes() == name.as_bytes())
+}
+
+// Whether the change adds an index that lists the table's column of this name.
+fn adds_index_on(change: &Change, table: u32, name: &Text) -> bool
+    ensures { result ≡ adds_index_on_of table name.now change.now }
+{
+    match change {
+        Change::AddIndex {
+            table: other,
+            columns,
+            ..
+        } => *other == table && any_named(columns.as_slice(), name),
+        Change::DropIndex { .. } | Change::AddColumn { .. } | Change::DropColumn { .. } => false,
+    }
+}
+
+/// Whether the change adds an index of the table, or else a column of it.
+pub(crate) fn adds_like(change: &Change, table: u32, index: bool) -> bool
+    ensures { result ≡ adds_like_of table index change.now }
+{
+    match change {
+        Change::AddIndex { table: other, .. } => *other == table && index,
+        Change::AddColumn {
+            table: other,
+            kind,
+            ..
+        } => *other == table && is_like(index, kind),
+        Change::DropIndex { .. } | Change::DropColumn { .. } => false,
+    }
+}
+
+/// Whether the change adds an element.
+pub(crate) fn is_addition(change: &Change) -> bool
+    ensures { result ≡ is_addition_of change.now }
+{
+    match change {
+        Change::AddIndex { .. } | Change::AddColumn { .. } => true,
+        Change::DropIndex { .. } | Change::DropColumn { .. } => false,
+    }
+}
+
+/// Whether one of these adds the table's column of this name.
+pub(crate) fn any_adds_column(changes: &[Change], table: u32, name: &Text) -> bool
+    ensures { result ≡ list_any (adds_column_of table name.now) changes.now }
+{
+    changes.iter().any(|c| adds_column(c, table, name))
+}
+
+/// Whether one of these adds an element of this name to the table.
+pub(crate) fn any_adds(changes: &[Change], table: u32, name: &Text) -> bool
+    ensures { result ≡ list_any (adds_of table name.now) changes.now }
+{
+    changes.iter().any(|c| adds(c, table, name))
+}
+
+/// Whether one of these adds an index that lists the table's column of this name.
+pub(crate) fn any_adds_index_on(changes: &[Change], table: u32, name: &Text) -> bool
+    ensures { result ≡ list_any (adds_index_on_of table name.now) changes.now }
+{
+    changes.iter().any(|c| adds_index_on(c, table, name))
+}
+
+/// Whether one of these drops the table's index of this name.
+pub(crate) fn any_drops_index(changes: &[Change], table: u32, name: &Text) -> bool
+    ensures { result ≡ list_any (drops_index_of table name.now) changes.now }
+{
+    changes.iter().any(|c| drops_index(c, table, name))
+}
+
+/// Whether one of these drops the table's column of this name.
+pub(crate) fn any_drops_column(changes: &[Change], table: u32, name: &Text) -> bool
+    ensures { result ≡ list_any (drops_column_of table name.now) changes.now }
+{
+    changes.iter().any(|c| drops_column(c, table, name))
+}
+
+/// Whether an index over these columns waits for one that the batch adds.
+pub(crate) fn lists_added(changes: &[Change], table: u32, columns: &[Text]) -> bool
+    ensures { result ≡ lists_added_of changes.now table columns.now }
+{
+    columns
+        .iter()
+        .any(|name| any_adds_column(changes, table, name))
+}
+
+// Whether the change drops an index that lists the column of this number.
+fn drops_index_on(schema: &Schema, column: u32, change: &Change) -> bool
+    ensures { result ≡ drops_index_on_of schema.now column change.now }
+{
+    match change {
+        Change::DropIndex { table, name } => match named_index(schema, *table, name) {
+            Some(index) => lists(index, column),
+            None => false,
+        },
+        Change::AddIndex { .. } | Change::AddColumn { .. } | Change::DropColumn { .. } => false,
+    }
+}
+
+/// Whether a column waits for a dropped index that lists it.
+pub(crate) fn is_under_dropped(schema: &Schema, changes: &[Change], column: u32) -> bool
+    ensures { result ≡ is_under_dropped_of schema.now changes.now column }
+{
+    changes.iter().any(|c| drops_index_on(schema, column, c))
+}
+
+/// Whether the change adds an element that enters in the first step.
+pub(crate) fn is_early(changes: &[Change], change: &Change) -> bool
+    ensures { result ≡ is_early_of changes.now change.now }
+{
+    match change {
+        Change::AddIndex { table, columns, .. } => {
+            !lists_added(changes, *table, columns.as_slice())
+        }
+        Change::AddColumn { .. } => true,
+        Change::DropIndex { .. } | Change::DropColumn { .. } => false,
+    }
+}
+
+/// Whether the change adds an index that enters behind the columns that it waits for.
+pub(crate) fn is_late(changes: &[Change], change: &Change) -> bool
+    ensures { result ≡ is_late_of changes.now change.now }
+{
+    match change {
+        Change::AddIndex { table, columns, .. } => {
+            lists_added(changes, *table, columns.as_slice())
+        }
+        Change::AddColumn { .. } | Change::DropIndex { .. } | Change::DropColumn { .. } => false,
+    }
+}

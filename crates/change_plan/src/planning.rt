@@ -1,0 +1,70 @@
+ghost use Rattle.std.specs.Prelude.{◌≡◌, ◌+◌, ◌≤◌, ◌⊎◌, IfOk, IfErr, OnOk, count_by};
+ghost use Rattle.schema_version.specs.Names.{max_elements};
+ghost use Rattle.change_plan.specs.declared.fault.PlanFault.TheVariants.{Memory};
+ghost use Rattle.change_plan.specs.Plans.{IsLeast};
+ghost use Rattle.change_plan.specs.Refusals.{IsPlannable, IsRefused};
+ghost use Rattle.change_plan.specs.Schedule.{schedule, is_early as is_early_of, is_late as is_late_of};
+
+use crate::change::Change;
+use crate::fault::PlanFault;
+use crate::least_plan::{LeastPlan, PlanStep};
+use crate::numbering::trips_of;
+use crate::refusing::check_batch;
+use crate::stepping::steps_of;
+use listed::Listed;
+use schema_version::Schema;
+use std::alloc::{AllocError, Global};
+
+// Whether the batch can be planned.
+fn check(schema: &Schema, next: u32, changes: &[Change]) -> Result<(), PlanFault>
+    requires { next ≡ schema.now.next }
+    ensures clear { OnOk result (IsPlannable schema.now changes.now) }
+    ensures refused { IfErr result (λ f. IsRefused schema.now changes.now f) }
+    ensures room { OnOk result (schema.now.next + count_by (is_early_of changes.now) changes.now + count_by (is_late_of changes.now) changes.now ≤ max_elements + 1) }
+{
+    schema.known();
+    check_batch(schema, next, changes)
+}
+
+// The steps of the batch's schedule.
+fn scheduled(
+    alloc: Global,
+    schema: &Schema,
+    next: u32,
+    changes: &[Change],
+) -> Result<Vec<PlanStep>, AllocError>
+    requires is_next { next ≡ schema.now.next }
+    requires room { next + count_by (is_early_of changes.now) changes.now + count_by (is_late_of changes.now) changes.now ≤ max_elements + 1 }
+    ensures { IfOk result (λ steps. steps.items ≡ schedule schema.now changes.now) }
+{
+    let trips = trips_of(alloc, schema, next, changes)?;
+    steps_of(alloc, &trips)
+}
+
+/// The least plan of a batch for a schema whose next free number of an element is `next`: steps that may be taken one after another,
+/// each behind the reorganisations that must end before it, at whose end the batch's changes have been made. No plan that does so has
+/// fewer steps. A batch with no changes has a plan with no steps.
+///
+/// The changes are tried in order, each against the schema and the whole batch. The first faulty one decides by its lowest fault, in
+/// the order of `PlanFault`. Memory comes last: all is tried before the first growth. Nothing is changed by a refusal.
+///
+/// After the schema changes of "Online, Asynchronous Schema Change in F1" (Rae et al., 2013).
+pub fn plan_from(
+    alloc: Global,
+    schema: &Schema,
+    next: u32,
+    changes: &[Change],
+) -> Result<LeastPlan, PlanFault>
+    requires is_next { next ≡ schema.now.next }
+    ensures schedule { IfOk result (λ p. p.steps ≡ schedule schema.now changes.now) }
+    ensures least { IfOk result (λ p. IsLeast schema.now changes.now p.steps) }
+    ensures clear { OnOk result (IsPlannable schema.now changes.now) }
+    ensures refused { IfErr result (λ f. ((f ≡ Memory) × IsPlannable schema.now changes.now) ⊎ IsRefused schema.now changes.now f) }
+{
+    schema.known();
+    check(schema, next, changes)?;
+    let steps = scheduled(alloc, schema, next, changes)?;
+    Ok(LeastPlan {
+        steps: Listed::new(steps),
+    })
+}
