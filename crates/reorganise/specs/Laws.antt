@@ -1,0 +1,1 @@
+-- What pieces leave behind.
