@@ -1,3 +1,4 @@
 pub mod Items
 pub mod Order
 pub mod Shares
+pub mod Stretching

@@ -81,10 +81,13 @@ pub record IsReadOf (progress : Progress) (pairs : Pairs) (piece limit : ℕ) (r
   pub here : slice_get progress.pieces piece ≡ Some span
   pub read_is : read ≡ view_at progress pairs piece limit span
 
--- What is true of all that was read of a piece, of whatever pairs: the new cursor is not below the old one nor above the
--- upper bound, it is that bound or an item's key, and the pairs are some between the two cursors
+-- where a piece comes to: not back, nor past its upper bound, and to that bound or to an item
+pub record ComesTo (region : Region) (cursor high to : Bytes) : Type 0 where
+  pub onward : is_le (bytes_cmp cursor to) ≡ true
+  pub bounded : is_le (bytes_cmp to high) ≡ true
+  pub ends : (to ≡ high) ⊎ IsItemKey region to
+
+-- what is true of all that was read of a piece, of whatever pairs: it comes to the new cursor, and its pairs are some between the two
 pub record IsReading (read : Reading) : Type 0 where
-  pub onward : is_le (bytes_cmp read.stretch.low read.stretch.high) ≡ true
-  pub bounded : is_le (bytes_cmp read.stretch.high read.high) ≡ true
-  pub ends : (read.stretch.high ≡ read.high) ⊎ IsItemKey (region_of read.element read.kind) read.stretch.high
+  pub comes : ComesTo (region_of read.element read.kind) read.stretch.low read.high read.stretch.high
   pub inside : (key value : Bytes) → map.get read.stretch.pairs key ≡ Some value → is_within read.stretch.low read.stretch.high key ≡ true

@@ -1,12 +1,11 @@
 //! Reading the next items of a piece.
-ghost use Rattle.std.specs.Prelude.{◌≡◌, ◌⊎◌, Some, IfOk, IfErr, OnOk, slice_get};
+ghost use Rattle.std.specs.Prelude.{◌≡◌, Some, IfOk, IfErr, OnOk, slice_get};
 ghost use Rattle.std.specs.declared.cmp.Ordering.TheVariants.{Less};
 ghost use Rattle.listed.specs.Refusal.{IsFirst, IsRefusal, IsClear};
 ghost use Rattle.keycode.specs.Order.{bytes_cmp};
 ghost use Rattle.reorganise.specs.declared.fault.ViewFault.TheVariants.{Memory as OutOfMemory};
 ghost use Rattle.reorganise.specs.Refusals.{rank, Condition};
-ghost use Rattle.reorganise.specs.Regions.{IsItemKey};
-ghost use Rattle.reorganise.specs.Pieces.{stretch_read, view_at, IsReadOf};
+ghost use Rattle.reorganise.specs.Pieces.{stretch_read, view_at, ComesTo, IsReadOf};
 
 use crate::begin::{copied, shared};
 use crate::fault::ViewFault;
@@ -49,7 +48,7 @@ fn read_stretch<V: PairView>(
 ) -> Result<Stretch, AllocError>
     requires { bytes_cmp cursor.now high.now ≡ Less }
     ensures exact { IfOk result (λ stretch. stretch ≡ stretch_read region (V.pairs view.now) cursor.now high.now limit) }
-    ensures ends { IfOk result (λ stretch. (stretch.high ≡ high.now) ⊎ IsItemKey region stretch.high) }
+    ensures comes { IfOk result (λ stretch. ComesTo region cursor.now high.now stretch.high) }
 {
     let mut pairs = KeyMap::new(alloc);
     let mut left = limit;
