@@ -10,10 +10,13 @@ use Rattle.row_map.specs.Rows.{Bytes, Pairs}
 use Rattle.row_map.specs.Walk.{stretch, after}
 use Rattle.row_map.specs.declared.expect.Stretch.{Stretch}
 use Rattle.reorganise.specs.declared.region.Region.{Region}
-use Rattle.reorganise.specs.Regions.{is_item, item_key, item_keys, IsItemKey}
-use Rattle.reorganise.specs.Pieces.{part, next_cursor, stretch_read, ComesTo}
+use Rattle.row_map.specs.Ranges.{is_within}
+use Rattle.schema_version.specs.declared.element.ElementDef.{ElementDef}
+use Rattle.reorganise.specs.declared.work.Work.{Work}
+use Rattle.reorganise.specs.Regions.{region_of, is_item, item_key, item_keys, IsItemKey}
+use Rattle.reorganise.specs.Pieces.{part, next_cursor, stretch_read, ComesTo, IsReading}
 use Rattle.reorganise.proofs.Items.{Pair, Begins, one_item, item_keys-cons}
-use Rattle.reorganise.proofs.Order.{le, le_trans, le_itself, less_le, le_after, after_le, join, stretch_itself, first_before, first_more, first_reached, first_below, part_more, same_part, entries-part}
+use Rattle.reorganise.proofs.Order.{le, le_trans, le_itself, less_le, le_after, after_le, join, stretch_itself, first_before, first_more, first_reached, first_below, part_more, same_part, entries-part, get-part, some_in}
 
 -- what has been read before `at`, when `left` more items may come
 pub record IsRead (region : Region) (pairs : Pairs) (cursor high : Bytes) (limit : ℕ) (at : Bytes) (left : ℕ) (so_far : Pairs) : Type 0 where
@@ -85,3 +88,19 @@ module _ (region : Region) (pairs : Pairs) (cursor high : Bytes) (limit : ℕ) (
         all = more_is ∙ ap (λ (m : Pairs). map.insert m p.0 p.1) so_far.all ∙ part_more pairs cursor at high p f so_far.begun;
         counted = omega (arith, so_far.counted, rest_is, ap length keys, length-append (item_keys region (stretch pairs cursor at)) (one_item b p ++ []), length-append (one_item b p) []);
       })
+
+-- what was read is a reading
+pub reading_made : (region : Region) (pairs : Pairs) (cursor high : Bytes) (limit : ℕ) (element : ElementDef) (kind : Work) (piece : ℕ) (low end : Bytes) (read : Stretch)
+    → region ≡ region_of element kind → high ≡ end → read ≡ stretch_read region pairs cursor high limit → ComesTo region cursor high read.high
+    → IsReading (record { element = element; kind = kind; piece = piece; low = low; high = end; stretch = read })
+reading_made region pairs cursor high limit element kind piece low end read region_is end_is read_is comes = record {
+  comes =
+    subst (λ r. ComesTo r read.low end read.high) region_is
+    (subst (λ e. ComesTo region read.low e read.high) end_is
+    (subst (λ x. ComesTo region x high read.high) (sym (ap (λ (s : Stretch). s.low) read_is)) comes));
+  inside =
+    subst (λ (s : Stretch). (key value : Bytes) → map.get s.pairs key ≡ Some value → is_within s.low s.high key ≡ true) (sym read_is)
+    (λ key value at.
+    let to = next_cursor region pairs cursor high limit in
+    (some_in (is_within cursor to key) (map.get pairs key) value (sym (get-part pairs cursor to key) ∙ at)).0);
+}

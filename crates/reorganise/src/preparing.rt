@@ -72,23 +72,25 @@ fn note_removal(
     }
 }
 
-/// What a piece of a fill writes.
+/// What a fill of the element puts for the rows among the pairs.
 fn puts(
     alloc: Global,
     element: &ElementDef,
+    filled: &AnyElement,
     pairs: &KeyMap<Bytes>,
 ) -> Result<Batch, AllocError>
+    requires table { table_of_any filled.now ≡ element.now.table }
+    requires meaning { meaning_of_any filled.now ≡ kind_meaning element.now.number element.now.kind }
     ensures { IfOk result (λ batch. batch ≡ noted map.empty (piece_writes pairs.now element.now Fill)) }
 {
-    let filled = AnyElement::of(element)?;
     let mut batch = Batch::new(alloc);
     for (name, _) in pairs.entries() {
-        note_put(alloc, &mut batch, pairs, element, &filled, name)?;
+        note_put(alloc, &mut batch, pairs, element, filled, name)?;
     }
     Ok(batch)
 }
 
-/// What a piece of a clear writes.
+/// What a clear of the element removes where it comes to the pairs.
 fn removals(
     alloc: Global,
     element: &ElementDef,
@@ -113,7 +115,10 @@ fn batch_of(
     ensures { IfOk result (λ batch. batch ≡ noted map.empty (piece_writes pairs.now element.now kind)) }
 {
     match kind {
-        Work::Fill => puts(alloc, element, pairs),
+        Work::Fill => {
+            let filled = AnyElement::of(element)?;
+            puts(alloc, element, &filled, pairs)
+        }
         Work::Clear => removals(alloc, element, pairs),
     }
 }
