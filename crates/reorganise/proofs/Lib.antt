@@ -2,3 +2,4 @@ pub mod Items
 pub mod Order
 pub mod Shares
 pub mod Stretching
+pub mod Bounding

@@ -8,6 +8,7 @@
 
 mod begin;
 mod fault;
+mod laws;
 mod prepared;
 mod preparing;
 mod reading;
@@ -17,6 +18,7 @@ mod view;
 mod work;
 
 pub use fault::ViewFault;
+pub use laws::{bounds_hold, clear_lays, fill_lays, pieces_share, ranges_are};
 pub use prepared::PreparedPiece;
 pub use preparing::prepare_piece;
 pub use view::PieceView;
