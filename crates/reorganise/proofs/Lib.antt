@@ -3,3 +3,6 @@ pub mod Order
 pub mod Shares
 pub mod Stretching
 pub mod Bounding
+pub mod Naming
+pub mod Holding
+pub mod Rowwise
