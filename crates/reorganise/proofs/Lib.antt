@@ -6,3 +6,5 @@ pub mod Bounding
 pub mod Naming
 pub mod Holding
 pub mod Rowwise
+pub mod Spelling
+pub mod Filling

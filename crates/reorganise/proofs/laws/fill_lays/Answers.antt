@@ -1,6 +1,5 @@
-use Rattle.reorganise.proofs.Rowwise.{rows_same}
-use Rattle.reorganise.proofs.Holding.{part_is}
+use Rattle.reorganise.proofs.Filling.{fill_lays as law}
 use Rattle.reorganise.proofs.laws.fill_lays.Goals as goal
 
 pub returns : goal.returns
-returns c = ?
+returns c = law
