@@ -8,3 +8,4 @@ pub mod Holding
 pub mod Rowwise
 pub mod Spelling
 pub mod Filling
+pub mod Clearing
