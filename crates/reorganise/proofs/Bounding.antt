@@ -1,5 +1,5 @@
 -- Pieces in the words of the laws: they join, end, and stand where they may.
-use Rattle.std.proofs.Common.{◌≡◌, ◌↔◌, eqb-true, ℕ, zero, suc, ◌+◌, ◌*◌, ◌/◌, ◌<◌, ◌^◌, ◌==◌, nat_lt, Bool, true, false, ◌&&◌, cond, if◌then◌else◌, List, [], ◌∷◌, ◌++◌, length, Option, Some, None, Result, Ok, Err, slice_get, unwrap_or, refl, sym, ap, subst, ◌∙◌, arith, inl, inr, ◌⊎◌}
+use Rattle.std.proofs.Common.{◌≡◌, eqb-true, ℕ, zero, suc, ◌+◌, ◌*◌, ◌/◌, ◌<◌, ◌^◌, ◌==◌, Bool, true, false, ◌&&◌, if◌then◌else◌, List, [], ◌∷◌, length, Ok, slice_get, unwrap_or, refl, sym, ap, subst, ◌∙◌, inl, inr}
 use Rattle.std.specs.List.{AllByRecursion}
 use Rattle.std.proofs.lemmas.Bool.{lt-ltb}
 use Rattle.std.specs.declared.cmp.Ordering.{Ordering}
@@ -9,15 +9,12 @@ use Rattle.std.specs.FinMap as map
 use Rattle.std.specs.Cmp.{tied_itself}
 use Rattle.byte_map.proofs.Order.{bytes_cmp_total, bytes_cmp-IsAntisymmetric}
 use Rattle.listed.proofs.Steps.{AllByRecursion-append}
-use Rattle.keycode.specs.declared.fault.KeyFault.{KeyFault}
-use Rattle.keycode.specs.declared.value.Value.{Value}
 use Rattle.keycode.specs.Order.{bytes_cmp}
 use Rattle.row_map.specs.declared.key.KeyOf.{KeyOf}
 use Rattle.row_map.specs.declared.key.KeyOf.TheVariants.{Exists, Column, Index as IndexKey}
 use Rattle.row_map.specs.Keys.{key_code, IsKey}
-use Rattle.row_map.specs.Reading.{key_at}
 use Rattle.row_map.specs.Rows.{Bytes, Pairs}
-use Rattle.row_map.specs.Ranges.{table_prefix, IsRowBound, Low, High, At}
+use Rattle.row_map.specs.Ranges.{Low, High, At}
 use Rattle.row_map.specs.Walk.{stretch}
 use Rattle.row_map.proofs.KeyLaws.{key_again}
 use Rattle.row_map.proofs.Entries.{each_found}
@@ -26,19 +23,17 @@ use Rattle.schema_version.specs.declared.element.Kind.{Kind}
 use Rattle.schema_version.specs.declared.element.Kind.TheVariants.{Index, Optional}
 use Rattle.schema_version.specs.declared.element.ElementDef.{ElementDef}
 use Rattle.element_state.specs.Elements.{HasForm, AreFormed}
-use Rattle.element_state.specs.Items.{Bounds, AnyKey, RowsOf, IsBound, HasRange}
+use Rattle.element_state.specs.Items.{Bounds, AnyKey, RowsOf, IsBound}
 use Rattle.element_state.specs.Kinds.{kind_clear}
 use Rattle.element_state.specs.Ended.{HaveEnded}
 use Rattle.reorganise.specs.declared.work.Work.{Work}
 use Rattle.reorganise.specs.declared.work.Work.TheVariants.{Fill, Clear}
 use Rattle.reorganise.specs.declared.work.Span.{Span}
-use Rattle.reorganise.specs.declared.reading.Reading.{Reading}
 use Rattle.reorganise.specs.declared.region.Region.{Region}
 use Rattle.reorganise.specs.declared.region.Region.TheVariants.{Rows, Entries}
 use Rattle.reorganise.specs.Regions.{region_of, cleared, prefix, prefix_end, front, back, is_item_read, is_item, IsItemKey, item_keys, items}
-use Rattle.reorganise.specs.Pieces.{bound, span_at, spans, begun, is_ended, are_ended, IsReading}
-use Rattle.reorganise.specs.Partition.{AreJoined}
-use Rattle.reorganise.specs.Laws.{pieces_of, PiecesJoin, PiecesEnd, clear_of, bounds_of, FillRange, ClearRangeIs, HasBounds, BeginsAtBounds, ComesToBound}
+use Rattle.reorganise.specs.Pieces.{bound, span_at, spans, is_ended, are_ended}
+use Rattle.reorganise.specs.Laws.{pieces_of, PiecesJoin, PiecesEnd, bounds_of, FillRange, ClearRangeIs, HasBounds, BeginsAtBounds, ComesToBound}
 use Rattle.reorganise.proofs.Items.{Pair, item_keys-cons}
 use Rattle.reorganise.proofs.Order.{and_true, some_in}
 

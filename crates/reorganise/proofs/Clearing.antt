@@ -1,25 +1,19 @@
 -- A piece of a clear removes each item between its cursors.
-use Rattle.std.proofs.Common.{◌≡◌, ◌≢◌, ℕ, ◌+◌, ◌<◌, ◌^◌, ◌==◌, Bool, true, false, ◌&&◌, not, cond, eqb, eqb-true, eq-eqb, List, [], ◌∷◌, ◌++◌, filter, Option, Some, None, Result, Ok, Err, if◌then◌else◌, refl, sym, ap, subst, ◌∙◌, true≢false}
+use Rattle.std.proofs.Common.{◌≡◌, ℕ, ◌+◌, ◌<◌, ◌^◌, ◌==◌, Bool, true, false, ◌&&◌, cond, eqb, eqb-true, eq-eqb, List, [], ◌∷◌, ◌++◌, filter, Option, Some, None, Ok, refl, sym, ap, subst, ◌∙◌}
 use Rattle.std.specs.List.{AllByRecursion, flat_map}
 use mathlib.Core.List.{map as each}
 use Rattle.std.specs.FinMap as map
 use Rattle.std.specs.FinMap.Entries.{where_key}
-use Rattle.std.specs.declared.cmp.Ordering.{Ordering}
-use Rattle.std.specs.declared.cmp.Ordering.TheVariants.{Less, Equal, Greater}
-use Rattle.std.specs.Ordering.{is_lt}
 use Rattle.byte_map.proofs.Order.{bytes_cmp_total, bytes_cmp-IsAntisymmetric}
 use Rattle.byte_map.proofs.Written.{laid-noted}
-use Rattle.keycode.specs.declared.fault.KeyFault.{KeyFault}
 use Rattle.keycode.specs.declared.value.Value.{Value}
 use Rattle.keycode.specs.Order.{bytes_cmp}
 use Rattle.row_map.specs.declared.key.KeyOf.{KeyOf}
 use Rattle.row_map.specs.declared.key.KeyOf.TheVariants.{Exists, Column, Index as IndexKey}
 use Rattle.row_map.specs.Keys.{key_code, IsKey, row_code, index_code}
-use Rattle.row_map.specs.Reading.{key_at}
 use Rattle.row_map.specs.Rows.{Bytes, RowKey, Cells, Rows, Pairs, AreStorable}
-use Rattle.row_map.specs.Writes.{Writes, written_all, laid, noted}
+use Rattle.row_map.specs.Writes.{Writes, written_all}
 use Rattle.row_map.specs.Ranges.{is_within, index_prefix}
-use Rattle.row_map.specs.Walk.{stretch}
 use Rattle.row_map.proofs.KeyLaws.{key_again}
 use Rattle.row_map.proofs.Entries.{each_entry}
 use Rattle.row_map.proofs.Ranges.{index_not_before, index_before_next, index_number, row_no_index}
@@ -31,21 +25,19 @@ use Rattle.element_state.specs.Exists.{exists_meaning}
 use Rattle.element_state.specs.Kinds.{kind_clear}
 use Rattle.element_state.specs.Index.{index_items}
 use Rattle.element_state.specs.Column.{column_pair, column_items}
-use Rattle.element_state.specs.Items.{HasRange, clear_writes, row_items, Between}
+use Rattle.element_state.specs.Items.{clear_writes, row_items}
 use Rattle.element_state.specs.Clears.{test_between, between_test}
-use Rattle.reorganise.specs.declared.work.Work.{Work}
 use Rattle.reorganise.specs.declared.work.Work.TheVariants.{Clear}
 use Rattle.reorganise.specs.declared.region.Region.TheVariants.{Entries}
-use Rattle.reorganise.specs.declared.reading.Reading.{Reading}
 use Rattle.reorganise.specs.Regions.{row_at, is_item_read, is_item}
-use Rattle.reorganise.specs.Pieces.{part, IsReading}
-use Rattle.reorganise.specs.Batches.{cell_removed, removed_of, piece_writes, batch_for}
-use Rattle.reorganise.specs.Laws.{clear_of, ClearLays}
+use Rattle.reorganise.specs.Pieces.{part}
+use Rattle.reorganise.specs.Batches.{cell_removed, removed_of, piece_writes}
+use Rattle.reorganise.specs.Laws.{ClearLays}
 use Rattle.reorganise.proofs.Items.{Pair}
-use Rattle.reorganise.proofs.Order.{entries-part, and_true}
+use Rattle.reorganise.proofs.Order.{entries-part}
 use Rattle.reorganise.proofs.Naming.{AllGive}
 use Rattle.reorganise.proofs.Holding.{part_is}
-use Rattle.reorganise.proofs.Rowwise.{RowThere, rows_same, both_true}
+use Rattle.reorganise.proofs.Rowwise.{rows_same}
 
 -- ---- an index
 
@@ -120,8 +112,8 @@ module _ (n : ℕ) (fits : n + 1 < 2 ^ 32) where
       ap (flat_map (λ (e : Pair). cond (is_item (Entries n) e.0) (taken e.0) [])) (entries-part P low high)
       ∙ picked (is_within low high) (λ x. cond (is_item (Entries n) x) (taken x) []) (map.entries P)
       ∙ same_each (λ x. cond (is_within low high x) (cond (is_item (Entries n) x) (taken x) []) []) (λ x. cond (is_within (index_prefix n) (index_prefix (n + 1)) x && is_within low high x) (taken x) [])
-        (λ x f. one_removal (is_item (Entries n) x) (is_within (index_prefix n) (index_prefix (n + 1)) x) (is_within low high x) x (item_is x f)) (map.entries P)
-        (each_entry bytes_cmp bytes_cmp_total bytes_cmp-IsAntisymmetric (λ x v. HasForm x) P formed)
+      (λ x f. one_removal (is_item (Entries n) x) (is_within (index_prefix n) (index_prefix (n + 1)) x) (is_within low high x) x (item_is x f)) (map.entries P)
+      (each_entry bytes_cmp bytes_cmp_total bytes_cmp-IsAntisymmetric (λ x v. HasForm x) P formed)
       ∙ sym (picked_clear (λ x. is_within (index_prefix n) (index_prefix (n + 1)) x && is_within low high x) (map.entries P))
 
 -- ---- a column

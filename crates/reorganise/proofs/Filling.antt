@@ -1,16 +1,13 @@
 -- A piece of a fill puts the pair of each row between its cursors.
-use Rattle.std.proofs.Common.{◌≡◌, ℕ, ◌+◌, ◌<◌, ◌^◌, Bool, true, false, cond, eqb, List, [], ◌∷◌, ◌++◌, Option, Some, None, option_map, refl, sym, ap, subst, ◌∙◌}
+use Rattle.std.proofs.Common.{◌≡◌, ℕ, ◌+◌, ◌<◌, ◌^◌, true, false, cond, eqb, List, [], ◌∷◌, ◌++◌, Option, Some, None, option_map, refl, sym, ap, ◌∙◌}
 use Rattle.std.specs.List.{AllByRecursion, flat_map}
-use Rattle.std.specs.FinMap as map
 use Rattle.byte_map.proofs.Order.{bytes_cmp_total, bytes_cmp-IsAntisymmetric}
 use Rattle.byte_map.proofs.Written.{laid-noted}
 use Rattle.keycode.specs.declared.value.Value.{Value}
-use Rattle.keycode.specs.Order.{bytes_cmp}
 use Rattle.row_map.specs.Keys.{index_code}
 use Rattle.row_map.specs.Rows.{Bytes, RowKey, Cells, Rows, Pairs, AreStorable}
-use Rattle.row_map.specs.Writes.{Writes, written_all, laid, noted}
-use Rattle.row_map.specs.Ranges.{is_within, IsRowBound}
-use Rattle.row_map.specs.declared.shape.Row.{Row}
+use Rattle.row_map.specs.Writes.{Writes, written_all}
+use Rattle.row_map.specs.Ranges.{IsRowBound}
 use Rattle.schema_version.specs.declared.element.Kind.{Kind}
 use Rattle.schema_version.specs.declared.element.Kind.TheVariants.{Index, Optional}
 use Rattle.schema_version.specs.declared.element.ElementDef.{ElementDef}
@@ -22,14 +19,10 @@ use Rattle.element_state.specs.Kinds.{kind_meaning}
 use Rattle.element_state.specs.Index.{indexed, index_meaning}
 use Rattle.element_state.specs.Column.{column_of, IsLawfulColumn}
 use Rattle.element_state.specs.Items.{put_pair, fill_puts, row_items}
-use Rattle.reorganise.specs.declared.work.Work.{Work}
 use Rattle.reorganise.specs.declared.work.Work.TheVariants.{Fill}
-use Rattle.reorganise.specs.declared.reading.Reading.{Reading}
-use Rattle.reorganise.specs.Regions.{row_at}
-use Rattle.reorganise.specs.Pieces.{part, IsReading}
-use Rattle.reorganise.specs.Batches.{columns_of, cells_in, row_in, row_put, piece_writes, batch_for}
-use Rattle.reorganise.specs.Laws.{HasColumns, meaning_in, FillLays}
-use Rattle.reorganise.proofs.Items.{Pair}
+use Rattle.reorganise.specs.Pieces.{part}
+use Rattle.reorganise.specs.Batches.{columns_of, cells_in, row_in, row_put, piece_writes}
+use Rattle.reorganise.specs.Laws.{meaning_in, FillLays}
 use Rattle.reorganise.proofs.Naming.{AllGive}
 use Rattle.reorganise.proofs.Holding.{part_is}
 use Rattle.reorganise.proofs.Rowwise.{RowThere, rows_same}
@@ -71,5 +64,5 @@ fill_lays read P R r kind holds held formed exact facts fits bound =
     ∙ ap (λ w. written_all P (piece_writes read.stretch.pairs element w)) kind
     ∙ ap (λ (pairs : Pairs). written_all P (piece_writes pairs element Fill)) (sym (part_is read P r holds))
     ∙ rows_same P R low high element.table held formed exact (row_put (part P low high) element) (λ (i : RowKey × Cells). put_pair (fill_pair m i.0 i.1)) (Some []) refl (row_gives (part P low high) element) (λ i. put_gives_in element.table element.number element.kind i.0 i.1)
-      (put_same P R low high element.table held formed exact fits bound element.number element.kind facts)
+    (put_same P R low high element.table held formed exact fits bound element.number element.kind facts)
     ∙ ap (written_all P) (sym (puts_each m (row_items m.serves R low high)))

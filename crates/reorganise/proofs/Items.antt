@@ -1,5 +1,5 @@
 -- Walking over the pairs, item by item.
-use Rattle.std.proofs.Common.{◌≡◌, ℕ, ◌+◌, ◌<◌, suc, Bool, true, false, List, [], ◌∷◌, ◌++◌, length, refl, sym, ap, subst, ◌∙◌, append_assoc, add-one, if◌then◌else◌, arith}
+use Rattle.std.proofs.Common.{◌≡◌, ℕ, ◌+◌, Bool, true, false, List, [], ◌∷◌, ◌++◌, refl, sym, ap, ◌∙◌, add-one, if◌then◌else◌}
 use Rattle.std.proofs.lemmas.List.Elements.{filter_map-append}
 use Rattle.row_map.specs.Rows.{Bytes, Pairs}
 use Rattle.row_map.specs.Walk.{stretch, after}
@@ -25,27 +25,6 @@ one_key region p false e = simp (e) refl
 
 pub item_keys-cons : (region : Region) (p : Pair) (ps : List Pair) (b : Bool) → is_item region p.0 ≡ b → item_keys region (p ∷ ps) ≡ one_item b p ++ item_keys region ps
 item_keys-cons region p ps b e = filter_map-append (item_key region) (p ∷ []) ps ∙ ap (λ l. l ++ item_keys region ps) (one_key region p b e)
-
-pub first_shorter : (pairs : Pairs) (at next high a h : Bytes) (p : Pair) → Begins pairs a h p → a ≡ at → h ≡ high → next ≡ after p.0 → length (stretch pairs next high) < length (stretch pairs at high)
-first_shorter pairs at next high a h p f is high_is next_is =
-    let whole : length (stretch pairs at high) ≡ suc (length (stretch pairs (after p.0) high)) =
-        ap length (ap (λ x. stretch pairs x high) (sym is) ∙ ap (stretch pairs a) (sym high_is) ∙ f ∙ ap (λ y. p ∷ stretch pairs (after p.0) y) high_is) in
-    let rest : length (stretch pairs next high) ≡ length (stretch pairs (after p.0) high) = ap (λ x. length (stretch pairs x high)) next_is in
-    omega (arith, whole, rest)
-
-pub items_more : (region : Region) (pairs : Pairs) (keys more total : List Bytes) (at next high a h : Bytes) (p : Pair) (b : Bool) → Begins pairs a h p → a ≡ at → h ≡ high → next ≡ after p.0 → is_item region p.0 ≡ b → more ≡ keys ++ one_item b p
-    → keys ++ item_keys region (stretch pairs at high) ≡ total → more ++ item_keys region (stretch pairs next high) ≡ total
-items_more region pairs keys more total at next high a h p b f is high_is next_is item more_is so_far =
-    let rest = item_keys region (stretch pairs (after p.0) high) in
-    ap (λ l. l ++ item_keys region (stretch pairs next high)) more_is
-    ∙ ap (λ x. (keys ++ one_item b p) ++ item_keys region (stretch pairs x high)) next_is
-    ∙ append_assoc keys (one_item b p) rest
-    ∙ ap (λ l. keys ++ l) (sym (item_keys-cons region p (stretch pairs (after p.0) high) b item))
-    ∙ ap (λ y. keys ++ item_keys region (p ∷ stretch pairs (after p.0) y)) (sym high_is)
-    ∙ ap (λ l. keys ++ item_keys region l) (sym f)
-    ∙ ap (λ x. keys ++ item_keys region (stretch pairs x h)) is
-    ∙ ap (λ y. keys ++ item_keys region (stretch pairs at y)) high_is
-    ∙ so_far
 
 pub spans_more : (region : Region) (keys : List Bytes) (pieces k : ℕ) (before more : List Span) (low high cursor : Bytes) → before ≡ spans region keys pieces k
     → low ≡ bound region keys pieces k → high ≡ bound region keys pieces (k + 1) → cursor ≡ low → more ≡ before ++ record { low = low; high = high; cursor = cursor } ∷ []

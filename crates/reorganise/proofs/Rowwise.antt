@@ -1,14 +1,13 @@
 -- The rows whose `exists` pairs are among the pairs between two cursors are the rows between them.
-use Rattle.std.proofs.Common.{◌≡◌, ℕ, ◌==◌, Bool, true, false, ◌&&◌, cond, eqb, eqb-true, eq-eqb, List, [], ◌∷◌, ◌++◌, filter, Option, Some, None, Result, Ok, Err, if◌then◌else◌, refl, sym, ap, subst, ◌∙◌, inl, inr, ◌⊎◌}
+use Rattle.std.proofs.Common.{◌≡◌, ℕ, ◌==◌, Bool, true, false, ◌&&◌, cond, eqb, eqb-true, eq-eqb, List, [], ◌∷◌, filter, Option, Some, None, Ok, refl, sym, ap, subst, ◌∙◌, inl, inr}
 use Rattle.std.specs.List.{AllByRecursion, flat_map}
 use Rattle.std.specs.FinMap as map
 use Rattle.byte_map.proofs.Order.{bytes_cmp_total, bytes_cmp-IsAntisymmetric}
-use Rattle.keycode.specs.declared.fault.KeyFault.{KeyFault}
 use Rattle.keycode.specs.declared.value.Value.{Value}
 use Rattle.keycode.specs.Order.{bytes_cmp}
 use Rattle.row_map.specs.declared.key.KeyOf.{KeyOf}
 use Rattle.row_map.specs.declared.key.KeyOf.TheVariants.{Exists, Column, Index as IndexKey}
-use Rattle.row_map.specs.Keys.{key_code, IsKey, row_code}
+use Rattle.row_map.specs.Keys.{key_code, IsKey}
 use Rattle.row_map.specs.Reading.{key_at}
 use Rattle.row_map.specs.Rows.{Bytes, RowKey, Cells, Rows, Pairs, AreStorable, row_cmp}
 use Rattle.row_map.specs.Writes.{Writes, written_all}
@@ -112,10 +111,10 @@ module _ (P : Pairs) (R : Rows) (low high : Bytes) (table : ℕ) (held : AreStor
       let f : Pair → Writes = λ (e : Pair). g (row_at table e.0) in
       let test : RowKey × Cells → Bool = λ (e : RowKey × Cells). eqb e.0.0 table && is_within low high (row_key e.0) in
       let pairs_there : AllByRecursion (λ (e : Pair). map.get (part P low high) e.0 ≡ Some e.1) (map.entries (part P low high)) =
-          each_entry bytes_cmp bytes_cmp_total bytes_cmp-IsAntisymmetric (λ x v. map.get (part P low high) x ≡ Some v) (part P low high) (λ x v at. at) in
+      each_entry bytes_cmp bytes_cmp_total bytes_cmp-IsAntisymmetric (λ x v. map.get (part P low high) x ≡ Some v) (part P low high) (λ x v at. at) in
       let rows_there : AllByRecursion (λ (e : RowKey × Cells). (map.get R e.0 ≡ Some e.1) × (test e ≡ true)) (filter test (map.entries R)) =
-          facts_kept row_cmp_total row_cmp-IsAntisymmetric test (λ (e : RowKey × Cells). map.get R e.0 ≡ Some e.1) (map.entries R)
-          (each_entry row_cmp row_cmp_total row_cmp-IsAntisymmetric (λ k r. map.get R k ≡ Some r) R (λ k r at. at)) in
+      facts_kept row_cmp_total row_cmp-IsAntisymmetric test (λ (e : RowKey × Cells). map.get R e.0 ≡ Some e.1) (map.entries R)
+      (each_entry row_cmp row_cmp_total row_cmp-IsAntisymmetric (λ k r. map.get R k ≡ Some r) R (λ k r at. at)) in
       written_same o (flat_map f (map.entries (part P low high))) (flat_map h (filter test (map.entries R))) (all_give o f (λ e. give (row_at table e.0)) (map.entries (part P low high))) (all_give o h also (filter test (map.entries R)))
       (λ q at.
       let i = named_from q f (λ (e : Pair). map.get (part P low high) e.0 ≡ Some e.1) (map.entries (part P low high)) pairs_there at in

@@ -1,8 +1,7 @@
 -- What the pairs of exact columns spell are the rows' values.
-use Rattle.std.proofs.Common.{◌≡◌, ℕ, ◌+◌, ◌<◌, ◌^◌, Bool, true, false, ◌||◌, cond, eqb, eq-eqb, List, [], ◌∷◌, ◌++◌, Option, Some, None, Result, Ok, Err, unwrap_or, option_map, refl, sym, ap, subst, ◌∙◌, append-nil, arith, lit<}
+use Rattle.std.proofs.Common.{◌≡◌, ℕ, ◌+◌, ◌<◌, ◌^◌, Bool, true, false, ◌||◌, cond, eqb, eq-eqb, List, [], ◌∷◌, Option, Some, None, unwrap_or, option_map, refl, sym, ap, ◌∙◌, append-nil, arith, lit<}
 use Rattle.std.specs.Prelude.{filter_map, if◌then◌else◌}
 use Rattle.std.specs.List.{AllByRecursion, list_any}
-use mathlib.Core.List.{map as each}
 use Rattle.std.specs.FinMap as map
 use Rattle.std.specs.FinMap.{nat_cmp-IsAntisymmetric}
 use Rattle.std.specs.FinMap.Entries.{find}
@@ -23,9 +22,8 @@ use Rattle.keycode.specs.Order.{values_cmp}
 use Rattle.keycode.proofs.Orders.{values_cmp_total}
 use Rattle.row_map.specs.declared.key.KeyOf.{KeyOf}
 use Rattle.row_map.specs.declared.key.KeyOf.TheVariants.{Exists, Column, Index as IndexKey}
-use Rattle.row_map.specs.Keys.{IsKey, row_code}
+use Rattle.row_map.specs.Keys.{row_code}
 use Rattle.row_map.specs.Shape.{is_null}
-use Rattle.row_map.specs.declared.shape.Row.{Row}
 use Rattle.row_map.specs.Rows.{Bytes, RowKey, Cells, Rows, Pairs, AreStorable, value_or_null}
 use Rattle.row_map.specs.Ranges.{is_within, IsRowBound}
 use Rattle.row_map.proofs.Ranges.{row_then_pair}
@@ -34,12 +32,12 @@ use Rattle.row_map.proofs.KeyOrder.{row_keys}
 use Rattle.element_state.specs.Elements.{Exact, IsFromScratch, owner, owner_named}
 use Rattle.element_state.specs.Exists.{row_key}
 use Rattle.element_state.specs.Operations.{cells_of}
-use Rattle.element_state.specs.Column.{column_pair, coded, column_of, IsLawfulColumn}
+use Rattle.element_state.specs.Column.{coded, column_of, IsLawfulColumn}
 use Rattle.element_state.specs.ColumnLaws.{column_is_key, column_owned_key}
 use Rattle.element_state.specs.Index.{indexed}
 use Rattle.reorganise.specs.Pieces.{part}
 use Rattle.reorganise.specs.Batches.{only_value, spelled, cell_in, cells_in}
-use Rattle.reorganise.proofs.Order.{get-part, some_in, within_parts, parts_within, le, le_trans, less_le}
+use Rattle.reorganise.proofs.Order.{get-part, some_in, within_parts, parts_within, le_trans, less_le}
 
 -- ---- values
 
@@ -180,10 +178,10 @@ module _ (P : Pairs) (R : Rows) (table : ℕ) (held : AreStorable R) (key : List
         let row = held (table, key) cells there in
         let w = within_parts low high (row_key (table, key)) inside in
         let later : bytes_cmp (row_code table key 0) (row_code table key c) ≡ Less =
-            row_keys table table key key 0 c row.table row.table row.primary.values row.primary.values (lit< tt) lawful.below
-            ∙ ap (λ o. ordering_then o (ordering_then (values_cmp key key) (nat_cmp 0 c))) (tied_itself nat_cmp_total table)
-            ∙ ap (λ o. ordering_then o (nat_cmp 0 c)) (tied_itself values_cmp_total key)
-            ∙ above_zero c lawful.above in
+        row_keys table table key key 0 c row.table row.table row.primary.values row.primary.values (lit< tt) lawful.below
+        ∙ ap (λ o. ordering_then o (ordering_then (values_cmp key key) (nat_cmp 0 c))) (tied_itself nat_cmp_total table)
+        ∙ ap (λ o. ordering_then o (nat_cmp 0 c)) (tied_itself values_cmp_total key)
+        ∙ above_zero c lawful.above in
         parts_within low high (row_code table key c) (le_trans low (row_code table key 0) (row_code table key c) w.0 (less_le (row_code table key 0) (row_code table key c) later))
         (row_then_pair table fits key row.primary.values c lawful.below high bound w.1)
 

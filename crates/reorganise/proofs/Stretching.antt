@@ -1,5 +1,5 @@
 -- Reading the pairs of so many items.
-use Rattle.std.proofs.Common.{◌≡◌, ℕ, zero, suc, ◌+◌, ◌≤◌, Bool, true, false, List, [], ◌∷◌, ◌++◌, length, Option, Some, None, Ok, refl, sym, ap, subst, ◌∙◌, append-nil, arith, length-append, slice_get, unwrap_or, cond, inl, inr, ◌⊎◌}
+use Rattle.std.proofs.Common.{◌≡◌, ℕ, ◌+◌, Bool, true, [], ◌∷◌, ◌++◌, length, Some, None, refl, sym, ap, subst, ◌∙◌, append-nil, arith, length-append, slice_get, unwrap_or, inl, inr}
 use Rattle.std.specs.FinMap as map
 use Rattle.std.specs.declared.cmp.Ordering.TheVariants.{Less}
 use Rattle.std.proofs.lemmas.Option.{slice_get_past, slice_get-get_or}
@@ -95,12 +95,12 @@ pub reading_made : (region : Region) (pairs : Pairs) (cursor high : Bytes) (limi
     → IsReading (record { element = element; kind = kind; piece = piece; low = low; high = end; stretch = read })
 reading_made region pairs cursor high limit element kind piece low end read region_is end_is read_is comes = record {
   comes =
-    subst (λ r. ComesTo r read.low end read.high) region_is
-    (subst (λ e. ComesTo region read.low e read.high) end_is
-    (subst (λ x. ComesTo region x high read.high) (sym (ap (λ (s : Stretch). s.low) read_is)) comes));
+      subst (λ r. ComesTo r read.low end read.high) region_is
+      (subst (λ e. ComesTo region read.low e read.high) end_is
+      (subst (λ x. ComesTo region x high read.high) (sym (ap (λ (s : Stretch). s.low) read_is)) comes));
   inside =
-    subst (λ (s : Stretch). (key value : Bytes) → map.get s.pairs key ≡ Some value → is_within s.low s.high key ≡ true) (sym read_is)
-    (λ key value at.
-    let to = next_cursor region pairs cursor high limit in
-    (some_in (is_within cursor to key) (map.get pairs key) value (sym (get-part pairs cursor to key) ∙ at)).0);
+      subst (λ (s : Stretch). (key value : Bytes) → map.get s.pairs key ≡ Some value → is_within s.low s.high key ≡ true) (sym read_is)
+      (λ key value at.
+      let to = next_cursor region pairs cursor high limit in
+      (some_in (is_within cursor to key) (map.get pairs key) value (sym (get-part pairs cursor to key) ∙ at)).0);
 }

@@ -91,11 +91,7 @@ fn puts(
 }
 
 /// What a clear of the element removes where it comes to the pairs.
-fn removals(
-    alloc: Global,
-    element: &ElementDef,
-    pairs: &KeyMap<Bytes>,
-) -> Result<Batch, AllocError>
+fn removals(alloc: Global, element: &ElementDef, pairs: &KeyMap<Bytes>) -> Result<Batch, AllocError>
     ensures { IfOk result (λ batch. batch ≡ noted map.empty (piece_writes pairs.now element.now Clear)) }
 {
     let mut batch = Batch::new(alloc);

@@ -82,6 +82,12 @@ pub(crate) fn row(
 ) -> Result<Row, AllocError>
     ensures { IfOk result (λ row. row ≡ row_in pairs.now element.now key) }
 {
-    let cells = cells(alloc, pairs, element.table, key.as_slice(), columns(element))?;
+    let cells = cells(
+        alloc,
+        pairs,
+        element.table,
+        key.as_slice(),
+        columns(element),
+    )?;
     Ok(Row { key, cells })
 }

@@ -13,9 +13,11 @@ use std::test::*;
 
 /// Where the rows of table 1 begin, and where they end.
 const TABLE: [u8; 5] = [0x52, 0, 0, 0, 1];
+
 const NEXT_TABLE: [u8; 5] = [0x52, 0, 0, 0, 2];
 /// The same of the pairs of element 2.
 const INDEX: [u8; 5] = [0x58, 0, 0, 0, 2];
+
 const NEXT_INDEX: [u8; 5] = [0x58, 0, 0, 0, 3];
 
 fn row_pair(id: u8, element: u8) -> [u8; 18] {

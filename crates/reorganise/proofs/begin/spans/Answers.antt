@@ -1,4 +1,3 @@
-use Rattle.std.proofs.Common.{◌∙◌}
 use Rattle.reorganise.proofs.Items.{spans_more}
 use Rattle.reorganise.proofs.begin.spans.Goals as goal
 

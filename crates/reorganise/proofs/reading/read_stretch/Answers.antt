@@ -1,8 +1,8 @@
-use Rattle.std.proofs.Common.{refl, sym, ap, subst, ◌∙◌, ◌≡◌, ◌++◌, [], ◌∷◌, true, false, arith, Some}
+use Rattle.std.proofs.Common.{sym, ap, subst, ◌∙◌, ◌≡◌, ◌++◌, [], true, false, arith}
 use Rattle.std.specs.FinMap as map
-use Rattle.row_map.specs.Walk.{stretch, after}
-use Rattle.reorganise.proofs.Items.{Pair, Begins, first_shorter}
-use Rattle.reorganise.proofs.Stretching.{IsRead, none_read, read_to_end, comes_to_end, read_to_item, comes_to_item, read_more}
+use Rattle.row_map.specs.Walk.{stretch}
+use Rattle.reorganise.proofs.Items.{Pair, Begins}
+use Rattle.reorganise.proofs.Stretching.{none_read, read_to_end, comes_to_end, read_to_item, comes_to_item, read_more}
 use Rattle.reorganise.proofs.reading.read_stretch.Goals as goal
 use Rattle.reorganise.proofs.reading.read_stretch.Goals.{then-branch+else-left-eq0, else-branch}
 
