@@ -114,5 +114,38 @@ fn taken_out(rt: HostRuntime) -> Result<(), Fail> {
     assert!(rt; map.take(&[4]) == Some(40));
     assert!(rt; map.get(&[4]).is_none());
     assert_eq!(rt; map.len(), 2);
+
+/// The entries that these writes leave of none: 10, 20 and 30 are put, the second is replaced and the first taken away.
+fn written_in_turn(alloc: Global) -> Result<Vec<u32>, AllocError> {
+    let mut entries = Vec::new(alloc);
+    sorted::write(&mut entries, bytes(alloc, &[2])?, Some(20))?;
+    sorted::write(&mut entries, bytes(alloc, &[3])?, Some(30))?;
+    sorted::write(&mut entries, bytes(alloc, &[1])?, Some(10))?;
+    sorted::write(&mut entries, bytes(alloc, &[2])?, Some(22))?;
+    sorted::write(&mut entries, bytes(alloc, &[1])?, None)?;
+    sorted::write(&mut entries, bytes(alloc, &[4])?, None)?;
+    values(alloc, entries.as_slice())
+}
+
+#[test]
+fn sorted_entries_written(rt: HostRuntime) -> Result<(), Fail> {
+    let left = written_in_turn(rt.alloc())?;
+    assert_eq!(rt; left.as_slice(), [22, 30].as_slice());
+    Ok(())
+}
+
+/// The entries that writes into room for two leave of none.
+fn all_written(alloc: Global) -> Result<Vec<u32>, AllocError> {
+    let mut entries = Vec::with_capacity(alloc, 2)?;
+    let high = (bytes(alloc, &[3])?, Some(30));
+    let low = (bytes(alloc, &[1])?, Some(10));
+    sorted::write_all(&mut entries, vec![in alloc; high, low]?);
+    values(alloc, sorted::range(entries.as_slice(), &[1], &[4]))
+}
+
+#[test]
+fn all_sorted_entries_written(rt: HostRuntime) -> Result<(), Fail> {
+    let left = all_written(rt.alloc())?;
+    assert_eq!(rt; left.as_slice(), [10, 30].as_slice());
     Ok(())
 }
