@@ -112,8 +112,8 @@ impl Schema {
             .find(|e| is_named(*e, table, name.as_bytes()))
     }
 
-    /// The next free number of an element.
-    pub(crate) fn next_number(&self) -> u32
+    /// The next free number of an element: the one that the next element to enter gets.
+    pub fn next_number(&self) -> u32
         ensures { result ≡ self.now.next }
     {
         self.next
