@@ -18,7 +18,7 @@ pub use change::Change;
 pub use fault::PlanFault;
 pub use laws::schedules_are_least;
 pub use least_plan::{LeastPlan, PlanStep, Reorg};
-pub use planning::plan_from;
+pub use planning::plan;
 
 #[cfg(test)]
 mod tests;

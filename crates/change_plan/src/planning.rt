@@ -41,15 +41,8 @@ fn scheduled(
     steps_of(alloc, &trips)
 }
 
-/// The least plan of a batch for a schema whose next free number of an element is `next`: steps that may be taken one after another,
-/// each behind the reorganisations that must end before it, at whose end the batch's changes have been made. No plan that does so has
-/// fewer steps. A batch with no changes has a plan with no steps.
-///
-/// The changes are tried in order, each against the schema and the whole batch. The first faulty one decides by its lowest fault, in
-/// the order of `PlanFault`. Memory comes last: all is tried before the first growth. Nothing is changed by a refusal.
-///
-/// After the schema changes of "Online, Asynchronous Schema Change in F1" (Rae et al., 2013).
-pub fn plan_from(
+// The plan, where `next` is the schema's next free number of an element.
+fn plan_from(
     alloc: Global,
     schema: &Schema,
     next: u32,
@@ -67,4 +60,27 @@ pub fn plan_from(
     Ok(LeastPlan {
         steps: Listed::new(steps),
     })
+}
+
+/// The least plan of a batch: steps that may be taken one after another, each behind the reorganisations that must end before it, at
+/// whose end the batch's changes have been made. No plan that does so has fewer steps. A batch with no changes has a plan with no steps.
+///
+/// - `schema`: the version from which the plan starts.
+/// - `changes`: the batch, which is brought about as one.
+///
+/// The changes are tried in order, each against the schema and the whole batch. The first faulty one decides by its lowest fault, in
+/// the order of `PlanFault`. Memory comes last: all is tried before the first growth. Nothing is changed by a refusal.
+///
+/// After the schema changes of "Online, Asynchronous Schema Change in F1" (Rae et al., 2013).
+pub fn plan(
+    alloc: Global,
+    schema: &Schema,
+    changes: &[Change],
+) -> Result<LeastPlan, PlanFault>
+    ensures schedule { IfOk result (λ p. p.steps ≡ schedule schema.now changes.now) }
+    ensures least { IfOk result (λ p. IsLeast schema.now changes.now p.steps) }
+    ensures clear { OnOk result (IsPlannable schema.now changes.now) }
+    ensures refused { IfErr result (λ f. ((f ≡ Memory) × IsPlannable schema.now changes.now) ⊎ IsRefused schema.now changes.now f) }
+{
+    plan_from(alloc, schema, schema.next_number(), changes)
 }

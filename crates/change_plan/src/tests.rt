@@ -205,7 +205,7 @@ fn dropped(alloc: Global) -> Result<Vec<PlanStep>, AllocError> {
 
 fn index_of_an_empty_table(alloc: Global) -> Result<bool, PlanFault> {
     let changes = vec![in alloc; add_index(alloc, "i", "a")?]?;
-    let plan = plan_from(alloc, &schema_p(alloc)?, 2, &changes)?;
+    let plan = plan(alloc, &schema_p(alloc)?, &changes)?;
     Ok(plan == plan_of(added(alloc, "i", 2, 1)?))
 }
 
@@ -217,7 +217,7 @@ fn an_index_is_added(rt: HostRuntime) -> Result<(), Fail> {
 
 fn index_goes(alloc: Global) -> Result<bool, PlanFault> {
     let changes = vec![in alloc; drop_index(alloc, "i")?]?;
-    let plan = plan_from(alloc, &schema_q(alloc)?, 3, &changes)?;
+    let plan = plan(alloc, &schema_q(alloc)?, &changes)?;
     Ok(plan == plan_of(dropped(alloc)?))
 }
 
@@ -229,7 +229,7 @@ fn an_index_is_dropped(rt: HostRuntime) -> Result<(), Fail> {
 
 fn index_returns(alloc: Global) -> Result<bool, PlanFault> {
     let changes = vec![in alloc; add_index(alloc, "i", "a")?]?;
-    let plan = plan_from(alloc, &i_left(alloc)?, 3, &changes)?;
+    let plan = plan(alloc, &i_left(alloc)?, &changes)?;
     Ok(plan == plan_of(added(alloc, "i", 3, 1)?))
 }
 
@@ -241,7 +241,7 @@ fn a_name_comes_back_under_a_new_number(rt: HostRuntime) -> Result<(), Fail> {
 
 fn mixed_batch(alloc: Global) -> Result<bool, PlanFault> {
     let changes = vec![in alloc; drop_column(alloc, "a")?, drop_index(alloc, "i")?]?;
-    let plan = plan_from(alloc, &schema_q(alloc)?, 3, &changes)?;
+    let plan = plan(alloc, &schema_q(alloc)?, &changes)?;
     let mut steps = dropped(alloc)?;
     steps.push(go(alloc, None, 1, DeleteOnly)?)?;
     steps.push(go(alloc, Some(Reorg::Clear(1)), 1, Absent)?)?;
@@ -256,7 +256,7 @@ fn least_plan_of_a_mixed_batch(rt: HostRuntime) -> Result<(), Fail> {
 
 fn index_waits(alloc: Global) -> Result<bool, PlanFault> {
     let changes = vec![in alloc; add_index(alloc, "j", "b")?, add_column(alloc, "b")?]?;
-    let plan = plan_from(alloc, &schema_p(alloc)?, 2, &changes)?;
+    let plan = plan(alloc, &schema_p(alloc)?, &changes)?;
     let mut steps = vec![in alloc; enters(alloc, "b", Kind::Optional(ColumnType::Int))?]?;
     steps.push(go(alloc, None, 2, Public)?)?;
     for late in added(alloc, "j", 3, 2)? {
@@ -277,7 +277,7 @@ fn is_refused(planned: Result<LeastPlan, PlanFault>, fault: PlanFault) -> bool {
 
 fn p_refuses(alloc: Global, change: Change, fault: PlanFault) -> Result<bool, PlanFault> {
     let changes = vec![in alloc; change]?;
-    let planned = plan_from(alloc, &schema_p(alloc)?, 2, &changes);
+    let planned = plan(alloc, &schema_p(alloc)?, &changes);
     Ok(is_refused(planned, fault))
 }
 
@@ -304,7 +304,7 @@ fn no_name(rt: HostRuntime) -> Result<(), Fail> {
 
 fn refuses_indexed_column(alloc: Global) -> Result<bool, PlanFault> {
     let changes = vec![in alloc; drop_column(alloc, "a")?]?;
-    let planned = plan_from(alloc, &schema_q(alloc)?, 3, &changes);
+    let planned = plan(alloc, &schema_q(alloc)?, &changes);
     Ok(is_refused(planned, PlanFault::StillIndexed))
 }
 
@@ -316,7 +316,7 @@ fn indexed_column(rt: HostRuntime) -> Result<(), Fail> {
 
 fn refuses_leaving_index(alloc: Global) -> Result<bool, PlanFault> {
     let changes = vec![in alloc; drop_index(alloc, "i")?]?;
-    let planned = plan_from(alloc, &i_leaves(alloc)?, 3, &changes);
+    let planned = plan(alloc, &i_leaves(alloc)?, &changes);
     Ok(is_refused(planned, PlanFault::InChange))
 }
 
@@ -333,7 +333,7 @@ fn refuses_second_change(alloc: Global) -> Result<bool, PlanFault> {
         drop_index(alloc, "i")?,
         add_column(alloc, "a")?,
     ]?;
-    let planned = plan_from(alloc, &schema_q(alloc)?, 3, &changes);
+    let planned = plan(alloc, &schema_q(alloc)?, &changes);
     Ok(is_refused(planned, PlanFault::Unknown))
 }
 
@@ -344,7 +344,7 @@ fn two_changes_of_one_element(rt: HostRuntime) -> Result<(), Fail> {
 }
 
 fn nothing_to_do(alloc: Global) -> Result<bool, PlanFault> {
-    let plan = plan_from(alloc, &schema_p(alloc)?, 2, &[])?;
+    let plan = plan(alloc, &schema_p(alloc)?, &[])?;
     Ok(plan == plan_of(Vec::new(alloc)))
 }
 

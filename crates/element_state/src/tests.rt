@@ -4,6 +4,7 @@ ghost use Rattle.std.specs.Prelude.{◌≡◌, IfOk, [], ◌∷◌};
 ghost use Rattle.keycode.specs.declared.value.Value.TheVariants.{Int};
 
 use super::*;
+use crate::cells::{copied, is_same};
 use keycode::{Text, Value};
 use listed::Listed;
 use row_map::{Batch, ColumnType, Row};
@@ -248,5 +249,34 @@ fn cells_by_column(rt: HostRuntime) -> Result<(), Fail> {
     let row = row(rt.alloc(), 1, Some(5))?;
     assert!(rt; matches!(cell(&row, 1), Some(Value::Int(5))));
     assert!(rt; cell(&row, 2).is_none());
+    Ok(())
+}
+
+/// Whether the value of a row is copied, and Null where it has none.
+fn are_copied(alloc: Global) -> Result<bool, AllocError> {
+    let row = row(alloc, 1, Some(5))?;
+    Ok(copied(&row, 1)? == Value::Int(5) && copied(&row, 2)? == Value::Null)
+}
+
+#[test]
+fn values_copied(rt: HostRuntime) -> Result<(), Fail> {
+    assert!(rt; are_copied(rt.alloc())?);
+    Ok(())
+}
+
+fn are_same() -> bool {
+    is_same(None, None) && is_same(Some(&Value::Int(5)), Some(&Value::Int(5)))
+}
+
+fn is_any_same() -> bool {
+    is_same(Some(&Value::Int(5)), Some(&Value::Int(6)))
+        || is_same(Some(&Value::Int(5)), None)
+        || is_same(None, Some(&Value::Null))
+}
+
+#[test]
+fn same_values(rt: HostRuntime) -> Result<(), Fail> {
+    assert!(rt; are_same());
+    assert!(rt; !is_any_same());
     Ok(())
 }

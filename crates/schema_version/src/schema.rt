@@ -1,3 +1,4 @@
+ghost use Rattle.std.specs.Bool.{Decides};
 ghost use Rattle.std.specs.Prelude.{◌≡◌, ◌+◌, Option, slice_get, bytes_eq, position};
 ghost use Rattle.std.specs.List.{find};
 ghost use Rattle.std.specs.Option.{option_copied, option_map};
@@ -16,6 +17,7 @@ use crate::declaring::{enter_tables, hold_tables};
 use crate::element::{ElementDef, ElementState};
 use crate::lawful::are_lawful;
 use crate::moves::is_named;
+use crate::same::{same_elements, same_tables};
 use crate::step::{Move, Step, StepFault};
 use crate::table::{Columns, DeclareFault, TableDef};
 use indexmap::IndexMap;
@@ -64,6 +66,19 @@ impl Schema {
         self.elements.get(&number)
     }
 
+    /// Whether the other version is equal to this one: the same tables, live elements and next free number.
+    pub fn is_same(&self, other: &Schema) -> bool
+        ensures { Decides result (self.now ≡ other.now) }
+    {
+        if self.next != other.next {
+            return false;
+        }
+        if !same_elements(self.elements(), other.elements()) {
+            return false;
+        }
+        same_tables(&self.tables, &other.tables)
+    }
+
     /// The state of the element of this number. A number that no live element has, 0 among them, is Absent.
     pub fn state(&self, element: u32) -> ElementState
         ensures { result ≡ state_of self.now element }
@@ -97,8 +112,8 @@ impl Schema {
             .find(|e| is_named(*e, table, name.as_bytes()))
     }
 
-    /// The next free number of an element.
-    pub(crate) fn next_number(&self) -> u32
+    /// The next free number of an element: the one that the next element to enter gets.
+    pub fn next_number(&self) -> u32
         ensures { result ≡ self.now.next }
     {
         self.next

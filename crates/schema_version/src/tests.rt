@@ -487,3 +487,140 @@ fn bad_tables(rt: HostRuntime) -> Result<(), Fail> {
     assert!(rt; are_bad_indexes_refused(rt.alloc())?);
     Ok(())
 }
+
+// The table t (id int key, a int), whose column left public.
+fn without_public_column(alloc: Global) -> Result<Schema, StepFault> {
+    let t = schema_of(alloc, bare(alloc, "t", &["id"], &["a"])?)?;
+    after(alloc, &t, go(1, DeleteOnly))
+}
+
+fn is_column_leaving(alloc: Global) -> Result<bool, StepFault> {
+    let leaving = without_public_column(alloc)?;
+    Ok(
+        names(&leaving, 1, "a", 1)
+            && leaving.state(1) == DeleteOnly
+            && has_shape(alloc, &leaving, &[])?
+            && refuses_go(alloc, &leaving, 1, Public, StepFault::WrongWay),
+    )
+}
+
+fn is_column_gone(alloc: Global) -> Result<bool, StepFault> {
+    let gone = after(alloc, &without_public_column(alloc)?, go(1, Absent))?;
+    let again = after(alloc, &gone, column(alloc, "a")?)?;
+    Ok(gone.state(1) == Absent && gone.elements().is_empty() && names(&again, 1, "a", 2))
+}
+
+#[test]
+fn dropped_column_goes_for_good(rt: HostRuntime) -> Result<(), Fail> {
+    assert!(rt; is_column_leaving(rt.alloc())?);
+    assert!(rt; is_column_gone(rt.alloc())?);
+    Ok(())
+}
+
+// Tables under these letters, each of a key alone.
+fn lettered(alloc: Global, letters: RangeInclusive<u8>) -> Result<Vec<TableDef>, AllocError> {
+    let mut tables = Vec::new(alloc);
+    for byte in letters {
+        if let Some(name) = letter(alloc, byte)? {
+            let mut table = bare(alloc, "t", &["id"], &[])?;
+            table.name = name;
+            tables.push(table)?;
+        }
+    }
+    Ok(tables)
+}
+
+fn are_bad(alloc: Global, tables: &[TableDef]) -> bool {
+    Schema::declared(alloc, tables).err() == Some(DeclareFault::BadTable)
+}
+
+fn are_bad_table_counts_refused(alloc: Global) -> Result<bool, AllocError> {
+    Ok(are_bad(alloc, &[]) && are_bad(alloc, &lettered(alloc, b'A'..=b'Q')?))
+}
+
+fn are_sixteen_tables_taken(alloc: Global) -> Result<bool, DeclareFault> {
+    let most = Schema::declared(alloc, &lettered(alloc, b'A'..=b'P')?)?;
+    Ok(
+        most.table("P") == Some(16)
+            && most.table_name(16) == Some("P")
+            && most.elements().is_empty(),
+    )
+}
+
+#[test]
+fn counts_of_tables(rt: HostRuntime) -> Result<(), Fail> {
+    assert!(rt; are_bad_table_counts_refused(rt.alloc())?);
+    assert!(rt; are_sixteen_tables_taken(rt.alloc())?);
+    Ok(())
+}
+
+fn is_second_t_bad(alloc: Global) -> Result<bool, AllocError> {
+    let mut tables = alone(alloc, bare(alloc, "t", &["id"], &["a"])?)?;
+    tables.push(bare(alloc, "t", &["key"], &["b"])?)?;
+    Ok(are_bad(alloc, &tables))
+}
+
+#[test]
+fn two_tables_of_one_name(rt: HostRuntime) -> Result<(), Fail> {
+    assert!(rt; is_second_t_bad(rt.alloc())?);
+    Ok(())
+}
+
+fn is_empty_step_lawful(alloc: Global) -> Result<bool, StepFault> {
+    let q = schema_q(alloc)?;
+    let same = q.apply(&Listed::new(Vec::new(alloc)))?;
+    let then = after(alloc, &same, column(alloc, "b")?)?;
+    Ok(
+        has_tables_of_q(&same)
+            && has_elements_of_q(&same)
+            && same.elements() == q.elements()
+            && names(&then, 1, "b", 3),
+    )
+}
+
+#[test]
+fn empty_step_gives_the_same(rt: HostRuntime) -> Result<(), Fail> {
+    assert!(rt; is_empty_step_lawful(rt.alloc())?);
+    Ok(())
+}
+
+fn has_number(element: &ElementDef, number: u32, name: &str) -> bool {
+    element.number == number && element.name.as_str() == name && element.state == Public
+}
+
+fn lists_elements_of_q(q: &Schema) -> bool {
+    match q.elements() {
+        [first, second] => has_number(first, 1, "a") && has_number(second, 2, "i"),
+        _ => false,
+    }
+}
+
+fn has_key_of_q(q: &Schema) -> bool {
+    match q.key_of(1) {
+        Some([column]) => column.0.as_str() == "id" && column.1 == ColumnType::Int,
+        _ => false,
+    }
+}
+
+fn lists_q(alloc: Global) -> Result<bool, StepFault> {
+    let q = schema_q(alloc)?;
+    Ok(
+        lists_elements_of_q(&q)
+            && has_key_of_q(&q)
+            && q.key_of(0).is_none()
+            && q.key_of(2).is_none(),
+    )
+}
+
+#[test]
+fn readers_of_lists(rt: HostRuntime) -> Result<(), Fail> {
+    assert!(rt; lists_q(rt.alloc())?);
+    Ok(())
+}
+
+#[test]
+fn laws() {
+    steps_keep_to_edges();
+    steps_stay_sound();
+    indexed_columns_stay();
+}

@@ -3,7 +3,6 @@ use Rattle.std.proofs.Common.{◌≡◌, ℕ, List, Option, Some, refl, sym, ap,
 use Rattle.std.specs.Prelude.{◌↔◌}
 use Rattle.std.specs.FinMap as map
 use Rattle.keycode.specs.Order.{bytes_cmp}
-use Rattle.lease.specs.declared.lease.Lease.{Lease}
 use Rattle.listed.specs.Refusal.{IsRefusal}
 use Rattle.row_map.specs.Rows.{Bytes}
 use Rattle.row_map.specs.Expect.{View}
@@ -16,26 +15,27 @@ use Rattle.row_write.specs.Prepare.{Condition, rank}
 use Rattle.row_write.specs.Reads.{IsRead}
 use Rattle.world.specs.Calls.{IsReadView}
 use Rattle.world.specs.Replay.{State}
-use Rattle.shell.specs.Transacting.{IsReadOf, IsPreparedFor}
+use Rattle.shell.specs.declared.session.Held.{Held}
+use Rattle.shell.specs.Preparing.{IsReadOf, IsPreparedFor}
 
-module _ (w : State) (s : Version) (ops given : List RowOp) (same : s ≡ w.opening.schema) (named : ops ≡ given) where
-  pub read_of : (keys : map.FinMap bytes_cmp (Unit {0})) (view : View) → ((key : Bytes) → (map.get keys key ≡ Some tt) ↔ IsRead s ops key) → IsReadView w keys view → IsReadOf w given view
+module _ (w : State) (held : Held) (s : Version) (ops given : List RowOp) (same : s ≡ held.schema) (named : ops ≡ given) where
+  pub read_of : (keys : map.FinMap bytes_cmp (Unit {0})) (view : View) → ((key : Bytes) → (map.get keys key ≡ Some tt) ↔ IsRead s ops key) → IsReadView w keys view → IsReadOf w held.schema given view
   read_of keys view keyed read =
-      let keyed_so : ((key : Bytes) → (map.get keys key ≡ Some tt) ↔ IsRead w.opening.schema given key) =
-      subst (λ (o : List RowOp). (key : Bytes) → (map.get keys key ≡ Some tt) ↔ IsRead w.opening.schema o key) named
+      let keyed_so : ((key : Bytes) → (map.get keys key ≡ Some tt) ↔ IsRead held.schema given key) =
+      subst (λ (o : List RowOp). (key : Bytes) → (map.get keys key ≡ Some tt) ↔ IsRead held.schema o key) named
       (subst (λ (v : Version). (key : Bytes) → (map.get keys key ≡ Some tt) ↔ IsRead v ops key) same keyed) in
       λ key value. (
         (λ e. ((keyed_so key).0 ((read key value).0 e).0, ((read key value).0 e).1)),
         (λ q. (read key value).1 ((keyed_so key).1 q.0, q.1)),
       )
 
-  pub refused_of : (view : View) (fault : PrepareFault) → IsRefusal rank (Condition s ops view) prepare.Memory fault → IsRefusal rank (Condition w.opening.schema given view) prepare.Memory fault
+  pub refused_of : (view : View) (fault : PrepareFault) → IsRefusal rank (Condition s ops view) prepare.Memory fault → IsRefusal rank (Condition held.schema given view) prepare.Memory fault
   refused_of view fault refusal =
-      subst (λ (o : List RowOp). IsRefusal rank (Condition w.opening.schema o view) prepare.Memory fault) named
+      subst (λ (o : List RowOp). IsRefusal rank (Condition held.schema o view) prepare.Memory fault) named
       (subst (λ (v : Version). IsRefusal rank (Condition v ops view) prepare.Memory fault) same refusal)
 
-  pub prepared_for : (lease : Lease) (view : View) (p : PreparedTxn) → IsReadOf w given view → (p.schema ≡ s) × (p.lease ≡ lease) × (p.ops ≡ ops) × (p.expect ≡ expects view) → IsPreparedFor w lease given p
-  prepared_for lease view p read holds = record {
+  pub prepared_for : (view : View) (p : PreparedTxn) → IsReadOf w held.schema given view → (p.schema ≡ s) × (p.lease ≡ held.lease) × (p.ops ≡ ops) × (p.expect ≡ expects view) → IsPreparedFor w held given p
+  prepared_for view p read holds = record {
     schema = holds.0 ∙ same;
     lease_is = holds.1;
     operations = holds.2 ∙ named;

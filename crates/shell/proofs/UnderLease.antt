@@ -2,8 +2,8 @@
 use Rattle.std.proofs.Common.{◌≡◌, ℕ, List, Option, Some, Bool, false, refl, sym, ap, subst, ◌∙◌}
 use Rattle.std.specs.FinMap as map
 use Rattle.grammar.specs.declared.operation.Operation.{Operation}
-use Rattle.lease.specs.declared.lease.Lease.{Lease}
 use Rattle.world.specs.Replay.{State}
+use Rattle.shell.specs.declared.session.Held.{Held}
 use Rattle.shell.specs.declared.session.Opened.{Opened}
 use Rattle.shell.specs.declared.session.Session.TheVariants.{Running}
 use Rattle.shell.specs.declared.transacting.Transacted.{Transacted}
@@ -12,10 +12,10 @@ use Rattle.shell.specs.Texts.{line}
 use Rattle.shell.specs.Running.{TxnUnder}
 use Rattle.shell.specs.Transacting.{Transacts, transacted_text}
 
-pub txn_under : (opened : Opened) (server : List ℕ) (lease : Lease) (moment : ℕ) (operations : List Operation) (how : Transacted) (world : State) (text : List ℕ) (bad : Bool)
-    → map.get opened.leases server ≡ Some lease → Transacts opened.world lease moment (resolved_all opened.world.opening.schema operations) how world
+pub txn_under : (opened : Opened) (server : List ℕ) (held : Held) (moment : ℕ) (operations : List Operation) (how : Transacted) (world : State) (text : List ℕ) (bad : Bool)
+    → map.get opened.leases server ≡ Some held → Transacts opened.world held moment (resolved_all held.schema operations) how world
     → text ≡ line (transacted_text how) → bad ≡ false
     → TxnUnder opened (map.get opened.leases server) moment operations text bad (Running (record opened { world = world }))
-txn_under opened server lease moment operations how world text bad found done told good =
-    subst (λ (o : Option Lease). TxnUnder opened o moment operations text bad (Running (record opened { world = world }))) (sym found)
+txn_under opened server held moment operations how world text bad found done told good =
+    subst (λ (o : Option Held). TxnUnder opened o moment operations text bad (Running (record opened { world = world }))) (sym found)
     (how, world, done, (told, good), refl)

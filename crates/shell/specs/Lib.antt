@@ -2,6 +2,7 @@ pub mod Texts
 pub mod Session
 pub mod Declaring
 pub mod Naming
+pub mod Preparing
 pub mod Transacting
 pub mod Running
 pub mod Replies

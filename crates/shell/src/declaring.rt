@@ -92,8 +92,12 @@ fn open(alloc: Global, declared: Declarations) -> Result<(Session, Answer), Allo
     match World::open(alloc, &config) {
         Ok(world) => {
             let answer = reply("ok version 1\n".to_string(alloc)?);
-            let leases = KeyMap::new(alloc);
-            Ok((Session::Running(Opened { world, leases }), answer))
+            let opened = Opened {
+                world,
+                leases: KeyMap::new(alloc),
+                works: KeyMap::new(alloc),
+            };
+            Ok((Session::Running(opened), answer))
         }
         Err(fault) => {
             let answer = reply(open_refusal(alloc, fault)?);

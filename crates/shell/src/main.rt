@@ -4,11 +4,13 @@
 mod declaring;
 mod naming;
 mod options;
+mod preparing;
 mod run;
 mod running;
 mod session;
 mod status;
 mod transacting;
+mod works;
 
 use std::io;
 use std::process::ExitCode;

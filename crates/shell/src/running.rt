@@ -7,9 +7,9 @@ ghost use Rattle.shell.specs.Running.{Answers, check_text};
 ghost use Rattle.shell.specs.declared.session.Session.TheVariants.{Running};
 ghost use Rattle.shell.specs.Texts.{line, refused, grant_name, leased, value_behind, pair_line};
 
-use crate::session::{Answer, Opened, Session, bad_line, reply};
+use crate::session::{Answer, Held, Opened, Session, bad_line, reply};
 use crate::transacting::{push_number, transact, transacted_line};
-
+use crate::works::{commit, prepare};
 use byte_map::Bytes;
 use grammar::{Command, Operation, push_hex};
 use keycode::Text;
@@ -63,7 +63,11 @@ fn lease(
     match opened.world.lease(alloc, moment) {
         Ok(grant) => {
             let answer = reply(leased(alloc, &grant.lease)?);
-            opened.leases.insert(name, grant.lease)?;
+            let held = Held {
+                lease: grant.lease,
+                schema: grant.schema,
+            };
+            opened.leases.insert(name, held)?;
             Ok((Session::Running(opened), answer))
         }
         Err(fault) => {
@@ -73,7 +77,8 @@ fn lease(
     }
 }
 
-fn no_server(alloc: Global, opened: Opened) -> Result<(Session, Answer), AllocError>
+/// The reply where the server has no lease.
+pub(crate) fn no_server(alloc: Global, opened: Opened) -> Result<(Session, Answer), AllocError>
     ensures session { IfOk result (λ x. x.0 ≡ Running opened) }
     ensures text { IfOk result (λ x. string_bytes x.1.text ≡ line (refused (codes "NoServer"))) }
     ensures good { IfOk result (λ x. x.1.is_bad ≡ false) }
@@ -91,11 +96,10 @@ fn txn(
 ) -> Result<(Session, Answer), AllocError>
     ensures { IfOk result (λ x. Answers opened (command.Txn server.now moment operations.now) (string_bytes x.1.text) x.1.is_bad x.0) }
 {
-    let lease = match opened.leases.get(server.as_bytes()) {
-        Some(lease) => *lease,
+    let how = match opened.leases.get(server.as_bytes()) {
+        Some(held) => transact(alloc, &mut opened.world, held, moment, operations),
         None => return no_server(alloc, opened),
     };
-    let how = transact(alloc, &mut opened.world, lease, moment, operations);
     let answer = reply(transacted_line(alloc, &how)?);
     Ok((Session::Running(opened), answer))
 }
@@ -147,6 +151,17 @@ fn pairs(alloc: Global, opened: Opened) -> Result<(Session, Answer), AllocError>
     Ok((Session::Running(opened), reply(text)))
 }
 
+fn log(alloc: Global, opened: Opened) -> Result<(Session, Answer), AllocError>
+    ensures { IfOk result (λ x. Answers opened command.Log (string_bytes x.1.text) x.1.is_bad x.0) }
+{
+    let number = opened.world.log().len() as u64;
+    let mut text = String::new(alloc);
+    text.push_str("ok log ")?;
+    push_number(&mut text, number)?;
+    text.push_str("\n")?;
+    Ok((Session::Running(opened), reply(text)))
+}
+
 fn checked(alloc: Global, report: CheckReport) -> Result<String, AllocError>
     ensures { IfOk result (λ text. string_bytes text ≡ line (check_text report)) }
 {
@@ -188,6 +203,13 @@ pub(crate) fn answer(
         } => txn(alloc, opened, &server, moment, operations.as_slice()),
         Command::Pairs => pairs(alloc, opened),
         Command::Check => check(alloc, opened),
+        Command::Log => log(alloc, opened),
+        Command::Prepare {
+            work,
+            server,
+            operations,
+        } => prepare(alloc, opened, &work, &server, operations.as_slice()),
+        Command::Commit { work, moment } => commit(alloc, opened, &work, moment),
         _ => Ok((Session::Running(opened), bad_line(alloc)?)),
     }
 }

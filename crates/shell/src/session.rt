@@ -9,8 +9,9 @@ use crate::running::answer;
 use byte_map::KeyMap;
 use grammar::{Command, LineFault, is_silent, read_command};
 use lease::Lease;
-use listed::Listed;
-use schema_version::TableDef;
+use listed::{Counted, Listed};
+use row_write::Prepared;
+use schema_version::{Schema, TableDef};
 use std::alloc::{AllocError, Global};
 use world::World;
 
@@ -29,13 +30,24 @@ pub struct Declarations {
     pub length: u64,
 }
 
-/// An opened world, with the leases that servers were granted.
+/// A lease that a server was granted, with the schema of its version.
+#[derive(Drop)]
+pub struct Held {
+    /// The lease.
+    pub lease: Lease,
+    /// The schema of the lease's version, by which the server's names are looked up.
+    pub schema: Counted<Schema>,
+}
+
+/// An opened world, with the leases that servers were granted and the transactions that were prepared.
 #[derive(Drop)]
 pub struct Opened {
     /// The world.
     pub world: World,
     /// The lease of each server, by its name.
-    pub leases: KeyMap<Lease>,
+    pub leases: KeyMap<Held>,
+    /// What was prepared and not yet committed, by its name.
+    pub works: KeyMap<Prepared>,
 }
 
 /// What stands between two lines of a script.

@@ -174,6 +174,95 @@ const REFUSED_OPENINGS_REPLIES: &str = "ok\n\
     ok\n\
     refused BadTable\n";
 
+// A transaction is prepared, and another one deletes its row before it is committed.
+const CONFLICT: &str = "table t (id int key, a int)\n\
+    open\n\
+    lease s at 0\n\
+    txn s at 0: insert t (1) set a = 5\n\
+    prepare p by s: insert t (1)\n\
+    txn s at 0: delete t (1)\n\
+    commit p at 0\n\
+    log\n";
+
+const CONFLICT_REPLIES: &str = "ok\n\
+    ok version 1\n\
+    ok lease 1 0 10\n\
+    ok done 2\n\
+    ok prepared\n\
+    ok done 3\n\
+    refused Conflict 520000000102800000000000000100000000\n\
+    ok log 3\n";
+
+// What was prepared is spent by a commit that answers `ok`, and else stays.
+const WORKS: &str = "table t (id int key, a int)\n\
+    open\n\
+    prepare p by s: insert t (1)\n\
+    lease s at 0\n\
+    commit p at 0\n\
+    prepare p by s: insert u (1)\n\
+    prepare p by s: insert t (1)\n\
+    commit p at 10\n\
+    commit p at 9\n\
+    commit p at 9\n\
+    prepare p by s: insert t (1)\n\
+    commit p at 9\n\
+    commit p at 9\n\
+    log\n";
+
+const WORKS_REPLIES: &str = "ok\n\
+    ok version 1\n\
+    refused NoServer\n\
+    ok lease 1 0 10\n\
+    refused NoWork\n\
+    refused NoTable\n\
+    ok prepared\n\
+    refused LeaseEnded 10 10\n\
+    ok done 2\n\
+    refused NoWork\n\
+    ok prepared\n\
+    ok refused 0 Duplicate\n\
+    refused NoWork\n\
+    ok log 2\n";
+
+// One table more than the sixteen that may be declared.
+const SEVENTEEN_TABLES: &str = "table a (id int key)\n\
+    table b (id int key)\n\
+    table c (id int key)\n\
+    table d (id int key)\n\
+    table e (id int key)\n\
+    table f (id int key)\n\
+    table g (id int key)\n\
+    table h (id int key)\n\
+    table i (id int key)\n\
+    table j (id int key)\n\
+    table k (id int key)\n\
+    table l (id int key)\n\
+    table m (id int key)\n\
+    table n (id int key)\n\
+    table o (id int key)\n\
+    table p (id int key)\n\
+    table q (id int key)\n\
+    open\n";
+
+const SEVENTEEN_TABLES_REPLIES: &str = "ok\n\
+    ok\n\
+    ok\n\
+    ok\n\
+    ok\n\
+    ok\n\
+    ok\n\
+    ok\n\
+    ok\n\
+    ok\n\
+    ok\n\
+    ok\n\
+    ok\n\
+    ok\n\
+    ok\n\
+    ok\n\
+    ok\n\
+    refused BadTable\n";
+
 #[test]
 fn first_run(rt: HostRuntime) {
     assert!(rt; answers(rt.alloc(), FIRST_RUN, FIRST_RUN_REPLIES, 0));
@@ -236,4 +325,19 @@ fn kinds_of_value(rt: HostRuntime) {
 #[test]
 fn refused_openings(rt: HostRuntime) {
     assert!(rt; answers(rt.alloc(), REFUSED_OPENINGS, REFUSED_OPENINGS_REPLIES, 0));
+}
+
+#[test]
+fn conflict(rt: HostRuntime) {
+    assert!(rt; answers(rt.alloc(), CONFLICT, CONFLICT_REPLIES, 0));
+}
+
+#[test]
+fn works(rt: HostRuntime) {
+    assert!(rt; answers(rt.alloc(), WORKS, WORKS_REPLIES, 0));
+}
+
+#[test]
+fn seventeen_tables(rt: HostRuntime) {
+    assert!(rt; answers(rt.alloc(), SEVENTEEN_TABLES, SEVENTEEN_TABLES_REPLIES, 0));
 }

@@ -2,13 +2,14 @@
 ghost use Rattle.std.specs.Prelude.{◌≡◌, ◌++◌, OnOk, IfOk, codes, string_bytes};
 ghost use Rattle.std.specs.Fmt.{decimal};
 ghost use Rattle.shell.specs.Naming.{resolved_all};
-ghost use Rattle.shell.specs.Texts.{line};
-ghost use Rattle.shell.specs.Transacting.{Transacts, prepare_name, commit_name, row_name, committed_text, transacted_text};
+ghost use Rattle.shell.specs.Texts.{line, refused};
+ghost use Rattle.shell.specs.Preparing.{prepare_name, prepared_text};
+ghost use Rattle.shell.specs.Transacting.{Transacts, commit_name, row_name, committed_text, transacted_text};
 
-use crate::naming::resolved_all;
+use crate::preparing::{Preparation, prepare_for};
+use crate::session::Held;
 use grammar::{Operation, push_hex};
-use lease::Lease;
-use row_write::{PrepareFault, RowFault, prepare, reads_of};
+use row_write::{PrepareFault, RowFault};
 use std::alloc::{AllocError, Global};
 use world::{CommitFault, Committed, World};
 
@@ -29,31 +30,19 @@ pub(crate) enum Transacted {
 pub(crate) fn transact(
     alloc: Global,
     world: &mut World,
-    lease: Lease,
+    held: &Held,
     moment: u64,
     operations: &[Operation],
 ) -> Transacted
-    ensures { Transacts world.old lease moment (resolved_all world.old.opening.schema operations.now) result world.new }
+    ensures { Transacts world.old held.now moment (resolved_all held.now.schema operations.now) result world.new }
 {
-    let Ok(schema) = world.newest().clone() else {
-        return Transacted::OutOfMemory;
-    };
-    let Ok(ops) = resolved_all(alloc, schema.get(), operations) else {
-        return Transacted::OutOfMemory;
-    };
-    let Ok(keys) = reads_of(alloc, schema.get(), ops.as_slice()) else {
-        return Transacted::OutOfMemory;
-    };
-    let Ok(view) = world.read(alloc, &keys) else {
-        return Transacted::OutOfMemory;
-    };
-    let prepared = match prepare(alloc, schema, lease, ops, view) {
-        Ok(prepared) => prepared,
-        Err((fault, _)) => return Transacted::Unprepared(fault),
-    };
-    match world.commit(alloc, moment, prepared) {
-        Ok(done) => Transacted::Ended(done),
-        Err((fault, _)) => Transacted::Rejected(fault),
+    match prepare_for(alloc, world, held, operations) {
+        Preparation::Ready(prepared) => match world.commit(alloc, moment, prepared) {
+            Ok(done) => Transacted::Ended(done),
+            Err((fault, _)) => Transacted::Rejected(fault),
+        },
+        Preparation::Unprepared(fault) => Transacted::Unprepared(fault),
+        Preparation::OutOfMemory => Transacted::OutOfMemory,
     }
 }
 
@@ -96,6 +85,7 @@ fn push_commit(out: &mut String, fault: &CommitFault) -> Result<(), AllocError>
         CommitFault::MomentTooLarge => out.push_str("MomentTooLarge"),
         CommitFault::BadLease => out.push_str("BadLease"),
         CommitFault::LeaseEnded { until, now } => push_ended(out, *until, *now),
+        CommitFault::WrongSchema => out.push_str("WrongSchema"),
         CommitFault::Conflict { key } => {
             out.push_str("Conflict ")?;
             push_hex(out, key.as_slice())
@@ -153,6 +143,50 @@ pub(crate) fn transacted_line(alloc: Global, how: &Transacted) -> Result<String,
 {
     let mut text = String::new(alloc);
     push_transacted(&mut text, how)?;
+    text.push_str("\n")?;
+    Ok(text)
+}
+
+fn push_preparation(out: &mut String, how: &Preparation) -> Result<(), AllocError>
+    ensures { OnOk result (string_bytes out.new ≡ string_bytes out.old ++ prepared_text how.now) }
+{
+    match how {
+        Preparation::Ready(_) => out.push_str("ok prepared"),
+        Preparation::Unprepared(fault) => {
+            out.push_str("refused ")?;
+            push_prepare(out, *fault)
+        }
+        Preparation::OutOfMemory => out.push_str("refused Memory"),
+    }
+}
+
+/// The reply to a preparation.
+pub(crate) fn prepared_line(alloc: Global, how: &Preparation) -> Result<String, AllocError>
+    ensures { IfOk result (λ text. string_bytes text ≡ line (prepared_text how.now)) }
+{
+    let mut text = String::new(alloc);
+    push_preparation(&mut text, how)?;
+    text.push_str("\n")?;
+    Ok(text)
+}
+
+/// The reply to a commit that the world accepted, or that its rows refused.
+pub(crate) fn committed_line(alloc: Global, done: &Committed) -> Result<String, AllocError>
+    ensures { IfOk result (λ text. string_bytes text ≡ line (committed_text done.now)) }
+{
+    let mut text = String::new(alloc);
+    push_committed(&mut text, done)?;
+    text.push_str("\n")?;
+    Ok(text)
+}
+
+/// The reply to a commit that the world refused.
+pub(crate) fn rejected_line(alloc: Global, fault: &CommitFault) -> Result<String, AllocError>
+    ensures { IfOk result (λ text. string_bytes text ≡ line (refused (commit_name fault.now))) }
+{
+    let mut text = String::new(alloc);
+    text.push_str("refused ")?;
+    push_commit(&mut text, fault)?;
     text.push_str("\n")?;
     Ok(text)
 }

@@ -35,7 +35,7 @@ use Rattle.world.specs.Inside.{state_of, IsHeld}
 use Rattle.world.specs.Kept.{IsKept}
 use Rattle.world.specs.Replay.{Facts, State, facts_of, effect, opened, version_at}
 use Rattle.world.specs.Told.{set_told, lease_told}
-use Rattle.world.proofs.Keeping.{facts_of-effect, one_version, one_line, opened_kept, lease_kept, txn_kept, due_outcome, due_pairs, refused_pairs, IsDue}
+use Rattle.world.proofs.Keeping.{facts_of-effect, one_version, version_of_lease, one_line, opened_kept, lease_kept, txn_kept, due_outcome, due_pairs, refused_pairs, IsDue}
 use Rattle.world.proofs.Soundness.{fits, small, lawful}
 
 -- ---- moments
@@ -93,19 +93,25 @@ lease_done f log now place lease schema entry kept h le granted same first secon
 
 -- ---- commit
 
-commit_clear : (s : State) (now : ℕ) (p : PreparedTxn) → Serves (facts_of s).line p.lease now → Holds p.expect s.pairs → IsClear (CommitCondition s now p)
-commit_clear s now p v h commit_fault.MomentTooLarge = λ lt. absurd (omega (arith, v.moment, lt))
-commit_clear s now p v h commit_fault.BadLease = λ no. no v.honest
-commit_clear s now p v h (commit_fault.LeaseEnded until counted_at) = λ c. c.2 v.in_force
-commit_clear s now p v h (commit_fault.Conflict key) = λ c. h key c.0
-commit_clear s now p v h commit_fault.Memory = λ x. x
+-- the schema is that of the lease's version
+under_lease : (s : State) (now : ℕ) (p : PreparedTxn) → Serves (facts_of s).line p.lease now → p.schema ≡ s.opening.schema → version_at (facts_of s).versions p.lease.version ≡ Some p.schema
+under_lease s now p v same = version_of_lease s now p.lease v.honest ∙ ap Some (sym same)
 
-commit_lower : (s : State) (now : ℕ) (p : PreparedTxn) → Serves (facts_of s).line p.lease now → (other : CommitFault) → commit_rank other < 5 → ¬ (CommitCondition s now p other)
-commit_lower s now p v commit_fault.MomentTooLarge lt = λ c. absurd (omega (arith, v.moment, c))
-commit_lower s now p v commit_fault.BadLease lt = λ no. no v.honest
-commit_lower s now p v (commit_fault.LeaseEnded until counted_at) lt = λ c. c.2 v.in_force
-commit_lower s now p v (commit_fault.Conflict key) lt = λ c. absurd (omega (arith, lt))
-commit_lower s now p v commit_fault.Memory lt = λ x. x
+commit_clear : (s : State) (now : ℕ) (p : PreparedTxn) → p.schema ≡ s.opening.schema → Serves (facts_of s).line p.lease now → Holds p.expect s.pairs → IsClear (CommitCondition s now p)
+commit_clear s now p same v h commit_fault.MomentTooLarge = λ lt. absurd (omega (arith, v.moment, lt))
+commit_clear s now p same v h commit_fault.BadLease = λ no. no v.honest
+commit_clear s now p same v h (commit_fault.LeaseEnded until counted_at) = λ c. c.2 v.in_force
+commit_clear s now p same v h commit_fault.WrongSchema = λ other. other (under_lease s now p v same)
+commit_clear s now p same v h (commit_fault.Conflict key) = λ c. h key c.0
+commit_clear s now p same v h commit_fault.Memory = λ x. x
+
+commit_lower : (s : State) (now : ℕ) (p : PreparedTxn) → p.schema ≡ s.opening.schema → Serves (facts_of s).line p.lease now → (other : CommitFault) → commit_rank other < 5 → ¬ (CommitCondition s now p other)
+commit_lower s now p same v commit_fault.MomentTooLarge lt = λ c. absurd (omega (arith, v.moment, c))
+commit_lower s now p same v commit_fault.BadLease lt = λ no. no v.honest
+commit_lower s now p same v (commit_fault.LeaseEnded until counted_at) lt = λ c. c.2 v.in_force
+commit_lower s now p same v commit_fault.WrongSchema lt = λ other. other (under_lease s now p v same)
+commit_lower s now p same v (commit_fault.Conflict key) lt = λ c. absurd (omega (arith, lt))
+commit_lower s now p same v commit_fault.Memory lt = λ x. x
 
 -- the fields after a test-and-set that changed nothing, also where room was made in the log
 abbrev pub with_store : Inside → Pairs → Vec Entry Global → Inside
@@ -128,17 +134,17 @@ set_same : (f : Inside) (p : PreparedTxn) (fault : SetFault) (store : Pairs) →
 set_same f p (told.Conflict key) store set = set.1
 set_same f p told.Memory store set = set
 
-pub commit_failed : (f : Inside) (now : ℕ) (p : PreparedTxn) (fault : SetFault) (store : Pairs) (log : Vec Entry Global) → Serves (facts_of (state_of f)).line p.lease now → Sets p.expect p.batch f.store (Err fault) store → log.items ≡ f.log.items
+pub commit_failed : (f : Inside) (now : ℕ) (p : PreparedTxn) (fault : SetFault) (store : Pairs) (log : Vec Entry Global) → p.schema ≡ f.schema → Serves (facts_of (state_of f)).line p.lease now → Sets p.expect p.batch f.store (Err fault) store → log.items ≡ f.log.items
     → CommitAt (state_of f) now p (Err (set_told fault)) (state_of (with_store f store log))
-commit_failed f now p (told.Conflict key) store log v set items = ((inr set.0, commit_lower (state_of f) now p v), same_state f store log set.1 items)
-commit_failed f now p told.Memory store log v set items = ((inl refl, commit_lower (state_of f) now p v), same_state f store log set items)
+commit_failed f now p (told.Conflict key) store log same v set items = ((inr set.0, commit_lower (state_of f) now p same v), same_state f store log set.1 items)
+commit_failed f now p told.Memory store log same v set items = ((inl refl, commit_lower (state_of f) now p same v), same_state f store log set items)
 
 pub failed_held : (f : Inside) (p : PreparedTxn) (fault : SetFault) (store : Pairs) (log : Vec Entry Global) → IsHeld f → Sets p.expect p.batch f.store (Err fault) store → log.items ≡ f.log.items → IsHeld (with_store f store log)
 failed_held f p fault store log h set items = same_held f store log h (set_same f p fault store set) items
 
 -- memory ran out before the store was asked
-pub commit_short : (s : State) (now : ℕ) (p : PreparedTxn) → Serves (facts_of s).line p.lease now → CommitAt s now p (Err commit_fault.Memory) s
-commit_short s now p v = ((inl refl, commit_lower s now p v), refl)
+pub commit_short : (s : State) (now : ℕ) (p : PreparedTxn) → p.schema ≡ s.opening.schema → Serves (facts_of s).line p.lease now → CommitAt s now p (Err commit_fault.Memory) s
+commit_short s now p same v = ((inl refl, commit_lower s now p same v), refl)
 
 due : (f : Inside) (now : ℕ) (p : PreparedTxn) → IsMade p → p.schema ≡ f.schema → Serves (facts_of (state_of f)).line p.lease now → Holds p.expect f.store → IsDue (state_of f) now p
 due f now p made schema v holds = record { made = made; schema = schema; honest = v.honest; holds = holds }
@@ -151,7 +157,7 @@ refused_same f now p op why store h made schema v holds laid_is is = laid_is ∙
 pub commit_refused : (f : Inside) (now : ℕ) (p : PreparedTxn) (op : ℕ) (why : RowFault) (store : Pairs) → IsHeld f → IsMade p → p.schema ≡ f.schema → Serves (facts_of (state_of f)).line p.lease now
     → Holds p.expect f.store → store ≡ laid p.batch f.store → p.told ≡ Refused op why → CommitAt (state_of f) now p (Ok (committed.Refused op why)) (state_of (with_store f store f.log))
 commit_refused f now p op why store h made schema v holds laid_is is = (
-  commit_clear (state_of f) now p v holds,
+  commit_clear (state_of f) now p schema v holds,
   sym (due_outcome (state_of f) now p (due f now p made schema v holds) h.kept) ∙ is,
   same_state f store f.log (refused_same f now p op why store h made schema v holds laid_is is) refl,
 )
@@ -182,7 +188,7 @@ pub commit_done : (f : Inside) (now place : ℕ) (p : PreparedTxn) (store : Pair
     → CommitAt (state_of f) now p (Ok (committed.Done (record { place = place; entry = entry }))) (state_of (after_commit f store log now))
 commit_done f now place p store log entry kept h made schema v holds laid_is done first second items at =
     let d = due f now p made schema v holds in (
-      commit_clear (state_of f) now p v holds,
+      commit_clear (state_of f) now p schema v holds,
       sym (due_outcome (state_of f) now p d h.kept) ∙ done,
       record { entry = first; place = at; state = txn_state f now p store log kept h d laid_is second items ∙ ap (effect (state_of f)) (sym first) },
     )
@@ -193,6 +199,7 @@ lease_lower : (s : State) (now : ℕ) (p : PreparedTxn) (rank : ℕ) → rank �
 lease_lower s now p rank le none commit_fault.MomentTooLarge lt = none lease_fault.MomentTooLarge lt
 lease_lower s now p rank le none commit_fault.BadLease lt = none lease_fault.BadLease lt
 lease_lower s now p rank le none (commit_fault.LeaseEnded until counted_at) lt = none (lease_fault.LeaseEnded until counted_at) lt
+lease_lower s now p rank le none commit_fault.WrongSchema lt = λ other. absurd (omega (arith, lt, le))
 lease_lower s now p rank le none (commit_fault.Conflict key) lt = λ c. absurd (omega (arith, lt, le))
 lease_lower s now p rank le none commit_fault.Memory lt = λ x. x
 
@@ -244,6 +251,24 @@ commit_unheld f s moment now p lease fault told_as h view counted_at same first 
     subst (λ (r : CommitFault). CommitAt s (counted s moment) p (Err r) s) (sym is)
     (subst (λ (n : ℕ). CommitAt s n p (Err (lease_told fault)) s) (counted_is f s h view moment now counted_at) (lease_refused s now p fault on_line))
 
+-- prepared under another schema than that of the lease's version
+pub commit_other : (f : Inside) (s : State) (moment now : ℕ) (p : PreparedTxn) (lease : Lease) → IsHeld f → state_of f ≡ s → now ≡ max moment f.moment → lease ≡ p.lease → Serves f.line lease now → (p.schema ≡ f.schema → ⊥)
+    → CommitAt s (counted s moment) p (Err commit_fault.WrongSchema) s
+commit_other f s moment now p lease h view counted_at same v differ =
+    let served : Serves (facts_of s).line p.lease now = subst (λ (l : Lease). Serves (facts_of s).line l now) same (subst (λ (l : Timeline). Serves l lease now) (line_is f s h view) v) in
+    let opening : f.schema ≡ s.opening.schema = ap (λ (x : State). x.opening.schema) view in
+    subst (λ (n : ℕ). CommitAt s n p (Err commit_fault.WrongSchema) s) (counted_is f s h view moment now counted_at) ((inr (λ is. differ (some_same (sym is ∙ version_of_lease s now p.lease served.honest) ∙ sym opening)), lower s now p served), refl)
+  where
+    some_same : {a b : Version} → Some a ≡ (let o : Option Version = Some b in o) → a ≡ b
+    some_same e = cc
+    lower : (s : State) (now : ℕ) (p : PreparedTxn) → Serves (facts_of s).line p.lease now → (other : CommitFault) → commit_rank other < 4 → ¬ (CommitCondition s now p other)
+    lower s now p v commit_fault.MomentTooLarge lt = λ c. absurd (omega (arith, v.moment, c))
+    lower s now p v commit_fault.BadLease lt = λ no_lease. no_lease v.honest
+    lower s now p v (commit_fault.LeaseEnded until counted_at) lt = λ c. c.2 v.in_force
+    lower s now p v commit_fault.WrongSchema lt = λ other. absurd (omega (arith, lt))
+    lower s now p v (commit_fault.Conflict key) lt = λ c. absurd (omega (arith, lt))
+    lower s now p v commit_fault.Memory lt = λ x. x
+
 -- what a commit may count on: its lease serves, and it is one of the version
 pub record IsServed (f : Inside) (now : ℕ) (p : PreparedTxn) : Type 0 where
   pub held : IsHeld f
@@ -263,11 +288,11 @@ pub step_failed : (f : Inside) (s : State) (now : ℕ) (p : PreparedTxn) (fault 
     → as_told ≡ set_told fault → CommitAt s now p (Err as_told) (state_of (with_store f store log))
 step_failed f s now p fault as_told store log view v set items is =
     subst (λ (r : CommitFault). CommitAt s now p (Err r) (state_of (with_store f store log))) (sym is)
-    (subst (λ (x : State). CommitAt x now p (Err (set_told fault)) (state_of (with_store f store log))) view (commit_failed f now p fault store log v.serves set items))
+    (subst (λ (x : State). CommitAt x now p (Err (set_told fault)) (state_of (with_store f store log))) view (commit_failed f now p fault store log v.schema v.serves set items))
 
-pub step_short : (s g : State) (now : ℕ) (p : PreparedTxn) (as_told : CommitFault) → Serves (facts_of s).line p.lease now → g ≡ s → as_told ≡ commit_fault.Memory → CommitAt s now p (Err as_told) g
-step_short s g now p as_told v same is =
-    subst (λ (r : CommitFault). CommitAt s now p (Err r) g) (sym is) (subst (λ (x : State). CommitAt s now p (Err commit_fault.Memory) x) (sym same) (commit_short s now p v))
+pub step_short : (s g : State) (now : ℕ) (p : PreparedTxn) (as_told : CommitFault) → p.schema ≡ s.opening.schema → Serves (facts_of s).line p.lease now → g ≡ s → as_told ≡ commit_fault.Memory → CommitAt s now p (Err as_told) g
+step_short s g now p as_told schema v same is =
+    subst (λ (r : CommitFault). CommitAt s now p (Err r) g) (sym is) (subst (λ (x : State). CommitAt s now p (Err commit_fault.Memory) x) (sym same) (commit_short s now p schema v))
 
 pub step_refused : (f : Inside) (s : State) (now : ℕ) (p : PreparedTxn) (op : ℕ) (why : RowFault) (store : Pairs) → state_of f ≡ s → IsServed f now p → Holds p.expect f.store × (store ≡ laid p.batch f.store) → p.told ≡ Refused op why
     → CommitAt s now p (Ok (committed.Refused op why)) (state_of (with_store f store f.log))

@@ -94,6 +94,7 @@ abbrev pub commit_rank : CommitFault → ℕ
 commit_rank commit_fault.MomentTooLarge = 1
 commit_rank commit_fault.BadLease = 2
 commit_rank (commit_fault.LeaseEnded until now) = 3
+commit_rank commit_fault.WrongSchema = 4
 commit_rank (commit_fault.Conflict key) = 5
 commit_rank commit_fault.Memory = 5
 
@@ -101,6 +102,7 @@ abbrev pub CommitCondition : State → ℕ → PreparedTxn → CommitFault → T
 CommitCondition old now prepared commit_fault.MomentTooLarge = max_moment < now
 CommitCondition old now prepared commit_fault.BadLease = ¬ (IsHonest (facts_of old).line now prepared.lease)
 CommitCondition old now prepared (commit_fault.LeaseEnded until counted) = (until ≡ prepared.lease.until) × (counted ≡ now) × (¬ (IsInForce prepared.lease now))
+CommitCondition old now prepared commit_fault.WrongSchema = version_at (facts_of old).versions prepared.lease.version ≢ Some prepared.schema
 CommitCondition old now prepared (commit_fault.Conflict key) = IsConflict prepared.expect old.pairs key
 CommitCondition old now prepared commit_fault.Memory = ⊥
 

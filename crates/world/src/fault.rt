@@ -52,6 +52,9 @@ pub enum CommitFault {
         /// The moment that counts.
         now: u64,
     },
+    /// The transaction was prepared under another schema than that of its lease's version.
+    #[error("prepared under another schema than that of the lease's version")]
+    WrongSchema,
     /// A pair is no longer what was read.
     #[error("a pair changed since it was read")]
     Conflict {

@@ -117,8 +117,7 @@ impl World {
 
     /// The schema of the newest version, which is version 1 so far.
     pub fn newest(&self) -> &Counted<Schema>
-        ensures newest { newest_of self.now ≡ Some result.now }
-        ensures first { result.now ≡ self.now.opening.schema }
+        ensures { newest_of self.now ≡ Some result.now }
     {
         &self.schema
     }
@@ -131,13 +130,13 @@ impl World {
         audit(alloc, self.schema.get(), &self.store)
     }
 
-    /// Commits a transaction that was prepared under version 1: it is logged and its batch is written, or the rows
-    /// refuse it.
+    /// Commits a prepared transaction: it is logged and its batch is written, or the rows refuse it.
     ///
     /// The moment that counts is the greater of `moment` and the moment of the last entry. Refused in this order, and
     /// then nothing changes and the prepared transaction comes back: `MomentTooLarge` where the moment that counts is
     /// above 2^62; `BadLease` where its lease was never granted; `LeaseEnded` where its lease is not in force any
-    /// more; `Conflict` with the least key whose pair is not what was read; `Memory`, which may come in place of
+    /// more; `WrongSchema` where the schema that it was prepared under does not equal that of its lease's version;
+    /// `Conflict` with the least key whose pair is not what was read; `Memory`, which may come in place of
     /// Conflict. A write carries its lease's end and isn't committed after it, as in the F1 paper.
     pub fn commit(
         &mut self,
@@ -145,13 +144,15 @@ impl World {
         moment: u64,
         prepared: Prepared,
     ) -> Result<Committed, (CommitFault, Prepared)>
-        requires { prepared.schema ≡ self.old.opening.schema }
         ensures step { CommitStep self.old moment prepared result self.new }
     {
         let now = moment.max(self.moment);
         match self.line.standing(prepared.lease(), now) {
             Ok(()) => (),
             Err(fault) => return Err((CommitFault::from(fault), prepared)),
+        }
+        if !prepared.schema().get().is_same(self.schema.get()) {
+            return Err((CommitFault::WrongSchema, prepared));
         }
         match self.commit_at(alloc, now, &prepared) {
             Ok(done) => Ok(done),

@@ -1,10 +1,26 @@
-use Rattle.std.proofs.Common.{Err, ap, subst, ◌∙◌, ◌+◌, length}
+use Rattle.std.proofs.Common.{refl, Err, ap, subst, ◌∙◌, ◌+◌, length}
 use Rattle.std.proofs.lemmas.Result.{err_from_is_err_and}
 use Rattle.txn_store.specs.Setting.{Sets}
 use Rattle.world.specs.declared.entry.What.{What}
 use Rattle.world.specs.declared.entry.Entry.{Entry}
-use Rattle.world.proofs.Calling.{served_by, step_failed, step_done, done_held}
+use Rattle.world.proofs.Calling.{served_by, same_state, step_short, step_failed, step_done, done_held}
 use Rattle.world.proofs.world.World.add_txn.Goals as goal
+
+pub returns-in_err-txn_of : goal.returns-in_err-txn_of
+returns-in_err-txn_of c =
+    let p = err_from_is_err_and c.from_residual.result c.from_residual.ensures.1 in
+    record { step = rw p.1 (step_short c.args.self.now c.args.self.now c.args.now c.args.prepared.now p.0 c.requires.schema c.requires.serves refl p.2) }
+
+pub returns-in_err-entry : goal.returns-in_err-entry
+returns-in_err-entry c =
+    let p = err_from_is_err_and c.from_residual-in_err-entry.result c.from_residual-in_err-entry.ensures.1 in
+    record { step = rw p.1 (step_short c.args.self.now c.args.self.now c.args.now c.args.prepared.now p.0 c.requires.schema c.requires.serves refl p.2) }
+
+pub returns-in_err-make_room : goal.returns-in_err-make_room
+returns-in_err-make_room c =
+    let p = err_from_is_err_and c.from_residual-in_err-make_room.result c.from_residual-in_err-make_room.ensures.1 in
+    let same = same_state c.self.inside c.self.inside.store c.make_room.new.log refl c.in_err-make_room.ensures.items ∙ c.self.view_is in
+    record { step = rw p.1 (step_short c.args.self.now _ c.args.now c.args.prepared.now p.0 c.requires.schema c.requires.serves same p.2) }
 
 pub returns-in_err-test_and_set : goal.returns-in_err-test_and_set
 returns-in_err-test_and_set c =

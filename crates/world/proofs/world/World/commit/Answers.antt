@@ -1,5 +1,5 @@
-use Rattle.std.proofs.Common.{refl}
-use Rattle.world.proofs.Calling.{begun, commit_unheld}
+use Rattle.std.proofs.Common.{◌≡◌, false, true, refl, sym, ◌∙◌, true≢false, rules}
+use Rattle.world.proofs.Calling.{begun, commit_unheld, commit_other}
 use Rattle.world.proofs.world.World.commit.Goals as goal
 
 pub standing-requires : goal.standing-requires
@@ -12,3 +12,14 @@ returns-in-Err c = record {
     refl,
   );
 }
+
+pub returns-then-not-is_same : goal.returns-then-not-is_same
+returns-then-not-is_same c =
+    let differ : c.is_same.result ≡ false = search rules in
+    record {
+      step = (
+        commit_other c.self.inside c.args.self.now c.args.moment c.max-now.result c.args.prepared c.lease.result.now c.self.invariant c.self.view_is c.max-now.ensures c.lease.ensures (c.in-Ok.ensures.serves.0 refl)
+            (λ same. true≢false (sym (c.is_same.ensures.1 (c.get.ensures ∙ c.schema.ensures ∙ same ∙ sym c.get-2.ensures)) ∙ differ)),
+        refl,
+      );
+    }

@@ -1,0 +1,11 @@
+pub mod Items
+pub mod Order
+pub mod Shares
+pub mod Stretching
+pub mod Bounding
+pub mod Naming
+pub mod Holding
+pub mod Rowwise
+pub mod Spelling
+pub mod Filling
+pub mod Clearing

@@ -1,0 +1,106 @@
+-- Reading the pairs of so many items.
+use Rattle.std.proofs.Common.{◌≡◌, ℕ, ◌+◌, Bool, true, [], ◌∷◌, ◌++◌, length, Some, None, refl, sym, ap, subst, ◌∙◌, append-nil, arith, length-append, slice_get, unwrap_or, inl, inr}
+use Rattle.std.specs.FinMap as map
+use Rattle.std.specs.declared.cmp.Ordering.TheVariants.{Less}
+use Rattle.std.proofs.lemmas.Option.{slice_get_past, slice_get-get_or}
+use Rattle.std.proofs.lemmas.List.Elements.{filter_map-append}
+use Rattle.std.proofs.Math.Seq.{get_or-append_seam}
+use Rattle.keycode.specs.Order.{bytes_cmp}
+use Rattle.row_map.specs.Rows.{Bytes, Pairs}
+use Rattle.row_map.specs.Walk.{stretch, after}
+use Rattle.row_map.specs.declared.expect.Stretch.{Stretch}
+use Rattle.reorganise.specs.declared.region.Region.{Region}
+use Rattle.row_map.specs.Ranges.{is_within}
+use Rattle.schema_version.specs.declared.element.ElementDef.{ElementDef}
+use Rattle.reorganise.specs.declared.work.Work.{Work}
+use Rattle.reorganise.specs.Regions.{region_of, is_item, item_key, item_keys, IsItemKey}
+use Rattle.reorganise.specs.Pieces.{part, next_cursor, stretch_read, ComesTo, IsReading}
+use Rattle.reorganise.proofs.Items.{Pair, Begins, one_item, item_keys-cons}
+use Rattle.reorganise.proofs.Order.{le, le_trans, le_itself, less_le, le_after, after_le, join, stretch_itself, first_before, first_more, first_reached, first_below, part_more, same_part, entries-part, get-part, some_in}
+
+-- what has been read before `at`, when `left` more items may come
+pub record IsRead (region : Region) (pairs : Pairs) (cursor high : Bytes) (limit : ℕ) (at : Bytes) (left : ℕ) (so_far : Pairs) : Type 0 where
+  pub begun : le cursor at ≡ true
+  pub bounded : le at high ≡ true
+  pub all : so_far ≡ part pairs cursor at
+  pub counted : length (item_keys region (stretch pairs cursor at)) + left ≡ limit
+
+no_part : (pairs : Pairs) (a : Bytes) → map.empty ≡ part pairs a a
+no_part pairs a = sym (map.empty_of_len (part pairs a a) (map.len-entries (part pairs a a) ∙ ap length (entries-part pairs a a ∙ stretch_itself pairs a)))
+
+-- nothing is read at first
+pub none_read : (region : Region) (pairs : Pairs) (cursor high : Bytes) (limit : ℕ) (at : Bytes) (so_far : Pairs) → bytes_cmp cursor high ≡ Less → at ≡ cursor → so_far ≡ map.empty → IsRead region pairs cursor high limit at limit so_far
+none_read region pairs cursor high limit at so_far below is none =
+    let empty = stretch_itself pairs cursor in
+    subst (λ x. IsRead region pairs cursor high limit x limit so_far) (sym is) (record {
+      begun = le_itself cursor;
+      bounded = less_le cursor high below;
+      all = none ∙ no_part pairs cursor;
+      counted = omega (arith, ap (λ l. length (item_keys region l)) empty);
+    })
+
+module _ (region : Region) (pairs : Pairs) (cursor high : Bytes) (limit : ℕ) (at : Bytes) (left : ℕ) (some : Pairs) (so_far : IsRead region pairs cursor high limit at left some) where
+  -- no pair is left below the upper bound
+  pub read_to_end : stretch pairs at high ≡ [] → (low end : Bytes) → low ≡ cursor → end ≡ high → record { low = low; high = end; pairs = some } ≡ stretch_read region pairs cursor high limit
+  read_to_end none low end low_is end_is =
+      let whole : stretch pairs cursor high ≡ stretch pairs cursor at = join pairs cursor at high so_far.begun so_far.bounded ∙ ap (λ l. stretch pairs cursor at ++ l) none ∙ append-nil (stretch pairs cursor at) in
+      let past : slice_get (item_keys region (stretch pairs cursor at)) limit ≡ None = slice_get_past (item_keys region (stretch pairs cursor at)) limit (omega (arith, so_far.counted)) in
+      let to : next_cursor region pairs cursor high limit ≡ high = ap (λ l. unwrap_or (slice_get (item_keys region l) limit) high) whole ∙ ap (λ o. unwrap_or o high) past in
+      λ i. record { low = low_is i; high = (end_is ∙ sym to) i; pairs = (so_far.all ∙ same_part pairs cursor at cursor high (sym whole) ∙ ap (part pairs cursor) (sym to)) i }
+
+  pub comes_to_end : (end : Bytes) → end ≡ high → ComesTo region cursor high end
+  comes_to_end end is = subst (ComesTo region cursor high) (sym is) (record { onward = le_trans cursor at high so_far.begun so_far.bounded; bounded = le_itself high; ends = inl refl })
+
+  -- the item behind so many
+  pub read_to_item : (p : Pair) → Begins pairs at high p → left ≡ 0 → is_item region p.0 ≡ true → (low end : Bytes) → low ≡ cursor → end ≡ p.0 → record { low = low; high = end; pairs = some } ≡ stretch_read region pairs cursor high limit
+  read_to_item p f none item low end low_is end_is =
+      let before = item_keys region (stretch pairs cursor at) in
+      let behind = item_keys region (stretch pairs (after p.0) high) in
+      let parts : item_keys region (stretch pairs cursor high) ≡ before ++ p.0 ∷ behind =
+      ap (item_keys region) (join pairs cursor at high so_far.begun so_far.bounded)
+      ∙ filter_map-append (item_key region) (stretch pairs cursor at) (stretch pairs at high)
+      ∙ ap (λ l. before ++ item_keys region l) f
+      ∙ ap (λ l. before ++ l) (item_keys-cons region p (stretch pairs (after p.0) high) true item) in
+      let here : slice_get (before ++ p.0 ∷ behind) limit ≡ Some p.0 =
+      ap (slice_get (before ++ p.0 ∷ behind)) (omega (arith, so_far.counted, none))
+      ∙ slice_get-get_or (before ++ p.0 ∷ behind) (length before) [] (omega (arith, length-append before (p.0 ∷ behind)))
+      ∙ ap (λ x. Some x) (get_or-append_seam before p.0 behind []) in
+      let to : next_cursor region pairs cursor high limit ≡ p.0 = ap (λ l. unwrap_or (slice_get l limit) high) parts ∙ ap (λ o. unwrap_or o high) here in
+      λ i. record { low = low_is i; high = (end_is ∙ sym to) i; pairs = (so_far.all ∙ same_part pairs cursor at cursor p.0 (sym (first_before pairs at high p f cursor so_far.begun)) ∙ ap (part pairs cursor) (sym to)) i }
+
+  pub comes_to_item : (p : Pair) → Begins pairs at high p → IsItemKey region p.0 → (end : Bytes) → end ≡ p.0 → ComesTo region cursor high end
+  comes_to_item p f item end is =
+      subst (ComesTo region cursor high) (sym is) (record {
+        onward = le_trans cursor at p.0 so_far.begun (first_reached pairs at high p f);
+        bounded = less_le p.0 high (first_below pairs at high p f);
+        ends = inr item;
+      })
+
+  -- one pair more
+  pub read_more : (p : Pair) → Begins pairs at high p → (b : Bool) → is_item region p.0 ≡ b → (more : Pairs) → more ≡ map.insert some p.0 p.1 → (next : Bytes) → next ≡ after p.0
+      → (rest : ℕ) → length (one_item b p) + rest ≡ left → IsRead region pairs cursor high limit next rest more
+  read_more p f b item more more_is next next_is rest rest_is =
+      let keys : item_keys region (stretch pairs cursor (after p.0)) ≡ item_keys region (stretch pairs cursor at) ++ (one_item b p ++ []) =
+      ap (item_keys region) (first_more pairs at high p f cursor so_far.begun) ∙ filter_map-append (item_key region) (stretch pairs cursor at) (p ∷ []) ∙ ap (λ l. item_keys region (stretch pairs cursor at) ++ l) (item_keys-cons region p [] b item) in
+      subst (λ x. IsRead region pairs cursor high limit x rest more) (sym next_is) (record {
+        begun = le_trans cursor p.0 (after p.0) (le_trans cursor at p.0 so_far.begun (first_reached pairs at high p f)) (le_after p.0);
+        bounded = after_le p.0 high (first_below pairs at high p f);
+        all = more_is ∙ ap (λ (m : Pairs). map.insert m p.0 p.1) so_far.all ∙ part_more pairs cursor at high p f so_far.begun;
+        counted = omega (arith, so_far.counted, rest_is, ap length keys, length-append (item_keys region (stretch pairs cursor at)) (one_item b p ++ []), length-append (one_item b p) []);
+      })
+
+-- what was read is a reading
+pub reading_made : (region : Region) (pairs : Pairs) (cursor high : Bytes) (limit : ℕ) (element : ElementDef) (kind : Work) (piece : ℕ) (low end : Bytes) (read : Stretch)
+    → region ≡ region_of element kind → high ≡ end → read ≡ stretch_read region pairs cursor high limit → ComesTo region cursor high read.high
+    → IsReading (record { element = element; kind = kind; piece = piece; low = low; high = end; stretch = read })
+reading_made region pairs cursor high limit element kind piece low end read region_is end_is read_is comes = record {
+  comes =
+      subst (λ r. ComesTo r read.low end read.high) region_is
+      (subst (λ e. ComesTo region read.low e read.high) end_is
+      (subst (λ x. ComesTo region x high read.high) (sym (ap (λ (s : Stretch). s.low) read_is)) comes));
+  inside =
+      subst (λ (s : Stretch). (key value : Bytes) → map.get s.pairs key ≡ Some value → is_within s.low s.high key ≡ true) (sym read_is)
+      (λ key value at.
+      let to = next_cursor region pairs cursor high limit in
+      (some_in (is_within cursor to key) (map.get pairs key) value (sym (get-part pairs cursor to key) ∙ at)).0);
+}

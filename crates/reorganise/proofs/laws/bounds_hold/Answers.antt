@@ -1,0 +1,8 @@
+use Rattle.reorganise.proofs.Bounding.{begins_at_bounds, comes_to_bound}
+use Rattle.reorganise.proofs.laws.bounds_hold.Goals as goal
+
+pub returns-clause-begin : goal.returns-clause-begin
+returns-clause-begin c = begins_at_bounds
+
+pub returns-clause-comes : goal.returns-clause-comes
+returns-clause-comes c = comes_to_bound

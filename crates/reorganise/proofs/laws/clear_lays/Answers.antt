@@ -1,0 +1,5 @@
+use Rattle.reorganise.proofs.Clearing.{clear_lays as law}
+use Rattle.reorganise.proofs.laws.clear_lays.Goals as goal
+
+pub returns : goal.returns
+returns c = law

@@ -1,0 +1,8 @@
+use Rattle.reorganise.proofs.Bounding.{fill_range, clear_range}
+use Rattle.reorganise.proofs.laws.ranges_are.Goals as goal
+
+pub returns-clause-fill : goal.returns-clause-fill
+returns-clause-fill c = fill_range
+
+pub returns-clause-clear : goal.returns-clause-clear
+returns-clause-clear c = clear_range

@@ -1,0 +1,106 @@
+-- What a piece writes.
+use Rattle.std.specs.Prelude.{◌≡◌, ℕ, List, [], ◌∷◌, Option, Some, None, option_map, Result, Ok, Err, if◌then◌else◌, filter_map}
+use Rattle.std.specs.List.{flat_map}
+use Rattle.std.specs.FinMap as map
+use Rattle.keycode.specs.declared.fault.KeyFault.{KeyFault}
+use Rattle.keycode.specs.declared.value.Value.{Value}
+use Rattle.keycode.specs.Reading.{value_at}
+use Rattle.row_map.specs.declared.key.KeyOf.TheVariants.{Column}
+use Rattle.row_map.specs.Keys.{key_code}
+use Rattle.row_map.specs.Rows.{Bytes, Pairs}
+use Rattle.row_map.specs.Shape.{is_null}
+use Rattle.row_map.specs.Writes.{Writes, Batch, noted}
+use Rattle.row_map.specs.declared.shape.Row.{Row}
+use Rattle.row_map.specs.declared.expect.Stretch.{Stretch}
+use Rattle.row_map.specs.declared.expect.Expect.{Expect}
+use Rattle.schema_version.specs.declared.element.Kind.{Kind}
+use Rattle.schema_version.specs.declared.element.Kind.TheVariants.{Index, Optional}
+use Rattle.schema_version.specs.declared.element.ElementDef.{ElementDef}
+use Rattle.element_state.specs.Items.{put_pair}
+use Rattle.element_state.specs.Operations.{cells_of, fill_pair}
+use Rattle.element_state.specs.Kinds.{kind_meaning}
+use Rattle.reorganise.specs.declared.work.Work.{Work}
+use Rattle.reorganise.specs.declared.work.Work.TheVariants.{Fill, Clear}
+use Rattle.reorganise.specs.declared.region.Region.TheVariants.{Entries}
+use Rattle.reorganise.specs.declared.reading.Reading.{Reading}
+use Rattle.reorganise.specs.Regions.{row_at, is_item}
+use Rattle.reorganise.specs.Pieces.{IsReading}
+
+-- ---- the row of an item
+
+-- the bytes are the code of just one value, which isn't Null
+abbrev pub only_value : Result (Value × Bytes) KeyFault → Option Value
+only_value (Ok (v, [])) = if is_null v then None else Some v
+only_value (Ok (v, (b ∷ bs))) = None
+only_value (Err fault) = None
+
+-- the value that a column's pair spells, if there is one
+abbrev pub spelled : Option Bytes → Option Value
+spelled None = None
+spelled (Some bytes) = only_value (value_at bytes)
+
+-- the value of a row in a column, as the pairs have it
+abbrev pub cell_in : Pairs → ℕ → List Value → ℕ → Option Value
+cell_in pairs table key column = spelled (map.get pairs (key_code (Column table key column)))
+
+-- the cells of a row in these columns
+abbrev pub cells_in : Pairs → ℕ → List Value → List ℕ → List (ℕ × Value)
+cells_in pairs table key columns = filter_map (λ c. option_map (λ v. (c, v)) (cell_in pairs table key c)) columns
+
+-- the columns that an element's pairs are made from
+abbrev pub columns_of : Kind → List ℕ
+columns_of (Index columns) = columns
+columns_of (Optional type) = []
+
+-- the row of a primary key, as far as the element asks for it
+abbrev pub row_in : Pairs → ElementDef → List Value → Row
+row_in pairs element key = record { key = key; cells = cells_in pairs element.table key (columns_of element.kind) }
+
+-- ---- the writes
+
+-- a fill puts the pair of the row
+abbrev pub row_put : Pairs → ElementDef → Option (List Value) → Writes
+row_put pairs element None = []
+row_put pairs element (Some key) = put_pair (fill_pair (kind_meaning element.number element.kind) (element.table, key) (cells_of (row_in pairs element key)))
+
+-- a clear of a column takes the column's pair of the row away
+abbrev pub cell_removed : ElementDef → Option (List Value) → Writes
+cell_removed element None = []
+cell_removed element (Some key) = (key_code (Column element.table key element.number), None) ∷ []
+
+-- a clear of an index takes its own pair away
+abbrev pub removed_of : Kind → ElementDef → Bytes → Writes
+removed_of (Index columns) element name = if is_item (Entries element.number) name then (name, None) ∷ [] else []
+removed_of (Optional type) element name = cell_removed element (row_at element.table name)
+
+-- what is written for the pair of a key: nothing, where it is no item
+abbrev pub pair_writes : Pairs → ElementDef → Work → Bytes → Writes
+pair_writes pairs element Fill name = row_put pairs element (row_at element.table name)
+pair_writes pairs element Clear name = removed_of element.kind element name
+
+-- what a piece writes for the pairs that it read
+abbrev pub piece_writes : Pairs → ElementDef → Work → Writes
+piece_writes pairs element work = flat_map (λ (e : Bytes × Bytes). pair_writes pairs element work e.0) (map.entries pairs)
+
+-- ---- a prepared piece
+
+-- all that was read is expected again
+abbrev pub expect_of : Stretch → Expect
+expect_of stretch = record { points = map.empty; stretch = Some stretch }
+
+abbrev pub batch_from : ElementDef → Work → Stretch → Batch
+batch_from element work stretch = noted map.empty (piece_writes stretch.pairs element work)
+
+-- the batch of what was read
+abbrev pub batch_for : Reading → Batch
+batch_for read = batch_from read.element read.kind read.stretch
+
+abbrev pub stretch_of : Option Stretch → Stretch
+stretch_of None = record { low = []; high = []; pairs = map.empty }
+stretch_of (Some stretch) = stretch
+
+-- a prepared piece expects the stretch that was read, and has its batch
+pub record IsPrepared (element : ElementDef) (work : Work) (piece : ℕ) (low high : Bytes) (expect : Expect) (batch : Batch) : Type 0 where
+  pub read : IsReading (record { element = element; kind = work; piece = piece; low = low; high = high; stretch = stretch_of expect.stretch })
+  pub expected : expect ≡ expect_of (stretch_of expect.stretch)
+  pub written : batch ≡ batch_from element work (stretch_of expect.stretch)

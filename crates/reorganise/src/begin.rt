@@ -1,0 +1,138 @@
+ghost use Rattle.std.specs.Prelude.{◌≡◌, ◌≤◌, IfOk};
+ghost use Rattle.reorganise.specs.Regions.{items, region_of as region_for, front as front_of, back as back_of};
+ghost use Rattle.reorganise.specs.Pieces.{bound as bound_of, spans as spans_of, begun, are_ended};
+ghost use Rattle.reorganise.specs.Partition.{AreJoined, IsPartition};
+
+use crate::region::{Region, back, front, is_item, region_of};
+use crate::work::{Progress, Span, Work};
+use byte_map::Bytes;
+use listed::Listed;
+use row_map::{PairView, key_after, next_within};
+use schema_version::ElementDef;
+use std::alloc::{AllocError, Global};
+
+/// The bytes, as an owner has them.
+pub(crate) fn copied(alloc: Global, bytes: &[u8]) -> Result<Bytes, AllocError>
+    ensures { IfOk result (λ copy. copy ≡ bytes.now) }
+{
+    let mut out = Vec::new(alloc);
+    out.extend_from_slice(bytes)?;
+    Bytes::new(out)
+}
+
+/// A further owner of the bytes.
+pub(crate) fn shared(bytes: &Bytes) -> Result<Bytes, AllocError>
+    ensures { IfOk result (λ owner. owner ≡ bytes.now) }
+{
+    bytes.clone()
+}
+
+/// The keys of all items, in order.
+fn item_keys<V: PairView>(alloc: Global, region: Region, view: &V) -> Result<Vec<Bytes>, AllocError>
+    ensures { IfOk result (λ keys. keys.items ≡ items region (V.pairs view.now)) }
+{
+    let high = back(alloc, region)?;
+    let mut keys = Vec::new(alloc);
+    let mut at = Vec::new(alloc);
+    at.extend_from_slice(front(alloc, region)?.as_slice())?;
+    while let Some((key, _)) = next_within(view, at.as_slice(), high.as_slice()) {
+        if is_item(alloc, region, key)? {
+            keys.push(copied(alloc, key)?)?;
+        }
+        at = key_after(alloc, key)?;
+    }
+    Ok(keys)
+}
+
+/// Where piece `k` begins, and the one before it ends.
+fn bound(
+    alloc: Global,
+    region: Region,
+    keys: &[Bytes],
+    pieces: u32,
+    k: u32,
+) -> Result<Bytes, AllocError>
+    requires some { 1 ≤ pieces }
+    requires within { k ≤ pieces }
+    ensures { IfOk result (λ bytes. bytes ≡ bound_of region keys.now pieces k) }
+{
+    if k == 0 {
+        return front(alloc, region);
+    }
+    let place = u128::from(k) * (keys.len() as u128) / u128::from(pieces);
+    match keys.get(place as usize) {
+        Some(key) => shared(key),
+        None => back(alloc, region),
+    }
+}
+
+/// All pieces, each with its cursor at its lower bound.
+fn spans(
+    alloc: Global,
+    region: Region,
+    keys: &[Bytes],
+    pieces: u32,
+) -> Result<Listed<Span>, AllocError>
+    requires some { 1 ≤ pieces }
+    requires bounded { pieces ≤ 64 }
+    ensures { IfOk result (λ list. list ≡ spans_of region keys.now pieces pieces) }
+{
+    let mut list = Vec::new(alloc);
+    for k in 0..pieces {
+        let low = bound(alloc, region, keys, pieces, k)?;
+        let high = bound(alloc, region, keys, pieces, k + 1)?;
+        let cursor = shared(&low)?;
+        list.push(Span { low, high, cursor })?;
+    }
+    Ok(Listed::new(list))
+}
+
+impl Progress {
+    /// Begins a fill or a clear: fixes the pieces by the items that are present. A fill, and a clear of a column, go by
+    /// the rows of the element's table; a clear of an index goes by the index's pairs. With `n` items, piece `k` begins
+    /// at the key of item `k * n / pieces`, rounded down, and the first at the front of the range; each ends where the
+    /// next one begins, the last at the end of the range. So the pieces have as many items each, but for one.
+    ///
+    /// - `element`: what is filled or cleared. Its state is not looked at.
+    /// - `kind`: whether it is filled or cleared.
+    /// - `view`: the pairs that are present. A key that `read_key` refuses is no item.
+    /// - `pieces`: how many pieces, 1 to 64.
+    ///
+    /// Refused for want of memory alone.
+    pub fn begin<V: PairView>(
+        alloc: Global,
+        element: ElementDef,
+        kind: Work,
+        view: &V,
+        pieces: u32,
+    ) -> Result<Progress, AllocError>
+        requires some { 1 ≤ pieces }
+        requires bounded { pieces ≤ 64 }
+        ensures begun { IfOk result (λ progress. progress ≡ begun element kind (V.pairs view.now) pieces) }
+        // Each piece ends where the next one begins, from the front of the range to its end.
+        ensures joined { IfOk result (λ progress. AreJoined (front_of (region_for element kind)) (back_of (region_for element kind)) progress.pieces) }
+        // Each key of the range lies in just one piece.
+        ensures partition { IfOk result (λ progress. IsPartition (front_of (region_for element kind)) (back_of (region_for element kind)) progress.pieces) }
+    {
+        let region = region_of(&element, kind);
+        let keys = item_keys(alloc, region, view)?;
+        let pieces = spans(alloc, region, keys.as_slice(), pieces)?;
+        Ok(Progress {
+            element,
+            kind,
+            pieces,
+        })
+    }
+
+    /// Whether every piece has ended: its cursor is its upper bound. Never refused.
+    pub fn finished(&self) -> bool
+        ensures { result ≡ are_ended self.now.pieces }
+    {
+        for span in self.pieces.as_slice() {
+            if !span.cursor.cmp(&span.high).is_eq() {
+                return false;
+            }
+        }
+        true
+    }
+}

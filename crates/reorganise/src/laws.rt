@@ -1,0 +1,35 @@
+//! What pieces come to, in the words in which elements keep their laws: each is a call without a body, so that a
+//! contract names it. Whoever keeps a store consistent has from these that a piece is one of the fills and clears that
+//! `element_state` speaks of.
+ghost use Rattle.reorganise.specs.Laws.{PiecesJoin, PiecesEnd, FillRange, ClearRangeIs, BeginsAtBounds, ComesToBound, FillLays, ClearLays};
+
+/// Pieces that join one another are such in the words of `element_state`, and have all ended just where `finished`
+/// says so.
+pub fn pieces_share()
+    ensures join { PiecesJoin }
+    ensures end { PiecesEnd }
+{}
+
+/// A fill goes through the range of its table's rows, a clear through the range that its kind says.
+pub fn ranges_are()
+    ensures fill { FillRange }
+    ensures clear { ClearRangeIs }
+{}
+
+/// Pieces begin and end where they may, and a cursor comes to such a place again.
+pub fn bounds_hold()
+    ensures begin { BeginsAtBounds }
+    ensures comes { ComesToBound }
+{}
+
+/// What a prepared piece of a fill writes, laid over pairs of which its expectation holds, is what `fill_of` gives for
+/// each row between its cursors, where the pairs are those of the rows.
+pub fn fill_lays()
+    ensures { FillLays }
+{}
+
+/// What a prepared piece of a clear writes, laid over pairs of which its expectation holds, is the removal of each item
+/// between its cursors, where the pairs are those of the rows.
+pub fn clear_lays()
+    ensures { ClearLays }
+{}

@@ -1,0 +1,157 @@
+//! Reading the next items of a piece.
+ghost use Rattle.std.specs.Prelude.{◌≡◌, Some, IfOk, IfErr, OnOk, slice_get};
+ghost use Rattle.std.specs.declared.cmp.Ordering.TheVariants.{Less};
+ghost use Rattle.listed.specs.Refusal.{IsFirst, IsRefusal, IsClear};
+ghost use Rattle.keycode.specs.Order.{bytes_cmp};
+ghost use Rattle.reorganise.specs.declared.fault.ViewFault.TheVariants.{Memory as OutOfMemory};
+ghost use Rattle.reorganise.specs.Refusals.{rank, Condition};
+ghost use Rattle.reorganise.specs.Pieces.{stretch_read, view_at, ComesTo, IsReadOf};
+
+use crate::begin::{copied, shared};
+use crate::fault::ViewFault;
+use crate::region::{Region, is_item, region_of};
+use crate::view::PieceView;
+use crate::work::{Progress, Span, Work};
+use byte_map::{Bytes, KeyMap};
+use row_map::{PairView, Stretch, key_after, next_within};
+use schema_version::ElementDef;
+use std::alloc::{AllocError, Global};
+
+/// The largest limit.
+const MAX_LIMIT: u32 = 1000;
+
+/// A piece, and what was read of it.
+#[derive(Debug, Drop)]
+pub struct Reading {
+    /// What is filled or cleared.
+    pub(crate) element: ElementDef,
+    /// Whether it is filled or cleared.
+    pub(crate) kind: Work,
+    /// The number of the piece, from 0.
+    pub(crate) piece: u32,
+    /// The piece's lower bound.
+    pub(crate) low: Bytes,
+    /// The piece's upper bound.
+    pub(crate) high: Bytes,
+    /// The pairs from the old cursor to the new one.
+    pub(crate) stretch: Stretch,
+}
+
+/// The pairs from a cursor on, as far as so many items.
+fn read_stretch<V: PairView>(
+    alloc: Global,
+    region: Region,
+    view: &V,
+    cursor: &[u8],
+    high: &[u8],
+    limit: u32,
+) -> Result<Stretch, AllocError>
+    requires { bytes_cmp cursor.now high.now ≡ Less }
+    ensures exact { IfOk result (λ stretch. stretch ≡ stretch_read region (V.pairs view.now) cursor.now high.now limit) }
+    ensures comes { IfOk result (λ stretch. ComesTo region cursor.now high.now stretch.high) }
+{
+    let mut pairs = KeyMap::new(alloc);
+    let mut left = limit;
+    let mut at = Vec::new(alloc);
+    at.extend_from_slice(cursor)?;
+    while let Some((key, value)) = next_within(view, at.as_slice(), high) {
+        if is_item(alloc, region, key)? {
+            if left == 0 {
+                let low = copied(alloc, cursor)?;
+                let high = copied(alloc, key)?;
+                return Ok(Stretch { low, high, pairs });
+            }
+            left -= 1;
+        }
+        let name = copied(alloc, key)?;
+        pairs.insert(name, copied(alloc, value)?)?;
+        at = key_after(alloc, key)?;
+    }
+    let low = copied(alloc, cursor)?;
+    let high = copied(alloc, high)?;
+    Ok(Stretch { low, high, pairs })
+}
+
+/// A copy of the definition.
+fn element_copied(element: &ElementDef) -> Result<ElementDef, AllocError>
+    ensures { IfOk result (λ copy. copy ≡ element.now) }
+{
+    element.clone()
+}
+
+/// The piece, where it can be read with this limit.
+fn open_span(progress: &Progress, piece: u32, limit: u32) -> Result<&Span, ViewFault>
+    ensures found { IfOk result (λ span. slice_get progress.now.pieces piece ≡ Some span.now) }
+    ensures open { IfOk result (λ span. bytes_cmp span.now.cursor span.now.high ≡ Less) }
+    ensures clear { OnOk result (IsClear (Condition progress.now piece limit)) }
+    ensures refused { IfErr result (λ e. IsFirst rank (Condition progress.now piece limit) e) }
+{
+    let span = match progress.pieces.as_slice().get(piece as usize) {
+        Some(span) => span,
+        None => return Err(ViewFault::BadPiece),
+    };
+    if !span.cursor.cmp(&span.high).is_lt() {
+        return Err(ViewFault::Spent);
+    }
+    if limit < 1 || limit > MAX_LIMIT {
+        return Err(ViewFault::BadLimit);
+    }
+    Ok(span)
+}
+
+/// The pairs of the next items of an open piece.
+fn read_span<V: PairView>(
+    alloc: Global,
+    progress: &Progress,
+    view: &V,
+    piece: u32,
+    span: &Span,
+    limit: u32,
+) -> Result<PieceView, AllocError>
+    requires { bytes_cmp span.now.cursor span.now.high ≡ Less }
+    ensures { IfOk result (λ read. read ≡ view_at progress.now (V.pairs view.now) piece limit span.now) }
+{
+    let region = region_of(&progress.element, progress.kind);
+    let cursor = span.cursor.as_slice();
+    let stretch = read_stretch(alloc, region, view, cursor, span.high.as_slice(), limit)?;
+    let element = element_copied(&progress.element)?;
+    let low = shared(&span.low)?;
+    let high = shared(&span.high)?;
+    Ok(PieceView {
+        inside: Reading {
+            element,
+            kind: progress.kind,
+            piece,
+            low,
+            high,
+            stretch,
+        },
+    })
+}
+
+impl Progress {
+    /// Reads the pairs of the next items of a piece: from its cursor to the key of the item behind so many, or to the
+    /// piece's upper bound where no more are left. It changes nothing, and what it gives can grow as old as it likes:
+    /// it is committed only where its whole range is unchanged.
+    ///
+    /// - `view`: the pairs that are present.
+    /// - `piece`: the number of the piece, from 0.
+    /// - `limit`: how many items, 1 to 1,000.
+    ///
+    /// The refusals, in their order: `BadPiece`, there is no such piece; `Spent`, its cursor is not below its upper
+    /// bound; `BadLimit`; `Memory`, only where none of these holds.
+    pub fn read_piece<V: PairView>(
+        &self,
+        alloc: Global,
+        view: &V,
+        piece: u32,
+        limit: u32,
+    ) -> Result<PieceView, ViewFault>
+        ensures exact { IfOk result (λ read. IsReadOf self.now (V.pairs view.now) piece limit read) }
+        ensures clear { OnOk result (IsClear (Condition self.now piece limit)) }
+        ensures refused { IfErr result (λ e. IsRefusal rank (Condition self.now piece limit) OutOfMemory e) }
+    {
+        let span = open_span(self, piece, limit)?;
+        Ok(read_span(alloc, self, view, piece, span, limit)?)
+    }
+}

@@ -1,0 +1,34 @@
+use byte_map::Bytes;
+use listed::Listed;
+use schema_version::ElementDef;
+
+/// What a reorganisation does.
+#[derive(Clone, Copy, Debug, PartialEq, Eq)]
+pub enum Work {
+    /// Puts the pairs of an element that is being added.
+    Fill,
+    /// Removes the pairs of an element that is being dropped.
+    Clear,
+}
+
+/// A piece of a reorganisation: its bounds, and how far it has come.
+#[derive(Clone, Debug, Drop, PartialEq, Eq)]
+pub struct Span {
+    /// The first key that may be in the piece.
+    pub low: Bytes,
+    /// The key before which the piece ends.
+    pub high: Bytes,
+    /// The key from which on the work is still to be done. The piece has ended where this is `high`.
+    pub cursor: Bytes,
+}
+
+/// How far a reorganisation has come. Whoever commits a piece moves its cursor.
+#[derive(Clone, Debug, Drop, PartialEq, Eq)]
+pub struct Progress {
+    /// The element that is filled or cleared, as it was at the begin.
+    pub element: ElementDef,
+    /// Whether it is filled or cleared.
+    pub kind: Work,
+    /// The pieces, in the order of their keys.
+    pub pieces: Listed<Span>,
+}

@@ -1,0 +1,10 @@
+pub mod Sorted
+pub mod Derived
+pub mod Columns
+pub mod Premise
+pub mod Gathered
+pub mod Rows
+pub mod Decides
+pub mod Tested
+pub mod Indexed
+pub mod Unique

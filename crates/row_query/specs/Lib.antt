@@ -1,0 +1,6 @@
+pub mod Answer
+pub mod Refused
+pub mod Path
+pub mod Checked
+pub mod Found
+pub mod Bounds

@@ -1,0 +1,180 @@
+//! Whether a query is of a known table, public columns and their types.
+ghost use Rattle.std.specs.Prelude.{◌≡◌, true, OnOk, IfOk, IfErr, Ok};
+ghost use Rattle.std.specs.List.{find};
+ghost use Rattle.std.specs.Option.{option_copied};
+ghost use Rattle.keycode.specs.Valid.{IsValue, AreValues};
+ghost use Rattle.row_map.specs.Shape.{is_key_value};
+ghost use Rattle.schema_version.specs.Version.{is_public as is_public_of, is_public_column as is_public_column_of};
+ghost use Rattle.row_query.specs.Checked.{is_shown as is_shown_of, column_type as column_type_of, public_numbers as public_numbers_of, is_key_for as is_key_for_of, is_bound as is_bound_of, condition_check, conditions_check, columns_check, query_check, IsKnownBound, IsKnown, AreKnown};
+ghost use Rattle.row_query.specs.Refused.{IsRefused, IsSound};
+
+use crate::fault::QueryFault;
+use crate::query::{Cond, Query};
+use keycode::{Text, Value};
+use row_map::{ColumnType, fits};
+use schema_version::{ElementDef, ElementState, Kind, Schema};
+use std::alloc::{AllocError, Global};
+
+/// Whether queries may read an element in this state.
+pub(crate) fn is_public(state: ElementState) -> bool
+    ensures { result ≡ is_public_of state }
+{
+    matches!(state, ElementState::Public)
+}
+
+fn is_shown(element: &ElementDef, table: u32, number: u32) -> bool
+    ensures { result ≡ is_shown_of table number element.now }
+{
+    element.number == number && (element.table == table && is_public(element.state))
+}
+
+fn found(elements: &[ElementDef], table: u32, number: u32) -> Option<&ElementDef>
+    ensures { option_copied result ≡ find (is_shown_of table number) elements.now }
+{
+    elements.iter().find(|e| is_shown(*e, table, number))
+}
+
+/// The type of a public column of the table.
+fn column_type(elements: &[ElementDef], table: u32, number: u32) -> Option<ColumnType>
+    ensures { result ≡ column_type_of elements.now table number }
+{
+    match &found(elements, table, number)?.kind {
+        Kind::Index(_) => None,
+        Kind::Optional(kind) => Some(*kind),
+    }
+}
+
+fn is_public_column(element: &ElementDef, table: u32) -> bool
+    ensures { result ≡ is_public_column_of table element.now }
+{
+    element.table == table && is_public(element.state) && matches!(element.kind, Kind::Optional(_))
+}
+
+/// The numbers of the public columns of a table, rising.
+pub(crate) fn public_numbers(
+    alloc: Global,
+    elements: &[ElementDef],
+    table: u32,
+) -> Result<Vec<u32>, AllocError>
+    ensures { IfOk result (λ columns. columns.items ≡ public_numbers_of elements.now table) }
+{
+    elements
+        .iter()
+        .filter(|e| is_public_column(*e, table))
+        .map(|e| e.number)
+        .collect(alloc)
+}
+
+/// Whether the values are a key of the table.
+fn is_key_for(columns: &[(Text, ColumnType)], key: &[Value]) -> bool
+    ensures test { result ≡ is_key_for_of columns.now key.now }
+    ensures known { result ≡ true → AreValues key.now }
+{
+    if columns.len() != key.len() {
+        return false;
+    }
+    for i in 0..key.len() {
+        if !fits(columns[i].1, &key[i]) {
+            return false;
+        }
+    }
+    true
+}
+
+fn fits_or_null(kind: ColumnType, value: &Value) -> bool
+    ensures test { result ≡ is_key_value kind value.now }
+    ensures known { IsValue value.now }
+{
+    fits(kind, value) || matches!(value, Value::Null)
+}
+
+fn is_bound(kind: ColumnType, bound: &Option<Value>) -> bool
+    ensures test { result ≡ is_bound_of kind bound.now }
+    ensures known { IsKnownBound bound.now }
+{
+    match bound {
+        None => true,
+        Some(value) => fits(kind, value),
+    }
+}
+
+fn check_condition(
+    elements: &[ElementDef],
+    table: u32,
+    key: &[(Text, ColumnType)],
+    condition: &Cond,
+) -> Result<(), QueryFault>
+    ensures exact { result ≡ condition_check elements.now table key.now condition.now }
+    ensures known { OnOk result (IsKnown condition.now) }
+{
+    let fitting = match condition {
+        Cond::Key(wanted) => is_key_for(key, wanted.as_slice()),
+        Cond::Equal { column, value } => match column_type(elements, table, *column) {
+            None => return Err(QueryFault::NotPublic { column: *column }),
+            Some(kind) => fits_or_null(kind, value),
+        },
+        Cond::Between { column, low, high } => match column_type(elements, table, *column) {
+            None => return Err(QueryFault::NotPublic { column: *column }),
+            Some(kind) => {
+                let fits_low = is_bound(kind, low);
+                let fits_high = is_bound(kind, high);
+                fits_low && fits_high
+            }
+        },
+    };
+    if fitting {
+        Ok(())
+    } else {
+        Err(QueryFault::WrongType)
+    }
+}
+
+fn check_conditions(
+    elements: &[ElementDef],
+    table: u32,
+    key: &[(Text, ColumnType)],
+    conditions: &[Cond],
+) -> Result<(), QueryFault>
+    ensures exact { result ≡ conditions_check elements.now table key.now conditions.now }
+    ensures known { OnOk result (AreKnown conditions.now) }
+{
+    for condition in conditions {
+        check_condition(elements, table, key, condition)?;
+    }
+    Ok(())
+}
+
+fn check_columns(elements: &[ElementDef], table: u32, columns: &[u32]) -> Result<(), QueryFault>
+    ensures { result ≡ columns_check elements.now table columns.now }
+{
+    for column in columns {
+        if column_type(elements, table, *column).is_none() {
+            return Err(QueryFault::NotPublic { column: *column });
+        }
+    }
+    Ok(())
+}
+
+/// The query's fault.
+fn check(schema: &Schema, query: &Query) -> Result<(), QueryFault>
+    ensures exact { result ≡ query_check schema.now query.now }
+    ensures known { OnOk result (AreKnown query.now.conditions) }
+{
+    let Some(key) = schema.key_of(query.table) else {
+        return Err(QueryFault::NoTable);
+    };
+    let elements = schema.elements();
+    check_columns(elements, query.table, query.columns.as_slice())?;
+    check_conditions(elements, query.table, key, query.conditions.as_slice())
+}
+
+/// Looks for the query's fault before anything takes memory.
+pub(crate) fn check_query(schema: &Schema, query: &Query) -> Result<(), QueryFault>
+    ensures refused { IfErr result (λ fault. IsRefused schema.now query.now fault) }
+    ensures sound { OnOk result (IsSound schema.now query.now) }
+    ensures passed { OnOk result (query_check schema.now query.now ≡ Ok tt) }
+    ensures known { OnOk result (AreKnown query.now.conditions) }
+{
+    schema.known();
+    check(schema, query)
+}

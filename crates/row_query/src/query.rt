@@ -1,0 +1,47 @@
+use keycode::{Value, Values};
+use listed::Listed;
+
+/// What a row must meet to be answered. Columns go by their element numbers, and values are ordered as keycode has it.
+#[derive(Clone, Debug, Drop, PartialEq, Eq)]
+pub enum Cond {
+    /// The row has this primary key.
+    Key(Values),
+    /// The row has this value in a column.
+    Equal {
+        /// The number of the column.
+        column: u32,
+        /// The value. With Null the row has no value in the column.
+        value: Value,
+    },
+    /// The row has a value in a column, and it lies between two bounds, both included.
+    Between {
+        /// The number of the column.
+        column: u32,
+        /// The least value, if there is one.
+        low: Option<Value>,
+        /// The greatest value, if there is one.
+        high: Option<Value>,
+    },
+}
+
+/// A query: the rows of one table that meet every condition, with the values of the named columns.
+#[derive(Clone, Debug, Drop, PartialEq, Eq)]
+pub struct Query {
+    /// The number of the table.
+    pub table: u32,
+    /// The numbers of the columns whose values are answered. Their order says nothing, nor does a number that stands twice.
+    pub columns: Listed<u32>,
+    /// What the rows must meet, all of it.
+    pub conditions: Listed<Cond>,
+}
+
+/// How the rows of a query are found.
+#[derive(Clone, Copy, Debug, PartialEq, Eq)]
+pub enum Path {
+    /// One row is read by its primary key.
+    Key,
+    /// A part of the index of this number is gone over, and the rows that stand there are read by their keys.
+    Index(u32),
+    /// All rows of the table are gone over.
+    Scan,
+}
