@@ -5,7 +5,6 @@ ghost use Rattle.std.specs.FinMap as map;
 use crate::reason::has_reason;
 use crate::report::CheckReport;
 use crate::spelled::{key_of, row_at};
-
 use crate::wanted::lacking;
 use row_map::{KeyOf, PairView, key_after, next_pair};
 use schema_version::Schema;

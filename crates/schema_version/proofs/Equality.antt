@@ -65,7 +65,6 @@ abbrev AreTheSame : {Y : Type 0} → Held Y → Held Y → Type 0
 AreTheSame {Y} es fs = each (table_held {Y = Y}) es ≡ each (table_held {Y = Y}) fs
 
 module _ {Y : Type 0} where
-
   names_same : (es fs : Held Y) → AreTheSame es fs → each string_bytes (keys_of es) ≡ each string_bytes (keys_of fs)
   names_same es fs e = sym (names_of_held es) ∙ ap (each (λ (t : Table). t.name)) e ∙ names_of_held fs
 
@@ -74,8 +73,11 @@ module _ {Y : Type 0} where
 
   -- the names differ
   pub tables_differ : (es fs : Held Y) (names others : List (String Y)) (r : Bool) → names ≡ keys_of es → others ≡ keys_of fs → Decides r (each string_bytes names ≡ each string_bytes others) → r ≡ false → Decides false (AreTheSame es fs)
-  tables_differ es fs names others r first second names_tell apart = ((λ t. absurd (true≢false (sym t))), λ e.
-      absurd (true≢false (sym (names_tell.1 (ap (each string_bytes) first ∙ names_same es fs e ∙ ap (each string_bytes) (sym second))) ∙ apart)))
+  tables_differ es fs names others r first second names_tell apart = (
+    (λ t. absurd (true≢false (sym t))),
+    λ e.
+        absurd (true≢false (sym (names_tell.1 (ap (each string_bytes) first ∙ names_same es fs e ∙ ap (each string_bytes) (sym second))) ∙ apart)),
+  )
 
   -- the names are the same, so the keys tell
   pub tables_decided : (es fs : Held Y) (names others : List (String Y)) (keys keys_too : List (List (List ℕ × ColumnType))) (r k : Bool) → names ≡ keys_of es → others ≡ keys_of fs → keys ≡ values_of es → keys_too ≡ values_of fs

@@ -261,6 +261,7 @@ commit_other f s moment now p lease h view counted_at same v differ =
   where
     some_same : {a b : Version} → Some a ≡ (let o : Option Version = Some b in o) → a ≡ b
     some_same e = cc
+
     lower : (s : State) (now : ℕ) (p : PreparedTxn) → Serves (facts_of s).line p.lease now → (other : CommitFault) → commit_rank other < 4 → ¬ (CommitCondition s now p other)
     lower s now p v commit_fault.MomentTooLarge lt = λ c. absurd (omega (arith, v.moment, c))
     lower s now p v commit_fault.BadLease lt = λ no_lease. no_lease v.honest
