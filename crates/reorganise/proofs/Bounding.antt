@@ -1,5 +1,5 @@
 -- Pieces in the words of the laws: they join, end, and stand where they may.
-use Rattle.std.proofs.Common.{◌≡◌, eqb-true, ℕ, zero, suc, ◌+◌, ◌*◌, ◌/◌, ◌<◌, ◌^◌, ◌==◌, Bool, true, false, ◌&&◌, if◌then◌else◌, List, [], ◌∷◌, length, Ok, slice_get, unwrap_or, refl, sym, ap, subst, ◌∙◌, inl, inr}
+use Rattle.std.proofs.Common.{Some, None, ◌≡◌, eqb-true, ℕ, zero, suc, ◌+◌, ◌*◌, ◌/◌, ◌<◌, ◌^◌, ◌==◌, Bool, true, false, ◌&&◌, if◌then◌else◌, List, [], ◌∷◌, length, Ok, slice_get, unwrap_or, refl, sym, ap, subst, ◌∙◌, inl, inr}
 use Rattle.std.specs.List.{AllByRecursion}
 use Rattle.std.proofs.lemmas.Bool.{lt-ltb}
 use Rattle.std.specs.declared.cmp.Ordering.{Ordering}
@@ -33,7 +33,9 @@ use Rattle.reorganise.specs.declared.region.Region.{Region}
 use Rattle.reorganise.specs.declared.region.Region.TheVariants.{Rows, Entries}
 use Rattle.reorganise.specs.Regions.{region_of, cleared, prefix, prefix_end, front, back, is_item_read, is_item, IsItemKey, item_keys, items}
 use Rattle.reorganise.specs.Pieces.{bound, span_at, spans, is_ended, are_ended}
-use Rattle.reorganise.specs.Laws.{pieces_of, PiecesJoin, PiecesEnd, bounds_of, FillRange, ClearRangeIs, HasBounds, BeginsAtBounds, ComesToBound}
+use Rattle.element_state.specs.Whole.{fresh_spans}
+use mathlib.Core.List.{map as each}
+use Rattle.reorganise.specs.Laws.{pieces_of, passed_by, PiecesJoin, PiecesEnd, BeginsFresh, CursorStands, CursorMoves, JoinStays, bounds_of, FillRange, ClearRangeIs, HasBounds, BeginsAtBounds, BoundsStay, ComesToBound}
 use Rattle.reorganise.proofs.Items.{Pair, item_keys-cons}
 use Rattle.reorganise.proofs.Order.{and_true, some_in}
 
@@ -64,6 +66,50 @@ ended_are (s ∷ ss) h = both_true (is_ended s) (are_ended ss) (ap (λ k. is_eq 
 
 pub pieces_end : PiecesEnd
 pieces_end pieces = (have_ended pieces, ended_are pieces)
+
+-- ---- cursors
+
+abbrev AreFresh : List Span → Type 0
+AreFresh = AllByRecursion (λ s. s.cursor ≡ s.low)
+
+fresh_pieces : (pieces : List Span) → AreFresh pieces → passed_by pieces ≡ fresh_spans (each (λ (s : Span). s.low) pieces)
+fresh_pieces [] h = refl
+fresh_pieces (s ∷ ss) h = λ i. record { low = s.low; cursor = h.0 i } ∷ fresh_pieces ss h.1 i
+
+spans_fresh : (region : Region) (keys : List Bytes) (pieces k : ℕ) → AreFresh (spans region keys pieces k)
+spans_fresh region keys pieces zero = tt
+spans_fresh region keys pieces (suc k) = AllByRecursion-append (λ (s : Span). s.cursor ≡ s.low) (spans region keys pieces k) (span_at region keys pieces k ∷ []) (spans_fresh region keys pieces k) (refl, tt)
+
+pub begins_fresh : BeginsFresh
+begins_fresh element kind pairs pieces =
+    let region = region_of element kind in
+    fresh_pieces (spans region (items region pairs) pieces pieces) (spans_fresh region (items region pairs) pieces pieces)
+
+same_some : {A : Type 0} (v w : A) → Some v ≡ Some w → v ≡ w
+same_some v w e = cc
+
+none_some : {A B : Type 0} (v : A) → None ≡ Some v → B
+none_some v e = absurd cc
+
+pub cursor_stands : CursorStands
+cursor_stands [] place span at = none_some span at
+cursor_stands (s ∷ ss) zero span at = ap (λ (x : Span). x.cursor) (same_some s span at)
+cursor_stands (s ∷ ss) (suc place) span at = cursor_stands ss place span at
+
+pub cursor_moves : CursorMoves
+cursor_moves [] place to = refl
+cursor_moves (s ∷ ss) zero to = refl
+cursor_moves (s ∷ ss) (suc place) to = λ i. record { low = s.low; cursor = s.cursor } ∷ cursor_moves ss place to i
+
+pub join_stays : JoinStays
+join_stays low high [] place to j = j
+join_stays low high (s ∷ ss) zero to j = j
+join_stays low high (s ∷ ss) (suc place) to j = (j.0, j.1, join_stays s.high high ss place to j.2)
+
+pub bounds_stay : BoundsStay
+bounds_stay bounds [] place to b all = tt
+bounds_stay bounds (s ∷ ss) zero to b all = (record { low = all.0.low; high = all.0.high; cursor = b }, all.1)
+bounds_stay bounds (s ∷ ss) (suc place) to b all = (all.0, bounds_stay bounds ss place to b all.1)
 
 -- ---- ranges
 

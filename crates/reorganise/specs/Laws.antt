@@ -1,5 +1,5 @@
 -- What pieces come to, in the words in which elements keep their laws.
-use Rattle.std.specs.Prelude.{◌≡◌, ℕ, true, ◌+◌, ◌<◌, ◌^◌, ◌↔◌, List}
+use Rattle.std.specs.Prelude.{◌≡◌, ℕ, zero, suc, true, ◌+◌, ◌<◌, ◌^◌, ◌↔◌, List, [], ◌∷◌, Some, slice_get}
 use Rattle.std.specs.List.{AllByRecursion}
 use mathlib.Core.List.{map as each}
 use Rattle.row_map.specs.Rows.{Bytes, Rows, Pairs, AreStorable}
@@ -13,7 +13,10 @@ use Rattle.element_state.specs.Column.{column_of, IsLawfulColumn}
 use Rattle.element_state.specs.Items.{ClearRange, Bounds, RowsOf, IsBound, HasRange, row_items, fill_puts, clear_writes}
 use Rattle.element_state.specs.Kinds.{kind_clear}
 use Rattle.element_state.specs.Versions.{meaning_of, Of}
-use Rattle.element_state.specs.Ended.{Piece, HaveEnded}
+use Rattle.element_state.specs.Core.{Span as Passed}
+use Rattle.element_state.specs.Whole.{fresh_spans}
+use Rattle.element_state.specs.Reaches as reaches
+use Rattle.element_state.specs.Ended.{Piece, passed_spans, HaveEnded}
 use Rattle.element_state.specs.Ended as ended
 use Rattle.reorganise.specs.declared.work.Work.{Work}
 use Rattle.reorganise.specs.declared.work.Work.TheVariants.{Fill, Clear}
@@ -39,6 +42,34 @@ PiecesJoin = (low high : Bytes) (pieces : List Span) → AreJoined low high piec
 -- all pieces have ended just where each has come to its upper bound
 abbrev pub PiecesEnd : Type 0
 PiecesEnd = (pieces : List Span) → (are_ended pieces ≡ true) ↔ HaveEnded (pieces_of pieces)
+
+-- one piece's cursor is moved
+abbrev pub with_cursor : ℕ → Bytes → List Span → List Span
+with_cursor place to [] = []
+with_cursor zero to (piece ∷ pieces) = record piece { cursor = to } ∷ pieces
+with_cursor (suc place) to (piece ∷ pieces) = piece ∷ with_cursor place to pieces
+
+-- what the pieces have passed
+abbrev pub passed_by : List Span → List Passed
+passed_by pieces = passed_spans (pieces_of pieces)
+
+-- at the begin nothing is passed
+abbrev pub BeginsFresh : Type 0
+BeginsFresh =
+    (element : ElementDef) (kind : Work) (pairs : Pairs) (pieces : ℕ)
+    → passed_by (begun element kind pairs pieces).pieces ≡ fresh_spans (each (λ (s : Span). s.low) (begun element kind pairs pieces).pieces)
+
+-- a piece has passed the keys before its cursor
+abbrev pub CursorStands : Type 0
+CursorStands = (pieces : List Span) (place : ℕ) (span : Span) → slice_get pieces place ≡ Some span → reaches.cursor_at place (passed_by pieces) ≡ span.cursor
+
+-- to move its cursor is to pass more
+abbrev pub CursorMoves : Type 0
+CursorMoves = (pieces : List Span) (place : ℕ) (to : Bytes) → passed_by (with_cursor place to pieces) ≡ reaches.with_cursor place to (passed_by pieces)
+
+-- pieces stay joined where a cursor is moved
+abbrev pub JoinStays : Type 0
+JoinStays = (low high : Bytes) (pieces : List Span) (place : ℕ) (to : Bytes) → AreJoined low high pieces → AreJoined low high (with_cursor place to pieces)
 
 -- ---- where they stand
 
@@ -73,6 +104,11 @@ abbrev pub BeginsAtBounds : Type 0
 BeginsAtBounds =
     (element : ElementDef) (kind : Work) (pairs : Pairs) (pieces : ℕ) → element.table + 1 < 2 ^ 32 → AreFormed pairs
     → AllByRecursion (HasBounds (bounds_of element kind)) (begun element kind pairs pieces).pieces
+
+-- and they stay where they may, where a cursor is moved to such a place
+abbrev pub BoundsStay : Type 0
+BoundsStay =
+    (bounds : Bounds) (pieces : List Span) (place : ℕ) (to : Bytes) → IsBound bounds to → AllByRecursion (HasBounds bounds) pieces → AllByRecursion (HasBounds bounds) (with_cursor place to pieces)
 
 -- a piece comes to where it may end, whatever pairs it was read from
 abbrev pub ComesToBound : Type 0

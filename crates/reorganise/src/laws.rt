@@ -1,13 +1,22 @@
 //! What pieces come to, in the words in which elements keep their laws: each is a call without a body, so that a
 //! contract names it. Whoever keeps a store consistent has from these that a piece is one of the fills and clears that
 //! `element_state` speaks of.
-ghost use Rattle.reorganise.specs.Laws.{PiecesJoin, PiecesEnd, FillRange, ClearRangeIs, BeginsAtBounds, ComesToBound, FillLays, ClearLays};
+ghost use Rattle.reorganise.specs.Laws.{PiecesJoin, PiecesEnd, BeginsFresh, CursorStands, CursorMoves, JoinStays, FillRange, ClearRangeIs, BeginsAtBounds, BoundsStay, ComesToBound, FillLays, ClearLays};
 
 /// Pieces that join one another are such in the words of `element_state`, and have all ended just where `finished`
 /// says so.
 pub fn pieces_share()
     ensures join { PiecesJoin }
     ensures end { PiecesEnd }
+{}
+
+/// At the begin nothing is passed; a piece has passed what stands before its cursor, to move which is to pass more, and
+/// leaves the pieces joined.
+pub fn cursors_pass()
+    ensures fresh { BeginsFresh }
+    ensures stand { CursorStands }
+    ensures moves { CursorMoves }
+    ensures joined { JoinStays }
 {}
 
 /// A fill goes through the range of its table's rows, a clear through the range that its kind says.
@@ -19,6 +28,7 @@ pub fn ranges_are()
 /// Pieces begin and end where they may, and a cursor comes to such a place again.
 pub fn bounds_hold()
     ensures begin { BeginsAtBounds }
+    ensures stay { BoundsStay }
     ensures comes { ComesToBound }
 {}
 

@@ -18,7 +18,7 @@ mod view;
 mod work;
 
 pub use fault::ViewFault;
-pub use laws::{bounds_hold, clear_lays, fill_lays, pieces_share, ranges_are};
+pub use laws::{bounds_hold, clear_lays, cursors_pass, fill_lays, pieces_share, ranges_are};
 pub use prepared::PreparedPiece;
 pub use preparing::prepare_piece;
 pub use view::PieceView;

@@ -386,6 +386,7 @@ fn ended(alloc: Global) -> Result<(bool, bool), Fail> {
 fn finished_once_all_pieces_have_ended(rt: HostRuntime) -> Result<(), Fail> {
     assert!(rt; ended(rt.alloc())? == (false, true));
     pieces_share();
+    cursors_pass();
     ranges_are();
     bounds_hold();
     fill_lays();
