@@ -72,11 +72,7 @@ fn plan_from(
 /// the order of `PlanFault`. Memory comes last: all is tried before the first growth. Nothing is changed by a refusal.
 ///
 /// After the schema changes of "Online, Asynchronous Schema Change in F1" (Rae et al., 2013).
-pub fn plan(
-    alloc: Global,
-    schema: &Schema,
-    changes: &[Change],
-) -> Result<LeastPlan, PlanFault>
+pub fn plan(alloc: Global, schema: &Schema, changes: &[Change]) -> Result<LeastPlan, PlanFault>
     ensures schedule { IfOk result (λ p. p.steps ≡ schedule schema.now changes.now) }
     ensures least { IfOk result (λ p. IsLeast schema.now changes.now p.steps) }
     ensures clear { OnOk result (IsPlannable schema.now changes.now) }
