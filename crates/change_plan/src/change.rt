@@ -3,7 +3,7 @@ use listed::Listed;
 use schema_version::Kind;
 
 /// One change of a schema, by names. A batch of them is planned as one: an index may be added over columns that the batch adds, and a
-/// column may be dropped with the indexes that list it.
+/// column may be dropped with the indexes that list it. `table` is the number of a table, from 1.
 #[derive(Clone, Debug, PartialEq, Eq, Drop)]
 pub enum Change {
     /// A new index of the table over these columns, live or added by the batch, in this order.
@@ -17,7 +17,7 @@ pub enum Change {
         table: u32,
         name: Text,
     },
-    /// A new column of the table, of an optional kind.
+    /// A new column of the table. Its kind is that of a column: an index is Unknown.
     AddColumn {
         table: u32,
         name: Text,

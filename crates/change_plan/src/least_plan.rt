@@ -17,6 +17,7 @@ pub enum Reorg {
 pub struct PlanStep {
     /// The reorganisations that must end before the step is published, in the order of its moves.
     pub before: Listed<Reorg>,
+    /// The moves, in the order of the changes.
     pub step: Step,
 }
 

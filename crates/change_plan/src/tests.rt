@@ -1,6 +1,4 @@
 //! Plans of small batches, worked out by hand from the edges of columns and indexes.
-ghost use Rattle.std.specs.Prelude.{◌≡◌, ◌+◌, IfOk, length};
-
 use super::*;
 use keycode::Text;
 use listed::Listed;
@@ -21,28 +19,19 @@ fn texts(alloc: Global, name: &str) -> Result<Listed<Text>, AllocError> {
 }
 
 // One column of integers.
-fn int_column(alloc: Global, name: &str) -> Result<Columns, AllocError>
-    ensures { IfOk result (λ columns. length columns ≡ 1) }
-{
+fn int_column(alloc: Global, name: &str) -> Result<Columns, AllocError> {
     let columns = vec![in alloc; (text(alloc, name)?, ColumnType::Int)]?;
     Ok(Listed::new(columns))
 }
 
 // The version in which this is the one table.
-fn declared(alloc: Global, table: TableDef) -> Result<Schema, PlanFault>
-    ensures { IfOk result (λ schema. schema.next ≡ 1 + length table.columns + length table.indexes) }
-{
+fn declared(alloc: Global, table: TableDef) -> Result<Schema, PlanFault> {
     let tables = vec![in alloc; table]?;
-    match Schema::declared(alloc, &tables) {
-        Ok(schema) => Ok(schema),
-        Err(_) => Err(PlanFault::Memory),
-    }
+    Schema::declared(alloc, &tables).map_err(|_| PlanFault::Memory)
 }
 
 // table t (id int key, a int), with these indexes
-fn table_t(alloc: Global, indexes: Indexes) -> Result<Schema, PlanFault>
-    ensures { IfOk result (λ schema. schema.next ≡ 2 + length indexes) }
-{
+fn table_t(alloc: Global, indexes: Indexes) -> Result<Schema, PlanFault> {
     let table = TableDef {
         name: text(alloc, "t")?,
         key: int_column(alloc, "id")?,
@@ -52,30 +41,22 @@ fn table_t(alloc: Global, indexes: Indexes) -> Result<Schema, PlanFault>
     declared(alloc, table)
 }
 
-fn no_index(alloc: Global) -> Indexes
-    ensures { length result ≡ 0 }
-{
+fn no_index(alloc: Global) -> Indexes {
     Listed::new(Vec::new(alloc))
 }
 
 // index i on t (a)
-fn index_i(alloc: Global) -> Result<Indexes, AllocError>
-    ensures { IfOk result (λ indexes. length indexes ≡ 1) }
-{
+fn index_i(alloc: Global) -> Result<Indexes, AllocError> {
     Ok(Listed::new(vec![in alloc; (text(alloc, "i")?, texts(alloc, "a")?)]?))
 }
 
 // element 1 is a
-fn schema_p(alloc: Global) -> Result<Schema, PlanFault>
-    ensures { IfOk result (λ schema. schema.next ≡ 2) }
-{
+fn schema_p(alloc: Global) -> Result<Schema, PlanFault> {
     table_t(alloc, no_index(alloc))
 }
 
 // element 1 is a, element 2 is i
-fn schema_q(alloc: Global) -> Result<Schema, PlanFault>
-    ensures { IfOk result (λ schema. schema.next ≡ 3) }
-{
+fn schema_q(alloc: Global) -> Result<Schema, PlanFault> {
     table_t(alloc, index_i(alloc)?)
 }
 
@@ -85,24 +66,18 @@ fn after_go(
     schema: &Schema,
     element: u32,
     to: ElementState,
-) -> Result<Schema, PlanFault>
-    ensures { IfOk result (λ then. then.next ≡ schema.now.next) }
-{
+) -> Result<Schema, PlanFault> {
     let step = Listed::new(vec![in alloc; Move::Go { element, to }]?);
     schema.apply(&step).map_err(|_| PlanFault::Memory)
 }
 
 // Q while i is being dropped.
-fn i_leaves(alloc: Global) -> Result<Schema, PlanFault>
-    ensures { IfOk result (λ schema. schema.next ≡ 3) }
-{
+fn i_leaves(alloc: Global) -> Result<Schema, PlanFault> {
     after_go(alloc, &schema_q(alloc)?, 2, WriteOnly)
 }
 
 // Q after i was dropped.
-fn i_left(alloc: Global) -> Result<Schema, PlanFault>
-    ensures { IfOk result (λ schema. schema.next ≡ 3) }
-{
+fn i_left(alloc: Global) -> Result<Schema, PlanFault> {
     let leaving = after_go(alloc, &i_leaves(alloc)?, 2, DeleteOnly)?;
     after_go(alloc, &leaving, 2, Absent)
 }
