@@ -4,7 +4,8 @@ use clap::error::ErrorKind;
 use clap::{Command, Error};
 use std::alloc::Global;
 
-/// Whether the words of a command line, the program's own name first, choose `run`. An `Err` is what to print.
+/// Whether the words of a command line, the program's own name first, choose `run`. An `Err` is what to print. What `clap`
+/// makes of words is said by no contract, here and below: it is shown by running the program.
 pub(crate) fn options(alloc: Global, words: &[String]) -> Result<(), Error> {
     let mut command = Command::new(alloc, "shell")
         .about("Runs a script of schema and transactions: standard input to standard output")

@@ -40,7 +40,8 @@ pub enum ScriptFault {
 // The longest script, in bytes.
 const LIMIT: usize = 16_777_216;
 
-/// All that is left to read, or the first fault.
+/// All that is left to read, or the first fault. That a reader failed is its own to say, and no contract sees it: that
+/// `Read` isn't answered at random is shown by the tests.
 fn read_all<R: Read>(alloc: Global, reader: &mut R) -> Result<Vec<u8>, ScriptFault>
     ensures read { IsRead (R.remaining reader.old) result }
     ensures bounded { IfOk result (λ bytes. length bytes.items ≤ limit) }
@@ -64,7 +65,7 @@ fn read_all<R: Read>(alloc: Global, reader: &mut R) -> Result<Vec<u8>, ScriptFau
     Err(ScriptFault::TooLong)
 }
 
-/// Writes all of the text. At an `Err` a front of it went out.
+/// Writes all of the text. At an `Err` a front of it went out. That a writer failed is its own to say, as with a reader.
 fn write_all<W: Write>(writer: &mut W, text: &[u8]) -> Result<(), ScriptFault>
     ensures ok { OnOk result (Appends (W.contents writer.old) (W.contents writer.new) text.now) }
     ensures err { IfErr result (λ fault. fault ≡ ScriptFault.Write) }
