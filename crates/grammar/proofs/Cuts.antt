@@ -71,7 +71,7 @@ parts_more m (t ∷ ts) front back h = more_step m (is_mark m t) t (cut_at m ts)
 abbrev pub onto : {A : Type 0} → List A → Option (List A) → Option (List A)
 onto before rest = option_map (λ more. before ++ more) rest
 
-onto_more : {A : Type 0} (before : List A) (x : A) (rest : Option (List A)) → onto (before ++ x ∷ []) rest ≡ onto before (option_map (λ xs. x ∷ xs) rest)
+pub onto_more : {A : Type 0} (before : List A) (x : A) (rest : Option (List A)) → onto (before ++ x ∷ []) rest ≡ onto before (option_map (λ xs. x ∷ xs) rest)
 onto_more before x None = refl
 onto_more before x (Some more) = ap Some (append_assoc before (x ∷ []) more)
 
@@ -94,7 +94,7 @@ each_more m f before ts front back x total cut h so_far =
     onto_more before x (each f (parts m back)) ∙ sym (ap (onto before) (ap (each f) (parts_more m ts front back cut) ∙ each_at f front (parts m back) x h)) ∙ so_far
 
 -- a fault of a part is the fault of all
-fails_on : {A B : Type 0} (e : LineFault) (a : Option A) (b : Option B) → (a ≡ None → b ≡ None) → Fails e a → Fails e b
+pub fails_on : {A B : Type 0} (e : LineFault) (a : Option A) (b : Option B) → (a ≡ None → b ≡ None) → Fails e a → Fails e b
 fails_on fault.Memory a b h f = tt
 fails_on fault.Malformed a b h f = h f
 

@@ -2,3 +2,4 @@ pub mod Quotes
 pub mod Skips
 pub mod Cuts
 pub mod Doubling
+pub mod Selections

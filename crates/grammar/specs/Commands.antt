@@ -1,6 +1,6 @@
 -- The productions of the grammar: what lists of tokens spell, read whole unless a name ends in `_at`.
 use Rattle.std.specs.Prelude.{ℕ, List, [], ◌∷◌, Option, Some, None, Result, Ok, Err, Bool, true, false, not, ◌&&◌, ◌||◌, if◌then◌else◌, codes, map, filter}
-use Rattle.std.specs.Option.{option_and_then}
+use Rattle.std.specs.Option.{option_map, option_and_then}
 use Rattle.keycode.specs.declared.value.Value.{Value}
 use Rattle.row_map.specs.declared.shape.ColumnType.{ColumnType}
 use Rattle.grammar.specs.declared.token.Token.{Token}
@@ -10,6 +10,9 @@ use Rattle.grammar.specs.declared.fault.LineFault.TheVariants.{Malformed}
 use Rattle.grammar.specs.declared.columns.Declared.{Declared}
 use Rattle.grammar.specs.declared.operation.Operation.{Operation}
 use Rattle.grammar.specs.declared.operation.Operation.TheVariants.{Insert, Update, Delete}
+use Rattle.grammar.specs.declared.selection.Condition.{Condition}
+use Rattle.grammar.specs.declared.selection.Condition.TheVariants.{Key, Equal, Between}
+use Rattle.grammar.specs.declared.selection.Selection.{Selection}
 use Rattle.grammar.specs.declared.command.Command.{Command}
 use Rattle.grammar.specs.declared.command.Command.TheVariants as command
 use Rattle.grammar.specs.Tokens.{tokens_of}
@@ -186,6 +189,114 @@ commit_of ts = do
   work ← name_at_moment ts
   at_end (command.Commit work.0.0 work.0.1) work.1
 
+-- `COLUMN {, COLUMN}`, and the tokens behind them
+unfoldable pub columns_at : List Token → Option (List (List ℕ) × List Token)
+columns_at [] = None
+columns_at (t ∷ []) = do
+  column ← name_in t
+  Some (column ∷ [], [])
+columns_at (t ∷ u ∷ ts) = do
+  column ← name_in t
+  if is_mark mark.Comma u then option_map (λ x. (column ∷ x.0, x.1)) (columns_at ts) else Some (column ∷ [], u ∷ ts)
+
+-- the same, or `*`, which names none
+abbrev pub selected_at : List Token → Option (Option (List (List ℕ)) × List Token)
+selected_at [] = None
+selected_at (t ∷ ts) = if is_mark mark.Star t then Some (None, ts) else option_map (λ x. (Some x.0, x.1)) (columns_at (t ∷ ts))
+
+-- `= TUPLE`, behind `key`, and the tokens behind it
+unfoldable pub key_condition_at : List Token → Option (Condition × List Token)
+key_condition_at ts = do
+  behind ← after_first (is_mark mark.Equal) ts
+  key ← tuple_at behind
+  Some (Key key.0, key.1)
+
+-- `VALUE`, behind `COLUMN =`, and the tokens behind it
+unfoldable pub equal_at : List ℕ → List Token → Option (Condition × List Token)
+equal_at column ts = do
+  value ← first_by value_in ts
+  Some (Equal column value.0, value.1)
+
+-- `VALUE`, behind `COLUMN >=`, and the tokens behind it
+unfoldable pub at_least_at : List ℕ → List Token → Option (Condition × List Token)
+at_least_at column ts = do
+  low ← first_by value_in ts
+  Some (Between column (Some low.0) None, low.1)
+
+-- `VALUE`, behind `COLUMN <=`, and the tokens behind it
+unfoldable pub at_most_at : List ℕ → List Token → Option (Condition × List Token)
+at_most_at column ts = do
+  high ← first_by value_in ts
+  Some (Between column None (Some high.0), high.1)
+
+-- `VALUE and VALUE`, behind `COLUMN between`, and the tokens behind it
+unfoldable pub between_at : List ℕ → List Token → Option (Condition × List Token)
+between_at column ts = do
+  low ← first_by value_in ts
+  behind ← after_first (is_word (codes "and")) low.1
+  high ← first_by value_in behind
+  Some (Between column (Some low.0) (Some high.0), high.1)
+
+-- what follows a COLUMN in a condition, by its first token, and the tokens behind it
+unfoldable pub comparison_at : List ℕ → List Token → Option (Condition × List Token)
+comparison_at column [] = None
+comparison_at column (t ∷ ts) =
+    if is_mark mark.Equal t then equal_at column ts
+    else (if is_mark mark.AtLeast t then at_least_at column ts
+    else (if is_mark mark.AtMost t then at_most_at column ts
+    else (if is_word (codes "between") t then between_at column ts
+    else None)))
+
+-- a condition on a column, and the tokens behind it
+unfoldable pub column_condition_at : List Token → Option (Condition × List Token)
+column_condition_at ts = do
+  column ← first_by name_in ts
+  comparison_at column.0 column.1
+
+-- `COND`, and the tokens behind it; `key` is always the primary key
+unfoldable pub condition_at : List Token → Option (Condition × List Token)
+condition_at [] = None
+condition_at (t ∷ ts) = if is_word (codes "key") t then key_condition_at ts else column_condition_at (t ∷ ts)
+
+-- nothing, or what f makes of the tokens behind an `and`
+abbrev pub and_more : {A : Type 0} → (List Token → Option (List A)) → List Token → Option (List A)
+and_more f [] = Some []
+and_more f (t ∷ ts) = if is_word (codes "and") t then f ts else None
+
+-- `COND {and COND}`, no more of them than the first list has tokens
+unfoldable pub conditions_within : List Token → List Token → Option (List Condition)
+conditions_within [] ts = None
+conditions_within (b ∷ bs) ts = do
+  condition ← condition_at ts
+  option_map (λ more. condition.0 ∷ more) (and_more (conditions_within bs) condition.1)
+
+-- `COND {and COND}`: a condition has a token at least
+abbrev pub conditions_of : List Token → Option (List Condition)
+conditions_of ts = conditions_within ts ts
+
+-- `[where COND {and COND}]`
+abbrev pub optional_conditions_of : List Token → Option (List Condition)
+optional_conditions_of [] = Some []
+optional_conditions_of (t ∷ ts) = if is_word (codes "where") t then conditions_of ts else None
+
+-- `select COLUMN {, COLUMN} from TABLE [where COND {and COND}]`, or `*` for the columns
+unfoldable pub selection_of : List Token → Option Selection
+selection_of ts = do
+  select ← after_first (is_word (codes "select")) ts
+  columns ← selected_at select
+  from ← after_first (is_word (codes "from")) columns.1
+  table ← first_by name_in from
+  conditions ← optional_conditions_of table.1
+  Some (record { table = table.0; columns = columns.0; conditions = conditions })
+
+-- `query SERVER at M: SELECTION`
+unfoldable pub query_of : List Token → Option Command
+query_of ts = do
+  server ← name_at_moment ts
+  behind ← after_first (is_mark mark.Colon) server.1
+  selection ← selection_of behind
+  Some (command.Query server.0.0 server.0.1 selection)
+
 -- a command, by its first word
 unfoldable pub command_of : List Token → Option Command
 command_of [] = None
@@ -201,7 +312,8 @@ command_of (t ∷ ts) =
     else (if is_word (codes "log") t then at_end command.Log ts
     else (if is_word (codes "prepare") t then prepare_of ts
     else (if is_word (codes "commit") t then commit_of ts
-    else None))))))))))
+    else (if is_word (codes "query") t then query_of ts
+    else None)))))))))))
 
 -- what is spelled, or a bad line
 abbrev pub or_malformed : {A : Type 0} → Option A → Result A LineFault

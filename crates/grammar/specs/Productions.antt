@@ -39,6 +39,11 @@ abbrev pub after_first : (Token → Bool) → List Token → Option (List Token)
 after_first p [] = None
 after_first p (t ∷ ts) = if p t then Some ts else None
 
+-- whether p is true of the first token
+abbrev pub begins_with : (Token → Bool) → List Token → Bool
+begins_with p [] = false
+begins_with p (t ∷ ts) = p t
+
 -- x, where no token is left
 abbrev pub at_end : {A : Type 0} → A → List Token → Option A
 at_end x [] = Some x

@@ -1,13 +1,14 @@
 ghost use Rattle.listed.specs.Answers.{GivesOr};
 ghost use Rattle.grammar.specs.declared.fault.LineFault.TheVariants.{Memory};
 ghost use Rattle.grammar.specs.Productions.{Gives};
-ghost use Rattle.grammar.specs.Commands.{length_of, table_of, index_of, name_at_moment, lease_of, txn_of, prepare_of, commit_of, command_of, command_at};
+ghost use Rattle.grammar.specs.Commands.{length_of, table_of, index_of, name_at_moment, lease_of, txn_of, prepare_of, commit_of, query_of, command_of, command_at};
 
 use crate::columns::{Columns, Declared, keys_first, split};
 use crate::fault::LineFault;
 use crate::operation::Operation;
-use crate::production::read_each;
+use crate::production::{Production, read_each};
 use crate::reading::{after_mark, after_word, at_end, bracketed, count, is_word, name};
+use crate::selection::Selection;
 use crate::token::{Mark, Token, tokens_of};
 use keycode::Text;
 use listed::Listed;
@@ -59,6 +60,13 @@ pub enum Command {
     Commit {
         work: Text,
         moment: u64,
+    },
+    /// `query SERVER at M: select COLUMN {, COLUMN} from TABLE [where COND {and COND}]`, or `*` in place of the columns: the rows that are asked for, under the
+    /// server's lease.
+    Query {
+        server: Text,
+        moment: u64,
+        selection: Selection,
     },
 }
 
@@ -162,6 +170,20 @@ fn commit(alloc: Global, tokens: &[Token<'_>]) -> Result<Command, LineFault>
     at_end(Command::Commit { work, moment }, rest)
 }
 
+#[tactic(auto, unfolding(crate::specs::Commands::query_of))]
+fn query(alloc: Global, tokens: &[Token<'_>]) -> Result<Command, LineFault>
+    ensures { Gives (λ x. x) result (query_of tokens.now) }
+{
+    let ((server, moment), rest) = name_at_moment(alloc, tokens)?;
+    let rest = after_mark(rest, Mark::Colon)?;
+    let selection = Selection::read(alloc, rest)?;
+    Ok(Command::Query {
+        server,
+        moment,
+        selection,
+    })
+}
+
 #[tactic(auto, unfolding(crate::specs::Commands::command_of))]
 fn spelled_command(alloc: Global, tokens: &[Token<'_>]) -> Result<Command, LineFault>
     ensures { Gives (λ x. x) result (command_of tokens.now) }
@@ -191,6 +213,8 @@ fn spelled_command(alloc: Global, tokens: &[Token<'_>]) -> Result<Command, LineF
         prepare(alloc, rest)
     } else if is_word(first, b"commit") {
         commit(alloc, rest)
+    } else if is_word(first, b"query") {
+        query(alloc, rest)
     } else {
         Err(LineFault::Malformed)
     }

@@ -9,6 +9,7 @@ mod part;
 mod printing;
 mod production;
 mod reading;
+mod selection;
 mod silent;
 mod token;
 mod value;
@@ -18,6 +19,7 @@ pub use command::{Command, read_command};
 pub use fault::LineFault;
 pub use operation::Operation;
 pub use printing::{push_hex, push_value};
+pub use selection::{Condition, Selection};
 pub use silent::is_silent;
 
 #[cfg(test)]

@@ -33,7 +33,7 @@ pub enum Operation {
 }
 
 #[tactic(auto, unfolding(crate::specs::Commands::tuple_at))]
-fn tuple<'t, 'a>(
+pub(crate) fn tuple<'t, 'a>(
     alloc: Global,
     tokens: &'t [Token<'a>],
 ) -> Result<(Values, &'t [Token<'a>]), LineFault>

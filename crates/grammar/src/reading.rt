@@ -9,7 +9,8 @@ use keycode::Text;
 use row_map::ColumnType;
 use std::alloc::{AllocError, Global};
 
-fn is_mark(token: &Token<'_>, wanted: Mark) -> bool
+/// Whether a token is this mark.
+pub fn is_mark(token: &Token<'_>, wanted: Mark) -> bool
     ensures { result ≡ is_mark wanted token.now }
 {
     match token {

@@ -213,6 +213,166 @@ fn values_of_each_kind(rt: HostRuntime) -> Result<(), Fail> {
     Ok(())
 }
 
+fn columns_of(alloc: Global, names: &[&str]) -> Result<Option<Listed<Text>>, AllocError> {
+    let mut columns = Vec::new(alloc);
+    for name in names {
+        columns.push(text(alloc, name)?)?;
+    }
+    Ok(Some(Listed::new(columns)))
+}
+
+fn reads_query(
+    alloc: Global,
+    line: &str,
+    columns: Option<Listed<Text>>,
+    conditions: Vec<Condition>,
+) -> Result<bool, AllocError> {
+    let selection = Selection {
+        table: text(alloc, "t")?,
+        columns,
+        conditions: Listed::new(conditions),
+    };
+    let expected = Command::Query {
+        server: text(alloc, "s")?,
+        moment: 4,
+        selection,
+    };
+    Ok(read_command(alloc, line.as_bytes()) == Ok(expected))
+}
+
+fn equal(alloc: Global, column: &str, number: i64) -> Result<Condition, AllocError> {
+    Ok(Condition::Equal {
+        column: text(alloc, column)?,
+        value: Value::Int(number),
+    })
+}
+
+fn between(
+    alloc: Global,
+    low: Option<Value>,
+    high: Option<Value>,
+) -> Result<Condition, AllocError> {
+    Ok(Condition::Between {
+        column: text(alloc, "a")?,
+        low,
+        high,
+    })
+}
+
+fn reads_condition(alloc: Global, line: &str, condition: Condition) -> Result<bool, AllocError> {
+    let conditions = vec![in alloc; condition]?;
+    reads_query(alloc, line, None, conditions)
+}
+
+fn every_column(alloc: Global) -> Result<bool, AllocError> {
+    let line = "query s at 4: select * from t";
+    reads_query(alloc, line, None, Vec::new(alloc))
+}
+
+fn two_columns(alloc: Global) -> Result<bool, AllocError> {
+    let line = "query s at 4:select b,a from t";
+    let columns = columns_of(alloc, &["b", "a"])?;
+    reads_query(alloc, line, columns, Vec::new(alloc))
+}
+
+fn columns_by_place(alloc: Global) -> Result<bool, AllocError> {
+    let line = "query s at 4: select from, and, where from t where and = 1 and between = -2";
+    let columns = columns_of(alloc, &["from", "and", "where"])?;
+    let first = equal(alloc, "and", 1)?;
+    let second = equal(alloc, "between", -2)?;
+    reads_query(alloc, line, columns, vec![in alloc; first, second]?)
+}
+
+#[test]
+fn selected_columns(rt: HostRuntime) -> Result<(), Fail> {
+    let alloc = rt.alloc();
+    assert!(rt; every_column(alloc)?);
+    assert!(rt; two_columns(alloc)?);
+    assert!(rt; columns_by_place(alloc)?);
+    Ok(())
+}
+
+fn key_condition(alloc: Global) -> Result<bool, AllocError> {
+    let line = "query s at 4: select * from t where key = (7, 'x')";
+    let values = vec![in alloc; Value::Int(7), Value::Text(text(alloc, "x")?)]?;
+    reads_condition(alloc, line, Condition::Key(Listed::new(values)))
+}
+
+fn equal_condition(alloc: Global) -> Result<bool, AllocError> {
+    let line = "query s at 4: select * from t where a = 5";
+    reads_condition(alloc, line, equal(alloc, "a", 5)?)
+}
+
+fn at_least_condition(alloc: Global) -> Result<bool, AllocError> {
+    let line = "query s at 4: select * from t where a >= 5";
+    reads_condition(alloc, line, between(alloc, Some(Value::Int(5)), None)?)
+}
+
+fn at_most_condition(alloc: Global) -> Result<bool, AllocError> {
+    let line = "query s at 4: select * from t where a<=5";
+    reads_condition(alloc, line, between(alloc, None, Some(Value::Int(5)))?)
+}
+
+#[test]
+fn conditions_of_each_kind(rt: HostRuntime) -> Result<(), Fail> {
+    let alloc = rt.alloc();
+    assert!(rt; key_condition(alloc)?);
+    assert!(rt; equal_condition(alloc)?);
+    assert!(rt; at_least_condition(alloc)?);
+    assert!(rt; at_most_condition(alloc)?);
+    Ok(())
+}
+
+fn between_and_another(alloc: Global) -> Result<bool, AllocError> {
+    let line = "query s at 4: select b from t where a between 1 and 5 and b = 2";
+    let columns = columns_of(alloc, &["b"])?;
+    let first = between(alloc, Some(Value::Int(1)), Some(Value::Int(5)))?;
+    let second = equal(alloc, "b", 2)?;
+    reads_query(alloc, line, columns, vec![in alloc; first, second]?)
+}
+
+#[test]
+fn two_conditions(rt: HostRuntime) -> Result<(), Fail> {
+    assert!(rt; between_and_another(rt.alloc())?);
+    Ok(())
+}
+
+#[test]
+fn bad_queries(rt: HostRuntime) {
+    let alloc = rt.alloc();
+    for line in [
+        "query s at 4:",
+        "query s at 4 select * from t",
+        "query s: select * from t",
+        "query s at 4: select from t",
+        "query s at 4: select *, a from t",
+        "query s at 4: select a, * from t",
+        "query s at 4: select a, from t",
+        "query s at 4: select a b from t",
+        "query s at 4: select a t",
+        "query s at 4: select *",
+        "query s at 4: select * from",
+        "query s at 4: select * from t u",
+        "query s at 4: select * from t;",
+        "query s at 4: select * from t where",
+        "query s at 4: select * from t and a = 1",
+        "query s at 4: select * from t where a",
+        "query s at 4: select * from t where a = b",
+        "query s at 4: select * from t where a = 1 b = 2",
+        "query s at 4: select * from t where a = 1 and",
+        "query s at 4: select * from t where a = 1, b = 2",
+        "query s at 4: select * from t where a > 1",
+        "query s at 4: select * from t where a between 1",
+        "query s at 4: select * from t where a between 1 5",
+        "query s at 4: select * from t where key >= 1",
+        "query s at 4: select * from t where key = 1",
+        "query s at 4: select * from t where key = ()",
+        "query s at 4: select * from t where key = (1) x",
+    ] {
+        assert!(rt; is_bad(alloc, line), "at {line}");
+    }
+}
+
 #[test]
 fn bad_lines(rt: HostRuntime) {
     let alloc = rt.alloc();

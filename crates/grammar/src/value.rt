@@ -78,7 +78,7 @@ fn value_in(alloc: Global, token: &Token<'_>) -> Result<Option<Value>, AllocErro
 }
 
 /// The value at the front.
-fn value<'t, 'a>(
+pub fn value<'t, 'a>(
     alloc: Global,
     tokens: &'t [Token<'a>],
 ) -> Result<(Value, &'t [Token<'a>]), LineFault>
