@@ -3,6 +3,7 @@ use Rattle.std.specs.Prelude.{◌≡◌, ◌≢◌, ℕ, zero, suc, ◌+◌, ◌
 use Rattle.std.proofs.Common.{sym, ap, subst, ◌∙◌, inl, inr, true≢false, arith}
 use Rattle.std.proofs.lemmas.List.{append-nil}
 use Rattle.std.proofs.lemmas.List.Concat.{flat_map-cons}
+use Rattle.std.proofs.lemmas.List.Sorted.{IsPermutation-refl}
 use Rattle.std.proofs.lemmas.List.Folds.{list_any-append}
 use Rattle.std.proofs.lemmas.Grind.{flat_map-append}
 use Rattle.std.proofs.lemmas.List.Sums.{sum_by-append}
@@ -23,7 +24,8 @@ use Rattle.schema_version.specs.Names.{IsName, max_elements}
 use Rattle.schema_version.specs.Moves.{is_edge, is_move_of, moves_element, is_entry, is_unready, IsFirstSuch, DependsOn, GoFault, GoFaultAt, MoveFault, IsAllowed, IsTaken, Enters, IsColumnList, IsWithinLimits, count_like, max_like, is_entry_like, after_step, as_element}
 use Rattle.schema_version.specs.Steps.{IsOrdered, in_state_or_none}
 use Rattle.change_plan.proofs.Steps.{same_or_apart, Becomes, Stays, Comes, Goes, Midway, after_allowed, not_both, not_given}
-use Rattle.change_plan.specs.Plans.{AreAllowed, after_plan, work_before, work_of}
+use Rattle.change_plan.specs.declared.least_plan.Reorg.{Reorg}
+use Rattle.change_plan.specs.Plans.{AreAllowed, IsWorkBefore, after_plan, work_before, work_of}
 use Rattle.change_plan.specs.declared.trip.Pace.{Pace}
 use Rattle.change_plan.specs.declared.trip.Pace.TheVariants.{ColumnIn, IndexIn, IndexInLate, IndexOut, ColumnOut, ColumnOutLate}
 use Rattle.change_plan.specs.declared.trip.Trip.{Trip}
@@ -121,6 +123,10 @@ departs_out IndexInLate e = absurd (true≢false e)
 departs_out IndexOut e = refl
 departs_out ColumnOut e = refl
 departs_out ColumnOutLate e = refl
+
+-- the order of the moves is one of the orders
+in_moves_order : (version : Version) (moves : List Move) (before : List Reorg) → before ≡ flat_map (work_before version) moves → IsWorkBefore version moves before
+in_moves_order version moves before is = subst (IsWorkBefore version moves) (sym is) (IsPermutation-refl (flat_map (work_before version) moves))
 
 module _ (old : Version) (trips : List Trip) (are : AreTrips old trips) where
   pub at_first : IsAt old trips 0 old
@@ -541,7 +547,7 @@ module _ (old : Version) (trips : List Trip) (are : AreTrips old trips) where
   steps_allowed room (suc count) time now at =
       let allowed : IsAllowed now (flat_map (move_of time) trips) = step_allowed time now at room in (
         allowed,
-        all_work time now at trips (λ t has. has),
+        in_moves_order now (flat_map (move_of time) trips) _ (all_work time now at trips (λ t has. has)),
         steps_allowed room count (suc time) _ (is_after time now at _ (after_allowed now (flat_map (move_of time) trips) at.numbered allowed)),
       )
 

@@ -1,5 +1,5 @@
 -- Plans that bring a batch of changes about, and the least of them.
-use Rattle.std.specs.Prelude.{◌≡◌, ℕ, ◌≤◌, List, [], ◌∷◌, length, Option, Some, None, flat_map, Contains}
+use Rattle.std.specs.Prelude.{◌≡◌, ℕ, ◌≤◌, List, [], ◌∷◌, length, Option, Some, None, flat_map, Contains, IsPermutation}
 use Rattle.std.specs.List.{AllZip, AllByRecursion}
 use Rattle.schema_version.specs.declared.element.ElementState.{ElementState}
 use Rattle.schema_version.specs.declared.element.ElementState.TheVariants.{Absent, Public}
@@ -35,10 +35,14 @@ abbrev pub after_plan : Version → List PlanStep → Version
 after_plan version [] = version
 after_plan version (first ∷ rest) = after_plan (after_step version first.step) rest
 
--- each step is allowed behind those before it, and the work that it needs stands before it, and nothing else
+-- the work that a step's moves need and no more, in any order
+abbrev pub IsWorkBefore : Version → List Move → List Reorg → Type 0
+IsWorkBefore version moves before = IsPermutation (flat_map (work_before version) moves) before
+
+-- each step is allowed behind those before it, and just the work that it needs stands before it
 abbrev pub AreAllowed : Version → List PlanStep → Type 0
 AreAllowed version [] = Unit {0}
-AreAllowed version (first ∷ rest) = IsAllowed version first.step × (first.before ≡ flat_map (work_before version) first.step) × AreAllowed (after_step version first.step) rest
+AreAllowed version (first ∷ rest) = IsAllowed version first.step × IsWorkBefore version first.step first.before × AreAllowed (after_step version first.step) rest
 
 -- the change drops this element
 abbrev pub Drops : ElementDef → Change → Type 0
