@@ -234,30 +234,30 @@ other_version s version other =
 ok_one : {A E : Type 0} (a b : A) → (Ok a ≡ (let r : Result A E = Ok b in r)) → a ≡ b
 ok_one a b e = cc
 
-pub lease_step : (f : Inside) (s : State) (log room : Vec Entry Global) (now moment place : ℕ) (lease : Lease) (schema : Version) (entry kept : Entry) → IsHeld f → state_of f ≡ s → now ≡ max moment f.moment
+pub lease_step : (f : Inside) (s : State) (log room : Vec Entry Global) (now moment place : ℕ) (lease : Lease) (schema : Version) (entry kept : Entry) → IsHeld f → state_of f ≡ s → now ≡ counted s moment
     → Serves f.line lease now → (now ≤ max_moment → Ok lease ≡ (let r : Result Lease LeaseFault = Ok (granted_at f.line now) in r)) → schema ≡ f.schema
     → entry ≡ record { moment = now; what = Granted lease } → kept ≡ record { moment = now; what = Granted lease } → log.items ≡ room.items ++ kept ∷ [] → room.items ≡ f.log.items → place ≡ length room.items + 1
     → LeaseStep s moment (Ok (record { lease = lease; schema = schema; receipt = record { place = place; entry = entry } })) (state_of (after_lease f log now))
 lease_step f s log room now moment place lease schema entry kept h view counted_at v granted same first second items made at =
     let done = lease_done f log now place lease schema entry kept h v.moment (ok_one lease (granted_at f.line now) (granted v.moment)) same first second (items ∙ ap (λ (es : List Entry). es ++ kept ∷ []) made) (at ∙ ap (λ (es : List Entry). length es + 1) made) in
-    subst (λ (n : ℕ). LeaseAt s n (Ok (record { lease = lease; schema = schema; receipt = record { place = place; entry = entry } })) (state_of (after_lease f log now))) (counted_is f s h view moment now counted_at)
+    subst (λ (n : ℕ). LeaseAt s n (Ok (record { lease = lease; schema = schema; receipt = record { place = place; entry = entry } })) (state_of (after_lease f log now))) counted_at
     (subst (λ (x : State). LeaseAt x now (Ok (record { lease = lease; schema = schema; receipt = record { place = place; entry = entry } })) (state_of (after_lease f log now))) view done)
 
-pub commit_unheld : (f : Inside) (s : State) (moment now : ℕ) (p : PreparedTxn) (lease : Lease) (fault : LeaseFault) (told_as : CommitFault) → IsHeld f → state_of f ≡ s → now ≡ max moment f.moment → lease ≡ p.lease
+pub commit_unheld : (f : Inside) (s : State) (moment now : ℕ) (p : PreparedTxn) (lease : Lease) (fault : LeaseFault) (told_as : CommitFault) → IsHeld f → state_of f ≡ s → now ≡ counted s moment → lease ≡ p.lease
     → IsFirst lease_rank (LeaseCondition f.line lease now) fault → told_as ≡ lease_told fault → CommitAt s (counted s moment) p (Err told_as) s
 commit_unheld f s moment now p lease fault told_as h view counted_at same first is =
     let line : f.line ≡ (facts_of s).line = line_is f s h view in
     let on_line : IsFirst lease_rank (LeaseCondition (facts_of s).line p.lease now) fault = subst (λ (l : Lease). IsFirst lease_rank (LeaseCondition (facts_of s).line l now) fault) same (subst (λ (l : Timeline). IsFirst lease_rank (LeaseCondition l lease now) fault) line first) in
     subst (λ (r : CommitFault). CommitAt s (counted s moment) p (Err r) s) (sym is)
-    (subst (λ (n : ℕ). CommitAt s n p (Err (lease_told fault)) s) (counted_is f s h view moment now counted_at) (lease_refused s now p fault on_line))
+    (subst (λ (n : ℕ). CommitAt s n p (Err (lease_told fault)) s) counted_at (lease_refused s now p fault on_line))
 
 -- prepared under another schema than that of the lease's version
-pub commit_other : (f : Inside) (s : State) (moment now : ℕ) (p : PreparedTxn) (lease : Lease) → IsHeld f → state_of f ≡ s → now ≡ max moment f.moment → lease ≡ p.lease → Serves f.line lease now → (p.schema ≡ f.schema → ⊥)
+pub commit_other : (f : Inside) (s : State) (moment now : ℕ) (p : PreparedTxn) (lease : Lease) → IsHeld f → state_of f ≡ s → now ≡ counted s moment → lease ≡ p.lease → Serves f.line lease now → (p.schema ≡ f.schema → ⊥)
     → CommitAt s (counted s moment) p (Err commit_fault.WrongSchema) s
 commit_other f s moment now p lease h view counted_at same v differ =
     let served : Serves (facts_of s).line p.lease now = subst (λ (l : Lease). Serves (facts_of s).line l now) same (subst (λ (l : Timeline). Serves l lease now) (line_is f s h view) v) in
     let opening : f.schema ≡ s.opening.schema = ap (λ (x : State). x.opening.schema) view in
-    subst (λ (n : ℕ). CommitAt s n p (Err commit_fault.WrongSchema) s) (counted_is f s h view moment now counted_at) ((inr (λ is. differ (some_same (sym is ∙ version_of_lease s now p.lease served.honest) ∙ sym opening)), lower s now p served), refl)
+    subst (λ (n : ℕ). CommitAt s n p (Err commit_fault.WrongSchema) s) counted_at ((inr (λ is. differ (some_same (sym is ∙ version_of_lease s now p.lease served.honest) ∙ sym opening)), lower s now p served), refl)
   where
     some_same : {a b : Version} → Some a ≡ (let o : Option Version = Some b in o) → a ≡ b
     some_same e = cc

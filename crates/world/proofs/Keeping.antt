@@ -187,7 +187,7 @@ one_at version other number is = by (eqb number (0 + 1)) is
     by true e = cc
     by false e = none_some other e
 
-consistent : (state : State) → IsKept state → IsConsistent state.opening.schema (facts_of state).rows state.pairs
+pub consistent : (state : State) → IsKept state → IsConsistent state.opening.schema (facts_of state).rows state.pairs
 consistent state k = record {
   elements = λ n above. elements n above (element_at state.opening.schema n) refl;
   exists = exists_exact state.opening.schema state.pairs (facts_of state).rows k.core.newest;

@@ -5,3 +5,4 @@ pub mod Keeping
 pub mod Soundness
 pub mod Calling
 pub mod Viewing
+pub mod Querying

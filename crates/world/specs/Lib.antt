@@ -1,5 +1,6 @@
 pub mod Replay
 pub mod Calls
+pub mod Querying
 pub mod Agreement
 pub mod Kept
 pub mod Code

@@ -2,10 +2,12 @@ ghost use Rattle.std.specs.Prelude.{◌≡◌};
 ghost use Rattle.world.specs.declared.fault.CommitFault.TheVariants as commit;
 ghost use Rattle.world.specs.declared.fault.GrantFault.TheVariants as grant;
 ghost use Rattle.world.specs.declared.fault.OpenFault.TheVariants as open_fault;
-ghost use Rattle.world.specs.Told.{set_told, lease_told};
+ghost use Rattle.world.specs.declared.fault.QueryRefusal.TheVariants as query;
+ghost use Rattle.world.specs.Told.{set_told, lease_told, query_told};
 
 use byte_map::Bytes;
 use lease::LeaseFault;
+use row_query::QueryFault;
 use std::alloc::AllocError;
 use thiserror::Error;
 use txn_store::SetFault;
@@ -66,6 +68,28 @@ pub enum CommitFault {
     Memory,
 }
 
+/// Why a query was not answered. Of several reasons the first in this order is told.
+#[derive(Clone, Copy, Debug, PartialEq, Eq, Error)]
+pub enum QueryRefusal {
+    /// The moment that counts is above 2^62.
+    #[error("the moment is above 2^62")]
+    MomentTooLarge,
+    /// The lease was never granted.
+    #[error("the lease was never granted")]
+    BadLease,
+    /// The lease ended before the moment that counts.
+    #[error("the lease ended at {until}, and now is {now}")]
+    LeaseEnded {
+        /// The end of the lease.
+        until: u64,
+        /// The moment that counts.
+        now: u64,
+    },
+    /// The query has a fault under the schema of the lease's version, or want of memory, which comes last.
+    #[error("{0}")]
+    Query(QueryFault),
+}
+
 impl From<AllocError> for OpenFault {
     ghost from_gives = { λ _ fault. fault ≡ open_fault.Memory };
 
@@ -110,5 +134,25 @@ impl From<LeaseFault> for CommitFault {
             LeaseFault::BadLease => CommitFault::BadLease,
             LeaseFault::LeaseEnded { until, now } => CommitFault::LeaseEnded { until, now },
         }
+    }
+}
+
+impl From<LeaseFault> for QueryRefusal {
+    ghost from_gives = { λ told fault. fault ≡ query_told told };
+
+    fn from(told: LeaseFault) -> QueryRefusal {
+        match told {
+            LeaseFault::MomentTooLarge => QueryRefusal::MomentTooLarge,
+            LeaseFault::BadLease => QueryRefusal::BadLease,
+            LeaseFault::LeaseEnded { until, now } => QueryRefusal::LeaseEnded { until, now },
+        }
+    }
+}
+
+impl From<QueryFault> for QueryRefusal {
+    ghost from_gives = { λ told fault. fault ≡ query.Query told };
+
+    fn from(told: QueryFault) -> QueryRefusal {
+        QueryRefusal::Query(told)
     }
 }

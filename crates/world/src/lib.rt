@@ -14,5 +14,8 @@ pub use audit::{CheckReport, audit};
 pub use committed::Committed;
 pub use config::Config;
 pub use entry::{Entry, Grant, Receipt, What};
-pub use fault::{CommitFault, GrantFault, OpenFault};
+pub use fault::{CommitFault, GrantFault, OpenFault, QueryRefusal};
 pub use world::World;
+
+#[cfg(test)]
+mod tests;

@@ -1,5 +1,5 @@
 //! The log: an entry is made, and its room too, before anything changes.
-ghost use Rattle.std.specs.Prelude.{◌≡◌, ◌<◌, ◌++◌, ◌∷◌, [], IfOk, OnOk};
+ghost use Rattle.std.specs.Prelude.{◌≡◌, ◌<◌, ◌+◌, ◌++◌, ◌∷◌, [], length, IfOk, OnOk};
 ghost use Rattle.std.specs.Vec.{vec_len, vec_capacity};
 ghost use Rattle.world.specs.declared.entry.What.TheVariants.{Txn};
 
@@ -34,6 +34,13 @@ pub(crate) fn txn_of(prepared: &Prepared) -> Result<What, AllocError>
 {
     let ops = prepared.ops_copied()?;
     Ok(What::Txn(*prepared.lease(), ops))
+}
+
+/// The place of the next entry, counted from 1.
+pub(crate) fn next_place(log: &Vec<Entry>) -> u64
+    ensures { result ≡ length log.now.items + 1 }
+{
+    log.len() as u64 + 1
 }
 
 /// Makes room for one entry more.

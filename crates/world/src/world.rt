@@ -2,20 +2,22 @@ ghost use Rattle.std.specs.Prelude.{◌≡◌, max, IfOk, IfErr, OnOk, OnErr, op
 ghost use Rattle.std.specs.FinMap as map;
 ghost use Rattle.lease.specs.Refusals.{Serves};
 ghost use Rattle.world.specs.Agreement.{Agrees};
-ghost use Rattle.world.specs.Calls.{OpenStep, LeaseStep, CommitStep, CommitAt, IsReadView, IsCheck, newest_of, version_of};
+ghost use Rattle.world.specs.Calls.{OpenStep, LeaseStep, CommitStep, CommitAt, IsReadView, IsCheck, counted, newest_of, version_of};
+ghost use Rattle.world.specs.Querying.{QueryStep};
 ghost use Rattle.world.specs.Replay.{facts_of, IsReplayed};
 
 use crate::committed::Committed;
 use crate::config::Config;
 use crate::entry::{Entry, Grant, Receipt, What};
-use crate::fault::{CommitFault, GrantFault, OpenFault};
-use crate::logging::{append, entry_pair, make_room, txn_of};
+use crate::fault::{CommitFault, GrantFault, OpenFault, QueryRefusal};
+use crate::logging::{append, entry_pair, make_room, next_place, txn_of};
 use crate::opening::{begin, declare};
 use crate::reading::read_all;
 use audit::{CheckReport, audit};
-use lease::Timeline;
-use listed::Counted;
-use row_map::{PairView, ReadSet, ReadView};
+use lease::{Lease, Timeline};
+use listed::{Counted, Listed};
+use row_map::{PairView, ReadSet, ReadView, Row};
+use row_query::{Query, answer, one_refusal};
 use row_write::{Prepared, RowOutcome};
 use schema_version::Schema;
 use std::alloc::{AllocError, Global};
@@ -79,14 +81,14 @@ impl World {
     pub fn lease(&mut self, alloc: Global, moment: u64) -> Result<Grant, GrantFault>
         ensures step { LeaseStep self.old moment result self.new }
     {
-        let now = moment.max(self.moment);
+        let now = self.counted(moment);
         let Ok(lease) = self.line.grant(now) else {
             return Err(GrantFault::MomentTooLarge);
         };
         let schema = self.schema.clone()?;
         let (entry, kept) = entry_pair(alloc, now, What::Lease(lease))?;
         make_room(&mut self.log)?;
-        let place = self.log.as_slice().len() as u64 + 1;
+        let place = next_place(&self.log);
         append(&mut self.log, kept);
         self.moment = now;
         Ok(Grant {
@@ -130,6 +132,28 @@ impl World {
         audit(alloc, self.schema.get(), &self.store)
     }
 
+    /// The rows that a query asks for, as the log gives them: in the order of their primary keys, each with its values in
+    /// the named columns.
+    ///
+    /// The query runs under the schema of the lease's version, whichever of its paths finds the rows. The moment that
+    /// counts is the greater of `moment` and the moment of the last entry. Refused in this order: `MomentTooLarge` where
+    /// the moment that counts is above 2^62; `BadLease` where the lease was never granted; `LeaseEnded` where it is not
+    /// in force any more; `Query` with what `row_query::answer` refuses, want of memory last.
+    pub fn query(
+        &self,
+        alloc: Global,
+        moment: u64,
+        lease: &Lease,
+        query: &Query,
+    ) -> Result<Listed<Row>, QueryRefusal>
+        ensures { QueryStep self.now moment lease.now query.now result }
+    {
+        one_refusal();
+        let now = self.counted(moment);
+        self.line.standing(lease, now)?;
+        Ok(answer(alloc, self.schema.get(), &self.store, query)?)
+    }
+
     /// Commits a prepared transaction: it is logged and its batch is written, or the rows refuse it.
     ///
     /// The moment that counts is the greater of `moment` and the moment of the last entry. Refused in this order, and
@@ -146,7 +170,7 @@ impl World {
     ) -> Result<Committed, (CommitFault, Prepared)>
         ensures step { CommitStep self.old moment prepared result self.new }
     {
-        let now = moment.max(self.moment);
+        let now = self.counted(moment);
         match self.line.standing(prepared.lease(), now) {
             Ok(()) => (),
             Err(fault) => return Err((CommitFault::from(fault), prepared)),
@@ -195,12 +219,12 @@ impl World {
         ensures step { CommitAt self.old now prepared.now result self.new }
     {
         prepared.made();
-        let (entry, kept) = entry_pair(alloc, now, txn_of(prepared)?)?;
+        let (entry, logged) = entry_pair(alloc, now, txn_of(prepared)?)?;
         make_room(&mut self.log)?;
-        let place = self.log.as_slice().len() as u64 + 1;
-        self.store
-            .test_and_set(alloc, prepared.expect(), prepared.batch())?;
-        append(&mut self.log, kept);
+        let place = next_place(&self.log);
+        let batch = prepared.batch();
+        self.store.test_and_set(alloc, prepared.expect(), batch)?;
+        append(&mut self.log, logged);
         self.moment = now;
         Ok(Committed::Done(Receipt { place, entry }))
     }
@@ -209,7 +233,14 @@ impl World {
     pub fn moment(&self) -> u64
         ensures { result ≡ (facts_of self.now).moment }
     {
-        self.moment
+        self.counted(0)
+    }
+
+    // The moment that counts where this one is handed in: moments never go back.
+    fn counted(&self, moment: u64) -> u64
+        ensures { result ≡ counted self.now moment }
+    {
+        moment.max(self.moment)
     }
 
     /// All entries, the first one first. The place of a receipt counts them from 1.

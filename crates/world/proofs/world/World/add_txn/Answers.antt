@@ -27,23 +27,23 @@ returns-in_err-test_and_set c =
     let v = served_by c.self.inside c.args.self.now c.args.now c.args.prepared.now c.self.invariant c.self.view_is c.made.ensures c.requires.schema c.requires.serves in
     let p = err_from_is_err_and c.from_residual-in_err-test_and_set.result c.from_residual-in_err-test_and_set.ensures.1 in
     let s =
-    subst (λ b. Sets c.args.prepared.now.expect b c.self.inside.store (Err c.in_err-test_and_set.field-0.0) c.test_and_set.new.self) c.batch.ensures
-    (subst (λ e. Sets e c.batch.result.now c.self.inside.store (Err c.in_err-test_and_set.field-0.0) c.test_and_set.new.self) c.expect.ensures c.in_err-test_and_set.ensures) in
+    subst (λ b. Sets c.args.prepared.now.expect b c.self.inside.store (Err c.in_err-test_and_set.field-0.0) c.test_and_set.new.self) c.batch-batch.ensures
+    (subst (λ e. Sets e c.batch-batch.result.now c.self.inside.store (Err c.in_err-test_and_set.field-0.0) c.test_and_set.new.self) c.expect.ensures c.in_err-test_and_set.ensures) in
     record { step = rw p.1 (step_failed c.self.inside c.args.self.now c.args.now c.args.prepared.now c.in_err-test_and_set.field-0.0 p.0 c.test_and_set.new.self c.make_room.new.log c.self.view_is v s c.in_ok-make_room.ensures.items p.2) }
 
 pub invariant_of-self-2 : goal.invariant_of-self-2
 invariant_of-self-2 c =
     let v = served_by c.self.inside c.args.self.now c.args.now c.args.prepared.now c.self.invariant c.self.view_is c.made.ensures c.requires.schema c.requires.serves in
-    let s = rw (c.expect.ensures, c.batch.ensures) at c.in_ok-test_and_set.ensures in
+    let s = rw (c.expect.ensures, c.batch-batch.ensures) at c.in_ok-test_and_set.ensures in
     let what = ap (λ (w : What). let e : Entry = record { moment = c.args.now; what = w } in e) c.in_ok-txn_of.ensures in
-    done_held c.self.inside c.args.now c.args.prepared.now c.test_and_set.new.self c.append.new.log c.make_room.new.log c.in_ok-entry.kept v s c.requires.done (c.in_ok-entry.ensures.second ∙ what) c.append.ensures c.in_ok-make_room.ensures.items
+    done_held c.self.inside c.args.now c.args.prepared.now c.test_and_set.new.self c.append.new.log c.make_room.new.log c.in_ok-entry.logged v s c.requires.done (c.in_ok-entry.ensures.second ∙ what) c.append.ensures c.in_ok-make_room.ensures.items
 
 pub returns : goal.returns
 returns c =
     let v = served_by c.self.inside c.args.self.now c.args.now c.args.prepared.now c.self.invariant c.self.view_is c.made.ensures c.requires.schema c.requires.serves in
-    let s = rw (c.expect.ensures, c.batch.ensures) at c.in_ok-test_and_set.ensures in
+    let s = rw (c.expect.ensures, c.batch-batch.ensures) at c.in_ok-test_and_set.ensures in
     let what = ap (λ (w : What). let e : Entry = record { moment = c.args.now; what = w } in e) c.in_ok-txn_of.ensures in
     record {
-      step = step_done c.self.inside c.args.self.now c.args.now (length c.as_slice.result.now + 1) c.args.prepared.now c.test_and_set.new.self c.append.new.log c.make_room.new.log c.in_ok-entry.entry c.in_ok-entry.kept c.self.view_is v s c.requires.done
-          (c.in_ok-entry.ensures.first ∙ what) (c.in_ok-entry.ensures.second ∙ what) c.append.ensures c.in_ok-make_room.ensures.items (ap (λ es. length es + 1) c.as_slice.ensures.value);
+      step = step_done c.self.inside c.args.self.now c.args.now c.next_place-place.result c.args.prepared.now c.test_and_set.new.self c.append.new.log c.make_room.new.log c.in_ok-entry.entry c.in_ok-entry.logged c.self.view_is v s c.requires.done
+          (c.in_ok-entry.ensures.first ∙ what) (c.in_ok-entry.ensures.second ∙ what) c.append.ensures c.in_ok-make_room.ensures.items c.next_place-place.ensures;
     }

@@ -3,16 +3,16 @@ use Rattle.world.proofs.Calling.{begun, lease_held, lease_step}
 use Rattle.world.proofs.world.World.lease.Goals as goal
 
 pub grant-requires : goal.grant-requires
-grant-requires c = begun c.self.inside c.self.invariant c.max-now.result
+grant-requires c = begun c.self.inside c.self.invariant c.counted-now.result
 
 pub invariant_of-self-2 : goal.invariant_of-self-2
 invariant_of-self-2 c =
-    lease_held c.self.inside c.append.new.log c.max-now.result c.in-Ok.lease c.in_ok-entry.kept c.self.invariant c.in_ok-entry.ensures.second
+    lease_held c.self.inside c.append.new.log c.counted-now.result c.in-Ok.lease c.in_ok-entry.kept c.self.invariant c.in_ok-entry.ensures.second
     (c.append.ensures ∙ ap (λ es. es ++ c.in_ok-entry.kept ∷ []) c.in_ok-make_room.ensures.items)
 
 pub returns : goal.returns
 returns c = record {
-  step = lease_step c.self.inside c.args.self.now c.append.new.log c.make_room.new.log c.max-now.result c.args.moment (length c.as_slice.result.now + 1) c.in-Ok.lease c.in_ok-schema.schema c.in_ok-entry.entry c.in_ok-entry.kept
-      c.self.invariant c.self.view_is c.max-now.ensures c.in-Ok.ensures.serves c.in-Ok.ensures.granted c.in_ok-schema.ensures.cases c.in_ok-entry.ensures.first c.in_ok-entry.ensures.second c.append.ensures c.in_ok-make_room.ensures.items
-      (ap (λ es. length es + 1) c.as_slice.ensures.value);
+  step = lease_step c.self.inside c.args.self.now c.append.new.log c.make_room.new.log c.counted-now.result c.args.moment c.next_place-place.result c.in-Ok.lease c.in_ok-schema.schema c.in_ok-entry.entry c.in_ok-entry.kept
+      c.self.invariant c.self.view_is c.counted-now.ensures c.in-Ok.ensures.serves c.in-Ok.ensures.granted c.in_ok-schema.ensures.cases c.in_ok-entry.ensures.first c.in_ok-entry.ensures.second c.append.ensures c.in_ok-make_room.ensures.items
+      c.next_place-place.ensures;
 }

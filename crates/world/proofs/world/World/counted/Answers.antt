@@ -1,0 +1,5 @@
+use Rattle.world.proofs.Calling.{counted_is}
+use Rattle.world.proofs.world.World.counted.Goals as goal
+
+pub returns : goal.returns
+returns c = counted_is c.self.inside c.args.self.now c.self.invariant c.self.view_is c.args.moment c.max.result c.max.ensures
