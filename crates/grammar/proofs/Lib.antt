@@ -3,3 +3,4 @@ pub mod Skips
 pub mod Cuts
 pub mod Doubling
 pub mod Selections
+pub mod Bounds

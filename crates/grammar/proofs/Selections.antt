@@ -1,6 +1,6 @@
 -- Steps of the loops that read the columns and the conditions of a selection.
 use Rattle.std.proofs.Common.{◌≡◌, ℕ, ◌+◌, ◌<◌, ◌≤◌, Bool, true, false, List, [], ◌∷◌, ◌++◌, ◌∙◌, sym, ap, refl, arith, length, get_or, drop, Option, Some, None, append_assoc, codes, if◌then◌else◌}
-use Rattle.std.proofs.lemmas.List.{append-nil, drop_more, at_drop_all}
+use Rattle.std.proofs.lemmas.List.{drop_more, at_drop_all}
 use Rattle.std.proofs.lemmas.Bool.Decides.{nat_tests}
 use Rattle.std.specs.Bool.{◌==◌}
 use Rattle.std.specs.Option.{option_map}

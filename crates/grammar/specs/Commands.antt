@@ -1,5 +1,5 @@
 -- The productions of the grammar: what lists of tokens spell, read whole unless a name ends in `_at`.
-use Rattle.std.specs.Prelude.{ℕ, List, [], ◌∷◌, Option, Some, None, Result, Ok, Err, Bool, true, false, not, ◌&&◌, ◌||◌, if◌then◌else◌, codes, map, filter}
+use Rattle.std.specs.Prelude.{◌≡◌, ℕ, List, [], ◌∷◌, Option, Some, None, Result, Ok, Err, Bool, true, false, not, ◌&&◌, ◌||◌, if◌then◌else◌, codes, map, filter}
 use Rattle.std.specs.Option.{option_map, option_and_then}
 use Rattle.keycode.specs.declared.value.Value.{Value}
 use Rattle.row_map.specs.declared.shape.ColumnType.{ColumnType}
@@ -273,6 +273,10 @@ conditions_within (b ∷ bs) ts = do
 -- `COND {and COND}`: a condition has a token at least
 abbrev pub conditions_of : List Token → Option (List Condition)
 conditions_of ts = conditions_within ts ts
+
+-- that the bound leaves nothing out: behind a condition stands nothing, or an `and` and such a list again
+abbrev pub IsJoined : List Token → Type 0
+IsJoined ts = conditions_of ts ≡ (condition_at ts >>= λ x. option_map (λ more. x.0 ∷ more) (and_more conditions_of x.1))
 
 -- `[where COND {and COND}]`
 abbrev pub optional_conditions_of : List Token → Option (List Condition)

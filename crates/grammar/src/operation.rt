@@ -32,6 +32,7 @@ pub enum Operation {
     },
 }
 
+/// The values in round brackets at the front.
 #[tactic(auto, unfolding(crate::specs::Commands::tuple_at))]
 pub(crate) fn tuple<'t, 'a>(
     alloc: Global,

@@ -1,7 +1,7 @@
 //! The selection of a query: which columns of which table, under which conditions.
 ghost use Rattle.std.specs.Prelude.{◌≡◌, drop};
 ghost use Rattle.grammar.specs.Productions.{Gives, is_mark, begins_with};
-ghost use Rattle.grammar.specs.Commands.{columns_at, selected_at, key_condition_at, equal_at, at_least_at, at_most_at, between_at, comparison_at, column_condition_at, condition_at, conditions_of, optional_conditions_of, selection_of};
+ghost use Rattle.grammar.specs.Commands.{columns_at, selected_at, key_condition_at, equal_at, at_least_at, at_most_at, between_at, comparison_at, column_condition_at, condition_at, conditions_of, IsJoined, optional_conditions_of, selection_of};
 
 use crate::fault::LineFault;
 use crate::operation::tuple;
@@ -218,8 +218,11 @@ fn condition_at<'t, 'a>(
 }
 
 /// The conditions, with `and` between them, read to the end of the tokens.
+#[tactic(auto, using(crate::proofs::Bounds::unbounded))]
 fn conditions(alloc: Global, tokens: &[Token<'_>]) -> Result<Listed<Condition>, LineFault>
-    ensures { Gives (λ x. x) result (conditions_of tokens.now) }
+    ensures exact { Gives (λ x. x) result (conditions_of tokens.now) }
+    // Their number has no bound of its own.
+    ensures unbounded { IsJoined tokens.now }
 {
     let mut conditions = Vec::new(alloc);
     let mut rest = tokens;
