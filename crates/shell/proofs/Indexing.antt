@@ -1,7 +1,7 @@
 -- The tables with one index more, found by going over them.
 use Rattle.std.proofs.Common.{◌≡◌, ℕ, ◌+◌, ◌<◌, ◌≤◌, List, [], ◌∷◌, ◌++◌, length, get_or, take, drop, set, Option, Some, None, option_map, refl, sym, ap, subst, ◌∙◌, append_assoc, Bool, true, false, cond, arith, zero, suc, add-one}
 use Rattle.std.specs.Prelude.{bytes_eq}
-use Rattle.std.proofs.lemmas.List.{drop_more, take_more, append-nil}
+use Rattle.std.proofs.lemmas.List.{drop_more, take_more}
 use Rattle.schema_version.specs.declared.table.TableDef.{TableDef}
 use Rattle.shell.specs.Declaring.{with_index}
 

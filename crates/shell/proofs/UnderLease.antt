@@ -1,5 +1,5 @@
 -- A transaction under the lease that its server has.
-use Rattle.std.proofs.Common.{◌≡◌, ℕ, List, Option, Some, Bool, false, refl, sym, ap, subst, ◌∙◌}
+use Rattle.std.proofs.Common.{◌≡◌, ℕ, List, Option, Some, Bool, false, refl, sym, subst}
 use Rattle.std.specs.FinMap as map
 use Rattle.grammar.specs.declared.operation.Operation.{Operation}
 use Rattle.world.specs.Replay.{State}

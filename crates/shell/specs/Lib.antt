@@ -4,6 +4,7 @@ pub mod Declaring
 pub mod Naming
 pub mod Preparing
 pub mod Transacting
+pub mod Querying
 pub mod Running
 pub mod Replies
 pub mod Script

@@ -5,10 +5,16 @@ use mathlib.Core.List.{map as each}
 use Rattle.keycode.specs.declared.value.Value.{Value}
 use Rattle.grammar.specs.declared.operation.Operation.{Operation}
 use Rattle.grammar.specs.declared.operation.Operation.TheVariants as operation
+use Rattle.grammar.specs.declared.selection.Condition.{Condition}
+use Rattle.grammar.specs.declared.selection.Condition.TheVariants as condition
+use Rattle.grammar.specs.declared.selection.Selection.{Selection}
+use Rattle.row_query.specs.declared.query.Cond.{Cond}
+use Rattle.row_query.specs.declared.query.Cond.TheVariants as cond
+use Rattle.row_query.specs.declared.query.Query.{Query}
 use Rattle.row_write.specs.declared.op.RowOp.{RowOp}
 use Rattle.row_write.specs.declared.op.RowOp.TheVariants as row
 use Rattle.schema_version.specs.declared.element.ElementDef.{ElementDef}
-use Rattle.schema_version.specs.Version.{Version, Table, live, is_named}
+use Rattle.schema_version.specs.Version.{Version, Table, live, is_named, public_columns}
 
 abbrev pub table_number : Version → List ℕ → ℕ
 table_number version name = unwrap_or (option_map (λ place. place + 1) (position (λ (t : Table). bytes_eq name t.name) version.tables)) 0
@@ -34,3 +40,22 @@ resolved version (operation.Delete table key) = row.Delete (table_number version
 
 abbrev pub resolved_all : Version → List Operation → List RowOp
 resolved_all version operations = each (resolved version) operations
+
+-- `*` stands for the public columns by rising number
+abbrev pub column_numbers : Version → ℕ → Option (List (List ℕ)) → List ℕ
+column_numbers version table None = each (λ (e : ElementDef). e.number) (public_columns version table)
+column_numbers version table (Some names) = each (element_number version table) names
+
+abbrev pub looked_up : Version → ℕ → Condition → Cond
+looked_up version table (condition.Key key) = cond.Key key
+looked_up version table (condition.Equal column value) = cond.Equal (element_number version table column) value
+looked_up version table (condition.Between column low high) = cond.Between (element_number version table column) low high
+
+-- a query of the table of this number
+abbrev pub asked_of : Version → ℕ → Selection → Query
+asked_of version table selection =
+    record { table = table; columns = column_numbers version table selection.columns; conditions = each (looked_up version table) selection.conditions }
+
+-- a selection with its names looked up
+abbrev pub asked : Version → Selection → Query
+asked version selection = asked_of version (table_number version selection.table) selection

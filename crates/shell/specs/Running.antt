@@ -6,6 +6,7 @@ use Rattle.audit.specs.declared.report.CheckReport.{CheckReport}
 use Rattle.grammar.specs.declared.command.Command.{Command}
 use Rattle.grammar.specs.declared.command.Command.TheVariants as command
 use Rattle.grammar.specs.declared.operation.Operation.{Operation}
+use Rattle.grammar.specs.declared.selection.Selection.{Selection}
 use Rattle.row_write.specs.Made.{PreparedTxn}
 use Rattle.world.specs.Calls.{LeaseStep, CommitStep, IsCheck}
 use Rattle.world.specs.Replay.{State}
@@ -21,9 +22,10 @@ use Rattle.shell.specs.declared.preparing.Preparation.TheVariants.{Ready, Unprep
 use Rattle.shell.specs.declared.transacting.Transacted.{Transacted}
 use Rattle.shell.specs.Session.{Session}
 use Rattle.shell.specs.Declaring.{IsReply, IsBad}
-use Rattle.shell.specs.Naming.{resolved_all}
+use Rattle.shell.specs.Naming.{resolved_all, asked}
 use Rattle.shell.specs.Texts.{refused, grant_name, leased, pairs_text}
 use Rattle.shell.specs.Preparing.{Prepares, prepared_text}
+use Rattle.shell.specs.Querying.{Queried}
 use Rattle.shell.specs.Transacting.{Transacts, transacted_text, committed_text, commit_name}
 
 -- a refused lease leaves the server's old one
@@ -63,6 +65,11 @@ CommitOf old None work moment reply bad new = IsReply (refused (codes "NoWork"))
 CommitOf old (Some prepared) work moment reply bad new =
     (result : Result Committed (CommitFault × PreparedTxn)) × (world : State) × CommitStep old.world moment prepared result world × CommitEnds old work result world reply bad new
 
+-- a query under the server's lease, where it has one
+abbrev pub QueryUnder : Opened → Option Held → ℕ → Selection → List ℕ → Bool → Session → Type 0
+QueryUnder old None moment selection reply bad new = IsReply (refused (codes "NoServer")) reply bad × (new ≡ Running old)
+QueryUnder old (Some held) moment selection reply bad new = Queried old.world held moment (asked held.schema selection) reply × (bad ≡ false) × (new ≡ Running old)
+
 -- `ok rows R missing M extra X`
 abbrev pub check_text : CheckReport → List ℕ
 check_text report = codes "ok rows " ++ decimal report.rows ++ codes " missing " ++ decimal report.missing ++ codes " extra " ++ decimal report.extra
@@ -79,4 +86,5 @@ Answers old command.Check reply bad new = Checked old reply bad × (new ≡ Runn
 Answers old command.Log reply bad new = IsReply (codes "ok log " ++ decimal (length old.world.log)) reply bad × (new ≡ Running old)
 Answers old (command.Prepare work server operations) reply bad new = PrepareUnder old (map.get old.leases server) work operations reply bad new
 Answers old (command.Commit work moment) reply bad new = CommitOf old (map.get old.works work) work moment reply bad new
+Answers old (command.Query server moment selection) reply bad new = QueryUnder old (map.get old.leases server) moment selection reply bad new
 Answers old _ reply bad new = IsBad (Running old) reply bad new

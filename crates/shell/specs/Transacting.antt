@@ -1,5 +1,5 @@
 -- A transaction of a script: it reads, is prepared and is committed at once.
-use Rattle.std.specs.Prelude.{◌≡◌, ℕ, List, Result, Ok, Err, codes, ◌++◌}
+use Rattle.std.specs.Prelude.{◌≡◌, ℕ, List, Ok, Err, codes, ◌++◌}
 use Rattle.std.specs.Fmt.{decimal}
 use Rattle.grammar.specs.Printing.{hex}
 use Rattle.row_write.specs.declared.op.RowOp.{RowOp}

@@ -5,6 +5,7 @@ mod declaring;
 mod naming;
 mod options;
 mod preparing;
+mod querying;
 mod run;
 mod running;
 mod session;

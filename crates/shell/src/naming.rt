@@ -1,12 +1,15 @@
 //! The names of a script, looked up in a version of the schema.
 ghost use Rattle.std.specs.Prelude.{◌≡◌, IfOk};
-ghost use Rattle.shell.specs.Naming.{table_number, element_number, named_cells, resolved, resolved_all};
+ghost use mathlib.Core.List.{map};
+ghost use Rattle.schema_version.specs.Version.{is_public_column, public_columns};
+ghost use Rattle.shell.specs.Naming.{table_number, element_number, named_cells, resolved, resolved_all, column_numbers, looked_up, asked};
 
-use grammar::Operation;
+use grammar::{Condition, Operation, Selection};
 use keycode::{Text, Value, Values};
 use listed::Listed;
+use row_query::{Cond, Query};
 use row_write::{RowOp, RowOps};
-use schema_version::Schema;
+use schema_version::{ElementDef, ElementState, Kind, Schema};
 use std::alloc::{AllocError, Global};
 
 /// The number of a table, or 0.
@@ -89,4 +92,103 @@ pub(crate) fn resolved_all(
         ops.push(op)?;
     }
     Ok(Listed::new(ops))
+}
+
+/// Whether the element is a public column of the table.
+pub(crate) fn is_public_column(element: &ElementDef, table: u32) -> bool
+    ensures { result ≡ is_public_column table element.now }
+{
+    element.table == table
+        && matches!(element.state, ElementState::Public)
+        && matches!(element.kind, Kind::Optional(_))
+}
+
+fn all_columns(alloc: Global, schema: &Schema, table: u32) -> Result<Vec<u32>, AllocError>
+    ensures { IfOk result (λ columns. columns.items ≡ map (λ e. e.number) (public_columns schema.now table)) }
+{
+    schema
+        .elements()
+        .iter()
+        .filter(|e| is_public_column(*e, table))
+        .map(|e| e.number)
+        .collect(alloc)
+}
+
+fn column_numbers(
+    alloc: Global,
+    schema: &Schema,
+    table: u32,
+    names: &Option<Listed<Text>>,
+) -> Result<Vec<u32>, AllocError>
+    ensures { IfOk result (λ columns. columns.items ≡ column_numbers schema.now table names.now) }
+{
+    match names {
+        None => all_columns(alloc, schema, table),
+        Some(names) => names
+            .as_slice()
+            .iter()
+            .map(|name| element_number(schema, table, name))
+            .collect(alloc),
+    }
+}
+
+fn bound_copied(bound: &Option<Value>) -> Result<Option<Value>, AllocError>
+    ensures { IfOk result (λ copy. copy ≡ bound.now) }
+{
+    match bound {
+        None => Ok(None),
+        Some(value) => Ok(Some(value.clone()?)),
+    }
+}
+
+fn looked_up(schema: &Schema, table: u32, condition: &Condition) -> Result<Cond, AllocError>
+    ensures { IfOk result (λ cond. cond ≡ looked_up schema.now table condition.now) }
+{
+    match condition {
+        Condition::Key(key) => Ok(Cond::Key(copied(key)?)),
+        Condition::Equal { column, value } => {
+            let value = value.clone()?;
+            let column = element_number(schema, table, column);
+            Ok(Cond::Equal { column, value })
+        }
+        Condition::Between { column, low, high } => {
+            let low = bound_copied(low)?;
+            let high = bound_copied(high)?;
+            let column = element_number(schema, table, column);
+            Ok(Cond::Between { column, low, high })
+        }
+    }
+}
+
+fn all_looked_up(
+    alloc: Global,
+    schema: &Schema,
+    table: u32,
+    conditions: &[Condition],
+) -> Result<Vec<Cond>, AllocError>
+    ensures { IfOk result (λ conds. conds.items ≡ map (looked_up schema.now table) conditions.now) }
+{
+    let mut conds = Vec::new(alloc);
+    for condition in conditions {
+        conds.push(looked_up(schema, table, condition)?)?;
+    }
+    Ok(conds)
+}
+
+/// A selection with its names looked up. Refused for want of memory alone.
+pub(crate) fn asked(
+    alloc: Global,
+    schema: &Schema,
+    selection: &Selection,
+) -> Result<Query, AllocError>
+    ensures { IfOk result (λ query. query ≡ asked schema.now selection.now) }
+{
+    let table = table_number(schema, &selection.table);
+    let columns = column_numbers(alloc, schema, table, &selection.columns)?;
+    let conditions = all_looked_up(alloc, schema, table, selection.conditions.as_slice())?;
+    Ok(Query {
+        table,
+        columns: Listed::new(columns),
+        conditions: Listed::new(conditions),
+    })
 }

@@ -7,6 +7,7 @@ ghost use Rattle.shell.specs.Running.{Answers, check_text};
 ghost use Rattle.shell.specs.declared.session.Session.TheVariants.{Running};
 ghost use Rattle.shell.specs.Texts.{line, refused, grant_name, leased, value_behind, pair_line};
 
+use crate::querying::query;
 use crate::session::{Answer, Held, Opened, Session, bad_line, reply};
 use crate::transacting::{push_number, transact, transacted_line};
 use crate::works::{commit, prepare};
@@ -210,6 +211,11 @@ pub(crate) fn answer(
             operations,
         } => prepare(alloc, opened, &work, &server, operations.as_slice()),
         Command::Commit { work, moment } => commit(alloc, opened, &work, moment),
+        Command::Query {
+            server,
+            moment,
+            selection,
+        } => query(alloc, opened, &server, moment, &selection),
         _ => Ok((Session::Running(opened), bad_line(alloc)?)),
     }
 }

@@ -1,7 +1,8 @@
 //! Scripts whose replies were worked out by hand, from the bytes of the script to the bytes of the replies.
 
-use crate::run::{ScriptFault, run_script};
-use std::alloc::Global;
+use crate::run::{ScriptFault, Summary, run_script};
+use crate::status::script_status;
+use std::alloc::{AllocError, Global};
 use std::io;
 use std::io::{Read, Write};
 
@@ -36,6 +37,74 @@ impl Write for Limited {
     fn flush(&mut self) -> io::Result<()> {
         Ok(())
     }
+}
+
+/// A reader of so many spaces.
+#[derive(Drop)]
+struct Spaces {
+    left: usize,
+}
+
+impl Read for Spaces {
+    fn read(&mut self, buf: &mut [u8]) -> io::Result<usize> {
+        let count = buf.len().min(self.left);
+        buf[..count].fill(b' ');
+        self.left -= count;
+        Ok(count)
+    }
+}
+
+// What comes of so many spaces, and how many bytes are written.
+fn of_spaces(alloc: Global, left: usize) -> (Result<Summary, ScriptFault>, usize) {
+    let mut output = Vec::new(alloc);
+    let outcome = run_script(alloc, &mut Spaces { left }, &mut output);
+    (outcome, output.len())
+}
+
+// The longest script is read, and one byte more is too long: nothing is written.
+fn is_longest_read(alloc: Global) -> bool {
+    let read = Ok(Summary { lines: 1, bad: 1 });
+    of_spaces(alloc, 16_777_216) == (read, 9)
+        && of_spaces(alloc, 16_777_217) == (Err(ScriptFault::TooLong), 0)
+}
+
+// What comes of a byte that is no UTF-8 behind a good line, and how many bytes are written.
+fn is_no_text_refused(alloc: Global) -> bool {
+    let mut input: &[u8] = b"length 5\n\xff";
+    let mut output = Vec::new(alloc);
+    let outcome = run_script(alloc, &mut input, &mut output);
+    outcome == Err(ScriptFault::NotUtf8) && output.is_empty()
+}
+
+// Whether a script of `length 5` and spaces, so many bytes in all, gets this reply.
+fn answers_filled(alloc: Global, bytes: usize, reply: &str) -> Result<bool, AllocError> {
+    let mut script = Vec::from_slice(alloc, b"length 5")?;
+    script.resize(bytes, b' ')?;
+    let mut input = script.as_slice();
+    let mut output = Vec::new(alloc);
+    let outcome = run_script(alloc, &mut input, &mut output);
+    Ok(outcome.is_ok() && output.as_slice() == reply.as_bytes())
+}
+
+// Just so many bytes a line may have.
+fn is_longest_line_good(alloc: Global) -> Result<bool, AllocError> {
+    Ok(answers_filled(alloc, 65_536, "ok\n")? && answers_filled(alloc, 65_537, "bad line\n")?)
+}
+
+fn are_statuses_right() -> bool {
+    let good = Ok(Summary { lines: 2, bad: 0 });
+    let bad = Ok(Summary { lines: 2, bad: 2 });
+    if script_status(&good) != 0 || script_status(&bad) != 1 {
+        return false;
+    }
+    if script_status(&Err(ScriptFault::Read)) != 3
+        || script_status(&Err(ScriptFault::TooLong)) != 3
+    {
+        return false;
+    }
+    script_status(&Err(ScriptFault::NotUtf8)) == 3
+        && script_status(&Err(ScriptFault::Write)) == 4
+        && script_status(&Err(ScriptFault::Memory)) == 5
 }
 
 // Whether just so many bytes of the first run's replies go out through a writer that takes no more.
@@ -263,6 +332,61 @@ const SEVENTEEN_TABLES_REPLIES: &str = "ok\n\
     ok\n\
     refused BadTable\n";
 
+const QUERIES: &str = "table t (id int key, a int)\n\
+    index i on t (a)\n\
+    open\n\
+    lease s at 0\n\
+    txn s at 0: insert t (1) set a = 5; insert t (2); insert t (3) set a = 5; insert t (4) set a = 9\n\
+    query s at 0: select a from t where a = 5\n\
+    query s at 0: select a from t where a = null\n\
+    query s at 0: select a from t where a >= 6 and key = (4)\n\
+    query s at 0: select a from t where a = 'x'\n";
+
+const QUERIES_REPLIES: &str = "ok\n\
+    ok\n\
+    ok version 1\n\
+    ok lease 1 0 10\n\
+    ok done 2\n\
+    row (1) a = 5\n\
+    row (3) a = 5\n\
+    ok rows 2\n\
+    row (2) a = null\n\
+    ok rows 1\n\
+    row (4) a = 9\n\
+    ok rows 1\n\
+    refused WrongType\n";
+
+// Columns print by their numbers, each once; a key of two values, texts and bools; a column that isn't there is number 0.
+const SELECTIONS: &str = "table t (x int key, y text key, a int, b bool)\n\
+    open\n\
+    query s at 0: select * from t\n\
+    lease s at 0\n\
+    txn s at 0: insert t (2, 'it''s') set a = 7, b = true; insert t (1, '')\n\
+    query s at 0: select * from t\n\
+    query s at 0: select b, a, b from t where b = true\n\
+    query s at 0: select a from t where a between 1 and 7 and a <= 7\n\
+    query s at 0: select c from t\n\
+    query s at 0: select * from u\n\
+    query s at 10: select * from u\n\
+    query s at 0: select * from t where\n";
+
+const SELECTIONS_REPLIES: &str = "ok\n\
+    ok version 1\n\
+    refused NoServer\n\
+    ok lease 1 0 10\n\
+    ok done 2\n\
+    row (1, '') a = null, b = null\n\
+    row (2, 'it''s') a = 7, b = true\n\
+    ok rows 2\n\
+    row (2, 'it''s') a = 7, b = true\n\
+    ok rows 1\n\
+    row (2, 'it''s') a = 7\n\
+    ok rows 1\n\
+    refused NotPublic 0\n\
+    refused NoTable\n\
+    refused LeaseEnded 10 10\n\
+    bad line\n";
+
 #[test]
 fn first_run(rt: HostRuntime) {
     assert!(rt; answers(rt.alloc(), FIRST_RUN, FIRST_RUN_REPLIES, 0));
@@ -340,4 +464,34 @@ fn works(rt: HostRuntime) {
 #[test]
 fn seventeen_tables(rt: HostRuntime) {
     assert!(rt; answers(rt.alloc(), SEVENTEEN_TABLES, SEVENTEEN_TABLES_REPLIES, 0));
+}
+
+#[test]
+fn queries(rt: HostRuntime) {
+    assert!(rt; answers(rt.alloc(), QUERIES, QUERIES_REPLIES, 0));
+}
+
+#[test]
+fn selections(rt: HostRuntime) {
+    assert!(rt; answers(rt.alloc(), SELECTIONS, SELECTIONS_REPLIES, 1));
+}
+
+#[test]
+fn script_over_its_limit(rt: HostRuntime) {
+    assert!(rt; is_longest_read(rt.alloc()));
+}
+
+#[test]
+fn script_that_is_no_text(rt: HostRuntime) {
+    assert!(rt; is_no_text_refused(rt.alloc()));
+}
+
+#[test]
+fn line_over_its_limit(rt: HostRuntime) {
+    assert!(rt; is_longest_line_good(rt.alloc()) == Ok(true));
+}
+
+#[test]
+fn statuses(rt: HostRuntime) {
+    assert!(rt; are_statuses_right());
 }

@@ -69,7 +69,8 @@ fn push_prepare(out: &mut String, fault: PrepareFault) -> Result<(), AllocError>
     }
 }
 
-fn push_ended(out: &mut String, until: u64, now: u64) -> Result<(), AllocError>
+/// Adds the refusal of a lease that ended.
+pub(crate) fn push_ended(out: &mut String, until: u64, now: u64) -> Result<(), AllocError>
     ensures { OnOk result (string_bytes out.new ≡ string_bytes out.old ++ codes "LeaseEnded " ++ decimal until ++ codes " " ++ decimal now) }
 {
     out.push_str("LeaseEnded ")?;

@@ -1,15 +1,15 @@
 -- Each call of a World over its fields: the relation that it meets, and what is true of the fields afterwards.
-use Rattle.std.proofs.Common.{◌≡◌, ℕ, ◌+◌, ◌<◌, ◌≤◌, max, List, [], ◌∷◌, ◌++◌, length, Option, Some, None, Result, Ok, Err, refl, sym, ap, subst, ◌∙◌, ◌⊎◌, inl, inr, Vec, Global, arith, Bool, cond, ne_eqb}
+use Rattle.std.proofs.Common.{◌≡◌, ℕ, ◌+◌, ◌<◌, ◌≤◌, max, List, [], ◌∷◌, ◌++◌, length, Option, Some, None, Result, Ok, Err, refl, sym, ap, subst, ◌∙◌, inl, inr, Vec, Global, arith, Bool, cond, ne_eqb}
 use Rattle.std.specs.Prelude.{slice_get}
 use Rattle.std.specs.FinMap as map
 use Rattle.audit.specs.declared.report.CheckReport.{CheckReport}
 use Rattle.audit.specs.Audit.{IsAudit}
-use Rattle.listed.specs.Refusal.{IsClear, IsRefusal}
+use Rattle.listed.specs.Refusal.{IsClear}
 use Rattle.lease.specs.declared.lease.Lease.{Lease}
 use Rattle.lease.specs.declared.fault.LeaseFault.{LeaseFault}
 use Rattle.lease.specs.declared.fault.LeaseFault.TheVariants as lease_fault
 use Rattle.lease.specs.Refusals.{Serves, Condition as LeaseCondition, rank as lease_rank}
-use Rattle.lease.specs.Timeline.{Timeline, last_publication, granted_at, max_moment, IsHonest, opened as line_opened}
+use Rattle.lease.specs.Timeline.{Timeline, last_publication, granted_at, max_moment, opened as line_opened}
 use Rattle.listed.specs.Refusal.{IsFirst}
 use Rattle.row_map.specs.Expect.{Holds}
 use Rattle.row_map.specs.Rows.{Pairs}
@@ -24,7 +24,6 @@ use Rattle.txn_store.specs.declared.fault.SetFault.TheVariants as told
 use Rattle.txn_store.specs.Setting.{Sets}
 use Rattle.world.specs.declared.committed.Committed.TheVariants as committed
 use Rattle.world.specs.declared.entry.Entry.{Entry}
-use Rattle.world.specs.declared.entry.What.{What}
 use Rattle.world.specs.declared.entry.What.TheVariants.{Lease as Granted, Txn}
 use Rattle.world.specs.declared.fault.CommitFault.{CommitFault}
 use Rattle.world.specs.declared.fault.CommitFault.TheVariants as commit_fault

@@ -1,37 +1,28 @@
 -- An accepted transaction as the list of its changes: what it writes, and that each of them is one that the core may make.
-use Rattle.std.proofs.Common.{◌≡◌, ℕ, ◌+◌, ◌<◌, ◌≤◌, List, [], ◌∷◌, ◌++◌, length, Option, Some, None, Result, Ok, Err, refl, sym, ap, ap₂, subst, ◌∙◌, ◌⊎◌, inl, inr, cond, Bool, true, false}
-use Rattle.std.specs.Prelude.{◌≢◌, IsTrue}
+use Rattle.std.proofs.Common.{◌≡◌, ℕ, ◌+◌, List, [], ◌∷◌, ◌++◌, Option, Some, None, Result, Ok, Err, refl, sym, ap, subst, ◌∙◌, inl, inr, cond, true, false}
+use Rattle.std.specs.Prelude.{◌≢◌}
 use Rattle.std.specs.List.{AllByRecursion}
 use Rattle.std.specs.FinMap as map
 use Rattle.std.specs.FinMap.{nat_cmp-IsAntisymmetric}
 use Rattle.std.specs.Cmp.{nat_cmp_total}
 use Rattle.std.specs.Ordering.{nat_cmp, eq_by_cmp}
-use Rattle.byte_map.proofs.Written.{written_here, written_apart, same_or_apart, tied, apart}
+use Rattle.byte_map.proofs.Written.{written_here, written_apart, same_or_apart}
 use Rattle.keycode.specs.declared.value.Value.{Value}
-use Rattle.keycode.specs.declared.value.Value.TheVariants.{Null}
-use Rattle.keycode.specs.Valid.{IsStorable}
 use Rattle.row_map.specs.declared.shape.ColumnType.{ColumnType}
-use Rattle.row_map.specs.Rows.{RowKey, Cells, Rows, IsStorableRow, AreStorable}
-use Rattle.row_map.specs.Shape.{has_type}
+use Rattle.row_map.specs.Rows.{Cells, Rows}
 use Rattle.row_map.specs.Writes.{written, Writes}
-use Rattle.schema_version.specs.declared.element.ElementState.{ElementState}
 use Rattle.schema_version.specs.declared.element.ElementState.TheVariants.{Public}
 use Rattle.schema_version.specs.declared.element.ElementDef.{ElementDef}
-use Rattle.schema_version.specs.Version.{Version, Table, table_at, element_at}
-use Rattle.element_state.specs.Elements.{Change, rows_after, Fits, ChangesPublicOnly, IsStorableNew, cell}
-use Rattle.element_state.specs.Schemas.{Entry, Schema, state_of, version_writes}
-use Rattle.element_state.specs.Core.{Runs}
-use Rattle.element_state.specs.Whole.{RunsAll, rows_after_all, all_writes}
+use Rattle.schema_version.specs.Version.{Version}
+use Rattle.element_state.specs.Elements.{Change, rows_after}
+use Rattle.element_state.specs.Schemas.{Entry, state_of, version_writes}
+use Rattle.element_state.specs.Whole.{rows_after_all, all_writes}
 use Rattle.element_state.specs.Versions.{ElementKind, the_kinds, schema_of, get-schema_of, entry_of, row_entry}
 use Rattle.row_write.specs.declared.op.RowOp.{RowOp}
-use Rattle.row_write.specs.declared.op.RowOp.TheVariants.{Insert, Update, Delete}
-use Rattle.row_write.specs.declared.op.RowOutcome.{RowOutcome}
-use Rattle.row_write.specs.declared.op.RowOutcome.TheVariants.{Done, Refused}
 use Rattle.row_write.specs.declared.fault.RowFault.{RowFault}
-use Rattle.row_write.specs.Plain.{cell_of, with_cells, table_of, key_of, named_of, row_of, change_of, change, go_on, applied, told, outcome, kept, transacted}
+use Rattle.row_write.specs.Plain.{cell_of, with_cells, change, go_on, applied}
 use Rattle.row_write.specs.Reads.{IsPublicColumn}
-use Rattle.row_write.specs.Prepare.{HasColumn, Suits, IsTyped, write_on, writes_of, accepted_writes, txn_writes}
-use Rattle.row_write.specs.Made.{IsSound}
+use Rattle.row_write.specs.Prepare.{write_on, writes_of}
 
 -- ---- the changes of the operations, up to the first that is refused
 

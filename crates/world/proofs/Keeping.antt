@@ -1,32 +1,29 @@
 -- What each accepted call does to a state, and that it keeps what every state keeps.
-use Rattle.std.proofs.Common.{◌≡◌, ℕ, ◌+◌, ◌<◌, ◌≤◌, List, [], ◌∷◌, ◌++◌, length, Option, Some, None, option_map, Result, Ok, Err, refl, sym, ap, subst, ◌∙◌, ◌⊎◌, inl, inr, Bool, true, false, cond, eqb, eqb-true, arith}
+use Rattle.std.proofs.Common.{◌≡◌, ℕ, ◌+◌, ◌≤◌, List, [], ◌∷◌, ◌++◌, Option, Some, None, option_map, Result, Ok, Err, refl, sym, ap, subst, ◌∙◌, inl, inr, Bool, true, false, cond, eqb}
 use Rattle.std.specs.List.{AllByRecursion}
 use Rattle.std.specs.FinMap as map
-use Rattle.std.specs.FinMap.{FinMap}
 use Rattle.byte_map.proofs.Written.{laid-noted}
 use Rattle.keycode.proofs.Orders.{bytes_cmp_total, bytes_cmp-IsAntisymmetric}
 use Rattle.lease.specs.declared.lease.Lease.{Lease}
-use Rattle.lease.specs.Timeline.{WasNewest, IsHonest, IsUsable, opened as line_opened}
+use Rattle.lease.specs.Timeline.{WasNewest, IsHonest, opened as line_opened}
 use Rattle.row_map.specs.Expect.{Holds}
 use Rattle.row_map.specs.Rows.{Rows, Pairs}
-use Rattle.row_map.specs.Writes.{Writes, Batch, written_all, noted, laid}
+use Rattle.row_map.specs.Writes.{Batch, written_all, laid}
 use Rattle.schema_version.specs.declared.element.ElementDef.{ElementDef}
 use Rattle.schema_version.specs.Version.{Version, element_at}
 use Rattle.element_state.specs.Core.{Core, Invariant, Meets}
-use Rattle.element_state.specs.Elements.{Change, rows_after}
 use Rattle.element_state.specs.Opening.{opened_holds}
 use Rattle.element_state.specs.Schemas.{AreLawful}
-use Rattle.element_state.specs.Versions.{ElementKind, the_kinds, schema_of, get-schema_of, entry_of, exists_exact}
-use Rattle.element_state.specs.Whole.{all_writes, rows_after_all, commit_all_kept}
+use Rattle.element_state.specs.Versions.{ElementKind, the_kinds, schema_of, entry_of, exists_exact}
+use Rattle.element_state.specs.Whole.{all_writes, commit_all_kept}
 use Rattle.row_write.specs.declared.op.RowOp.{RowOp}
 use Rattle.row_write.specs.declared.op.RowOutcome.{RowOutcome}
 use Rattle.row_write.specs.declared.op.RowOutcome.TheVariants.{Done, Refused}
 use Rattle.row_write.specs.declared.fault.RowFault.{RowFault}
 use Rattle.row_write.specs.Plain.{applied, told, outcome, kept, transacted}
 use Rattle.row_write.specs.Prepare.{writes_of, accepted_writes, txn_writes, Spells}
-use Rattle.row_write.specs.Made.{PreparedTxn, IsSound, IsMade, expects}
+use Rattle.row_write.specs.Made.{PreparedTxn, IsSound, IsMade}
 use Rattle.world.specs.declared.entry.Entry.{Entry}
-use Rattle.world.specs.declared.entry.What.{What}
 use Rattle.world.specs.declared.entry.What.TheVariants.{Lease as Granted, Txn}
 use Rattle.world.specs.Agreement.{Agrees}
 use Rattle.element_state.specs.Consistent.{IsConsistent, DemandOf, AreLawfulRows}

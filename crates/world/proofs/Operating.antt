@@ -1,10 +1,9 @@
 -- Each operation of a prepared transaction is one that the core may make, and it keeps rows lawful.
-use Rattle.std.proofs.Common.{◌≡◌, ℕ, suc, ◌+◌, ◌<◌, ◌≤◌, ◌^◌, List, [], ◌∷◌, length, Option, Some, None, Result, Ok, Err, refl, sym, ap, subst, ◌∙◌, ◌⊎◌, inl, inr, Bool, true, false, ◌&&◌}
+use Rattle.std.proofs.Common.{◌≡◌, ℕ, suc, ◌≤◌, List, [], ◌∷◌, length, Option, Some, None, Result, Ok, Err, refl, sym, ap, subst, ◌∙◌, inl, inr}
 use Rattle.std.specs.Prelude.{◌≢◌, IsTrue}
 use Rattle.std.specs.List.{AllByRecursion}
-use Rattle.std.specs.Cmp.Lexicographic.{pointwise, as_long}
+use Rattle.std.specs.Cmp.Lexicographic.{as_long}
 use Rattle.std.specs.FinMap as map
-use Rattle.std.specs.FinMap.{nat_cmp-IsAntisymmetric}
 use Rattle.std.specs.Ordering.{nat_cmp}
 use mathlib.Core.List.{map as each}
 use Rattle.keycode.specs.declared.value.Value.{Value}
@@ -12,16 +11,15 @@ use Rattle.keycode.specs.declared.value.Value.TheVariants.{Null, Int, Text, Bool
 use Rattle.keycode.specs.Valid.{IsValue, IsShort, IsStorable}
 use Rattle.row_map.specs.declared.shape.ColumnType.{ColumnType}
 use Rattle.row_map.specs.Keys.{AreKeyValues}
-use Rattle.row_map.specs.Rows.{RowKey, Cells, Rows, IsStorableRow, AreStorable}
+use Rattle.row_map.specs.Rows.{RowKey, Cells, Rows, IsStorableRow}
 use Rattle.row_map.specs.Shape.{has_type}
-use Rattle.schema_version.specs.declared.element.ElementState.{ElementState}
 use Rattle.schema_version.specs.declared.element.ElementState.TheVariants.{Public}
 use Rattle.schema_version.specs.declared.element.Kind.{Kind}
-use Rattle.schema_version.specs.declared.element.Kind.TheVariants.{Index, Optional}
+use Rattle.schema_version.specs.declared.element.Kind.TheVariants.{Optional}
 use Rattle.schema_version.specs.declared.element.ElementDef.{ElementDef}
-use Rattle.schema_version.specs.Version.{Version, Table, table_at, element_at}
-use Rattle.element_state.specs.Effects.{row_here, row_apart, key_one, storable_after}
-use Rattle.element_state.specs.Elements.{Change, rows_after, Fits, ChangesPublicOnly, IsStorableNew, cell}
+use Rattle.schema_version.specs.Version.{Version, element_at}
+use Rattle.element_state.specs.Effects.{row_here, row_apart, key_one}
+use Rattle.element_state.specs.Elements.{Change, rows_after, cell}
 use Rattle.element_state.specs.Schemas.{state_of}
 use Rattle.element_state.specs.Core.{Runs}
 use Rattle.element_state.specs.Whole.{RunsAll, rows_after_all}

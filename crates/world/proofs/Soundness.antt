@@ -1,8 +1,7 @@
 -- What the core wants of a version is true of every sound one.
-use Rattle.std.proofs.Common.{◌≡◌, ℕ, zero, suc, ◌+◌, ◌<◌, ◌≤◌, ◌^◌, ◌-◌, List, [], ◌∷◌, length, Option, Some, None, option_map, refl, sym, ap, subst, ◌∙◌, Bool, true, false, cond, arith}
+use Rattle.std.proofs.Common.{◌≡◌, ℕ, zero, suc, ◌+◌, ◌<◌, ◌≤◌, ◌-◌, List, [], ◌∷◌, length, Option, Some, None, option_map, refl, sym, subst, ◌∙◌, Bool, true, false, cond, arith}
 use Rattle.std.specs.Prelude.{slice_get, ◌==◌, if◌then◌else◌}
 use Rattle.std.specs.List.{AllByRecursion}
-use Rattle.std.specs.FinMap as map
 use Rattle.std.specs.FinMap.{nat_cmp-IsAntisymmetric}
 use Rattle.std.specs.Cmp.{Equal-is}
 use Rattle.std.specs.Ordering.{nat_cmp, eq_by_cmp}
@@ -11,10 +10,10 @@ use Rattle.schema_version.specs.declared.element.Kind.TheVariants.{Index, Option
 use Rattle.schema_version.specs.declared.element.ElementDef.{ElementDef}
 use Rattle.schema_version.specs.Moves.{IsColumnList}
 use Rattle.schema_version.specs.Sound.{IsSoundTable, IsSoundElement, IsSoundVersion}
-use Rattle.schema_version.specs.Version.{Version, Table, table_at, element_at}
+use Rattle.schema_version.specs.Version.{Version, Table, element_at}
 use Rattle.element_state.specs.Kinds.{IsLawfulKind}
-use Rattle.element_state.specs.Schemas.{Entry, Schema, AreLawful}
-use Rattle.element_state.specs.Versions.{ElementKind, Row, Of, the_kinds, schema_of, get-schema_of, entry_of, row_entry, IsLawful, IsLawfulOf}
+use Rattle.element_state.specs.Schemas.{Entry, AreLawful}
+use Rattle.element_state.specs.Versions.{ElementKind, the_kinds, schema_of, get-schema_of, entry_of, row_entry, IsLawful}
 use Rattle.world.specs.Kept.{AreTablesSmall, AreNumbersFit}
 
 none_some : {A B : Type 0} (v : A) → None ≡ Some v → B

@@ -1,27 +1,24 @@
 -- Where a store agrees with a version and rows, reads that hold spell those rows.
-use Rattle.std.proofs.Common.{◌≡◌, ℕ, suc, ◌+◌, ◌<◌, ◌≤◌, ◌^◌, List, [], ◌∷◌, length, Option, Some, None, option_map, refl, sym, ap, subst, ◌∙◌, ◌⊎◌, inl, inr, Bool, true, false, cond, eqb, eq-eqb, arith}
-use Rattle.std.specs.Prelude.{◌≢◌, IsTrue, Contains, ◌↔◌}
+use Rattle.std.proofs.Common.{◌≡◌, ℕ, suc, ◌≤◌, List, [], ◌∷◌, Option, Some, None, option_map, refl, sym, ap, subst, ◌∙◌, ◌⊎◌, inl, inr, Bool, false, cond, eqb, eq-eqb, arith}
+use Rattle.std.specs.Prelude.{◌≢◌, Contains, ◌↔◌}
 use Rattle.std.specs.List.{AllByRecursion}
 use Rattle.std.specs.FinMap as map
 use Rattle.std.specs.FinMap.{nat_cmp-IsAntisymmetric}
 use Rattle.std.specs.Cmp.{nat_cmp_total}
 use Rattle.std.specs.Ordering.{nat_cmp, eq_by_cmp}
 use Rattle.byte_map.proofs.Written.{same_or_apart, apart}
-use Rattle.keycode.specs.declared.value.Value.{Value}
 use Rattle.keycode.specs.Code.{code}
-use Rattle.keycode.specs.Valid.{IsStorable}
 use Rattle.keycode.proofs.Orders.{bytes_cmp_total, bytes_cmp-IsAntisymmetric}
 use Rattle.row_map.specs.declared.shape.ColumnType.{ColumnType}
 use Rattle.row_map.specs.Expect.{View, Holds}
 use Rattle.row_map.specs.Keys.{row_code}
 use Rattle.row_map.specs.Rows.{Bytes, RowKey, Cells, Rows, Pairs, IsStorableRow, AreStorable}
-use Rattle.row_map.specs.Shape.{has_type}
 use Rattle.schema_version.specs.declared.element.ElementState.{ElementState}
 use Rattle.schema_version.specs.declared.element.ElementState.TheVariants.{Public}
 use Rattle.schema_version.specs.declared.element.Kind.{Kind}
 use Rattle.schema_version.specs.declared.element.Kind.TheVariants.{Optional}
 use Rattle.schema_version.specs.declared.element.ElementDef.{ElementDef}
-use Rattle.schema_version.specs.Version.{Version, Table, table_at, element_at}
+use Rattle.schema_version.specs.Version.{Version, element_at}
 use Rattle.element_state.specs.Column.{column_meaning, IsLawfulColumn, coded}
 use Rattle.element_state.specs.ColumnLaws.{column_laws}
 use Rattle.element_state.specs.Core.{IsConsistent as Consistent, Meets}
@@ -31,7 +28,7 @@ use Rattle.element_state.specs.Apart.{not_none}
 use Rattle.element_state.specs.Kinds.{kind_meaning}
 use Rattle.element_state.specs.Laws.{Laws}
 use Rattle.element_state.specs.Tables.{within, some_in}
-use Rattle.element_state.specs.Versions.{ElementKind, the_kinds, schema_of, get-schema_of, entry_of, row_entry, row_there, row_missing}
+use Rattle.element_state.specs.Versions.{the_kinds, schema_of, get-schema_of, entry_of, row_entry, row_there, row_missing}
 use Rattle.row_write.specs.declared.op.RowOp.{RowOp}
 use Rattle.row_write.specs.Plain.{table_of, key_of, row_of}
 use Rattle.row_write.specs.Reads.{IsPublicColumn, IsRead}

@@ -3,7 +3,7 @@ use Rattle.std.specs.Prelude.{◌≡◌, ℕ, Some}
 use Rattle.lease.specs.Timeline.{IsUsable}
 use Rattle.schema_version.specs.Version.{Version}
 use Rattle.element_state.specs.Consistent.{IsConsistent}
-use Rattle.world.specs.Replay.{State, facts_of, version_at, IsReplayed}
+use Rattle.world.specs.Replay.{State, facts_of, version_at}
 
 -- for every usable version, each element has the pairs that its state demands, by the rows of the log
 abbrev pub Agrees : State → Type 0

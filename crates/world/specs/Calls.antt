@@ -1,15 +1,13 @@
 -- What each call of the core may answer, and the state that it leaves.
-use Rattle.std.specs.Prelude.{◌≡◌, ◌≢◌, ℕ, ◌+◌, ◌<◌, ◌≤◌, max, List, [], ◌∷◌, ◌++◌, length, Option, Some, None, Result, Ok, Err, slice_get, ◌↔◌}
+use Rattle.std.specs.Prelude.{◌≡◌, ◌≢◌, ℕ, ◌+◌, ◌<◌, max, length, Option, Some, Result, Ok, Err, slice_get, ◌↔◌}
 use Rattle.std.specs.FinMap as map
 use Rattle.audit.specs.declared.report.CheckReport.{CheckReport}
 use Rattle.audit.specs.Audit.{IsAudit}
 use Rattle.keycode.specs.Order.{bytes_cmp}
-use Rattle.listed.specs.Refusal.{IsFirst, IsRefusal, IsClear}
-use Rattle.lease.specs.declared.lease.Lease.{Lease}
+use Rattle.listed.specs.Refusal.{IsRefusal, IsClear}
 use Rattle.lease.specs.Timeline.{IsHonest, IsInForce, granted_at, max_moment, IsLength}
 use Rattle.row_map.specs.Expect.{IsConflict, View}
 use Rattle.row_map.specs.Rows.{Bytes}
-use Rattle.schema_version.specs.declared.table.TableDef.{TableDef}
 use Rattle.schema_version.specs.Version.{Version}
 use Rattle.schema_version.specs.Declaring.{declared, IsLawful}
 use Rattle.row_write.specs.declared.op.RowOutcome.TheVariants.{Done, Refused}
@@ -18,7 +16,6 @@ use Rattle.row_write.specs.Made.{PreparedTxn}
 use Rattle.world.specs.declared.config.Config.{Config}
 use Rattle.world.specs.declared.committed.Committed.{Committed}
 use Rattle.world.specs.declared.committed.Committed.TheVariants as committed
-use Rattle.world.specs.declared.entry.Entry.{Entry}
 use Rattle.world.specs.declared.entry.Receipt.{Receipt}
 use Rattle.world.specs.declared.entry.Grant.{Grant}
 use Rattle.world.specs.declared.entry.What.{What}

@@ -1,10 +1,9 @@
 -- What every state of the core keeps, of which its agreement with the rows is a part.
-use Rattle.std.specs.Prelude.{◌≡◌, ℕ, ◌<◌, ◌≤◌, ◌^◌, List, length, Some}
+use Rattle.std.specs.Prelude.{◌≡◌, ℕ, ◌<◌, ◌≤◌, ◌^◌, length, Some}
 use Rattle.std.specs.FinMap as map
 use Rattle.schema_version.specs.declared.element.ElementDef.{ElementDef}
 use Rattle.schema_version.specs.Version.{Version, Table, table_at, element_at}
 use Rattle.element_state.specs.Core.{Core, Invariant}
-use Rattle.element_state.specs.Schemas.{AreLawful}
 use Rattle.element_state.specs.Versions.{ElementKind, the_kinds, schema_of}
 use Rattle.element_state.specs.Consistent.{AreLawfulRows}
 use Rattle.world.specs.Replay.{State, facts_of, IsReplayed}

@@ -1,8 +1,5 @@
-use Rattle.std.proofs.Common.{◌≡◌, ◌++◌, ◌∷◌, length, refl, sym, ap, ◌∙◌}
-use Rattle.std.specs.FinMap as map
-use Rattle.std.specs.List.{flat_map}
-use Rattle.row_map.specs.Walk.{rest, after}
-use Rattle.shell.specs.Texts.{pair_line}
+use Rattle.std.proofs.Common.{◌∷◌, refl, sym, ap, ◌∙◌}
+use Rattle.row_map.specs.Walk.{rest}
 use Rattle.shell.proofs.Pairs.{from_start, told_more, told_all, counted_more, counted_all, fewer}
 use Rattle.shell.proofs.running.all_pairs.Goals as goal
 

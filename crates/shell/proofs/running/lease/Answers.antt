@@ -1,6 +1,5 @@
 use Rattle.std.proofs.Common.{Ok, Err, ap, ◌∙◌}
 use Rattle.std.specs.FinMap as map
-use Rattle.shell.specs.declared.session.Opened.{Opened}
 use Rattle.shell.specs.declared.session.Session.{Session}
 use Rattle.shell.specs.declared.session.Session.TheVariants.{Running}
 use Rattle.shell.proofs.running.lease.Goals as goal

@@ -1,4 +1,4 @@
-use Rattle.std.proofs.Common.{refl, Err, ap, subst, ◌∙◌, ◌+◌, length}
+use Rattle.std.proofs.Common.{refl, Err, ap, subst, ◌∙◌}
 use Rattle.std.proofs.lemmas.Result.{err_from_is_err_and}
 use Rattle.txn_store.specs.Setting.{Sets}
 use Rattle.world.specs.declared.entry.What.{What}

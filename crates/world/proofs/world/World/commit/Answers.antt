@@ -1,4 +1,4 @@
-use Rattle.std.proofs.Common.{◌≡◌, false, true, refl, sym, ◌∙◌, true≢false, rules}
+use Rattle.std.proofs.Common.{◌≡◌, false, refl, sym, ◌∙◌, true≢false, rules}
 use Rattle.world.proofs.Calling.{begun, commit_unheld, commit_other}
 use Rattle.world.proofs.world.World.commit.Goals as goal
 

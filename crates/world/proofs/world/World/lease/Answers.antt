@@ -1,4 +1,4 @@
-use Rattle.std.proofs.Common.{ap, ◌∙◌, ◌+◌, length, ◌++◌, ◌∷◌, []}
+use Rattle.std.proofs.Common.{ap, ◌∙◌, ◌++◌, ◌∷◌, []}
 use Rattle.world.proofs.Calling.{begun, lease_held, lease_step}
 use Rattle.world.proofs.world.World.lease.Goals as goal
 

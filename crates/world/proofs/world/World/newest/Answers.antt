@@ -1,5 +1,3 @@
-use Rattle.std.proofs.Common.{ap}
-use Rattle.world.specs.Replay.{State}
 use Rattle.world.proofs.Calling.{newest_is}
 use Rattle.world.proofs.world.World.newest.Goals as goal
 

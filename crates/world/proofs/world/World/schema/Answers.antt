@@ -1,4 +1,4 @@
-use Rattle.std.proofs.Common.{sym, ap, subst, ◌∙◌}
+use Rattle.std.proofs.Common.{sym, ap, ◌∙◌}
 use Rattle.world.specs.Calls.{version_of}
 use Rattle.world.proofs.Calling.{first_version, other_version}
 use Rattle.world.proofs.world.World.schema.Goals as goal
