@@ -618,9 +618,99 @@ fn readers_of_lists(rt: HostRuntime) -> Result<(), Fail> {
     Ok(())
 }
 
+// The version after the element went through these states in turn.
+fn walked(
+    alloc: Global,
+    schema: Schema,
+    element: u32,
+    states: &[ElementState],
+) -> Result<Schema, StepFault> {
+    let mut then = schema;
+    for to in states {
+        then = after(alloc, &then, go(element, *to))?;
+    }
+    Ok(then)
+}
+
+// Numbers are told from 1: a has 1 and i has 2, so 3 is the next.
+fn is_next_number_3(alloc: Global) -> Result<bool, StepFault> {
+    Ok(schema_q(alloc)?.next_number() == 3)
+}
+
+// The version of q after an index j entered.
+fn with_second_index(alloc: Global) -> Result<Schema, StepFault> {
+    after(
+        alloc,
+        &schema_q(alloc)?,
+        index(alloc, "j", &[1], DeleteOnly)?,
+    )
+}
+
+fn is_next_number_4(alloc: Global) -> Result<bool, StepFault> {
+    Ok(with_second_index(alloc)?.next_number() == 4)
+}
+
+// A dropped index doesn't give its number back.
+fn is_next_number_still_4(alloc: Global) -> Result<bool, StepFault> {
+    let there = with_second_index(alloc)?;
+    let states = [WriteOnly, Public, WriteOnly, DeleteOnly, Absent];
+    let gone = walked(alloc, there, 3, &states)?;
+    Ok(gone.state(3) == Absent && gone.next_number() == 4)
+}
+
+#[test]
+fn next_number_only_rises(rt: HostRuntime) -> Result<(), Fail> {
+    assert!(rt; is_next_number_3(rt.alloc())?);
+    assert!(rt; is_next_number_4(rt.alloc())?);
+    assert!(rt; is_next_number_still_4(rt.alloc())?);
+    Ok(())
+}
+
+// The table of this name (id int key, a int), without an index.
+fn schema_of_a(alloc: Global, name: &str) -> Result<Schema, StepFault> {
+    schema_of(alloc, bare(alloc, name, &["id"], &["a"])?)
+}
+
+fn is_same_twice(alloc: Global) -> Result<bool, StepFault> {
+    Ok(schema_q(alloc)?.is_same(&schema_q(alloc)?))
+}
+
+fn is_same_under_other_name(alloc: Global) -> Result<bool, StepFault> {
+    Ok(schema_of_a(alloc, "t")?.is_same(&schema_of_a(alloc, "u")?))
+}
+
+// The index i leaves in both, and is further in the second.
+fn is_same_in_other_state(alloc: Global) -> Result<bool, StepFault> {
+    let first = walked(alloc, schema_q(alloc)?, 2, &[WriteOnly])?;
+    let second = walked(alloc, schema_q(alloc)?, 2, &[WriteOnly, DeleteOnly])?;
+    Ok(first.is_same(&second))
+}
+
+// The first never had an index, and the second's is gone: the next numbers are 2 and 3.
+fn is_same_at_other_number(alloc: Global) -> Result<bool, StepFault> {
+    let first = schema_of_a(alloc, "t")?;
+    let second = walked(alloc, schema_q(alloc)?, 2, &[WriteOnly, DeleteOnly, Absent])?;
+    Ok(first.is_same(&second))
+}
+
+#[test]
+fn versions_are_the_same(rt: HostRuntime) -> Result<(), Fail> {
+    assert!(rt; is_same_twice(rt.alloc())?);
+    Ok(())
+}
+
+#[test]
+fn versions_differ(rt: HostRuntime) -> Result<(), Fail> {
+    assert!(rt; !is_same_under_other_name(rt.alloc())?);
+    assert!(rt; !is_same_in_other_state(rt.alloc())?);
+    assert!(rt; !is_same_at_other_number(rt.alloc())?);
+    Ok(())
+}
+
 #[test]
 fn laws() {
     steps_keep_to_edges();
     steps_stay_sound();
     indexed_columns_stay();
+    numbers_end();
 }
