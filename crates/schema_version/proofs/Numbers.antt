@@ -1,5 +1,5 @@
 -- The last number is given, and none after it.
-use Rattle.std.proofs.Common.{◌≡◌, ℕ, ◌+◌, ◌≤◌, List, [], ◌∷◌, ◌++◌, length, Some, Ok, Err, inl, inr, refl, sym, ap, subst, ◌∙◌, arith, cond, count_by, Bool, true, false}
+use Rattle.std.proofs.Common.{◌≡◌, ℕ, ◌≤◌, List, [], ◌∷◌, ◌++◌, Some, Ok, Err, inl, inr, refl, ap, subst, arith, count_by}
 use Rattle.std.specs.Prelude.{◌&&◌, ◌==◌}
 use mathlib.Core.List.{map as each}
 use Rattle.std.specs.FinMap as map
@@ -16,7 +16,7 @@ use Rattle.schema_version.specs.declared.step.StepFault.TheVariants.{Limit}
 use Rattle.schema_version.specs.Version.{Version, element_at, is_like}
 use Rattle.schema_version.specs.Sound.{IsSoundVersion}
 use Rattle.schema_version.specs.Moves.{MoveFault, IsAllowed, IsRefused, after_step, as_element, is_entry, rank}
-use Rattle.schema_version.specs.Deciding.{Answer, move_check, step_check}
+use Rattle.schema_version.specs.Deciding.{step_check}
 use Rattle.schema_version.specs.Numbers.{bare, column_a, entry_of_a, LastIsGiven, NoneIsLeft, NumbersEnd}
 use Rattle.schema_version.proofs.Maps.{entries-empty}
 use Rattle.schema_version.proofs.Decides.{AreNumbered}

@@ -7,8 +7,8 @@ use super::*;
 use crate::element::ElementState::{Absent, DeleteOnly, Public, WriteOnly};
 use listed::Listed;
 use making::{
-    after, bare, column, fault_of, go, index, names, refuses_column, refuses_go, refuses_index,
-    schema_of, schema_q, table_t, two, walked, with_column, with_index,
+    after, bare, column, fault_of, gives, go, index, names, passes, refuses_column, refuses_go,
+    refuses_index, schema_of, schema_q, table_t, then, two, walked, with_column, with_index,
 };
 use row_map::{ColumnType, TableShape};
 use std::alloc::{AllocError, Global};
@@ -30,10 +30,7 @@ fn are_moves_refused(alloc: Global, q: &Schema) -> bool {
 }
 
 fn refused_moves_hold(alloc: Global) -> bool {
-    match schema_q(alloc) {
-        Ok(q) => are_moves_refused(alloc, &q),
-        Err(_) => false,
-    }
+    passes(alloc, schema_q(alloc), are_moves_refused)
 }
 
 #[test]
@@ -47,14 +44,11 @@ fn is_b_adding(alloc: Global, second: &Schema) -> bool {
 
 // The version of q after a column b entered.
 fn q_with_b(alloc: Global) -> Result<Schema, StepFault> {
-    with_column(alloc, &schema_q(alloc)?, "b")
+    then(alloc, schema_q(alloc), column(alloc, "b"))
 }
 
 fn added_column_goes_on(alloc: Global) -> bool {
-    match q_with_b(alloc) {
-        Ok(second) => is_b_adding(alloc, &second),
-        Err(_) => false,
-    }
+    passes(alloc, q_with_b(alloc), is_b_adding)
 }
 
 #[test]
@@ -74,7 +68,7 @@ fn is_live(schema: &Schema, place: usize, number: u32) -> bool {
     }
 }
 
-fn has_new_index(again: &Schema) -> bool {
+fn has_new_index(_alloc: Global, again: &Schema) -> bool {
     names(again, 1, "i", 3)
         && again.state(2) == Absent
         && again.state(3) == DeleteOnly
@@ -84,17 +78,15 @@ fn has_new_index(again: &Schema) -> bool {
 }
 
 fn gets_new_index(alloc: Global, gone: &Schema) -> bool {
-    match with_index(alloc, gone, "i", &[1]) {
-        Ok(again) => has_new_index(&again),
-        Err(_) => false,
-    }
+    passes(alloc, with_index(alloc, gone, "i", &[1]), has_new_index)
+}
+
+fn loses_i_and_gets_new_index(alloc: Global, gone: &Schema) -> bool {
+    gone.by_name(1, "i").is_none() && gets_new_index(alloc, gone)
 }
 
 fn index_comes_back_with_3(alloc: Global) -> bool {
-    match without_index(alloc) {
-        Ok(gone) => gone.by_name(1, "i").is_none() && gets_new_index(alloc, &gone),
-        Err(_) => false,
-    }
+    passes(alloc, without_index(alloc), loses_i_and_gets_new_index)
 }
 
 #[test]
@@ -119,15 +111,12 @@ fn has_elements_of_q(q: &Schema) -> bool {
         && q.state(3) == Absent
 }
 
-fn reads_as_q(schema: &Schema) -> bool {
+fn reads_as_q(_alloc: Global, schema: &Schema) -> bool {
     has_tables_of_q(schema) && has_elements_of_q(schema)
 }
 
 fn reads_q(alloc: Global) -> bool {
-    match schema_q(alloc) {
-        Ok(q) => reads_as_q(&q),
-        Err(_) => false,
-    }
+    passes(alloc, schema_q(alloc), reads_as_q)
 }
 
 #[test]
@@ -156,16 +145,17 @@ fn has_no_table_2(alloc: Global, schema: &Schema) -> bool {
     }
 }
 
-fn has_shape_of_q(alloc: Global) -> bool {
-    match schema_q(alloc) {
-        Ok(q) => has_shape(alloc, &q, &[(1, ColumnType::Int)]) && has_no_table_2(alloc, &q),
-        Err(_) => false,
-    }
+fn has_shapes_of_q(alloc: Global, q: &Schema) -> bool {
+    has_shape(alloc, q, &[(1, ColumnType::Int)]) && has_no_table_2(alloc, q)
+}
+
+fn shapes_hold(alloc: Global) -> bool {
+    passes(alloc, schema_q(alloc), has_shapes_of_q)
 }
 
 #[test]
 fn shapes(rt: HostRuntime) {
-    assert!(rt; has_shape_of_q(rt.alloc()));
+    assert!(rt; shapes_hold(rt.alloc()));
 }
 
 fn refuses_two(
@@ -195,11 +185,12 @@ fn first_faulty_move_decides(alloc: Global, q: &Schema) -> bool {
         && refuses_late(alloc, q, go(2, WriteOnly), go(2, WriteOnly))
 }
 
+fn is_first_lowest_fault_given(alloc: Global, q: &Schema) -> bool {
+    lowest_fault_is_given(alloc, q) && first_faulty_move_decides(alloc, q)
+}
+
 fn order_of_faults_holds(alloc: Global) -> bool {
-    match schema_q(alloc) {
-        Ok(q) => lowest_fault_is_given(alloc, &q) && first_faulty_move_decides(alloc, &q),
-        Err(_) => false,
-    }
+    passes(alloc, schema_q(alloc), is_first_lowest_fault_given)
 }
 
 // Of two faults of a move the lower one is given, and of two faulty moves the first one's.
@@ -222,10 +213,7 @@ fn refuses_b_twice(alloc: Global, q: &Schema) -> bool {
 }
 
 fn gives_b_number_3(alloc: Global, schema: &Schema) -> bool {
-    match with_column(alloc, schema, "b") {
-        Ok(then) => names(&then, 1, "b", 3),
-        Err(_) => false,
-    }
+    gives(with_column(alloc, schema, "b"), "b", 3)
 }
 
 fn has_no_b_after_b_twice(alloc: Global, q: &Schema) -> bool {
@@ -233,10 +221,7 @@ fn has_no_b_after_b_twice(alloc: Global, q: &Schema) -> bool {
 }
 
 fn faulty_step_leaves_nothing(alloc: Global) -> bool {
-    match schema_q(alloc) {
-        Ok(q) => has_no_b_after_b_twice(alloc, &q),
-        Err(_) => false,
-    }
+    passes(alloc, schema_q(alloc), has_no_b_after_b_twice)
 }
 
 #[test]
@@ -250,7 +235,7 @@ fn schema_t(alloc: Global) -> Result<Schema, StepFault> {
 
 // The table t (id int key, a int), whose column left public.
 fn without_public_column(alloc: Global) -> Result<Schema, StepFault> {
-    after(alloc, &schema_t(alloc)?, go(1, DeleteOnly))
+    then(alloc, schema_t(alloc), Ok(go(1, DeleteOnly)))
 }
 
 fn is_a_leaving(alloc: Global, leaving: &Schema) -> bool {
@@ -261,10 +246,7 @@ fn is_a_leaving(alloc: Global, leaving: &Schema) -> bool {
 }
 
 fn gives_a_number_2(alloc: Global, gone: &Schema) -> bool {
-    match with_column(alloc, gone, "a") {
-        Ok(again) => names(&again, 1, "a", 2),
-        Err(_) => false,
-    }
+    gives(with_column(alloc, gone, "a"), "a", 2)
 }
 
 fn is_a_gone(alloc: Global, gone: &Schema) -> bool {
@@ -272,17 +254,15 @@ fn is_a_gone(alloc: Global, gone: &Schema) -> bool {
 }
 
 fn is_a_gone_after(alloc: Global, leaving: &Schema) -> bool {
-    match after(alloc, leaving, go(1, Absent)) {
-        Ok(gone) => is_a_gone(alloc, &gone),
-        Err(_) => false,
-    }
+    passes(alloc, after(alloc, leaving, go(1, Absent)), is_a_gone)
+}
+
+fn does_a_leave(alloc: Global, leaving: &Schema) -> bool {
+    is_a_leaving(alloc, leaving) && is_a_gone_after(alloc, leaving)
 }
 
 fn dropped_column_goes(alloc: Global) -> bool {
-    match without_public_column(alloc) {
-        Ok(leaving) => is_a_leaving(alloc, &leaving) && is_a_gone_after(alloc, &leaving),
-        Err(_) => false,
-    }
+    passes(alloc, without_public_column(alloc), does_a_leave)
 }
 
 #[test]
@@ -291,7 +271,7 @@ fn dropped_column_goes_for_good(rt: HostRuntime) {
 }
 
 fn is_same_as_q(alloc: Global, q: &Schema, same: &Schema) -> bool {
-    reads_as_q(same) && same.elements() == q.elements() && gives_b_number_3(alloc, same)
+    reads_as_q(alloc, same) && same.elements() == q.elements() && gives_b_number_3(alloc, same)
 }
 
 fn is_empty_step_lawful_in(alloc: Global, q: &Schema) -> bool {
@@ -302,10 +282,7 @@ fn is_empty_step_lawful_in(alloc: Global, q: &Schema) -> bool {
 }
 
 fn is_empty_step_lawful(alloc: Global) -> bool {
-    match schema_q(alloc) {
-        Ok(q) => is_empty_step_lawful_in(alloc, &q),
-        Err(_) => false,
-    }
+    passes(alloc, schema_q(alloc), is_empty_step_lawful_in)
 }
 
 #[test]
@@ -331,15 +308,12 @@ fn has_key_of_q(q: &Schema) -> bool {
     }
 }
 
-fn has_lists_of_q(q: &Schema) -> bool {
+fn has_lists_of_q(_alloc: Global, q: &Schema) -> bool {
     lists_elements_of_q(q) && has_key_of_q(q) && q.key_of(0).is_none() && q.key_of(2).is_none()
 }
 
 fn lists_q(alloc: Global) -> bool {
-    match schema_q(alloc) {
-        Ok(q) => has_lists_of_q(&q),
-        Err(_) => false,
-    }
+    passes(alloc, schema_q(alloc), has_lists_of_q)
 }
 
 #[test]
@@ -356,7 +330,7 @@ fn is_next_number(schema: Result<Schema, StepFault>, number: u32) -> bool {
 
 // The version of q after an index j entered.
 fn with_second_index(alloc: Global) -> Result<Schema, StepFault> {
-    with_index(alloc, &schema_q(alloc)?, "j", &[1])
+    then(alloc, schema_q(alloc), index(alloc, "j", &[1], DeleteOnly))
 }
 
 const TO_PUBLIC_AND_BACK: [ElementState; 5] = [WriteOnly, Public, WriteOnly, DeleteOnly, Absent];

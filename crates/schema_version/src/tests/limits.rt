@@ -1,7 +1,7 @@
 //! Names, lists and counts at their limits and past them.
 use super::making::{
-    add_index, alone, bare, declared, indexed, names, refuses_column, refuses_index, schema_of,
-    schema_q, table_t, with_column, with_index,
+    add_index, alone, bare, declared, gives, indexed, names, passes, refuses_column, refuses_index,
+    schema_of, schema_q, table_t, with_column, with_index,
 };
 use crate::{DeclareFault, Schema, StepFault, TableDef};
 use keycode::Text;
@@ -25,17 +25,15 @@ fn are_bad_names_refused(alloc: Global, q: &Schema) -> bool {
 }
 
 fn takes_longest_name(alloc: Global, q: &Schema) -> bool {
-    match with_column(alloc, q, LONGEST_NAME) {
-        Ok(then) => names(&then, 1, LONGEST_NAME, 3),
-        Err(_) => false,
-    }
+    gives(with_column(alloc, q, LONGEST_NAME), LONGEST_NAME, 3)
+}
+
+fn has_limits_of_names(alloc: Global, q: &Schema) -> bool {
+    are_bad_names_refused(alloc, q) && takes_longest_name(alloc, q)
 }
 
 fn limits_of_names_hold(alloc: Global) -> bool {
-    match schema_q(alloc) {
-        Ok(q) => are_bad_names_refused(alloc, &q) && takes_longest_name(alloc, &q),
-        Err(_) => false,
-    }
+    passes(alloc, schema_q(alloc), has_limits_of_names)
 }
 
 #[test]
@@ -109,10 +107,11 @@ fn are_bad_lists_refused(alloc: Global, five: &Schema) -> bool {
 }
 
 fn takes_list_of_four(alloc: Global, five: &Schema) -> bool {
-    match with_index(alloc, five, "i", &[4, 3, 2, 1]) {
-        Ok(then) => names(&then, 1, "i", 6),
-        Err(_) => false,
-    }
+    gives(with_index(alloc, five, "i", &[4, 3, 2, 1]), "i", 6)
+}
+
+fn has_limits_of_lists(alloc: Global, five: &Schema) -> bool {
+    are_bad_lists_refused(alloc, five) && takes_list_of_four(alloc, five)
 }
 
 // The version of a table of five columns.
@@ -121,10 +120,7 @@ fn schema_of_five(alloc: Global) -> Result<Schema, StepFault> {
 }
 
 fn limits_of_lists_hold(alloc: Global) -> bool {
-    match schema_of_five(alloc) {
-        Ok(five) => are_bad_lists_refused(alloc, &five) && takes_list_of_four(alloc, &five),
-        Err(_) => false,
-    }
+    passes(alloc, schema_of_five(alloc), has_limits_of_lists)
 }
 
 #[test]
@@ -143,10 +139,7 @@ fn is_full(alloc: Global, schema: &Schema) -> bool {
 }
 
 fn is_largest_full(alloc: Global) -> bool {
-    match largest(alloc) {
-        Ok(schema) => is_full(alloc, &schema),
-        Err(_) => false,
-    }
+    passes(alloc, largest(alloc), is_full)
 }
 
 #[test]
@@ -219,19 +212,17 @@ fn are_seventeen_tables_bad(alloc: Global) -> bool {
     }
 }
 
-fn has_sixteen_tables(most: &Schema) -> bool {
+fn has_sixteen_tables(_alloc: Global, most: &Schema) -> bool {
     most.table("P") == Some(16) && most.table_name(16) == Some("P") && most.elements().is_empty()
 }
 
-fn schema_of_sixteen(alloc: Global) -> Result<Schema, DeclareFault> {
-    Schema::declared(alloc, &lettered(alloc, b'A'..=b'P')?)
+fn schema_of_sixteen(alloc: Global) -> Result<Schema, StepFault> {
+    let tables = lettered(alloc, b'A'..=b'P')?;
+    Schema::declared(alloc, &tables).map_err(|_| StepFault::Memory)
 }
 
 fn are_sixteen_tables_taken(alloc: Global) -> bool {
-    match schema_of_sixteen(alloc) {
-        Ok(most) => has_sixteen_tables(&most),
-        Err(_) => false,
-    }
+    passes(alloc, schema_of_sixteen(alloc), has_sixteen_tables)
 }
 
 fn limits_of_tables_hold(alloc: Global) -> bool {

@@ -160,6 +160,37 @@ pub(super) fn walked(
     Ok(then)
 }
 
+// The version after a step of this one move, where both are there.
+pub(super) fn then(
+    alloc: Global,
+    schema: Result<Schema, StepFault>,
+    a: Result<Move, AllocError>,
+) -> Result<Schema, StepFault> {
+    after(alloc, &schema?, a?)
+}
+
+// Whether the version is there and passes the test.
+pub(super) fn passes<F: FnOnce(Global, &Schema) -> bool>(
+    alloc: Global,
+    schema: Result<Schema, StepFault>,
+    test: F,
+) -> bool
+    requires { F.IsAlwaysCallable test }
+{
+    match schema {
+        Ok(schema) => test(alloc, &schema),
+        Err(_) => false,
+    }
+}
+
+// Whether the version is there and has the element of this number under the name in table 1.
+pub(super) fn gives(schema: Result<Schema, StepFault>, name: &str, number: u32) -> bool {
+    match schema {
+        Ok(schema) => names(&schema, 1, name, number),
+        Err(_) => false,
+    }
+}
+
 // Why a step of this one move is refused.
 pub(super) fn fault_of(alloc: Global, schema: &Schema, a: Move) -> Option<StepFault> {
     after(alloc, schema, a).err()
