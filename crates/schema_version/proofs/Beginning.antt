@@ -157,7 +157,7 @@ all_in (t ∷ ts) before tables k u split is few lawful at =
     (λ w same. sym (table_at-place w k (length before) (omega (arith, is)) (omega (arith, is))) ∙ ap (λ l. slice_get l (length before)) (same ∙ split) ∙ slice_middle before (table_of t) (each table_of ts))
     lawful.0 at)
 
-nothing_yet : (n : ℕ) (e : ElementDef) → map.get (map.empty {R = nat_cmp}) n ≡ Some e → ⊥
+pub nothing_yet : (n : ℕ) (e : ElementDef) → map.get (map.empty {R = nat_cmp}) n ≡ Some e → ⊥
 nothing_yet n e there = none_there e (map.get (map.empty {R = nat_cmp}) n) (map.get-empty nat_cmp n) there
 
 abbrev start : List TableDef → Version
