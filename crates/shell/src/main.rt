@@ -16,7 +16,8 @@ mod works;
 use std::io;
 use std::process::ExitCode;
 
-/// Runs the script on standard input.
+/// Runs the script on standard input. What the process's own reader and writer do is said by no contract: it is shown by the
+/// stored run.
 fn run_input(rt: &HostRuntime) -> u8 {
     let mut input = rt.stdin();
     let mut output = io::writer(rt);

@@ -118,6 +118,7 @@ impl World {
     }
 
     /// The schema of the newest version, which is version 1 so far.
+    // (With one version there is no other value of this type that a wrong body could give.)
     pub fn newest(&self) -> &Counted<Schema>
         ensures { newest_of self.now ≡ Some result.now }
     {
