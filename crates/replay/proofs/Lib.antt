@@ -1,0 +1,14 @@
+pub mod Soundness
+pub mod Time
+pub mod Agree
+pub mod Begun
+pub mod Moved
+pub mod Publication
+pub mod Beginning
+pub mod Piecework
+pub mod Changes
+pub mod Operating
+pub mod Spelling
+pub mod Transaction
+pub mod Worked
+pub mod Following

@@ -1,0 +1,5 @@
+use Rattle.replay.proofs.Agree.{agrees}
+use Rattle.replay.proofs.laws.kept_agrees.Goals as goal
+
+pub returns : goal.returns
+returns c = agrees

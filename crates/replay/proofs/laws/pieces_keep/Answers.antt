@@ -1,0 +1,5 @@
+use Rattle.replay.proofs.Piecework.{pieces_keep}
+use Rattle.replay.proofs.laws.pieces_keep.Goals as goal
+
+pub returns : goal.returns
+returns c = pieces_keep

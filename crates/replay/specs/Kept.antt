@@ -1,0 +1,78 @@
+-- What every log of accepted calls keeps, of which the agreement of the pairs with the rows is a part.
+use Rattle.std.specs.Prelude.{◌≡◌, ℕ, ◌≤◌, List, ◌∷◌, length, Some, nat_lt, if◌then◌else◌}
+use Rattle.std.specs.List.{AllByRecursion}
+use mathlib.Core.List.{map as each}
+use Rattle.std.specs.FinMap.{FinMap, from_entries}
+use Rattle.std.specs.Ordering.{nat_cmp}
+use Rattle.lease.specs.Timeline.{IsValid, IsUsable, earliest, last_publication, newest as newest_number}
+use Rattle.schema_version.specs.Version.{Version, element_at}
+use Rattle.schema_version.specs.Sound.{IsSoundVersion}
+use Rattle.element_state.specs.Consistent.{IsConsistent, AreLawfulRows}
+use Rattle.element_state.specs.Core.{Core, Invariant}
+use Rattle.element_state.specs.Core as core
+use Rattle.element_state.specs.Versions.{ElementKind, the_kinds, schema_of}
+use Rattle.reorganise.specs.declared.work.Work.{Work}
+use Rattle.reorganise.specs.declared.work.Work.TheVariants.{Fill, Clear}
+use Rattle.reorganise.specs.declared.work.Progress.{Progress}
+use Rattle.reorganise.specs.Regions.{region_of, front, back}
+use Rattle.reorganise.specs.Partition.{AreJoined}
+use Rattle.reorganise.specs.Laws.{passed_by, bounds_of, HasBounds}
+use Rattle.replay.specs.Replay.{Facts, before_of, version_at, wanted}
+
+-- ---- the core as the elements' laws see it
+
+abbrev pub work_in : Work → core.Work
+work_in Fill = core.Fill
+work_in Clear = core.Clear
+
+abbrev pub passed : Progress → core.Progress
+passed progress = record { work = work_in progress.kind; spans = passed_by progress.pieces }
+
+abbrev pub all_passed : List Progress → FinMap nat_cmp core.Progress
+all_passed begun = from_entries (each (λ (p : Progress). (p.element.number, passed p)) begun)
+
+-- the version before the newest, as long as a lease on it may be in force; then the newest
+abbrev pub used_before : Facts → ℕ → Version
+used_before facts now = if nat_lt now (earliest facts.line) then before_of facts else facts.newest
+
+abbrev pub core_at : Facts → ℕ → Core ElementKind
+core_at facts now =
+    record {
+      before = schema_of (used_before facts now);
+      newest = schema_of facts.newest;
+      next = facts.newest.next;
+      progress = all_passed facts.progress;
+      pairs = facts.pairs;
+      rows = facts.rows;
+    }
+
+-- ---- what is kept
+
+-- a begun reorganisation is what its element wants, and its pieces share the range
+pub record IsBegun (newest : Version) (progress : Progress) : Type 0 where
+  pub element : element_at newest progress.element.number ≡ Some progress.element
+  pub wanted_so : wanted progress.element ≡ Some progress.kind
+  pub joined : AreJoined (front (region_of progress.element progress.kind)) (back (region_of progress.element progress.kind)) progress.pieces
+  pub bounds : AllByRecursion (HasBounds (bounds_of progress.element progress.kind)) progress.pieces
+
+pub record IsKept (facts : Facts) : Type 0 where
+  -- a version for each publication
+  pub counted : length (facts.newest ∷ facts.older) ≡ newest_number facts.line
+  pub valid : IsValid facts.line
+  pub since : last_publication facts.line ≤ facts.moment
+  -- the usable versions are sound
+  pub sound : IsSoundVersion facts.newest
+  pub sound_before : IsSoundVersion (used_before facts facts.moment)
+  pub tables : (used_before facts facts.moment).tables ≡ facts.newest.tables
+  -- each element has the pairs that its state demands, in both
+  pub core_kept : Invariant the_kinds (core_at facts facts.moment)
+  -- the rows are of their tables and types
+  pub rows : AreLawfulRows facts.newest facts.rows
+  pub rows_before : AreLawfulRows (used_before facts facts.moment) facts.rows
+  pub begun : AllByRecursion (IsBegun facts.newest) facts.progress
+
+-- for every usable version, each element has the pairs that its state demands, by the rows of the log
+abbrev pub Agrees : Facts → Type 0
+Agrees facts =
+    (number : ℕ) (version : Version) → IsUsable facts.line number facts.moment → version_at facts number ≡ Some version
+    → IsConsistent version facts.rows facts.pairs

@@ -1,0 +1,6 @@
+pub mod Replay
+pub mod Small
+pub mod Kept
+pub mod Laws
+pub mod Worked
+pub mod Headline

@@ -1,0 +1,58 @@
+//! What each accepted call keeps: each is a call without a body, so that a contract names it.
+ghost use Rattle.replay.specs.Headline.{Headline};
+ghost use Rattle.replay.specs.Worked.{ALogSays};
+ghost use Rattle.replay.specs.Laws.{OpeningsKeep, LeasesKeep, PublicationsKeep, OutcomesHold, TxnsKeep, RefusedWriteNothing, BeginsKeep, PiecesKeep, KeptAgrees};
+
+/// An empty store under one sound version keeps all.
+pub fn openings_keep()
+    ensures { OpeningsKeep }
+{}
+
+/// A lease keeps all, and so does time that goes by.
+pub fn leases_keep()
+    ensures { LeasesKeep }
+{}
+
+/// A prepared transaction of a version that a lease may still use, whose reads hold, has the outcome that the rows of the
+/// log give, however old its reads are. Where they accept it, its batch writes what its entry says and keeps all; where they
+/// refuse it, its batch writes nothing.
+pub fn transactions_keep()
+    ensures outcome { OutcomesHold }
+    ensures done { TxnsKeep }
+    ensures refused { RefusedWriteNothing }
+{}
+
+/// An allowed step, published where no lease on an older version than the newest can be in force and what its moves need
+/// is finished, keeps all.
+pub fn publications_keep()
+    ensures { PublicationsKeep }
+{}
+
+/// A reorganisation that its element wants, begun where every version that a lease may still use has the element in that
+/// state, keeps all.
+pub fn begins_keep()
+    ensures { BeginsKeep }
+{}
+
+/// A prepared piece of a begun reorganisation as it stands, whose expectation holds, writes what its entry says and keeps
+/// all.
+pub fn pieces_keep()
+    ensures { PiecesKeep }
+{}
+
+/// Where all is kept, the pairs agree with the rows for every version that a lease may still use.
+pub fn kept_agrees()
+    ensures { KeptAgrees }
+{}
+
+/// The theorem on a log: after any list of accepted leases, transactions, steps, begins and pieces, for every version that a
+/// lease may still use, each public element has exactly the pairs built from the rows, a delete-only or write-only one only
+/// such pairs, an absent one none. The rows are the accepted transactions applied in turn to a plain table.
+pub fn headline()
+    ensures { Headline }
+{}
+
+/// What a short log says, worked out by hand: a lease at 9, and at 10 a step that enters a column.
+pub fn a_log_says()
+    ensures { ALogSays }
+{}
