@@ -82,8 +82,8 @@ pub(crate) fn listed(kind: &Kind) -> &[u32]
     }
 }
 
-/// Whether the step moves this element.
-pub(crate) fn moves_element(step: &[Move], number: u32) -> bool
+/// Whether the step takes the element of this number to another state. An entered element has no number before.
+pub fn moves_element(step: &[Move], number: u32) -> bool
     ensures { result ≡ moves_element_of step.now number }
 {
     step.iter().any(|a| is_move_of(a, number))

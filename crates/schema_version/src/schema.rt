@@ -59,8 +59,8 @@ impl Schema {
         let _own = &self.elements;
     }
 
-    /// The live element of this number.
-    pub(crate) fn element(&self, number: u32) -> Option<&ElementDef>
+    /// The live element of this number, in whatever state; None for any other number.
+    pub fn element(&self, number: u32) -> Option<&ElementDef>
         ensures { option_copied result ≡ element_at self.now number }
     {
         self.elements.get(&number)
@@ -195,7 +195,7 @@ impl Schema {
     pub fn apply(&self, step: &Step) -> Result<Schema, StepFault>
         ensures allowed { OnOk result (IsAllowed self.now step.now) }
         ensures after { IfOk result (λ then. then ≡ after_step self.now step.now) }
-        ensures refused { IfErr result (λ fault. (fault ≡ Memory) ⊎ IsRefused self.now step.now fault) }
+        ensures refused { IfErr result (λ fault. ((fault ≡ Memory) × IsAllowed self.now step.now) ⊎ IsRefused self.now step.now fault) }
     {
         let moves = step.as_slice();
         self.allow(moves)?;

@@ -106,6 +106,9 @@ fn has_tables_of_q(q: &Schema) -> bool {
 fn has_elements_of_q(q: &Schema) -> bool {
     names(q, 1, "i", 2)
         && q.by_name(2, "i").is_none()
+        && q.element(2).is_some_and(|found| found.number == 2)
+        && q.element(0).is_none()
+        && q.element(3).is_none()
         && q.state(0) == Absent
         && q.state(1) == Public
         && q.state(3) == Absent
@@ -403,4 +406,17 @@ fn laws() {
     steps_stay_sound();
     indexed_columns_stay();
     numbers_end();
+}
+
+// The move of the index i of q, which has number 2.
+fn moves_the_second() -> bool {
+    let moves = [go(2, WriteOnly)];
+    moves_element(moves.as_slice(), 2)
+        && !moves_element(moves.as_slice(), 1)
+        && !moves_element([].as_slice(), 2)
+}
+
+#[test]
+fn moved_elements(rt: HostRuntime) {
+    assert!(rt; moves_the_second());
 }
