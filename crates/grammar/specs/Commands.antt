@@ -13,22 +13,18 @@ use Rattle.grammar.specs.declared.operation.Operation.TheVariants.{Insert, Updat
 use Rattle.grammar.specs.declared.selection.Condition.{Condition}
 use Rattle.grammar.specs.declared.selection.Condition.TheVariants.{Key, Equal, Between}
 use Rattle.grammar.specs.declared.selection.Selection.{Selection}
+use Rattle.grammar.specs.declared.element.ElementName.{ElementName}
 use Rattle.grammar.specs.declared.command.Command.{Command}
 use Rattle.grammar.specs.declared.command.Command.TheVariants as command
 use Rattle.grammar.specs.Tokens.{tokens_of}
-use Rattle.grammar.specs.Productions.{◌>>=◌, first_by, after_first, at_end, is_mark, is_word, name_in, count_in, type_in, value_in, bracketed, each_between}
+use Rattle.grammar.specs.Productions.{◌>>=◌, first_by, after_first, at_end, is_mark, is_word, name_in, count_in, small_count_in, type_in, value_in, bracketed, each_between, name_of}
+use Rattle.grammar.specs.Changes.{element_at, move_of, change_of}
 
 -- `VALUE`
 unfoldable pub value_of : List Token → Option Value
 value_of ts = do
   value ← first_by value_in ts
   at_end value.0 value.1
-
--- `COLUMN`
-unfoldable pub name_of : List Token → Option (List ℕ)
-name_of ts = do
-  name ← first_by name_in ts
-  at_end name.0 name.1
 
 -- `COLUMN = VALUE`
 unfoldable pub set_of : List Token → Option (List ℕ × Value)
@@ -301,6 +297,93 @@ query_of ts = do
   selection ← selection_of behind
   Some (command.Query server.0.0 server.0.1 selection)
 
+-- `forge SERVER version V granted G until U`
+unfoldable pub forge_of : List Token → Option Command
+forge_of ts = do
+  server ← first_by name_in ts
+  version_at ← after_first (is_word (codes "version")) server.1
+  version ← first_by count_in version_at
+  granted_at ← after_first (is_word (codes "granted")) version.1
+  granted ← first_by count_in granted_at
+  until_at ← after_first (is_word (codes "until")) granted.1
+  until ← first_by count_in until_at
+  at_end (command.Forge server.0 version.0 granted.0 until.0) until.1
+
+-- `piece WORK of TABLE.NAME N limit K`
+unfoldable pub piece_of : List Token → Option Command
+piece_of ts = do
+  work ← first_by name_in ts
+  behind ← after_first (is_word (codes "of")) work.1
+  element ← element_at behind
+  piece ← first_by small_count_in element.1
+  limit_at ← after_first (is_word (codes "limit")) piece.1
+  limit ← first_by small_count_in limit_at
+  at_end (command.Piece work.0 element.0 piece.0 limit.0) limit.1
+
+-- `at M`, and the tokens behind it
+unfoldable pub moment_at : List Token → Option (ℕ × List Token)
+moment_at ts = do
+  behind ← after_first (is_word (codes "at")) ts
+  first_by count_in behind
+
+-- `publish at M: MOVE {; MOVE}`
+unfoldable pub publish_of : List Token → Option Command
+publish_of ts = do
+  moment ← moment_at ts
+  behind ← after_first (is_mark mark.Colon) moment.1
+  moves ← each_between mark.Semicolon move_of behind
+  Some (command.Publish moment.0 moves)
+
+-- `plan: CHANGE {; CHANGE}`
+unfoldable pub plan_of : List Token → Option Command
+plan_of ts = do
+  behind ← after_first (is_mark mark.Colon) ts
+  changes ← each_between mark.Semicolon change_of behind
+  Some (command.Plan changes)
+
+-- `next at M`
+unfoldable pub next_of : List Token → Option Command
+next_of ts = do
+  moment ← moment_at ts
+  at_end (command.Next moment.0) moment.1
+
+-- `TABLE.NAME at M`, and the tokens behind it
+unfoldable pub element_at_moment : List Token → Option ((ElementName × ℕ) × List Token)
+element_at_moment ts = do
+  element ← element_at ts
+  moment ← moment_at element.1
+  Some ((element.0, moment.0), moment.1)
+
+-- `reorganise TABLE.NAME at M pieces N`
+unfoldable pub reorganise_of : List Token → Option Command
+reorganise_of ts = do
+  element ← element_at_moment ts
+  behind ← after_first (is_word (codes "pieces")) element.1
+  pieces ← first_by small_count_in behind
+  at_end (command.Reorganise element.0.0 element.0.1 pieces.0) pieces.1
+
+-- `work TABLE.NAME at M limit K`
+unfoldable pub work_of : List Token → Option Command
+work_of ts = do
+  element ← element_at_moment ts
+  behind ← after_first (is_word (codes "limit")) element.1
+  limit ← first_by small_count_in behind
+  at_end (command.Work element.0.0 element.0.1 limit.0) limit.1
+
+-- a command on the schema or on the work that a change of it needs, by its first word
+unfoldable pub schema_command_of : List Token → Option Command
+schema_command_of [] = None
+schema_command_of (t ∷ ts) =
+    if is_word (codes "forge") t then forge_of ts
+    else (if is_word (codes "piece") t then piece_of ts
+    else (if is_word (codes "publish") t then publish_of ts
+    else (if is_word (codes "plan") t then plan_of ts
+    else (if is_word (codes "next") t then next_of ts
+    else (if is_word (codes "reorganise") t then reorganise_of ts
+    else (if is_word (codes "work") t then work_of ts
+    else (if is_word (codes "status") t then at_end command.Status ts
+    else None)))))))
+
 -- a command, by its first word
 unfoldable pub command_of : List Token → Option Command
 command_of [] = None
@@ -317,7 +400,7 @@ command_of (t ∷ ts) =
     else (if is_word (codes "prepare") t then prepare_of ts
     else (if is_word (codes "commit") t then commit_of ts
     else (if is_word (codes "query") t then query_of ts
-    else None)))))))))))
+    else schema_command_of (t ∷ ts))))))))))))
 
 -- what is spelled, or a bad line
 abbrev pub or_malformed : {A : Type 0} → Option A → Result A LineFault

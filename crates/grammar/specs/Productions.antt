@@ -6,6 +6,8 @@ use Rattle.keycode.specs.declared.value.Value.{Value}
 use Rattle.keycode.specs.declared.value.Value.TheVariants as value
 use Rattle.row_map.specs.declared.shape.ColumnType.{ColumnType}
 use Rattle.row_map.specs.declared.shape.ColumnType.TheVariants as kind
+use Rattle.schema_version.specs.declared.element.ElementState.{ElementState}
+use Rattle.schema_version.specs.declared.element.ElementState.TheVariants as state
 use Rattle.grammar.specs.declared.token.Token.{Token}
 use Rattle.grammar.specs.declared.token.Token.TheVariants as token
 use Rattle.grammar.specs.declared.token.Mark.{Mark}
@@ -87,6 +89,11 @@ abbrev pub count_in : Token → Option ℕ
 count_in (token.Number false n) = Some n
 count_in _ = None
 
+-- a piece's number, or how many pieces or entries, has no sign and 32 bits
+abbrev pub small_count_in : Token → Option ℕ
+small_count_in (token.Number false n) = if nat_lt n (2 ^ 32) then Some n else None
+small_count_in _ = None
+
 -- the type that a word names
 abbrev pub type_of : List ℕ → Option ColumnType
 type_of w =
@@ -98,6 +105,15 @@ type_of w =
 abbrev pub type_in : Token → Option ColumnType
 type_in (token.Word w) = type_of w
 type_in _ = None
+
+-- the state that one token names
+abbrev pub state_in : Token → Option ElementState
+state_in t =
+    if is_word (codes "absent") t then Some state.Absent
+    else (if is_word (codes "delete_only") t then Some state.DeleteOnly
+    else (if is_word (codes "write_only") t then Some state.WriteOnly
+    else (if is_word (codes "public") t then Some state.Public
+    else None)))
 
 -- a content with each quote doubled gives the content
 unfoldable pub undoubled : List ℕ → List ℕ
@@ -159,3 +175,9 @@ unfoldable pub bracketed : List Token → Option (List Token × List Token)
 bracketed ts = do
   inner ← after_first (is_mark mark.Open) ts
   cut_at mark.Close inner
+
+-- `COLUMN`
+unfoldable pub name_of : List Token → Option (List ℕ)
+name_of ts = do
+  name ← first_by name_in ts
+  at_end name.0 name.1

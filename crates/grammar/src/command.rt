@@ -1,13 +1,17 @@
 ghost use Rattle.listed.specs.Answers.{GivesOr};
 ghost use Rattle.grammar.specs.declared.fault.LineFault.TheVariants.{Memory};
 ghost use Rattle.grammar.specs.Productions.{Gives};
-ghost use Rattle.grammar.specs.Commands.{length_of, table_of, index_of, name_at_moment, lease_of, txn_of, prepare_of, commit_of, query_of, command_of, command_at};
+ghost use Rattle.grammar.specs.Commands.{length_of, table_of, index_of, name_at_moment, lease_of, txn_of, prepare_of, commit_of, query_of, forge_of, piece_of, moment_at, publish_of, plan_of, next_of, element_at_moment, reorganise_of, work_of, schema_command_of, command_of, command_at};
 
 use crate::columns::{Columns, Declared, keys_first, split};
+use crate::element::{ElementName, element};
 use crate::fault::LineFault;
+use crate::moving::{Changing, Moving};
 use crate::operation::Operation;
 use crate::production::{Production, read_each};
-use crate::reading::{after_mark, after_word, at_end, bracketed, count, is_word, name};
+use crate::reading::{
+    after_mark, after_word, at_end, bracketed, count, is_word, name, small_count,
+};
 use crate::selection::Selection;
 use crate::token::{Mark, Token, tokens_of};
 use keycode::Text;
@@ -68,6 +72,47 @@ pub enum Command {
         moment: u64,
         selection: Selection,
     },
+    /// `forge SERVER version V granted G until U`: a lease of these numbers for the server, whether it was granted or not.
+    Forge {
+        server: Text,
+        version: u64,
+        granted: u64,
+        until: u64,
+    },
+    /// `piece WORK of TABLE.NAME N limit K`: at most K entries of the piece N of an element's reorganisation, to be committed later.
+    Piece {
+        work: Text,
+        element: ElementName,
+        piece: u32,
+        limit: u32,
+    },
+    /// `publish at M: MOVE {; MOVE}`: the next schema version, by one step that makes these moves.
+    Publish {
+        moment: u64,
+        moves: Listed<Moving>,
+    },
+    /// `plan: CHANGE {; CHANGE}`: the plan of steps that brings these changes about.
+    Plan {
+        changes: Listed<Changing>,
+    },
+    /// `next at M`: the next step of the plan, published.
+    Next {
+        moment: u64,
+    },
+    /// `reorganise TABLE.NAME at M pieces N`: the begin of an element's reorganisation in N pieces.
+    Reorganise {
+        element: ElementName,
+        moment: u64,
+        pieces: u32,
+    },
+    /// `work TABLE.NAME at M limit K`: the pieces of an element's reorganisation one after the other, each to its end, at most K entries a commit.
+    Work {
+        element: ElementName,
+        moment: u64,
+        limit: u32,
+    },
+    /// `status`: the elements with their states, the newest version, and the versions that are usable.
+    Status,
 }
 
 #[tactic(auto, unfolding(crate::specs::Commands::length_of))]
@@ -184,6 +229,153 @@ fn query(alloc: Global, tokens: &[Token<'_>]) -> Result<Command, LineFault>
     })
 }
 
+#[tactic(auto, unfolding(crate::specs::Commands::forge_of))]
+fn forge(alloc: Global, tokens: &[Token<'_>]) -> Result<Command, LineFault>
+    ensures { Gives (λ x. x) result (forge_of tokens.now) }
+{
+    let (server, rest) = name(alloc, tokens)?;
+    let rest = after_word(rest, b"version")?;
+    let (version, rest) = count(rest)?;
+    let rest = after_word(rest, b"granted")?;
+    let (granted, rest) = count(rest)?;
+    let rest = after_word(rest, b"until")?;
+    let (until, rest) = count(rest)?;
+    let lease = Command::Forge {
+        server,
+        version,
+        granted,
+        until,
+    };
+    at_end(lease, rest)
+}
+
+#[tactic(auto, unfolding(crate::specs::Commands::piece_of))]
+fn piece(alloc: Global, tokens: &[Token<'_>]) -> Result<Command, LineFault>
+    ensures { Gives (λ x. x) result (piece_of tokens.now) }
+{
+    let (work, rest) = name(alloc, tokens)?;
+    let rest = after_word(rest, b"of")?;
+    let (element, rest) = element(alloc, rest)?;
+    let (piece, rest) = small_count(rest)?;
+    let rest = after_word(rest, b"limit")?;
+    let (limit, rest) = small_count(rest)?;
+    let read = Command::Piece {
+        work,
+        element,
+        piece,
+        limit,
+    };
+    at_end(read, rest)
+}
+
+/// The moment at which something is done.
+#[tactic(auto, unfolding(crate::specs::Commands::moment_at))]
+fn moment<'t, 'a>(tokens: &'t [Token<'a>]) -> Result<(u64, &'t [Token<'a>]), LineFault>
+    ensures { Gives (λ x. (x.0, x.1.now)) result (moment_at tokens.entry.now) }
+{
+    let rest = after_word(tokens, b"at")?;
+    count(rest)
+}
+
+#[tactic(auto, unfolding(crate::specs::Commands::publish_of))]
+fn publish(alloc: Global, tokens: &[Token<'_>]) -> Result<Command, LineFault>
+    ensures { Gives (λ x. x) result (publish_of tokens.now) }
+{
+    let (moment, rest) = moment(tokens)?;
+    let rest = after_mark(rest, Mark::Colon)?;
+    let moves = read_each::<Moving>(alloc, rest, Mark::Semicolon)?;
+    Ok(Command::Publish { moment, moves })
+}
+
+#[tactic(auto, unfolding(crate::specs::Commands::plan_of))]
+fn plan(alloc: Global, tokens: &[Token<'_>]) -> Result<Command, LineFault>
+    ensures { Gives (λ x. x) result (plan_of tokens.now) }
+{
+    let rest = after_mark(tokens, Mark::Colon)?;
+    let changes = read_each::<Changing>(alloc, rest, Mark::Semicolon)?;
+    Ok(Command::Plan { changes })
+}
+
+#[tactic(auto, unfolding(crate::specs::Commands::next_of))]
+fn next(tokens: &[Token<'_>]) -> Result<Command, LineFault>
+    ensures { Gives (λ x. x) result (next_of tokens.now) }
+{
+    let (moment, rest) = moment(tokens)?;
+    at_end(Command::Next { moment }, rest)
+}
+
+/// An element, and the moment at which it is used.
+#[tactic(auto, unfolding(crate::specs::Commands::element_at_moment))]
+fn element_at_moment<'t, 'a>(
+    alloc: Global,
+    tokens: &'t [Token<'a>],
+) -> Result<((ElementName, u64), &'t [Token<'a>]), LineFault>
+    ensures { Gives (λ x. (x.0, x.1.now)) result (element_at_moment tokens.entry.now) }
+{
+    let (element, rest) = element(alloc, tokens)?;
+    let (moment, rest) = moment(rest)?;
+    Ok(((element, moment), rest))
+}
+
+#[tactic(auto, unfolding(crate::specs::Commands::reorganise_of))]
+fn reorganise(alloc: Global, tokens: &[Token<'_>]) -> Result<Command, LineFault>
+    ensures { Gives (λ x. x) result (reorganise_of tokens.now) }
+{
+    let ((element, moment), rest) = element_at_moment(alloc, tokens)?;
+    let rest = after_word(rest, b"pieces")?;
+    let (pieces, rest) = small_count(rest)?;
+    let read = Command::Reorganise {
+        element,
+        moment,
+        pieces,
+    };
+    at_end(read, rest)
+}
+
+#[tactic(auto, unfolding(crate::specs::Commands::work_of))]
+fn work(alloc: Global, tokens: &[Token<'_>]) -> Result<Command, LineFault>
+    ensures { Gives (λ x. x) result (work_of tokens.now) }
+{
+    let ((element, moment), rest) = element_at_moment(alloc, tokens)?;
+    let rest = after_word(rest, b"limit")?;
+    let (limit, rest) = small_count(rest)?;
+    let read = Command::Work {
+        element,
+        moment,
+        limit,
+    };
+    at_end(read, rest)
+}
+
+/// A command on the schema, or on the work that a change of it needs.
+#[tactic(auto, unfolding(crate::specs::Commands::schema_command_of))]
+fn schema_command(alloc: Global, tokens: &[Token<'_>]) -> Result<Command, LineFault>
+    ensures { Gives (λ x. x) result (schema_command_of tokens.now) }
+{
+    let [first, rest @ ..] = tokens else {
+        return Err(LineFault::Malformed);
+    };
+    if is_word(first, b"forge") {
+        forge(alloc, rest)
+    } else if is_word(first, b"piece") {
+        piece(alloc, rest)
+    } else if is_word(first, b"publish") {
+        publish(alloc, rest)
+    } else if is_word(first, b"plan") {
+        plan(alloc, rest)
+    } else if is_word(first, b"next") {
+        next(rest)
+    } else if is_word(first, b"reorganise") {
+        reorganise(alloc, rest)
+    } else if is_word(first, b"work") {
+        work(alloc, rest)
+    } else if is_word(first, b"status") {
+        at_end(Command::Status, rest)
+    } else {
+        Err(LineFault::Malformed)
+    }
+}
+
 #[tactic(auto, unfolding(crate::specs::Commands::command_of))]
 fn spelled_command(alloc: Global, tokens: &[Token<'_>]) -> Result<Command, LineFault>
     ensures { Gives (λ x. x) result (command_of tokens.now) }
@@ -216,7 +408,7 @@ fn spelled_command(alloc: Global, tokens: &[Token<'_>]) -> Result<Command, LineF
     } else if is_word(first, b"query") {
         query(alloc, rest)
     } else {
-        Err(LineFault::Malformed)
+        schema_command(alloc, tokens)
     }
 }
 

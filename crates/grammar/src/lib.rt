@@ -3,7 +3,9 @@
 
 mod columns;
 mod command;
+mod element;
 mod fault;
+mod moving;
 mod operation;
 mod part;
 mod printing;
@@ -16,7 +18,9 @@ mod value;
 
 pub use columns::Columns;
 pub use command::{Command, read_command};
+pub use element::{ElementName, New};
 pub use fault::LineFault;
+pub use moving::{Changing, Moving};
 pub use operation::Operation;
 pub use printing::{push_hex, push_value};
 pub use selection::{Condition, Selection};

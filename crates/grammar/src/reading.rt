@@ -1,12 +1,13 @@
 //! What the first token spells, and what follows it.
 ghost use Rattle.std.specs.Prelude.{◌≡◌, ◌+◌, ◌<◌, take, drop, length, None, Some, IfOk, IfSome};
 ghost use Rattle.std.specs.Option.{option_map, MatchOption};
-ghost use Rattle.grammar.specs.Productions.{Gives, first_by, after_first, at_end, is_mark, is_word, text_of, name_in, count_in, type_of, type_in, cut_at, bracketed};
+ghost use Rattle.grammar.specs.Productions.{Gives, first_by, after_first, at_end, is_mark, is_word, text_of, name_in, count_in, small_count_in, type_of, type_in, state_in, cut_at, bracketed};
 
 use crate::fault::LineFault;
 use crate::token::{Mark, Token};
 use keycode::Text;
 use row_map::ColumnType;
+use schema_version::ElementState;
 use std::alloc::{AllocError, Global};
 
 /// Whether a token is this mark.
@@ -59,6 +60,12 @@ fn count_in(token: &Token<'_>) -> Option<u64>
     }
 }
 
+fn small_count_in(token: &Token<'_>) -> Option<u32>
+    ensures { result ≡ small_count_in token.now }
+{
+    u32::try_from(count_in(token)?).ok()
+}
+
 fn type_of(word: &[u8]) -> Option<ColumnType>
     ensures { result ≡ type_of word.now }
 {
@@ -76,6 +83,22 @@ fn type_in(token: &Token<'_>) -> Option<ColumnType>
     match token {
         Token::Word(word) => type_of(word.as_slice()),
         _ => None,
+    }
+}
+
+fn state_in(token: &Token<'_>) -> Option<ElementState>
+    ensures { result ≡ state_in token.now }
+{
+    if is_word(token, b"absent") {
+        Some(ElementState::Absent)
+    } else if is_word(token, b"delete_only") {
+        Some(ElementState::DeleteOnly)
+    } else if is_word(token, b"write_only") {
+        Some(ElementState::WriteOnly)
+    } else if is_word(token, b"public") {
+        Some(ElementState::Public)
+    } else {
+        None
     }
 }
 
@@ -108,6 +131,19 @@ pub fn count<'t, 'a>(tokens: &'t [Token<'a>]) -> Result<(u64, &'t [Token<'a>]), 
     }
 }
 
+/// The count at the front, where 32 bits hold it.
+pub fn small_count<'t, 'a>(tokens: &'t [Token<'a>]) -> Result<(u32, &'t [Token<'a>]), LineFault>
+    ensures { Gives (λ x. (x.0, x.1.now)) result (first_by small_count_in tokens.entry.now) }
+{
+    let [first, rest @ ..] = tokens else {
+        return Err(LineFault::Malformed);
+    };
+    match small_count_in(first) {
+        Some(count) => Ok((count, rest)),
+        None => Err(LineFault::Malformed),
+    }
+}
+
 /// The type at the front.
 pub fn kind<'t, 'a>(tokens: &'t [Token<'a>]) -> Result<(ColumnType, &'t [Token<'a>]), LineFault>
     ensures { Gives (λ x. (x.0, x.1.now)) result (first_by type_in tokens.entry.now) }
@@ -117,6 +153,19 @@ pub fn kind<'t, 'a>(tokens: &'t [Token<'a>]) -> Result<(ColumnType, &'t [Token<'
     };
     match type_in(first) {
         Some(kind) => Ok((kind, rest)),
+        None => Err(LineFault::Malformed),
+    }
+}
+
+/// The state at the front.
+pub fn state<'t, 'a>(tokens: &'t [Token<'a>]) -> Result<(ElementState, &'t [Token<'a>]), LineFault>
+    ensures { Gives (λ x. (x.0, x.1.now)) result (first_by state_in tokens.entry.now) }
+{
+    let [first, rest @ ..] = tokens else {
+        return Err(LineFault::Malformed);
+    };
+    match state_in(first) {
+        Some(state) => Ok((state, rest)),
         None => Err(LineFault::Malformed),
     }
 }

@@ -1,3 +1,5 @@
+mod changes;
+
 use super::*;
 use crate::token::{Mark, Token, tokens_of};
 use keycode::{Text, Value, Values};

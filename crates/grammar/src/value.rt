@@ -1,7 +1,7 @@
 //! The tokens and lists of tokens that spell values and names.
 ghost use Rattle.std.specs.Prelude.{◌≡◌, IfOk};
-ghost use Rattle.grammar.specs.Productions.{Gives, first_by, undoubled, int_of, constant_of, value_in};
-ghost use Rattle.grammar.specs.Commands.{value_of, name_of, set_of};
+ghost use Rattle.grammar.specs.Productions.{Gives, first_by, undoubled, int_of, constant_of, value_in, name_of};
+ghost use Rattle.grammar.specs.Commands.{value_of, set_of};
 
 use crate::fault::LineFault;
 use crate::production::Production;
@@ -106,7 +106,7 @@ impl Production for Value {
 impl Production for Text {
     ghost spelled = { name_of };
 
-    #[tactic(auto, unfolding(crate::specs::Commands::name_of))]
+    #[tactic(auto, unfolding(crate::specs::Productions::name_of))]
     fn read(alloc: Global, tokens: &[Token<'_>]) -> Result<Text, LineFault> {
         let (name, rest) = name(alloc, tokens)?;
         at_end(name, rest)

@@ -1,0 +1,145 @@
+//! Elements by their names, and what is to enter.
+ghost use Rattle.grammar.specs.Productions.{Gives};
+ghost use Rattle.grammar.specs.Changes.{element_at, named_on, new_index_at, new_column_at, new_at, to_state_of, optional_to_state_of};
+
+use crate::fault::LineFault;
+use crate::production::read_each;
+use crate::reading::{after_mark, after_word, at_end, bracketed, is_word, kind, name, state};
+use crate::token::{Mark, Token};
+use keycode::Text;
+use listed::Listed;
+use row_map::ColumnType;
+use schema_version::ElementState;
+use std::alloc::Global;
+
+/// An element by the names of its table and of itself: `TABLE.NAME`.
+#[derive(Debug, Drop, PartialEq, Eq)]
+pub struct ElementName {
+    pub table: Text,
+    pub name: Text,
+}
+
+/// What is to enter.
+#[derive(Debug, Drop, PartialEq, Eq)]
+pub enum New {
+    /// `index NAME on TABLE ( COLUMN {, COLUMN} )`
+    Index {
+        name: Text,
+        table: Text,
+        columns: Listed<Text>,
+    },
+    /// `column NAME TYPE on TABLE`
+    Column {
+        name: Text,
+        kind: ColumnType,
+        table: Text,
+    },
+}
+
+/// `TABLE.NAME` at the front.
+#[tactic(auto, unfolding(crate::specs::Changes::element_at))]
+pub(crate) fn element<'t, 'a>(
+    alloc: Global,
+    tokens: &'t [Token<'a>],
+) -> Result<(ElementName, &'t [Token<'a>]), LineFault>
+    ensures { Gives (λ x. (x.0, x.1.now)) result (element_at tokens.entry.now) }
+{
+    let (table, rest) = name(alloc, tokens)?;
+    let rest = after_mark(rest, Mark::Dot)?;
+    let (name, rest) = name(alloc, rest)?;
+    Ok((ElementName { table, name }, rest))
+}
+
+/// `NAME on TABLE`, read whole.
+#[tactic(auto, unfolding(crate::specs::Changes::named_on))]
+pub(crate) fn named_on(alloc: Global, tokens: &[Token<'_>]) -> Result<ElementName, LineFault>
+    ensures { Gives (λ x. x) result (named_on tokens.now) }
+{
+    let (element, rest) = name(alloc, tokens)?;
+    let rest = after_word(rest, b"on")?;
+    let (table, rest) = name(alloc, rest)?;
+    let named = ElementName {
+        table,
+        name: element,
+    };
+    at_end(named, rest)
+}
+
+#[tactic(auto, unfolding(crate::specs::Changes::new_index_at))]
+fn new_index<'t, 'a>(
+    alloc: Global,
+    tokens: &'t [Token<'a>],
+) -> Result<(New, &'t [Token<'a>]), LineFault>
+    ensures { Gives (λ x. (x.0, x.1.now)) result (new_index_at tokens.entry.now) }
+{
+    let (index, rest) = name(alloc, tokens)?;
+    let rest = after_word(rest, b"on")?;
+    let (table, rest) = name(alloc, rest)?;
+    let (inner, rest) = bracketed(rest)?;
+    let columns = read_each::<Text>(alloc, inner, Mark::Comma)?;
+    let fresh = New::Index {
+        name: index,
+        table,
+        columns,
+    };
+    Ok((fresh, rest))
+}
+
+#[tactic(auto, unfolding(crate::specs::Changes::new_column_at))]
+fn new_column<'t, 'a>(
+    alloc: Global,
+    tokens: &'t [Token<'a>],
+) -> Result<(New, &'t [Token<'a>]), LineFault>
+    ensures { Gives (λ x. (x.0, x.1.now)) result (new_column_at tokens.entry.now) }
+{
+    let (column, rest) = name(alloc, tokens)?;
+    let (kind, rest) = kind(rest)?;
+    let rest = after_word(rest, b"on")?;
+    let (table, rest) = name(alloc, rest)?;
+    let fresh = New::Column {
+        name: column,
+        kind,
+        table,
+    };
+    Ok((fresh, rest))
+}
+
+/// What is to enter, at the front.
+#[tactic(auto, unfolding(crate::specs::Changes::new_at))]
+pub(crate) fn fresh<'t, 'a>(
+    alloc: Global,
+    tokens: &'t [Token<'a>],
+) -> Result<(New, &'t [Token<'a>]), LineFault>
+    ensures { Gives (λ x. (x.0, x.1.now)) result (new_at tokens.entry.now) }
+{
+    let [first, rest @ ..] = tokens else {
+        return Err(LineFault::Malformed);
+    };
+    if is_word(first, b"index") {
+        new_index(alloc, rest)
+    } else if is_word(first, b"column") {
+        new_column(alloc, rest)
+    } else {
+        Err(LineFault::Malformed)
+    }
+}
+
+/// `to STATE`, read whole.
+#[tactic(auto, unfolding(crate::specs::Changes::to_state_of))]
+pub(crate) fn to_state(tokens: &[Token<'_>]) -> Result<ElementState, LineFault>
+    ensures { Gives (λ x. x) result (to_state_of tokens.now) }
+{
+    let rest = after_word(tokens, b"to")?;
+    let (state, rest) = state(rest)?;
+    at_end(state, rest)
+}
+
+/// The same, or nothing, which is delete-only.
+pub(crate) fn optional_to_state(tokens: &[Token<'_>]) -> Result<ElementState, LineFault>
+    ensures { Gives (λ x. x) result (optional_to_state_of tokens.now) }
+{
+    if tokens.is_empty() {
+        return Ok(ElementState::DeleteOnly);
+    }
+    to_state(tokens)
+}

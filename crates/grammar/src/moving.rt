@@ -1,0 +1,118 @@
+//! The moves of a step, and the changes that a plan brings about.
+ghost use Rattle.grammar.specs.Productions.{Gives};
+ghost use Rattle.grammar.specs.Changes.{enter_of, go_of, move_of, add_of, drop_of, change_of};
+
+use crate::element::{ElementName, New, element, fresh, named_on, optional_to_state, to_state};
+use crate::fault::LineFault;
+use crate::production::Production;
+use crate::reading::{at_end, is_word};
+use crate::token::Token;
+use schema_version::ElementState;
+use std::alloc::Global;
+
+/// A move of a step.
+#[derive(Debug, Drop, PartialEq, Eq)]
+pub enum Moving {
+    /// `add NEW [to STATE]`; no `to` is `to delete_only`.
+    Enter {
+        fresh: New,
+        to: ElementState,
+    },
+    /// `move TABLE.NAME to STATE`
+    Go {
+        element: ElementName,
+        to: ElementState,
+    },
+}
+
+/// A change that a plan brings about.
+#[derive(Debug, Drop, PartialEq, Eq)]
+pub enum Changing {
+    /// `add NEW`
+    Add(New),
+    /// `drop index NAME on TABLE`
+    DropIndex(ElementName),
+    /// `drop column NAME on TABLE`
+    DropColumn(ElementName),
+}
+
+#[tactic(auto, unfolding(crate::specs::Changes::enter_of))]
+fn enter(alloc: Global, tokens: &[Token<'_>]) -> Result<Moving, LineFault>
+    ensures { Gives (λ x. x) result (enter_of tokens.now) }
+{
+    let (fresh, rest) = fresh(alloc, tokens)?;
+    let to = optional_to_state(rest)?;
+    Ok(Moving::Enter { fresh, to })
+}
+
+#[tactic(auto, unfolding(crate::specs::Changes::go_of))]
+fn go(alloc: Global, tokens: &[Token<'_>]) -> Result<Moving, LineFault>
+    ensures { Gives (λ x. x) result (go_of tokens.now) }
+{
+    let (element, rest) = element(alloc, tokens)?;
+    let to = to_state(rest)?;
+    Ok(Moving::Go { element, to })
+}
+
+impl Production for Moving {
+    ghost spelled = { move_of };
+
+    #[tactic(auto, unfolding(crate::specs::Changes::move_of))]
+    fn read(alloc: Global, tokens: &[Token<'_>]) -> Result<Moving, LineFault> {
+        let [first, rest @ ..] = tokens else {
+            return Err(LineFault::Malformed);
+        };
+        if is_word(first, b"add") {
+            enter(alloc, rest)
+        } else if is_word(first, b"move") {
+            go(alloc, rest)
+        } else {
+            Err(LineFault::Malformed)
+        }
+    }
+}
+
+#[tactic(auto, unfolding(crate::specs::Changes::add_of))]
+fn add(alloc: Global, tokens: &[Token<'_>]) -> Result<Changing, LineFault>
+    ensures { Gives (λ x. x) result (add_of tokens.now) }
+{
+    let (fresh, rest) = fresh(alloc, tokens)?;
+    at_end(Changing::Add(fresh), rest)
+}
+
+/// What is behind a `drop`.
+#[tactic(auto, unfolding(crate::specs::Changes::drop_of))]
+fn dropped(alloc: Global, tokens: &[Token<'_>]) -> Result<Changing, LineFault>
+    ensures { Gives (λ x. x) result (drop_of tokens.now) }
+{
+    let [first, rest @ ..] = tokens else {
+        return Err(LineFault::Malformed);
+    };
+    if is_word(first, b"index") {
+        let element = named_on(alloc, rest)?;
+        Ok(Changing::DropIndex(element))
+    } else if is_word(first, b"column") {
+        let element = named_on(alloc, rest)?;
+        Ok(Changing::DropColumn(element))
+    } else {
+        Err(LineFault::Malformed)
+    }
+}
+
+impl Production for Changing {
+    ghost spelled = { change_of };
+
+    #[tactic(auto, unfolding(crate::specs::Changes::change_of))]
+    fn read(alloc: Global, tokens: &[Token<'_>]) -> Result<Changing, LineFault> {
+        let [first, rest @ ..] = tokens else {
+            return Err(LineFault::Malformed);
+        };
+        if is_word(first, b"add") {
+            add(alloc, rest)
+        } else if is_word(first, b"drop") {
+            dropped(alloc, rest)
+        } else {
+            Err(LineFault::Malformed)
+        }
+    }
+}
