@@ -9,7 +9,7 @@ use Rattle.row_query.specs.declared.query.Query.{Query}
 use Rattle.schema_version.specs.Version.{Version}
 use Rattle.world.specs.declared.fault.QueryRefusal.{QueryRefusal}
 use Rattle.world.specs.Querying.{QueryStep}
-use Rattle.world.specs.Replay.{State}
+use Rattle.world.specs.State.{State}
 use Rattle.shell.specs.declared.session.Held.{Held}
 use Rattle.shell.specs.Naming.{asked}
 use Rattle.shell.specs.Querying.{shown, value_or_null, cell_text, rows_text, refusal_name, queried_text, Queried}

@@ -9,7 +9,7 @@ use Rattle.byte_map.proofs.Order.{bytes_cmp_total, bytes_cmp-IsAntisymmetric}
 use Rattle.grammar.specs.declared.operation.Operation.{Operation}
 use Rattle.row_write.specs.Made.{PreparedTxn}
 use Rattle.world.specs.Calls.{CommitStep}
-use Rattle.world.specs.Replay.{State}
+use Rattle.world.specs.State.{State}
 use Rattle.world.specs.declared.committed.Committed.{Committed}
 use Rattle.world.specs.declared.fault.CommitFault.{CommitFault}
 use Rattle.shell.specs.declared.preparing.Preparation.{Preparation}

@@ -2,7 +2,7 @@
 use Rattle.std.proofs.Common.{◌≡◌, ℕ, List, Option, Some, Bool, false, refl, sym, subst}
 use Rattle.std.specs.FinMap as map
 use Rattle.grammar.specs.declared.operation.Operation.{Operation}
-use Rattle.world.specs.Replay.{State}
+use Rattle.world.specs.State.{State}
 use Rattle.shell.specs.declared.session.Held.{Held}
 use Rattle.shell.specs.declared.session.Opened.{Opened}
 use Rattle.shell.specs.declared.session.Session.TheVariants.{Running}

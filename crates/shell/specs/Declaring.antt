@@ -5,7 +5,7 @@ use Rattle.grammar.specs.declared.command.Command.{Command}
 use Rattle.grammar.specs.declared.command.Command.TheVariants as command
 use Rattle.schema_version.specs.declared.table.TableDef.{TableDef}
 use Rattle.world.specs.Calls.{OpenStep}
-use Rattle.world.specs.Replay.{State}
+use Rattle.world.specs.State.{State}
 use Rattle.world.specs.declared.fault.OpenFault.{OpenFault}
 use Rattle.shell.specs.declared.session.Declarations.{Declarations}
 use Rattle.shell.specs.declared.session.Session.TheVariants.{Declaring, Running}

@@ -12,7 +12,7 @@ use Rattle.row_write.specs.declared.fault.PrepareFault.TheVariants as prepare
 use Rattle.row_write.specs.Made.{PreparedTxn, expects}
 use Rattle.row_write.specs.Prepare.{Condition, rank}
 use Rattle.row_write.specs.Reads.{IsRead}
-use Rattle.world.specs.Replay.{State}
+use Rattle.world.specs.State.{State}
 use Rattle.shell.specs.declared.session.Held.{Held}
 use Rattle.shell.specs.declared.preparing.Preparation.{Preparation}
 use Rattle.shell.specs.declared.preparing.Preparation.TheVariants.{Ready, Unprepared, OutOfMemory}

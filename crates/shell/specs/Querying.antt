@@ -16,7 +16,7 @@ use Rattle.schema_version.specs.Version.{Version, live, is_public_column}
 use Rattle.world.specs.declared.fault.QueryRefusal.{QueryRefusal}
 use Rattle.world.specs.declared.fault.QueryRefusal.TheVariants as refusal
 use Rattle.world.specs.Querying.{QueryStep}
-use Rattle.world.specs.Replay.{State}
+use Rattle.world.specs.State.{State}
 use Rattle.shell.specs.declared.session.Held.{Held}
 use Rattle.shell.specs.Texts.{line, refused}
 

@@ -9,7 +9,7 @@ use Rattle.grammar.specs.declared.operation.Operation.{Operation}
 use Rattle.grammar.specs.declared.selection.Selection.{Selection}
 use Rattle.row_write.specs.Made.{PreparedTxn}
 use Rattle.world.specs.Calls.{LeaseStep, CommitStep, IsCheck}
-use Rattle.world.specs.Replay.{State}
+use Rattle.world.specs.State.{State}
 use Rattle.world.specs.declared.entry.Grant.{Grant}
 use Rattle.world.specs.declared.committed.Committed.{Committed}
 use Rattle.world.specs.declared.fault.CommitFault.{CommitFault}

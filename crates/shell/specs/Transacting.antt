@@ -11,7 +11,7 @@ use Rattle.world.specs.declared.committed.Committed.TheVariants as committed
 use Rattle.world.specs.declared.fault.CommitFault.{CommitFault}
 use Rattle.world.specs.declared.fault.CommitFault.TheVariants as commit
 use Rattle.world.specs.Calls.{counted, CommitAt}
-use Rattle.world.specs.Replay.{State}
+use Rattle.world.specs.State.{State}
 use Rattle.shell.specs.declared.session.Held.{Held}
 use Rattle.shell.specs.declared.preparing.Preparation.TheVariants as preparation
 use Rattle.shell.specs.declared.transacting.Transacted.{Transacted}

@@ -1,8 +1,10 @@
-pub mod Changes
-pub mod Operating
-pub mod Spelling
-pub mod Keeping
-pub mod Soundness
+pub mod Holding
 pub mod Calling
-pub mod Viewing
 pub mod Querying
+pub mod Viewing
+pub mod Awaited
+pub mod Publications
+pub mod Begins
+pub mod Cursors
+pub mod Pieces
+pub mod Happenings

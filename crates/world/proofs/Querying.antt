@@ -7,7 +7,7 @@ use Rattle.lease.specs.declared.fault.LeaseFault.TheVariants as lease_fault
 use Rattle.lease.specs.Refusals.{Serves, Condition as LeaseCondition, rank as lease_rank}
 use Rattle.lease.specs.Timeline.{Timeline}
 use Rattle.row_map.specs.declared.shape.Row.{Row}
-use Rattle.row_map.specs.Rows.{Rows}
+use Rattle.row_map.specs.Rows.{Rows, Pairs}
 use Rattle.element_state.specs.Consistent.{IsConsistent}
 use Rattle.row_query.specs.declared.fault.QueryFault.{QueryFault}
 use Rattle.row_query.specs.declared.fault.QueryFault.TheVariants.{NoTable, NotPublic, WrongType, Memory}
@@ -17,16 +17,19 @@ use Rattle.row_query.specs.Answer.{plain_answer}
 use Rattle.row_query.specs.Refused.{Part, PartFault, IsRefused, IsSound}
 use Rattle.row_query.specs.Refused.Part.{Named, Where}
 use Rattle.schema_version.specs.Version.{Version, Table}
+use Rattle.replay.specs.declared.entry.What.TheVariants.{Lease as Granted}
+use Rattle.replay.specs.Replay.{Facts, version_at, after}
+use Rattle.replay.specs.Kept.{IsKept, Agrees}
+use Rattle.replay.specs.Laws.{LeasesKeep, KeptAgrees}
 use Rattle.world.specs.declared.fault.QueryRefusal.{QueryRefusal}
 use Rattle.world.specs.declared.fault.QueryRefusal.TheVariants as refusal
 use Rattle.world.specs.declared.world.World.TheInside.{Inside}
-use Rattle.world.specs.Calls.{counted, version_of}
+use Rattle.world.specs.Calls.{counted}
 use Rattle.world.specs.Querying.{query_rank, QueryCondition, QueryAt, QueryStep}
 use Rattle.world.specs.Inside.{state_of, IsHeld}
-use Rattle.world.specs.Replay.{State, facts_of}
+use Rattle.world.specs.State.{State, facts_of}
 use Rattle.world.specs.Told.{query_told}
-use Rattle.world.proofs.Calling.{line_is}
-use Rattle.world.proofs.Keeping.{version_of_lease, consistent}
+use Rattle.world.proofs.Holding.{follow_of, kept_of, later}
 
 -- ---- a lease that does not serve
 
@@ -51,7 +54,7 @@ unserved_at s now lease query (lease_fault.LeaseEnded until at) first = (inr fir
 pub query_unserved : (f : Inside) (s : State) (moment now : ℕ) (lease : Lease) (query : Asked) (fault : LeaseFault) (as_told : QueryRefusal) → IsHeld f → state_of f ≡ s → now ≡ counted s moment
     → IsFirst lease_rank (LeaseCondition f.line lease now) fault → as_told ≡ query_told fault → QueryStep s moment lease query (Err as_told)
 query_unserved f s moment now lease query fault as_told h view counted_at first is =
-    let on_line : IsFirst lease_rank (LeaseCondition (facts_of s).line lease now) fault = subst (λ (l : Timeline). IsFirst lease_rank (LeaseCondition l lease now) fault) (line_is f s h view) first in
+    let on_line : IsFirst lease_rank (LeaseCondition (facts_of s).line lease now) fault = subst (λ (l : Timeline). IsFirst lease_rank (LeaseCondition l lease now) fault) ((follow_of f s h view).line) first in
     subst (λ (r : QueryRefusal). QueryStep s moment lease query (Err r)) (sym is)
     (subst (λ (n : ℕ). QueryAt s n lease query (Err (query_told fault))) counted_at (unserved_at s now lease query fault on_line))
 
@@ -70,7 +73,7 @@ some_same : {a b : Version} → Some a ≡ (let o : Option Version = Some b in o
 some_same e = cc
 
 -- a sound query has no fault
-sound_none : (s : State) (now : ℕ) (lease : Lease) (query : Asked) (version : Version) → version_of s lease.version ≡ Some version → IsSound version query → HasOneRefusal
+sound_none : (s : State) (now : ℕ) (lease : Lease) (query : Asked) (version : Version) → version_at (facts_of s) lease.version ≡ Some version → IsSound version query → HasOneRefusal
     → (fault : QueryFault) → ¬ (QueryCondition s now lease query (refusal.Query fault))
 sound_none s now lease query version at sound one NoTable = λ c. one version query sound NoTable (subst (λ (v : Version). IsRefused v query NoTable) (some_same (sym c.1 ∙ at)) c.2)
 sound_none s now lease query version at sound one (NotPublic column) = λ c. one version query sound (NotPublic column) (subst (λ (v : Version). IsRefused v query (NotPublic column)) (some_same (sym c.1 ∙ at)) c.2)
@@ -78,7 +81,7 @@ sound_none s now lease query version at sound one WrongType = λ c. one version 
 sound_none s now lease query version at sound one Memory = λ c. c
 
 -- where the lease serves and the query is sound, nothing stands against an answer
-clear : (s : State) (now : ℕ) (lease : Lease) (query : Asked) (version : Version) → Serves (facts_of s).line lease now → version_of s lease.version ≡ Some version → IsSound version query → HasOneRefusal
+clear : (s : State) (now : ℕ) (lease : Lease) (query : Asked) (version : Version) → Serves (facts_of s).line lease now → version_at (facts_of s) lease.version ≡ Some version → IsSound version query → HasOneRefusal
     → IsClear (QueryCondition s now lease query)
 clear s now lease query version v at sound one refusal.MomentTooLarge = served_lower s now lease query v refusal.MomentTooLarge (omega arith)
 clear s now lease query version v at sound one refusal.BadLease = served_lower s now lease query v refusal.BadLease (omega arith)
@@ -91,7 +94,7 @@ no_memory version number table (Where (Key key)) = λ c. c
 no_memory version number table (Where (Equal column value)) = λ c. c
 no_memory version number table (Where (Between column low high)) = λ c. c
 
-faulty_at : (s : State) (now : ℕ) (lease : Lease) (query : Asked) (version : Version) (fault : QueryFault) → Serves (facts_of s).line lease now → version_of s lease.version ≡ Some version → HasOneRefusal
+faulty_at : (s : State) (now : ℕ) (lease : Lease) (query : Asked) (version : Version) (fault : QueryFault) → Serves (facts_of s).line lease now → version_at (facts_of s) lease.version ≡ Some version → HasOneRefusal
     → ((fault ≡ Memory) × IsSound version query) ⊎ IsRefused version query fault → QueryAt s now lease query (Err (refusal.Query fault))
 faulty_at s now lease query version fault v at one (inl short) =
     subst (λ (x : QueryFault). QueryAt s now lease query (Err (refusal.Query x))) (sym short.0) (inl refl, λ other lt. clear s now lease query version v at short.1 one other)
@@ -102,30 +105,29 @@ faulty_at s now lease query version Memory v at one (inr is) = absurd (no_memory
 
 -- ---- in the words of the call
 
--- the fields of a world and a lease that serves
-pub record IsServed (f : Inside) (s : State) (moment now : ℕ) (lease : Lease) : Type 0 where
+-- the fields of a world, a lease that serves, and the schema of its version
+pub record IsServed (f : Inside) (s : State) (moment now : ℕ) (lease : Lease) (schema : Version) : Type 0 where
   pub held : IsHeld f
   pub view : state_of f ≡ s
   pub counts : now ≡ counted s moment
-  pub serves : Serves f.line lease now
+  pub serves : Serves (facts_of s).line lease now
+  pub schema_is : version_at (facts_of s) lease.version ≡ Some schema
 
-version_at_lease : (f : Inside) (s : State) (moment now : ℕ) (lease : Lease) → IsServed f s moment now lease → Serves (facts_of s).line lease now × (version_of s lease.version ≡ Some f.schema)
-version_at_lease f s moment now lease v =
-    let served : Serves (facts_of s).line lease now = subst (λ (l : Timeline). Serves l lease now) (line_is f s v.held v.view) v.serves in
-    (served, version_of_lease s now lease served.honest ∙ ap (λ (x : State). Some x.opening.schema) (sym v.view))
-
-pub query_faulty : (f : Inside) (s : State) (moment now : ℕ) (lease : Lease) (query : Asked) (schema : Version) (fault : QueryFault) (as_told : QueryRefusal) → IsServed f s moment now lease → schema ≡ f.schema → HasOneRefusal
+pub query_faulty : (f : Inside) (s : State) (moment now : ℕ) (lease : Lease) (query : Asked) (schema : Version) (fault : QueryFault) (as_told : QueryRefusal) → IsServed f s moment now lease schema → HasOneRefusal
     → ((fault ≡ Memory) × IsSound schema query) ⊎ IsRefused schema query fault → as_told ≡ refusal.Query fault → QueryStep s moment lease query (Err as_told)
-query_faulty f s moment now lease query schema fault as_told v same one is told =
-    let served = version_at_lease f s moment now lease v in
+query_faulty f s moment now lease query schema fault as_told v one is told =
     subst (λ (r : QueryRefusal). QueryStep s moment lease query (Err r)) (sym told)
-    (subst (λ (n : ℕ). QueryAt s n lease query (Err (refusal.Query fault))) v.counts
-    (faulty_at s now lease query schema fault served.0 (served.1 ∙ ap Some (sym same)) one is))
+    (subst (λ (n : ℕ). QueryAt s n lease query (Err (refusal.Query fault))) v.counts (faulty_at s now lease query schema fault v.serves v.schema_is one is))
 
-pub query_answered : (f : Inside) (s : State) (moment now : ℕ) (lease : Lease) (query : Asked) (schema : Version) (found : List Row) → IsServed f s moment now lease → schema ≡ f.schema → HasOneRefusal → IsSound schema query
+-- time goes by up to the moment that counts, and the lease's version still counts then
+consistent_now : (facts : Facts) (now : ℕ) (lease : Lease) (schema : Version) → LeasesKeep → KeptAgrees → IsKept facts → facts.moment ≤ now → Serves facts.line lease now → version_at facts lease.version ≡ Some schema → IsConsistent schema facts.rows facts.pairs
+consistent_now facts now lease schema goes agrees k after_last v at =
+    agrees (after facts (record { moment = now; what = Granted lease })) (goes facts now lease after_last k) lease.version schema (lease, refl, v.honest, v.in_force) at
+
+pub query_answered : (f : Inside) (s : State) (moment now : ℕ) (lease : Lease) (query : Asked) (schema : Version) (found : List Row) → LeasesKeep → KeptAgrees → IsServed f s moment now lease schema → HasOneRefusal → IsSound schema query
     → ((rows : Rows) → IsConsistent schema rows f.store → found ≡ plain_answer rows query) → QueryStep s moment lease query (Ok found)
-query_answered f s moment now lease query schema found v same one sound answers =
-    let served = version_at_lease f s moment now lease v in
-    let agree : IsConsistent schema (facts_of (state_of f)).rows f.store = subst (λ (x : Version). IsConsistent x (facts_of (state_of f)).rows f.store) (sym same) (consistent (state_of f) v.held.kept) in
+query_answered f s moment now lease query schema found goes agrees v one sound answers =
+    let agree : IsConsistent schema (facts_of s).rows f.store
+    = subst (λ (p : Pairs). IsConsistent schema (facts_of s).rows p) (sym (follow_of f s v.held v.view).pairs) (consistent_now (facts_of s) now lease schema goes agrees (kept_of f s v.held v.view) (later f s moment now v.counts) v.serves v.schema_is) in
     subst (λ (n : ℕ). QueryAt s n lease query (Ok found)) v.counts
-    (clear s now lease query schema served.0 (served.1 ∙ ap Some (sym same)) sound one, answers (facts_of (state_of f)).rows agree ∙ ap (λ (x : State). plain_answer (facts_of x).rows query) v.view)
+    (clear s now lease query schema v.serves v.schema_is sound one, answers (facts_of s).rows agree)

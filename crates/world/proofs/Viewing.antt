@@ -10,7 +10,7 @@ use Rattle.row_map.specs.Rows.{Bytes, Pairs}
 use Rattle.row_map.specs.Expect.{View}
 use Rattle.world.specs.Calls.{IsReadView}
 use Rattle.world.specs.Reading.{noted_reads}
-use Rattle.world.specs.Replay.{State}
+use Rattle.world.specs.State.{State}
 
 none_some : {A B : Type 0} (v : A) → None ≡ Some v → B
 none_some v e = absurd cc

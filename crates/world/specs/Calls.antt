@@ -1,5 +1,5 @@
 -- What each call of the core may answer, and the state that it leaves.
-use Rattle.std.specs.Prelude.{◌≡◌, ◌≢◌, ℕ, ◌+◌, ◌<◌, max, length, Option, Some, Result, Ok, Err, slice_get, ◌↔◌}
+use Rattle.std.specs.Prelude.{◌≡◌, ◌≢◌, ℕ, ◌+◌, ◌<◌, max, length, Option, Some, Result, Ok, Err, ◌↔◌}
 use Rattle.std.specs.FinMap as map
 use Rattle.audit.specs.declared.report.CheckReport.{CheckReport}
 use Rattle.audit.specs.Audit.{IsAudit}
@@ -8,33 +8,29 @@ use Rattle.listed.specs.Refusal.{IsRefusal, IsClear}
 use Rattle.lease.specs.Timeline.{IsHonest, IsInForce, granted_at, max_moment, IsLength}
 use Rattle.row_map.specs.Expect.{IsConflict, View}
 use Rattle.row_map.specs.Rows.{Bytes}
-use Rattle.schema_version.specs.Version.{Version}
 use Rattle.schema_version.specs.Declaring.{declared, IsLawful}
 use Rattle.row_write.specs.declared.op.RowOutcome.TheVariants.{Done, Refused}
 use Rattle.row_write.specs.Plain.{outcome}
 use Rattle.row_write.specs.Made.{PreparedTxn}
+use Rattle.replay.specs.declared.entry.What.{What}
+use Rattle.replay.specs.declared.entry.What.TheVariants.{Lease as Granted, Txn}
+use Rattle.replay.specs.Replay.{Opening, version_at}
 use Rattle.world.specs.declared.config.Config.{Config}
 use Rattle.world.specs.declared.committed.Committed.{Committed}
 use Rattle.world.specs.declared.committed.Committed.TheVariants as committed
 use Rattle.world.specs.declared.entry.Receipt.{Receipt}
 use Rattle.world.specs.declared.entry.Grant.{Grant}
-use Rattle.world.specs.declared.entry.What.{What}
-use Rattle.world.specs.declared.entry.What.TheVariants.{Lease as Granted, Txn}
 use Rattle.world.specs.declared.fault.OpenFault.{OpenFault}
 use Rattle.world.specs.declared.fault.OpenFault.TheVariants as open_fault
 use Rattle.world.specs.declared.fault.GrantFault.{GrantFault}
 use Rattle.world.specs.declared.fault.GrantFault.TheVariants as grant_fault
 use Rattle.world.specs.declared.fault.CommitFault.{CommitFault}
 use Rattle.world.specs.declared.fault.CommitFault.TheVariants as commit_fault
-use Rattle.world.specs.Replay.{Opening, State, facts_of, effect, opened, version_at}
+use Rattle.world.specs.State.{State, facts_of, effect, opened}
 
 -- the moment that counts: the greater of the one handed in and the last entry's
 abbrev pub counted : State → ℕ → ℕ
 counted state moment = max moment (facts_of state).moment
-
--- the newest version
-abbrev pub newest_of : State → Option Version
-newest_of state = slice_get (facts_of state).versions 0
 
 -- one entry more, with the receipt for it
 pub record Appends (old : State) (now : ℕ) (what : What) (receipt : Receipt) (new : State) : Type 0 where
@@ -77,7 +73,7 @@ abbrev pub LeaseAt : State → ℕ → Result Grant GrantFault → State → Typ
 LeaseAt old now (Ok given) new =
     IsClear (GrantCondition now)
     × (given.lease ≡ granted_at (facts_of old).line now)
-    × (newest_of old ≡ Some given.schema)
+    × (given.schema ≡ (facts_of old).newest)
     × Appends old now (Granted given.lease) given.receipt new
 LeaseAt old now (Err fault) new = IsRefusal grant_rank (GrantCondition now) grant_fault.Memory fault × (new ≡ old)
 
@@ -99,7 +95,7 @@ abbrev pub CommitCondition : State → ℕ → PreparedTxn → CommitFault → T
 CommitCondition old now prepared commit_fault.MomentTooLarge = max_moment < now
 CommitCondition old now prepared commit_fault.BadLease = ¬ (IsHonest (facts_of old).line now prepared.lease)
 CommitCondition old now prepared (commit_fault.LeaseEnded until counted) = (until ≡ prepared.lease.until) × (counted ≡ now) × (¬ (IsInForce prepared.lease now))
-CommitCondition old now prepared commit_fault.WrongSchema = version_at (facts_of old).versions prepared.lease.version ≢ Some prepared.schema
+CommitCondition old now prepared commit_fault.WrongSchema = version_at (facts_of old) prepared.lease.version ≢ Some prepared.schema
 CommitCondition old now prepared (commit_fault.Conflict key) = IsConflict prepared.expect old.pairs key
 CommitCondition old now prepared commit_fault.Memory = ⊥
 
@@ -122,10 +118,6 @@ CommitStep old moment prepared (Err refusal) new = CommitAt old (counted old mom
 
 -- ---- the calls that change nothing
 
--- a version by its number
-abbrev pub version_of : State → ℕ → Option Version
-version_of state number = version_at (facts_of state).versions number
-
 -- each key that is to be read, with its value in the store or with none, and no other key
 abbrev pub IsReadView : State → map.FinMap bytes_cmp (Unit {0}) → View → Type 0
 IsReadView state keys view =
@@ -133,4 +125,4 @@ IsReadView state keys view =
 
 -- the audit of the pairs by the newest version
 abbrev pub IsCheck : State → CheckReport → Type 0
-IsCheck state report = (version : Version) × (newest_of state ≡ Some version) × IsAudit version state.pairs report
+IsCheck state report = IsAudit (facts_of state).newest state.pairs report

@@ -6,9 +6,9 @@ use Rattle.keycode.specs.Order.{bytes_cmp}
 use Rattle.row_map.specs.Rows.{Pairs}
 use Rattle.schema_version.specs.Version.{Version}
 use Rattle.schema_version.specs.Held.{version_code}
-use Rattle.world.specs.declared.entry.Entry.{Entry}
-use Rattle.world.specs.contracts.entry.Entry as entry
-use Rattle.world.specs.Replay.{State}
+use Rattle.replay.specs.declared.entry.Entry.{Entry}
+use Rattle.replay.specs.contracts.entry.Entry as entry
+use Rattle.world.specs.State.{State}
 
 abbrev pub state_code : Coded State
 state_code =

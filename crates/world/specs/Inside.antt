@@ -1,14 +1,23 @@
 -- What the fields of a World stand for, and what is true of them.
-use Rattle.std.specs.Prelude.{◌≡◌}
+use Rattle.std.specs.Prelude.{◌≡◌, slice_get}
+use Rattle.replay.specs.Replay.{Facts}
+use Rattle.replay.specs.Kept.{IsKept}
 use Rattle.world.specs.declared.world.World.TheInside.{Inside}
-use Rattle.world.specs.Kept.{IsKept}
-use Rattle.world.specs.Replay.{State, facts_of}
+use Rattle.world.specs.State.{State, facts_of}
 
 abbrev pub state_of : Inside → State
-state_of fields = record { opening = record { length = fields.line.length; schema = fields.schema }; log = fields.log.items; pairs = fields.store }
+state_of fields = record { opening = record { length = fields.line.length; schema = fields.first }; log = fields.log.items; pairs = fields.store }
 
+-- the fields have what a log says
+pub record Follow (fields : Inside) (facts : Facts) : Type 0 where
+  pub moment : fields.moment ≡ facts.moment
+  pub line : fields.line ≡ facts.line
+  pub newest : fields.newest ≡ facts.newest
+  pub before : fields.before ≡ slice_get facts.older 0
+  pub begun : fields.begun.items ≡ facts.progress
+  pub pairs : fields.store ≡ facts.pairs
+
+-- they have what their own log says, which keeps all that the theorem rests on
 pub record IsHeld (fields : Inside) : Type 0 where
-  -- the kept moment and timeline are those of the log
-  pub moment : fields.moment ≡ (facts_of (state_of fields)).moment
-  pub line : fields.line ≡ (facts_of (state_of fields)).line
-  pub kept : IsKept (state_of fields)
+  pub follow : Follow fields (facts_of (state_of fields))
+  pub kept : IsKept (facts_of (state_of fields))

@@ -1,9 +1,11 @@
-pub mod Replay
+pub mod State
 pub mod Calls
 pub mod Querying
-pub mod Agreement
-pub mod Kept
 pub mod Code
 pub mod Inside
 pub mod Told
 pub mod Reading
+pub mod Publishing
+pub mod Beginning
+pub mod Piecework
+pub mod Events

@@ -10,10 +10,11 @@ use Rattle.row_query.specs.declared.query.Query.{Query as Asked}
 use Rattle.row_query.specs.Answer.{plain_answer}
 use Rattle.row_query.specs.Refused.{IsRefused}
 use Rattle.schema_version.specs.Version.{Version}
+use Rattle.replay.specs.Replay.{version_at}
 use Rattle.world.specs.declared.fault.QueryRefusal.{QueryRefusal}
 use Rattle.world.specs.declared.fault.QueryRefusal.TheVariants as refusal
-use Rattle.world.specs.Calls.{counted, version_of}
-use Rattle.world.specs.Replay.{State, facts_of}
+use Rattle.world.specs.Calls.{counted}
+use Rattle.world.specs.State.{State, facts_of}
 
 -- want of memory comes last
 abbrev pub query_rank : QueryRefusal → ℕ
@@ -25,7 +26,7 @@ query_rank (refusal.Query fault) = 4
 
 -- the query has this fault under the schema of the lease's version
 abbrev pub IsFaulty : State → Lease → Asked → QueryFault → Type 0
-IsFaulty old lease query fault = (version : Version) × (version_of old lease.version ≡ Some version) × IsRefused version query fault
+IsFaulty old lease query fault = (version : Version) × (version_at (facts_of old) lease.version ≡ Some version) × IsRefused version query fault
 
 abbrev pub QueryCondition : State → ℕ → Lease → Asked → QueryRefusal → Type 0
 QueryCondition old now lease query refusal.MomentTooLarge = max_moment < now

@@ -1,10 +1,12 @@
--- What a commit or a query tells of the store's refusal, and of a lease's.
+-- What a commit, a piece or a query tells of the store's refusal, and of a lease's.
 use Rattle.lease.specs.declared.fault.LeaseFault.{LeaseFault}
 use Rattle.lease.specs.declared.fault.LeaseFault.TheVariants as lease_fault
 use Rattle.txn_store.specs.declared.fault.SetFault.{SetFault}
 use Rattle.txn_store.specs.declared.fault.SetFault.TheVariants as told
 use Rattle.world.specs.declared.fault.CommitFault.{CommitFault}
 use Rattle.world.specs.declared.fault.CommitFault.TheVariants as commit
+use Rattle.world.specs.declared.fault.PieceFault.{PieceFault}
+use Rattle.world.specs.declared.fault.PieceFault.TheVariants as piece
 use Rattle.world.specs.declared.fault.QueryRefusal.{QueryRefusal}
 use Rattle.world.specs.declared.fault.QueryRefusal.TheVariants as query
 
@@ -21,3 +23,7 @@ abbrev pub query_told : LeaseFault → QueryRefusal
 query_told lease_fault.MomentTooLarge = query.MomentTooLarge
 query_told lease_fault.BadLease = query.BadLease
 query_told (lease_fault.LeaseEnded until now) = query.LeaseEnded until now
+
+abbrev pub piece_told : SetFault → PieceFault
+piece_told (told.Conflict key) = piece.Conflict key
+piece_told told.Memory = piece.Memory

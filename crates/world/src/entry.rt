@@ -1,25 +1,7 @@
 use lease::Lease;
 use listed::Counted;
-use row_write::RowOps;
+use replay::Entry;
 use schema_version::Schema;
-
-/// What an accepted call did.
-#[derive(Debug, Drop)]
-pub enum What {
-    /// A lease was granted.
-    Lease(Lease),
-    /// These operations were committed under a lease.
-    Txn(Lease, RowOps),
-}
-
-/// An entry of the log, which has one for each accepted call and no other.
-#[derive(Debug, Drop)]
-pub struct Entry {
-    /// The moment that counted in the call.
-    pub moment: u64,
-    /// What the call did. The log and the receipts share it.
-    pub what: Counted<What>,
-}
 
 /// The proof of an accepted call: where its entry stands in the log.
 #[derive(Debug, Drop)]
@@ -39,4 +21,13 @@ pub struct Grant {
     pub schema: Counted<Schema>,
     /// The receipt for the lease's entry.
     pub receipt: Receipt,
+}
+
+/// A piece that was committed.
+#[derive(Debug, Drop)]
+pub struct PieceDone {
+    /// The receipt for its entry.
+    pub receipt: Receipt,
+    /// Whether the piece has come to its end.
+    pub ended: bool,
 }

@@ -1,20 +1,31 @@
 //! The core of the engine: schema leases, transactions and the log, over one store of pairs.
 #![tactic(auto)]
 
+mod beginning;
 mod committed;
 mod config;
 mod entry;
+mod event;
+mod events;
 mod fault;
+mod finishing;
 mod logging;
 mod opening;
+mod piecework;
+mod publishing;
 mod reading;
 mod world;
 
 pub use audit::{CheckReport, audit};
 pub use committed::Committed;
 pub use config::Config;
-pub use entry::{Entry, Grant, Receipt, What};
-pub use fault::{CommitFault, GrantFault, OpenFault, QueryRefusal};
+pub use entry::{Grant, PieceDone, Receipt};
+pub use event::{Event, Reply};
+pub use fault::{
+    BeginFault, CommitFault, GrantFault, OpenFault, PieceFault, PublishFault, QueryRefusal,
+    ReadFault,
+};
+pub use replay::{Entry, What};
 pub use world::World;
 
 #[cfg(test)]

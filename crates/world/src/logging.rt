@@ -1,10 +1,10 @@
 //! The log: an entry is made, and its room too, before anything changes.
 ghost use Rattle.std.specs.Prelude.{◌≡◌, ◌<◌, ◌+◌, ◌++◌, ◌∷◌, [], length, IfOk, OnOk};
 ghost use Rattle.std.specs.Vec.{vec_len, vec_capacity};
-ghost use Rattle.world.specs.declared.entry.What.TheVariants.{Txn};
+ghost use Rattle.replay.specs.declared.entry.What.TheVariants.{Txn};
 
-use crate::entry::{Entry, What};
 use listed::Counted;
+use replay::{Entry, What};
 use row_write::Prepared;
 use std::alloc::{AllocError, Global};
 

@@ -1,5 +1,7 @@
 //! Worlds whose answers were worked out by hand.
 
+mod changes;
+
 use super::*;
 use keycode::{Text, Value, Values};
 use listed::Listed;

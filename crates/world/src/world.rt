@@ -1,14 +1,14 @@
-ghost use Rattle.std.specs.Prelude.{◌≡◌, max, IfOk, IfErr, OnOk, OnErr, option_map, Result, Some};
+ghost use Rattle.std.specs.Prelude.{◌≡◌, ◌≤◌, max, IfOk, IfErr, OnOk, OnErr, option_map, Result, Some};
 ghost use Rattle.std.specs.FinMap as map;
 ghost use Rattle.lease.specs.Refusals.{Serves};
-ghost use Rattle.world.specs.Agreement.{Agrees};
-ghost use Rattle.world.specs.Calls.{OpenStep, LeaseStep, CommitStep, CommitAt, IsReadView, IsCheck, counted, newest_of, version_of};
+ghost use Rattle.replay.specs.Replay.{version_at};
+ghost use Rattle.world.specs.Calls.{OpenStep, LeaseStep, CommitStep, CommitAt, IsReadView, IsCheck, counted};
 ghost use Rattle.world.specs.Querying.{QueryStep};
-ghost use Rattle.world.specs.Replay.{facts_of, IsReplayed};
+ghost use Rattle.world.specs.State.{facts_of, recent, IsReplayed, Agrees};
 
 use crate::committed::Committed;
 use crate::config::Config;
-use crate::entry::{Entry, Grant, Receipt, What};
+use crate::entry::{Grant, Receipt};
 use crate::fault::{CommitFault, GrantFault, OpenFault, QueryRefusal};
 use crate::logging::{append, entry_pair, make_room, next_place, txn_of};
 use crate::opening::{begin, declare};
@@ -16,6 +16,8 @@ use crate::reading::read_all;
 use audit::{CheckReport, audit};
 use lease::{Lease, Timeline};
 use listed::{Counted, Listed};
+use reorganise::Progress;
+use replay::{Entry, What, kept_agrees, leases_keep, openings_keep, transactions_keep};
 use row_map::{PairView, ReadSet, ReadView, Row};
 use row_query::{Query, answer, one_refusal};
 use row_write::{Prepared, RowOutcome};
@@ -24,21 +26,26 @@ use std::alloc::{AllocError, Global};
 use std::marker::Model;
 use txn_store::Store;
 
-/// The core: one schema version so far, the store of pairs, and the log of all accepted calls. Contracts see it as its
+/// The core: the schema versions in use, the store of pairs, and the log of all accepted calls. Contracts see it as its
 /// state: what it was opened with, its log and its pairs.
 #[derive(Drop)]
 pub struct World {
-    /// Version 1, and the newest.
-    schema: Counted<Schema>,
-    line: Timeline,
-    store: Store,
-    log: Vec<Entry>,
+    /// Version 1.
+    pub(crate) first: Counted<Schema>,
+    /// The version before the newest.
+    pub(crate) before: Option<Counted<Schema>>,
+    pub(crate) newest: Counted<Schema>,
+    pub(crate) line: Timeline,
+    /// The reorganisations that have begun and are not over.
+    pub(crate) begun: Vec<Progress>,
+    pub(crate) store: Store,
+    pub(crate) log: Vec<Entry>,
     /// The moment of the last entry.
-    moment: u64,
+    pub(crate) moment: u64,
 }
 
 impl Model for World {
-    ghost use Rattle.world.specs.Replay.{State};
+    ghost use Rattle.world.specs.State.{State};
     ghost use Rattle.world.specs.Code.{state_code};
 
     ghost Value = { State };
@@ -63,10 +70,15 @@ impl World {
         let schema = declare(alloc, config)?;
         let line = begin(alloc, config)?;
         schema.known();
-        let schema = Counted::new(alloc, schema)?;
+        openings_keep();
+        let first = Counted::new(alloc, schema)?;
+        let newest = first.clone()?;
         Ok(World {
-            schema,
+            first,
+            before: None,
+            newest,
             line,
+            begun: Vec::new(alloc),
             store: Store::new(alloc),
             log: Vec::new(alloc),
             moment: 0,
@@ -85,7 +97,8 @@ impl World {
         let Ok(lease) = self.line.grant(now) else {
             return Err(GrantFault::MomentTooLarge);
         };
-        let schema = self.schema.clone()?;
+        let schema = self.newest.clone()?;
+        leases_keep();
         let (entry, kept) = entry_pair(alloc, now, What::Lease(lease))?;
         make_room(&mut self.log)?;
         let place = next_place(&self.log);
@@ -98,14 +111,32 @@ impl World {
         })
     }
 
-    /// The schema of the newest version or of the one before; so far there is version 1 alone.
+    /// The schema of the newest version or of the one before, by its number; None for any other number.
     pub fn schema(&self, version: u64) -> Option<&Counted<Schema>>
-        ensures { option_map (λ s. s.now) result ≡ version_of self.now version }
+        ensures { option_map (λ s. s.now) result ≡ recent (facts_of self.now) version }
     {
-        if version == 1 {
-            Some(&self.schema)
-        } else {
-            None
+        let newest = self.line.newest();
+        if version == newest {
+            return Some(&self.newest);
+        }
+        if version < newest && version + 1 == newest {
+            return self.before.as_ref();
+        }
+        None
+    }
+
+    // The schema of the version of a lease that serves.
+    fn under(&self, lease: &Lease, now: u64) -> &Counted<Schema>
+        requires later { (facts_of self.now).moment ≤ now }
+        requires serves { Serves (facts_of self.now).line lease.now now }
+        ensures { version_at (facts_of self.now) lease.now.version ≡ Some result.now }
+    {
+        if lease.version == self.line.newest() {
+            return &self.newest;
+        }
+        match &self.before {
+            Some(before) => before,
+            None => &self.newest,
         }
     }
 
@@ -117,12 +148,11 @@ impl World {
         read_all(alloc, &self.store, keys.entries())
     }
 
-    /// The schema of the newest version, which is version 1 so far.
-    // (With one version there is no other value of this type that a wrong body could give.)
+    /// The schema of the newest version.
     pub fn newest(&self) -> &Counted<Schema>
-        ensures { newest_of self.now ≡ Some result.now }
+        ensures { result.now ≡ (facts_of self.now).newest }
     {
-        &self.schema
+        &self.newest
     }
 
     /// Audits the pairs of the store by the newest version: how many rows there are, how many pairs are missing, and
@@ -130,7 +160,7 @@ impl World {
     pub fn check(&self, alloc: Global) -> Result<CheckReport, AllocError>
         ensures { IfOk result (λ report. IsCheck self.now report) }
     {
-        audit(alloc, self.schema.get(), &self.store)
+        audit(alloc, self.newest.get(), &self.store)
     }
 
     /// The rows that a query asks for, as the log gives them: in the order of their primary keys, each with its values in
@@ -150,9 +180,12 @@ impl World {
         ensures { QueryStep self.now moment lease.now query.now result }
     {
         one_refusal();
+        kept_agrees();
+        leases_keep();
         let now = self.counted(moment);
         self.line.standing(lease, now)?;
-        Ok(answer(alloc, self.schema.get(), &self.store, query)?)
+        let schema = self.under(lease, now);
+        Ok(answer(alloc, schema.get(), &self.store, query)?)
     }
 
     /// Commits a prepared transaction: it is logged and its batch is written, or the rows refuse it.
@@ -176,7 +209,8 @@ impl World {
             Ok(()) => (),
             Err(fault) => return Err((CommitFault::from(fault), prepared)),
         }
-        if !prepared.schema().get().is_same(self.schema.get()) {
+        let schema = self.under(prepared.lease(), now);
+        if !prepared.schema().get().is_same(schema.get()) {
             return Err((CommitFault::WrongSchema, prepared));
         }
         match self.commit_at(alloc, now, &prepared) {
@@ -192,10 +226,12 @@ impl World {
         now: u64,
         prepared: &Prepared,
     ) -> Result<Committed, CommitFault>
-        requires schema { prepared.now.schema ≡ self.old.opening.schema }
+        requires schema { version_at (facts_of self.old) prepared.now.lease.version ≡ Some prepared.now.schema }
+        requires later { (facts_of self.old).moment ≤ now }
         requires serves { Serves (facts_of self.old).line prepared.now.lease now }
         ensures step { CommitAt self.old now prepared.now result self.new }
     {
+        transactions_keep();
         match prepared.outcome() {
             RowOutcome::Done => self.add_txn(alloc, now, prepared),
             RowOutcome::Refused { op, why } => {
@@ -214,11 +250,13 @@ impl World {
         now: u64,
         prepared: &Prepared,
     ) -> Result<Committed, CommitFault>
-        requires schema { prepared.now.schema ≡ self.old.opening.schema }
+        requires schema { version_at (facts_of self.old) prepared.now.lease.version ≡ Some prepared.now.schema }
+        requires later { (facts_of self.old).moment ≤ now }
         requires serves { Serves (facts_of self.old).line prepared.now.lease now }
         requires done { prepared.now.told ≡ RowOutcome.Done }
         ensures step { CommitAt self.old now prepared.now result self.new }
     {
+        transactions_keep();
         prepared.made();
         let (entry, logged) = entry_pair(alloc, now, txn_of(prepared)?)?;
         make_room(&mut self.log)?;
@@ -238,7 +276,7 @@ impl World {
     }
 
     // The moment that counts where this one is handed in: moments never go back.
-    fn counted(&self, moment: u64) -> u64
+    pub(crate) fn counted(&self, moment: u64) -> u64
         ensures { result ≡ counted self.now moment }
     {
         moment.max(self.moment)
@@ -257,6 +295,7 @@ impl World {
         ensures replayed { IsReplayed self.now }
         ensures agrees { Agrees self.now }
     {
+        kept_agrees();
         let _log = &self.log;
     }
 }

@@ -1,7 +1,9 @@
-use Rattle.std.proofs.Common.{subst}
-use Rattle.world.specs.Agreement.{Agrees}
-use Rattle.world.proofs.Keeping.{kept_agrees}
+use Rattle.world.proofs.Holding.{kept_of, replayed, agrees}
+use Rattle.world.specs.State.{facts_of}
 use Rattle.world.proofs.world.World.agrees.Goals as goal
 
-pub returns-clause-agrees : goal.returns-clause-agrees
-returns-clause-agrees c = subst Agrees c.self.view_is (kept_agrees _ c.self.invariant.kept)
+pub returns : goal.returns
+returns c = record {
+  replayed = replayed c.self.inside c.args.self.now c.self.invariant c.self.view_is;
+  agrees = agrees c.self.inside c.args.self.now c.self.invariant c.self.view_is (c.kept_agrees.ensures (facts_of c.args.self.now) (kept_of c.self.inside c.args.self.now c.self.invariant c.self.view_is));
+}

@@ -1,4 +1,4 @@
-use Rattle.world.proofs.Calling.{counted_is}
+use Rattle.world.proofs.Holding.{counted_is}
 use Rattle.world.proofs.world.World.counted.Goals as goal
 
 pub returns : goal.returns

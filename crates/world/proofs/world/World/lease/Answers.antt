@@ -1,13 +1,15 @@
 use Rattle.std.proofs.Common.{ap, ◌∙◌, ◌++◌, ◌∷◌, []}
-use Rattle.world.proofs.Calling.{begun, lease_held, lease_step}
+use Rattle.world.proofs.Holding.{later, published}
+use Rattle.world.proofs.Calling.{lease_held, lease_step}
 use Rattle.world.proofs.world.World.lease.Goals as goal
 
 pub grant-requires : goal.grant-requires
-grant-requires c = begun c.self.inside c.self.invariant c.counted-now.result
+grant-requires c = published c.self.inside c.args.self.now c.self.invariant c.self.view_is c.args.moment c.counted-now.result c.counted-now.ensures
 
 pub invariant_of-self-2 : goal.invariant_of-self-2
 invariant_of-self-2 c =
-    lease_held c.self.inside c.append.new.log c.counted-now.result c.in-Ok.lease c.in_ok-entry.kept c.self.invariant c.in_ok-entry.ensures.second
+    lease_held c.self.inside c.args.self.now c.append.new.log c.counted-now.result c.in-Ok.lease c.in_ok-entry.kept c.leases_keep.ensures c.self.invariant c.self.view_is
+    (later c.self.inside c.args.self.now c.args.moment c.counted-now.result c.counted-now.ensures) c.in_ok-entry.ensures.second
     (c.append.ensures ∙ ap (λ es. es ++ c.in_ok-entry.kept ∷ []) c.in_ok-make_room.ensures.items)
 
 pub returns : goal.returns

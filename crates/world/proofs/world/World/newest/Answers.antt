@@ -1,5 +1,5 @@
-use Rattle.world.proofs.Calling.{newest_is}
+use Rattle.world.proofs.Holding.{follow_of}
 use Rattle.world.proofs.world.World.newest.Goals as goal
 
 pub returns : goal.returns
-returns c = newest_is c.self.inside c.args.self.now c.self.view_is
+returns c = (follow_of c.self.inside c.args.self.now c.self.invariant c.self.view_is).newest

@@ -2,7 +2,7 @@ use Rattle.std.proofs.Common.{ap, ◌∙◌}
 use Rattle.std.specs.FinMap as map
 use Rattle.std.proofs.lemmas.Result.{IfOk-weaker}
 use Rattle.world.specs.Reading.{noted_reads}
-use Rattle.world.specs.Replay.{State}
+use Rattle.world.specs.State.{State}
 use Rattle.world.proofs.Viewing.{read_view}
 use Rattle.world.proofs.world.World.read.Goals as goal
 

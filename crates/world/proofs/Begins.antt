@@ -1,0 +1,72 @@
+-- The begin of a reorganisation over the fields of a World.
+use Rattle.std.proofs.Common.{◌≡◌, ℕ, ◌+◌, ◌<◌, ◌≤◌, List, [], ◌∷◌, ◌++◌, length, Option, Some, None, Result, Ok, Err, refl, sym, ap, subst, ◌∙◌, inl, inr, Vec, Global, arith, Bool, true, false, cond, nat_lt}
+use Rattle.std.specs.Prelude.{◌≢◌, slice_get}
+use Rattle.std.specs.Option.{option_and_then}
+use Rattle.std.proofs.lemmas.Bool.{ltb-true, lt-ltb}
+use Rattle.listed.specs.Refusal.{IsClear, IsRefusal}
+use Rattle.lease.specs.Timeline.{earliest, max_moment}
+use Rattle.schema_version.specs.declared.element.ElementState.{ElementState}
+use Rattle.schema_version.specs.declared.element.ElementDef.{ElementDef}
+use Rattle.schema_version.specs.Version.{Version, element_at, state_of, state_or_absent}
+use Rattle.reorganise.specs.declared.work.Work.{Work}
+use Rattle.reorganise.specs.declared.work.Progress.{Progress}
+use Rattle.replay.specs.declared.entry.Entry.{Entry}
+use Rattle.replay.specs.declared.entry.What.TheVariants.{Begin}
+use Rattle.replay.specs.Replay.{Facts, after, wanted, progress_of, begun_by, begun_of, first_or, before_of}
+use Rattle.replay.specs.Kept.{used_before}
+use Rattle.replay.specs.Laws.{BeginsKeep}
+use Rattle.world.specs.declared.entry.Receipt.{Receipt}
+use Rattle.world.specs.declared.fault.BeginFault.{BeginFault}
+use Rattle.world.specs.declared.fault.BeginFault.TheVariants as begin_fault
+use Rattle.world.specs.declared.world.World.TheInside.{Inside}
+use Rattle.world.specs.Beginning.{wanted_at, IsSettled, IsPieceCount, begin_rank, BeginCondition, BeginAt, Begins}
+use Rattle.world.specs.Calls.{Appends}
+use Rattle.world.specs.Inside.{state_of as state_in, Follow, IsHeld}
+use Rattle.world.specs.State.{State, facts_of, effect}
+use Rattle.world.proofs.Holding.{held_after, held_same}
+
+-- ---- what an element wants
+
+none_some : {A B : Type 0} {v : A} → None ≡ Some v → B
+none_some e = absurd cc
+
+some_one : {A : Type 0} {v w : A} → Some v ≡ (let o : Option A = Some w in o) → v ≡ w
+some_one e = cc
+
+wants_some : (facts : Facts) (number : ℕ) (element : ElementDef) (work : Work) → element_at facts.newest number ≡ Some element → wanted element ≡ Some work → wanted_at facts number ≡ Some work
+wants_some facts number element work there wants = ap (option_and_then wanted) there ∙ wants
+
+-- ---- the fields after a begin
+
+abbrev pub begin_entry : ℕ → ℕ → ℕ → Entry
+begin_entry now number pieces = record { moment = now; what = Begin number pieces }
+
+abbrev pub after_begin : Inside → Vec Progress Global → Vec Entry Global → ℕ → Inside
+after_begin f begun log now = record f { begun = begun; log = log; moment = now }
+
+begin_state : (f : Inside) (now number pieces : ℕ) (begun : Vec Progress Global) (log : Vec Entry Global) → log.items ≡ f.log.items ++ begin_entry now number pieces ∷ [] → state_in (after_begin f begun log now) ≡ effect (state_in f) (begin_entry now number pieces)
+begin_state f now number pieces begun log items = λ i. record { opening = (state_in f).opening; log = items i; pairs = f.store }
+
+-- the element's state is the newest version's
+own_state : (facts : Facts) (now number : ℕ) (element : ElementDef) → element_at facts.newest number ≡ Some element → IsSettled facts now number → state_of (used_before facts now) number ≡ element.state
+own_state facts now number element there settled = settled ∙ ap state_or_absent there
+
+begun_is : (facts : Facts) (now number pieces : ℕ) (progress : Progress) (b : Begins facts now number pieces progress) → begun_of (element_at facts.newest number) facts.pairs pieces ≡ progress ∷ []
+begun_is facts now number pieces progress b =
+    ap (λ (o : Option ElementDef). begun_of o facts.pairs pieces) b.there ∙ ap (λ (o : Option Work). begun_by b.element o facts.pairs pieces) b.wants ∙ ap (λ (p : Progress). p ∷ []) (sym b.begun_so)
+
+pub begin_held : (f : Inside) (s : State) (now number pieces : ℕ) (progress : Progress) (begun : Vec Progress Global) (log : Vec Entry Global) → BeginsKeep → IsHeld f → state_in f ≡ s → (facts_of s).moment ≤ now → Begins (facts_of s) now number pieces progress
+    → begun.items ≡ f.begun.items ++ progress ∷ [] → log.items ≡ f.log.items ++ begin_entry now number pieces ∷ [] → IsHeld (after_begin f begun log now)
+begin_held f s now number pieces progress begun log law h view later_s b_s grown items =
+    let w = h.follow in
+    let b : Begins (facts_of (state_in f)) now number pieces progress = subst (λ (x : State). Begins (facts_of x) now number pieces progress) (sym view) b_s in
+    held_after f (after_begin f begun log now) (begin_entry now number pieces) (begin_state f now number pieces begun log items)
+    (record {
+      moment = refl;
+      line = w.line;
+      newest = w.newest;
+      before = w.before;
+      begun = grown ∙ ap (λ (ps : List Progress). ps ++ progress ∷ []) w.begun ∙ ap (λ (ps : List Progress). (facts_of (state_in f)).progress ++ ps) (sym (begun_is (facts_of (state_in f)) now number pieces progress b));
+      pairs = w.pairs;
+    })
+    (law (facts_of (state_in f)) now number pieces b.element b.work (subst (λ (x : State). (facts_of x).moment ≤ now) (sym view) later_s) b.there b.wants (own_state (facts_of (state_in f)) now number b.element b.there b.settled) b.new b.count.0 h.kept)

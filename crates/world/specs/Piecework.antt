@@ -1,0 +1,97 @@
+-- What the calls on a begun reorganisation answer.
+use Rattle.std.specs.Prelude.{◌≡◌, ◌≢◌, ℕ, ◌<◌, ◌≤◌, length, Bool, Option, Some, None, Result, Ok, Err, slice_get}
+use Rattle.std.specs.Bool.{Decides}
+use Rattle.std.specs.Option.{option_map}
+use Rattle.lease.specs.Timeline.{max_moment}
+use Rattle.listed.specs.Refusal.{IsRefusal, IsClear}
+use Rattle.row_map.specs.Expect.{IsConflict}
+use Rattle.row_map.specs.Rows.{Bytes}
+use Rattle.reorganise.specs.declared.work.Work.{Work}
+use Rattle.reorganise.specs.declared.work.Span.{Span}
+use Rattle.reorganise.specs.declared.work.Progress.{Progress}
+use Rattle.reorganise.specs.declared.reading.Reading.{Reading}
+use Rattle.reorganise.specs.declared.fault.ViewFault.TheVariants.{Memory as OutOfMemory}
+use Rattle.reorganise.specs.Pieces.{are_ended, IsReadOf}
+use Rattle.reorganise.specs.Batches.{expect_of}
+use Rattle.reorganise.specs.Refusals.{rank as view_rank, Condition as ViewCondition}
+use Rattle.replay.specs.declared.entry.What.TheVariants.{Piece}
+use Rattle.replay.specs.Replay.{Facts, progress_of}
+use Rattle.world.specs.declared.entry.PieceDone.{PieceDone}
+use Rattle.world.specs.declared.fault.PieceFault.{PieceFault}
+use Rattle.world.specs.declared.fault.PieceFault.TheVariants as piece_fault
+use Rattle.world.specs.declared.fault.ReadFault.{ReadFault}
+use Rattle.world.specs.declared.fault.ReadFault.TheVariants as read_fault
+use Rattle.world.specs.Calls.{counted, Appends}
+use Rattle.world.specs.State.{State, facts_of}
+
+-- ---- what is told of a reorganisation
+
+-- its work, the number of its pieces, and whether all have ended
+abbrev pub standing : Progress → Work × ℕ × Bool
+standing progress = (progress.kind, length progress.pieces, are_ended progress.pieces)
+
+abbrev pub standing_at : Facts → ℕ → Option (Work × ℕ × Bool)
+standing_at facts number = option_map standing (progress_of facts.progress number)
+
+-- ---- reading a piece
+
+-- a piece is read of the begun reorganisation, as it stands
+abbrev pub ReadStep : State → ℕ → ℕ → ℕ → Result Reading ReadFault → Type 0
+ReadStep old number piece limit (Ok read) =
+    (progress : Progress) × (progress_of (facts_of old).progress number ≡ Some progress) × IsClear (ViewCondition progress piece limit) × IsReadOf progress old.pairs piece limit read
+ReadStep old number piece limit (Err read_fault.NotWanted) = progress_of (facts_of old).progress number ≡ None
+ReadStep old number piece limit (Err (read_fault.View fault)) =
+    (progress : Progress) × (progress_of (facts_of old).progress number ≡ Some progress) × IsRefusal view_rank (ViewCondition progress piece limit) OutOfMemory fault
+
+-- ---- committing a piece
+
+-- it is one of this reorganisation: of the same definition and work, with the same bounds
+pub record IsSpanOf (progress : Progress) (read : Reading) (span : Span) : Type 0 where
+  pub element : read.element ≡ progress.element
+  pub work : read.kind ≡ progress.kind
+  pub piece : slice_get progress.pieces read.piece ≡ Some span
+  pub low : read.low ≡ span.low
+  pub high : read.high ≡ span.high
+
+-- it is one of its element's begun reorganisation
+pub record IsPieceOf (facts : Facts) (read : Reading) (span : Span) : Type 0 where
+  pub progress : Progress
+  pub here : progress_of facts.progress read.element.number ≡ Some progress
+  pub own : IsSpanOf progress read span
+
+-- want of memory may come in place of Moved and of a conflict
+abbrev pub piece_rank : PieceFault → ℕ
+piece_rank piece_fault.MomentTooLarge = 1
+piece_rank piece_fault.NotWanted = 2
+piece_rank piece_fault.WrongElement = 3
+piece_rank (piece_fault.Moved cursor) = 4
+piece_rank piece_fault.Memory = 4
+piece_rank (piece_fault.Conflict key) = 5
+
+abbrev pub PieceCondition : State → ℕ → Reading → PieceFault → Type 0
+PieceCondition old now read piece_fault.MomentTooLarge = max_moment < now
+PieceCondition old now read piece_fault.NotWanted = progress_of (facts_of old).progress read.element.number ≡ None
+PieceCondition old now read piece_fault.WrongElement = (span : Span) → ¬ (IsPieceOf (facts_of old) read span)
+PieceCondition old now read (piece_fault.Moved cursor) = (span : Span) × IsPieceOf (facts_of old) read span × (cursor ≡ span.cursor) × (span.cursor ≢ read.stretch.low)
+PieceCondition old now read (piece_fault.Conflict key) = IsConflict (expect_of read.stretch) old.pairs key
+PieceCondition old now read piece_fault.Memory = ⊥
+
+-- now is the moment that counts: the items that were read are written, and the cursor comes on
+abbrev pub PieceAt : State → ℕ → Reading → Result PieceDone PieceFault → State → Type 0
+PieceAt old now read (Ok done) new =
+    IsClear (PieceCondition old now read)
+    × Decides done.ended (read.stretch.high ≡ read.high)
+    × Appends old now (Piece read.element.number read.piece read.stretch.high) done.receipt new
+PieceAt old now read (Err fault) new = IsRefusal piece_rank (PieceCondition old now read) piece_fault.Memory fault × (new ≡ old)
+
+-- a refusal gives the prepared piece back
+abbrev pub PieceStep : State → ℕ → Reading → Result PieceDone (PieceFault × Reading) → State → Type 0
+PieceStep old moment read (Ok done) new = PieceAt old (counted old moment) read (Ok done) new
+PieceStep old moment read (Err refusal) new = PieceAt old (counted old moment) read (Err refusal.0) new × (refusal.1 ≡ read)
+
+-- a piece that may be committed, as far as the store agrees
+pub record IsCurrent (facts : Facts) (now : ℕ) (read : Reading) : Type 0 where
+  pub moment : now ≤ max_moment
+  pub span : Span
+  pub own : IsPieceOf facts read span
+  pub cursor : read.stretch.low ≡ span.cursor

@@ -1,0 +1,143 @@
+//! The begin of a reorganisation.
+ghost use Rattle.std.specs.Bool.{Decides};
+ghost use Rattle.std.specs.Prelude.{◌≡◌, ◌≤◌, IfOk, IfErr, MatchOption, Some, None};
+ghost use Rattle.listed.specs.Refusal.{IsRefusal};
+ghost use Rattle.schema_version.specs.Version.{element_at};
+ghost use Rattle.replay.specs.Replay.{wanted as wanted_by};
+ghost use Rattle.world.specs.declared.fault.BeginFault.TheVariants.{Memory};
+ghost use Rattle.world.specs.Beginning.{BeginStep, BeginAt, BeginCondition, Begins, IsSettled, begin_rank, wanted_at};
+ghost use Rattle.world.specs.State.{facts_of};
+
+use crate::entry::Receipt;
+use crate::fault::BeginFault;
+use crate::logging::{append, entry_pair, make_room, next_place};
+use crate::world::World;
+use lease::MAX_MOMENT;
+use reorganise::{Progress, Work};
+use replay::{What, begins_keep};
+use schema_version::{ElementDef, ElementState, Kind, Way};
+use std::alloc::{AllocError, Global};
+
+/// The greatest number of pieces.
+const MAX_PIECES: u32 = 64;
+
+/// What an element wants: an index that is write-only and being added a fill, what is delete-only and being dropped a
+/// clear.
+fn wanted(element: &ElementDef) -> Option<Work>
+    ensures { result ≡ wanted_by element.now }
+{
+    match (&element.kind, element.way, element.state) {
+        (Kind::Index(_), Way::Adding, ElementState::WriteOnly) => Some(Work::Fill),
+        (_, Way::Dropping, ElementState::DeleteOnly) => Some(Work::Clear),
+        _ => None,
+    }
+}
+
+/// A copy of a definition.
+fn element_copied(element: &ElementDef) -> Result<ElementDef, AllocError>
+    ensures { IfOk result (λ copy. copy ≡ element.now) }
+{
+    element.clone()
+}
+
+impl World {
+    /// Begins the fill or the clear that an element wants, in so many pieces.
+    ///
+    /// The pieces are fixed by the items that are present, and from then on `read_piece` and `commit_piece` work them
+    /// off in any order, beside the transactions. The moment that counts is the greater of `moment` and the moment of
+    /// the last entry. Refused in this order, and then nothing changes: `MomentTooLarge` where the moment that counts is
+    /// above 2^62; `NotWanted` where no live element has the number, or it wants no reorganisation; `StillUsed` where a
+    /// lease may be in force on a version that has the element in another state, with the moment from which on none is;
+    /// `Begun` where the element's reorganisation has begun; `BadCount` where `pieces` is not from 1 to 64; `Memory`.
+    pub fn begin_reorg(
+        &mut self,
+        alloc: Global,
+        moment: u64,
+        element: u32,
+        pieces: u32,
+    ) -> Result<Receipt, BeginFault>
+        ensures step { BeginStep self.old moment element pieces result self.new }
+    {
+        let now = self.counted(moment);
+        let progress = self.beginning(alloc, now, element, pieces)?;
+        self.add_begun(alloc, now, element, pieces, progress)
+    }
+
+    // The live element of this number, and what it wants.
+    fn wanting(&self, number: u32) -> Option<(&ElementDef, Work)>
+        ensures found { MatchOption result (wanted_at (facts_of self.now) number ≡ None) (λ x. element_at (facts_of self.now).newest number ≡ Some x.0.now) }
+        ensures wants { MatchOption result (wanted_at (facts_of self.now) number ≡ None) (λ x. wanted_by x.0.now ≡ Some x.1) }
+    {
+        let found = self.newest.get().element(number)?;
+        let work = wanted(found)?;
+        Some((found, work))
+    }
+
+    // Whether each version that a lease may use at the moment that counts has the element in the same state.
+    fn is_settled(&self, now: u64, number: u32) -> bool
+        ensures { Decides result (IsSettled (facts_of self.now) now number) }
+    {
+        if now >= self.line.earliest() {
+            return true;
+        }
+        match &self.before {
+            Some(before) => before.get().state(number) == self.newest.get().state(number),
+            None => true,
+        }
+    }
+
+    // The reorganisation as it stands at its begin, where it may begin.
+    fn beginning(
+        &self,
+        alloc: Global,
+        now: u64,
+        number: u32,
+        pieces: u32,
+    ) -> Result<Progress, BeginFault>
+        ensures begins { IfOk result (λ progress. Begins (facts_of self.now) now number pieces progress) }
+        ensures refused { IfErr result (λ fault. IsRefusal begin_rank (BeginCondition self.now now number pieces) Memory fault) }
+    {
+        if now > MAX_MOMENT {
+            return Err(BeginFault::MomentTooLarge);
+        }
+        let Some((found, work)) = self.wanting(number) else {
+            return Err(BeginFault::NotWanted);
+        };
+        if !self.is_settled(now, number) {
+            return Err(BeginFault::StillUsed {
+                until: self.line.earliest(),
+            });
+        }
+        if self.begun_of(number).is_some() {
+            return Err(BeginFault::Begun);
+        }
+        if pieces < 1 || pieces > MAX_PIECES {
+            return Err(BeginFault::BadCount);
+        }
+        let element = element_copied(found)?;
+        Ok(Progress::begin(alloc, element, work, &self.store, pieces)?)
+    }
+
+    // The reorganisation has begun.
+    fn add_begun(
+        &mut self,
+        alloc: Global,
+        now: u64,
+        element: u32,
+        pieces: u32,
+        progress: Progress,
+    ) -> Result<Receipt, BeginFault>
+        requires later { (facts_of self.old).moment ≤ now }
+        requires begins { Begins (facts_of self.old) now element pieces progress }
+        ensures step { BeginAt self.old now element pieces result self.new }
+    {
+        begins_keep();
+        let (entry, logged) = entry_pair(alloc, now, What::Begin { element, pieces })?;
+        make_room(&mut self.log)?;
+        let place = next_place(&self.log);
+        self.begun.push(progress)?;
+        append(&mut self.log, logged);
+        self.moment = now;
+        Ok(Receipt { place, entry })
+    }
+}

@@ -1,0 +1,92 @@
+//! The publication of a version.
+ghost use Rattle.std.specs.Prelude.{◌≡◌, ◌≤◌, IfOk, IfErr, OnOk};
+ghost use Rattle.listed.specs.Refusal.{IsRefusal};
+ghost use Rattle.schema_version.specs.Moves.{after_step};
+ghost use Rattle.world.specs.declared.fault.PublishFault.TheVariants.{Memory};
+ghost use Rattle.world.specs.Publishing.{PublishStep, PublishAt, MayPublish, PublishCondition, publish_rank};
+ghost use Rattle.world.specs.State.{facts_of};
+
+use crate::entry::Receipt;
+use crate::fault::PublishFault;
+use crate::logging::{append, entry_pair, make_room, next_place};
+use crate::world::World;
+use lease::MAX_MOMENT;
+use listed::Counted;
+use replay::{What, publications_keep};
+use schema_version::{Schema, Step, StepFault, moves_element};
+use std::alloc::Global;
+use std::mem;
+
+impl World {
+    /// Publishes the version that a step gives, and answers its number. From then on leases are granted on it, and a
+    /// reorganisation of an element that the step moves is over.
+    ///
+    /// The moment that counts is the greater of `moment` and the moment of the last entry. Refused in this order, and
+    /// then nothing changes: `MomentTooLarge` where the moment that counts is above 2^62; `TooEarly` where the newest
+    /// version has not stood for the lease length, with the first moment at which it has, so that at most two versions
+    /// are in use, as in the F1 paper; `Step` with why the step is not allowed; `Unfinished` with the first element, in
+    /// the step's order, whose fill (an index's step to public) or clear (every step to absent) is not finished;
+    /// `VersionsSpent` where there are 1,000,000 versions; `Memory`.
+    pub fn publish(
+        &mut self,
+        alloc: Global,
+        moment: u64,
+        step: &Step,
+    ) -> Result<(u64, Receipt), PublishFault>
+        ensures step { PublishStep self.old moment step.now result self.new }
+    {
+        let now = self.counted(moment);
+        let next = self.next_version(now, step)?;
+        self.enter(alloc, now, step, next)
+    }
+
+    // The version that a step gives, where it may be published at the moment that counts.
+    fn next_version(&self, now: u64, step: &Step) -> Result<Schema, PublishFault>
+        ensures version { IfOk result (λ next. next ≡ after_step (facts_of self.now).newest step.now) }
+        ensures may { OnOk result (MayPublish (facts_of self.now) now step.now) }
+        ensures refused { IfErr result (λ fault. IsRefusal publish_rank (PublishCondition self.now now step.now) Memory fault) }
+    {
+        if now > MAX_MOMENT {
+            return Err(PublishFault::MomentTooLarge);
+        }
+        self.line.may_publish(now)?;
+        match self.newest.get().apply(step) {
+            Ok(next) => {
+                self.ready(step.as_slice())?;
+                Ok(next)
+            }
+            Err(StepFault::Memory) => {
+                self.ready(step.as_slice())?;
+                Err(PublishFault::Memory)
+            }
+            Err(fault) => Err(PublishFault::Step(fault)),
+        }
+    }
+
+    // The version becomes the newest.
+    fn enter(
+        &mut self,
+        alloc: Global,
+        now: u64,
+        step: &Step,
+        next: Schema,
+    ) -> Result<(u64, Receipt), PublishFault>
+        requires later { (facts_of self.old).moment ≤ now }
+        requires may { MayPublish (facts_of self.old) now step.now }
+        requires version { next ≡ after_step (facts_of self.old).newest step.now }
+        ensures step { PublishAt self.old now step.now result self.new }
+    {
+        publications_keep();
+        let next = Counted::new(alloc, next)?;
+        let (entry, logged) = entry_pair(alloc, now, What::Publish(step.clone()?))?;
+        make_room(&mut self.log)?;
+        let place = next_place(&self.log);
+        let version = self.line.publish(now)?;
+        append(&mut self.log, logged);
+        self.before = Some(mem::replace(&mut self.newest, next));
+        self.begun
+            .retain(|p| !moves_element(step.as_slice(), p.element.number));
+        self.moment = now;
+        Ok((version, Receipt { place, entry }))
+    }
+}
