@@ -5,6 +5,8 @@ pub mod Naming
 pub mod Preparing
 pub mod Transacting
 pub mod Querying
+pub mod Publishing
+pub mod Forging
 pub mod Running
 pub mod Replies
 pub mod Script

@@ -5,15 +5,19 @@ use Rattle.std.specs.Fmt.{decimal}
 use Rattle.audit.specs.declared.report.CheckReport.{CheckReport}
 use Rattle.grammar.specs.declared.command.Command.{Command}
 use Rattle.grammar.specs.declared.command.Command.TheVariants as command
+use Rattle.grammar.specs.declared.moving.Moving.{Moving}
 use Rattle.grammar.specs.declared.operation.Operation.{Operation}
 use Rattle.grammar.specs.declared.selection.Selection.{Selection}
 use Rattle.row_write.specs.Made.{PreparedTxn}
 use Rattle.world.specs.Calls.{LeaseStep, CommitStep, IsCheck}
-use Rattle.world.specs.State.{State}
+use Rattle.world.specs.Publishing.{PublishStep}
+use Rattle.world.specs.State.{State, facts_of}
 use Rattle.world.specs.declared.entry.Grant.{Grant}
+use Rattle.world.specs.declared.entry.Receipt.{Receipt}
 use Rattle.world.specs.declared.committed.Committed.{Committed}
 use Rattle.world.specs.declared.fault.CommitFault.{CommitFault}
 use Rattle.world.specs.declared.fault.GrantFault.{GrantFault}
+use Rattle.world.specs.declared.fault.PublishFault.{PublishFault}
 use Rattle.shell.specs.declared.session.Held.{Held}
 use Rattle.shell.specs.declared.session.Opened.{Opened}
 use Rattle.shell.specs.declared.session.Session.TheVariants.{Running}
@@ -25,6 +29,8 @@ use Rattle.shell.specs.Declaring.{IsReply, IsBad}
 use Rattle.shell.specs.Naming.{resolved_all, asked}
 use Rattle.shell.specs.Texts.{refused, grant_name, leased, pairs_text}
 use Rattle.shell.specs.Preparing.{Prepares, prepared_text}
+use Rattle.shell.specs.Forging.{Forged}
+use Rattle.shell.specs.Publishing.{step_of, published_text}
 use Rattle.shell.specs.Querying.{Queried}
 use Rattle.shell.specs.Transacting.{Transacts, transacted_text, committed_text, commit_name}
 
@@ -70,6 +76,12 @@ abbrev pub QueryUnder : Opened → Option Held → ℕ → Selection → List �
 QueryUnder old None moment selection reply bad new = IsReply (refused (codes "NoServer")) reply bad × (new ≡ Running old)
 QueryUnder old (Some held) moment selection reply bad new = Queried old.world held moment (asked held.schema selection) reply × (bad ≡ false) × (new ≡ Running old)
 
+-- a step is published, by the names of the newest version
+abbrev pub Published : Opened → ℕ → List Moving → List ℕ → Bool → Session → Type 0
+Published old moment moves reply bad new =
+    (result : Result (ℕ × Receipt) PublishFault) × (world : State) × PublishStep old.world moment (step_of (facts_of old.world).newest moves) result world
+    × IsReply (published_text result) reply bad × (new ≡ Running (record old { world = world }))
+
 -- `ok rows R missing M extra X`
 abbrev pub check_text : CheckReport → List ℕ
 check_text report = codes "ok rows " ++ decimal report.rows ++ codes " missing " ++ decimal report.missing ++ codes " extra " ++ decimal report.extra
@@ -87,4 +99,6 @@ Answers old command.Log reply bad new = IsReply (codes "ok log " ++ decimal (len
 Answers old (command.Prepare work server operations) reply bad new = PrepareUnder old (map.get old.leases server) work operations reply bad new
 Answers old (command.Commit work moment) reply bad new = CommitOf old (map.get old.works work) work moment reply bad new
 Answers old (command.Query server moment selection) reply bad new = QueryUnder old (map.get old.leases server) moment selection reply bad new
+Answers old (command.Forge server version granted until) reply bad new = Forged old server (record { version = version; granted = granted; until = until }) reply bad new
+Answers old (command.Publish moment moves) reply bad new = Published old moment moves reply bad new
 Answers old _ reply bad new = IsBad (Running old) reply bad new

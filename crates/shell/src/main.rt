@@ -2,9 +2,11 @@
 #![tactic(auto)]
 
 mod declaring;
+mod forging;
 mod naming;
 mod options;
 mod preparing;
+mod publishing;
 mod querying;
 mod run;
 mod running;

@@ -7,6 +7,8 @@ ghost use Rattle.shell.specs.Running.{Answers, check_text};
 ghost use Rattle.shell.specs.declared.session.Session.TheVariants.{Running};
 ghost use Rattle.shell.specs.Texts.{line, refused, grant_name, leased, value_behind, pair_line};
 
+use crate::forging::forge;
+use crate::publishing::publish;
 use crate::querying::query;
 use crate::session::{Answer, Held, Opened, Session, bad_line, reply};
 use crate::transacting::{push_number, transact, transacted_line};
@@ -216,6 +218,20 @@ pub(crate) fn answer(
             moment,
             selection,
         } => query(alloc, opened, &server, moment, &selection),
+        Command::Forge {
+            server,
+            version,
+            granted,
+            until,
+        } => {
+            let lease = Lease {
+                version,
+                granted,
+                until,
+            };
+            forge(alloc, opened, &server, lease)
+        }
+        Command::Publish { moment, moves } => publish(alloc, opened, moment, moves.as_slice()),
         _ => Ok((Session::Running(opened), bad_line(alloc)?)),
     }
 }

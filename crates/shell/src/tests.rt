@@ -1,5 +1,7 @@
 //! Scripts whose replies were worked out by hand, from the bytes of the script to the bytes of the replies.
 
+mod schema;
+
 use crate::run::{ScriptFault, Summary, run_script};
 use crate::status::script_status;
 use std::alloc::{AllocError, Global};
