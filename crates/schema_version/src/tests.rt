@@ -408,15 +408,19 @@ fn laws() {
     numbers_end();
 }
 
-// The move of the index i of q, which has number 2.
-fn moves_the_second() -> bool {
-    let moves = [go(2, WriteOnly)];
-    moves_element(moves.as_slice(), 2)
-        && !moves_element(moves.as_slice(), 1)
-        && !moves_element([].as_slice(), 2)
+// A step of two moves, of the elements 2 and 5.
+fn moves_its_own(alloc: Global) -> bool {
+    match two(alloc, go(2, WriteOnly), go(5, Public)) {
+        Ok(step) => {
+            moves_element(step.as_slice(), 2)
+                && moves_element(step.as_slice(), 5)
+                && !moves_element(step.as_slice(), 1)
+        }
+        Err(_) => false,
+    }
 }
 
 #[test]
 fn moved_elements(rt: HostRuntime) {
-    assert!(rt; moves_the_second());
+    assert!(rt; moves_its_own(rt.alloc()));
 }
