@@ -1,10 +1,19 @@
--- How bytes and values are printed.
+-- How states, bytes and values are printed.
 use Rattle.std.specs.Prelude.{ℕ, ◌/◌, ◌%◌, List, [], ◌∷◌, ◌++◌, ◌==◌, if◌then◌else◌, true, false, codes}
 use Rattle.std.specs.Char.{digit_char}
 use Rattle.std.specs.Fmt.{signed_decimal}
 use Rattle.std.specs.List.{flat_map}
 use Rattle.keycode.specs.declared.value.Value.{Value}
 use Rattle.keycode.specs.declared.value.Value.TheVariants as value
+use Rattle.schema_version.specs.declared.element.ElementState.{ElementState}
+use Rattle.schema_version.specs.declared.element.ElementState.TheVariants as state
+
+-- the word for a state
+abbrev pub state_word : ElementState → List ℕ
+state_word state.Absent = codes "absent"
+state_word state.DeleteOnly = codes "delete_only"
+state_word state.WriteOnly = codes "write_only"
+state_word state.Public = codes "public"
 
 -- a byte as two hexadecimal digits, the letters in lower case
 abbrev pub hex_pair : ℕ → List ℕ

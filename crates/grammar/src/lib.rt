@@ -22,7 +22,7 @@ pub use element::{ElementName, New};
 pub use fault::LineFault;
 pub use moving::{Changing, Moving};
 pub use operation::Operation;
-pub use printing::{push_hex, push_value};
+pub use printing::{push_hex, push_value, state_word};
 pub use selection::{Condition, Selection};
 pub use silent::is_silent;
 

@@ -1,10 +1,23 @@
-//! How bytes and values are printed.
+//! How states, bytes and values are printed.
 ghost use Rattle.std.specs.Prelude.{◌≡◌, ◌++◌, ◌<◌, OnOk, string_bytes};
 ghost use Rattle.std.specs.Char.{digit_char};
-ghost use Rattle.grammar.specs.Printing.{hex, quoted, value_text};
+ghost use Rattle.grammar.specs.Printing.{hex, quoted, state_word, value_text};
 
 use keycode::Value;
+use schema_version::ElementState;
 use std::alloc::AllocError;
+
+/// The word for a state, as the grammar has it.
+pub fn state_word(state: ElementState) -> &'static str
+    ensures { result.now ≡ state_word state }
+{
+    match state {
+        ElementState::Absent => "absent",
+        ElementState::DeleteOnly => "delete_only",
+        ElementState::WriteOnly => "write_only",
+        ElementState::Public => "public",
+    }
+}
 
 fn hex_digit(digit: u8) -> char
     requires { digit < 16 }

@@ -5,6 +5,7 @@ use crate::token::{Mark, Token, tokens_of};
 use keycode::{Text, Value, Values};
 use listed::Listed;
 use row_map::ColumnType;
+use schema_version::ElementState;
 use std::alloc::{AllocError, Global};
 use std::test::*;
 
@@ -459,6 +460,14 @@ fn tokens_without_spaces(rt: HostRuntime) -> Result<(), Fail> {
     let bad = tokens_of(alloc, b"and>5")?;
     assert!(rt; bad.is_none());
     Ok(())
+}
+
+#[test]
+fn words_of_states(rt: HostRuntime) {
+    assert_eq!(rt; state_word(ElementState::Absent), "absent");
+    assert_eq!(rt; state_word(ElementState::DeleteOnly), "delete_only");
+    assert_eq!(rt; state_word(ElementState::WriteOnly), "write_only");
+    assert_eq!(rt; state_word(ElementState::Public), "public");
 }
 
 #[test]

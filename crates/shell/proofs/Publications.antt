@@ -9,7 +9,8 @@ use Rattle.world.specs.Publishing.{PublishStep}
 use Rattle.world.specs.State.{State, facts_of}
 use Rattle.shell.specs.declared.session.Opened.{Opened}
 use Rattle.shell.specs.declared.session.Session.TheVariants.{Running}
-use Rattle.shell.specs.Publishing.{step_of, published_text}
+use Rattle.naming.specs.Moves.{step_of}
+use Rattle.shell.specs.Publishing.{published_text}
 use Rattle.shell.specs.Running.{Published}
 use Rattle.shell.specs.Texts.{line}
 

@@ -11,7 +11,7 @@ use Rattle.world.specs.declared.fault.QueryRefusal.{QueryRefusal}
 use Rattle.world.specs.Querying.{QueryStep}
 use Rattle.world.specs.State.{State}
 use Rattle.shell.specs.declared.session.Held.{Held}
-use Rattle.shell.specs.Naming.{asked}
+use Rattle.naming.specs.Names.{asked}
 use Rattle.shell.specs.Querying.{shown, value_or_null, cell_text, rows_text, refusal_name, queried_text, Queried}
 use Rattle.shell.specs.Texts.{line, refused}
 

@@ -34,7 +34,7 @@ IndexOn d (Some tables) reply bad new = IsReply (codes "ok") reply bad × (new �
 
 -- a refused opening forgets what was declared
 abbrev pub Opened : Result State OpenFault → List ℕ → Bool → Session → Type 0
-Opened (Ok world) reply bad new = IsReply (codes "ok version 1") reply bad × (new ≡ Running (record { world = world; leases = map.empty; works = map.empty }))
+Opened (Ok world) reply bad new = IsReply (codes "ok version 1") reply bad × (new ≡ Running (record { world = world; leases = map.empty; works = map.empty; plan = [] }))
 Opened (Err fault) reply bad new = IsReply (refused (open_name fault)) reply bad × (new ≡ empty)
 
 abbrev pub Declares : Declarations → Command → List ℕ → Bool → Session → Type 0

@@ -96,6 +96,7 @@ fn open(alloc: Global, declared: Declarations) -> Result<(Session, Answer), Allo
                 world,
                 leases: KeyMap::new(alloc),
                 works: KeyMap::new(alloc),
+                plan: Listed::new(Vec::new(alloc)),
             };
             Ok((Session::Running(opened), answer))
         }

@@ -3,16 +3,19 @@
 
 mod declaring;
 mod forging;
-mod naming;
 mod options;
+mod pieces;
+mod planning;
 mod preparing;
 mod publishing;
 mod querying;
+mod reorganising;
 mod run;
 mod running;
 mod session;
 mod status;
 mod transacting;
+mod working;
 mod works;
 
 use std::io;

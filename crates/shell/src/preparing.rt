@@ -1,11 +1,11 @@
 //! A transaction of a script is read and prepared under its server's lease.
 ghost use Rattle.std.specs.Prelude.{◌≡◌};
-ghost use Rattle.shell.specs.Naming.{resolved_all};
+ghost use Rattle.naming.specs.Names.{resolved_all};
 ghost use Rattle.shell.specs.Preparing.{Prepares};
 
-use crate::naming::resolved_all;
 use crate::session::Held;
 use grammar::Operation;
+use naming::resolved_all;
 use row_write::{PrepareFault, Prepared, prepare, reads_of};
 use std::alloc::Global;
 use world::World;

@@ -2,85 +2,17 @@
 ghost use Rattle.std.specs.Prelude.{◌≡◌, ◌++◌, IfOk, OnOk, codes, string_bytes};
 ghost use Rattle.std.specs.Fmt.{decimal};
 ghost use Rattle.grammar.specs.declared.command.Command.TheVariants as command;
-ghost use Rattle.shell.specs.Publishing.{element_numbers, entered, moved, step_of, step_name, publish_name};
+ghost use Rattle.shell.specs.Publishing.{step_name, publish_name, published_text};
 ghost use Rattle.shell.specs.Running.{Answers};
 ghost use Rattle.shell.specs.Texts.{line, refused};
 
-use crate::naming::{element_number, table_number};
 use crate::session::{Answer, Opened, Session, reply};
 use crate::transacting::push_number;
-use grammar::{Moving, New};
-use keycode::Text;
-use listed::Listed;
-use schema_version::{Kind, Move, NewElement, Schema, Step, StepFault};
+use grammar::Moving;
+use naming::step_of;
+use schema_version::StepFault;
 use std::alloc::{AllocError, Global};
-use world::PublishFault;
-
-fn element_numbers(
-    alloc: Global,
-    schema: &Schema,
-    table: u32,
-    names: &[Text],
-) -> Result<Vec<u32>, AllocError>
-    ensures { IfOk result (λ numbers. numbers.items ≡ element_numbers schema.now table names.now) }
-{
-    names
-        .iter()
-        .map(|name| element_number(schema, table, name))
-        .collect(alloc)
-}
-
-fn entered(alloc: Global, schema: &Schema, fresh: &New) -> Result<NewElement, AllocError>
-    ensures { IfOk result (λ element. element ≡ entered schema.now fresh.now) }
-{
-    match fresh {
-        New::Index {
-            name,
-            table,
-            columns,
-        } => {
-            let name = name.clone()?;
-            let table = table_number(schema, table);
-            let columns = element_numbers(alloc, schema, table, columns.as_slice())?;
-            let kind = Kind::Index(Listed::new(columns));
-            Ok(NewElement { table, name, kind })
-        }
-        New::Column { name, kind, table } => {
-            let name = name.clone()?;
-            let table = table_number(schema, table);
-            let kind = Kind::Optional(*kind);
-            Ok(NewElement { table, name, kind })
-        }
-    }
-}
-
-fn moved(alloc: Global, schema: &Schema, moving: &Moving) -> Result<Move, AllocError>
-    ensures { IfOk result (λ step. step ≡ moved schema.now moving.now) }
-{
-    match moving {
-        Moving::Enter { fresh, to } => {
-            let fresh = entered(alloc, schema, fresh)?;
-            Ok(Move::Enter { fresh, to: *to })
-        }
-        Moving::Go { element, to } => {
-            let table = table_number(schema, &element.table);
-            let element = element_number(schema, table, &element.name);
-            Ok(Move::Go { element, to: *to })
-        }
-    }
-}
-
-/// The moves of a step with their names looked up. Refused for want of memory alone.
-fn step_of(alloc: Global, schema: &Schema, moves: &[Moving]) -> Result<Step, AllocError>
-    ensures { IfOk result (λ step. step ≡ step_of schema.now moves.now) }
-{
-    let mut step = Vec::new(alloc);
-    for moving in moves {
-        let next = moved(alloc, schema, moving)?;
-        step.push(next)?;
-    }
-    Ok(Listed::new(step))
-}
+use world::{PublishFault, Receipt};
 
 fn push_step_fault(out: &mut String, fault: StepFault) -> Result<(), AllocError>
     ensures { OnOk result (string_bytes out.new ≡ string_bytes out.old ++ step_name fault) }
@@ -142,6 +74,19 @@ fn refused_line(alloc: Global, fault: PublishFault) -> Result<String, AllocError
     Ok(text)
 }
 
+/// The reply to a publication.
+pub(crate) fn published_line(
+    alloc: Global,
+    published: &Result<(u64, Receipt), PublishFault>,
+) -> Result<String, AllocError>
+    ensures { IfOk result (λ text. string_bytes text ≡ line (published_text published.now)) }
+{
+    match published {
+        Ok((version, _)) => version_line(alloc, *version),
+        Err(fault) => refused_line(alloc, *fault),
+    }
+}
+
 /// `publish`: the names of the moves are looked up in the newest version, and the step is published.
 pub(crate) fn publish(
     alloc: Global,
@@ -152,14 +97,7 @@ pub(crate) fn publish(
     ensures { IfOk result (λ x. Answers opened (command.Publish moment moves.now) (string_bytes x.1.text) x.1.is_bad x.0) }
 {
     let step = step_of(alloc, opened.world.newest().get(), moves)?;
-    match opened.world.publish(alloc, moment, &step) {
-        Ok((version, _)) => {
-            let answer = reply(version_line(alloc, version)?);
-            Ok((Session::Running(opened), answer))
-        }
-        Err(fault) => {
-            let answer = reply(refused_line(alloc, fault)?);
-            Ok((Session::Running(opened), answer))
-        }
-    }
+    let published = opened.world.publish(alloc, moment, &step);
+    let answer = reply(published_line(alloc, &published)?);
+    Ok((Session::Running(opened), answer))
 }

@@ -3,21 +3,26 @@ ghost use Rattle.std.specs.Prelude.{◌≡◌, ◌++◌, IfOk, OnOk, false, code
 ghost use Rattle.std.specs.FinMap as map;
 ghost use Rattle.std.specs.List.{flat_map};
 ghost use Rattle.grammar.specs.declared.command.Command.TheVariants as command;
-ghost use Rattle.shell.specs.Running.{Answers, check_text};
+ghost use Rattle.shell.specs.Running.{Answers, Changes, check_text};
 ghost use Rattle.shell.specs.declared.session.Session.TheVariants.{Running};
 ghost use Rattle.shell.specs.Texts.{line, refused, grant_name, leased, value_behind, pair_line};
 
 use crate::forging::forge;
+use crate::pieces::piece;
+use crate::planning::{next, plan};
 use crate::publishing::publish;
 use crate::querying::query;
+use crate::reorganising::reorganise;
 use crate::session::{Answer, Held, Opened, Session, bad_line, reply};
 use crate::transacting::{push_number, transact, transacted_line};
+use crate::working::work;
 use crate::works::{commit, prepare};
 use byte_map::Bytes;
 use grammar::{Command, Operation, push_hex};
 use keycode::Text;
 use lease::Lease;
 use row_map::{key_after, next_pair};
+use status_line::status_line;
 use std::alloc::{AllocError, Global};
 use world::{CheckReport, GrantFault, World};
 
@@ -189,6 +194,56 @@ fn check(alloc: Global, opened: Opened) -> Result<(Session, Answer), AllocError>
     Ok((Session::Running(opened), reply(text)))
 }
 
+fn status(alloc: Global, opened: Opened) -> Result<(Session, Answer), AllocError>
+    ensures { IfOk result (λ x. Answers opened command.Status (string_bytes x.1.text) x.1.is_bad x.0) }
+{
+    let mut text = status_line(alloc, &opened.world)?;
+    text.push_str("\n")?;
+    Ok((Session::Running(opened), reply(text)))
+}
+
+// What a line that changes the schema answers, and what it leaves.
+fn change(alloc: Global, opened: Opened, command: Command) -> Result<(Session, Answer), AllocError>
+    ensures { IfOk result (λ x. Changes opened command (string_bytes x.1.text) x.1.is_bad x.0) }
+{
+    match command {
+        Command::Forge {
+            server,
+            version,
+            granted,
+            until,
+        } => {
+            let lease = Lease {
+                version,
+                granted,
+                until,
+            };
+            forge(alloc, opened, &server, lease)
+        }
+        Command::Publish { moment, moves } => publish(alloc, opened, moment, moves.as_slice()),
+        Command::Piece {
+            work,
+            element,
+            piece: number,
+            limit,
+        } => piece(alloc, opened, &work, &element, number, limit),
+        Command::Reorganise {
+            element,
+            moment,
+            pieces,
+        } => reorganise(alloc, opened, &element, moment, pieces),
+        Command::Work {
+            element,
+            moment,
+            limit,
+        } => work(alloc, opened, &element, moment, limit),
+        Command::Plan { changes } => plan(alloc, opened, changes.as_slice()),
+        Command::Next { moment } => next(alloc, opened, moment),
+        Command::Status => status(alloc, opened),
+        _ => Ok((Session::Running(opened), bad_line(alloc)?)),
+    }
+}
+
 /// What a line behind `open` answers, and what it leaves.
 pub(crate) fn answer(
     alloc: Global,
@@ -218,20 +273,6 @@ pub(crate) fn answer(
             moment,
             selection,
         } => query(alloc, opened, &server, moment, &selection),
-        Command::Forge {
-            server,
-            version,
-            granted,
-            until,
-        } => {
-            let lease = Lease {
-                version,
-                granted,
-                until,
-            };
-            forge(alloc, opened, &server, lease)
-        }
-        Command::Publish { moment, moves } => publish(alloc, opened, moment, moves.as_slice()),
-        _ => Ok((Session::Running(opened), bad_line(alloc)?)),
+        other => change(alloc, opened, other),
     }
 }

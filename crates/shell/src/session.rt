@@ -10,8 +10,9 @@ use byte_map::KeyMap;
 use grammar::{Command, LineFault, is_silent, read_command};
 use lease::Lease;
 use listed::{Counted, Listed};
+use reorganise::PreparedPiece;
 use row_write::Prepared;
-use schema_version::{Schema, TableDef};
+use schema_version::{Schema, Step, TableDef};
 use std::alloc::{AllocError, Global};
 use world::World;
 
@@ -39,7 +40,16 @@ pub struct Held {
     pub schema: Counted<Schema>,
 }
 
-/// An opened world, with the leases that servers were granted and the transactions that were prepared.
+/// What one line of a script prepares and another commits.
+#[derive(Drop)]
+pub enum PreparedWork {
+    /// A transaction.
+    Txn(Prepared),
+    /// A piece of a reorganisation.
+    Piece(PreparedPiece),
+}
+
+/// An opened world, with the leases that servers were granted, what was prepared, and the plan that is kept.
 #[derive(Drop)]
 pub struct Opened {
     /// The world.
@@ -47,7 +57,9 @@ pub struct Opened {
     /// The lease of each server, by its name.
     pub leases: KeyMap<Held>,
     /// What was prepared and not yet committed, by its name.
-    pub works: KeyMap<Prepared>,
+    pub works: KeyMap<PreparedWork>,
+    /// The steps of the last plan that were not accepted yet, the next one first.
+    pub plan: Listed<Step>,
 }
 
 /// What stands between two lines of a script.

@@ -1,5 +1,6 @@
 //! Scripts whose replies were worked out by hand, from the bytes of the script to the bytes of the replies.
 
+mod changes;
 mod schema;
 
 use crate::run::{ScriptFault, Summary, run_script};

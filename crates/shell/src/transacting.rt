@@ -1,7 +1,7 @@
 //! A transaction of a script: it reads, is prepared and is committed at once.
 ghost use Rattle.std.specs.Prelude.{◌≡◌, ◌++◌, OnOk, IfOk, codes, string_bytes};
 ghost use Rattle.std.specs.Fmt.{decimal};
-ghost use Rattle.shell.specs.Naming.{resolved_all};
+ghost use Rattle.naming.specs.Names.{resolved_all};
 ghost use Rattle.shell.specs.Texts.{line, refused};
 ghost use Rattle.shell.specs.Preparing.{prepare_name, prepared_text};
 ghost use Rattle.shell.specs.Transacting.{Transacts, commit_name, row_name, committed_text, transacted_text};

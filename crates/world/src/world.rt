@@ -1,6 +1,7 @@
 ghost use Rattle.std.specs.Prelude.{◌≡◌, ◌≤◌, max, IfOk, IfErr, OnOk, OnErr, option_map, Result, Some};
 ghost use Rattle.std.specs.FinMap as map;
 ghost use Rattle.lease.specs.Refusals.{Serves};
+ghost use Rattle.lease.specs.Timeline.{IsValid, last_publication};
 ghost use Rattle.replay.specs.Replay.{version_at};
 ghost use Rattle.world.specs.Calls.{OpenStep, LeaseStep, CommitStep, CommitAt, IsReadView, IsCheck, counted};
 ghost use Rattle.world.specs.Querying.{QueryStep};
@@ -153,6 +154,16 @@ impl World {
         ensures { result.now ≡ (facts_of self.now).newest }
     {
         &self.newest
+    }
+
+    /// When each version was published, and for how long a lease is granted. The newest version was published at the
+    /// moment of the last entry or before.
+    pub fn timeline(&self) -> &Timeline
+        ensures value { result.now ≡ (facts_of self.now).line }
+        ensures valid { IsValid result.now }
+        ensures past { last_publication result.now ≤ (facts_of self.now).moment }
+    {
+        &self.line
     }
 
     /// Audits the pairs of the store by the newest version: how many rows there are, how many pairs are missing, and

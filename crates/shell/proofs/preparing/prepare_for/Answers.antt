@@ -1,5 +1,5 @@
 use Rattle.std.proofs.Common.{ap, ◌∙◌}
-use Rattle.shell.specs.Naming.{resolved_all}
+use Rattle.naming.specs.Names.{resolved_all}
 use Rattle.shell.proofs.Transactions.{read_of, refused_of, prepared_for}
 use Rattle.shell.proofs.preparing.prepare_for.Goals as goal
 

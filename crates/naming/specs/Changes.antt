@@ -1,0 +1,26 @@
+-- What the names of a plan's changes stand for in a version of the schema.
+use Rattle.std.specs.Prelude.{List}
+use mathlib.Core.List.{map as each}
+use Rattle.change_plan.specs.declared.change.Change.{Change}
+use Rattle.change_plan.specs.declared.change.Change.TheVariants.{AddIndex, DropIndex, AddColumn, DropColumn}
+use Rattle.grammar.specs.declared.element.New.{New}
+use Rattle.grammar.specs.declared.element.New.TheVariants as new
+use Rattle.grammar.specs.declared.moving.Changing.{Changing}
+use Rattle.grammar.specs.declared.moving.Changing.TheVariants as changing
+use Rattle.schema_version.specs.declared.element.Kind.TheVariants.{Optional}
+use Rattle.schema_version.specs.Version.{Version}
+use Rattle.naming.specs.Names.{table_number}
+
+-- what is added, with its table looked up
+abbrev pub added : Version → New → Change
+added version (new.Index name table columns) = AddIndex (table_number version table) name columns
+added version (new.Column name type table) = AddColumn (table_number version table) name (Optional type)
+
+-- a change with its table looked up: elements keep their names
+abbrev pub changed : Version → Changing → Change
+changed version (changing.Add fresh) = added version fresh
+changed version (changing.DropIndex element) = DropIndex (table_number version element.table) element.name
+changed version (changing.DropColumn element) = DropColumn (table_number version element.table) element.name
+
+abbrev pub changes_of : Version → List Changing → List Change
+changes_of version changes = each (changed version) changes

@@ -1,0 +1,75 @@
+//! The names of moves, looked up in a version of the schema.
+ghost use Rattle.std.specs.Prelude.{◌≡◌, IfOk};
+ghost use Rattle.naming.specs.Moves.{element_numbers, entered, moved, step_of};
+
+use crate::rows::{element_number, element_of, table_number};
+use grammar::{Moving, New};
+use keycode::Text;
+use listed::Listed;
+use schema_version::{Kind, Move, NewElement, Schema, Step};
+use std::alloc::{AllocError, Global};
+
+fn element_numbers(
+    alloc: Global,
+    schema: &Schema,
+    table: u32,
+    names: &[Text],
+) -> Result<Vec<u32>, AllocError>
+    ensures { IfOk result (λ numbers. numbers.items ≡ element_numbers schema.now table names.now) }
+{
+    names
+        .iter()
+        .map(|name| element_number(schema, table, name))
+        .collect(alloc)
+}
+
+fn entered(alloc: Global, schema: &Schema, fresh: &New) -> Result<NewElement, AllocError>
+    ensures { IfOk result (λ element. element ≡ entered schema.now fresh.now) }
+{
+    match fresh {
+        New::Index {
+            name,
+            table,
+            columns,
+        } => {
+            let name = name.clone()?;
+            let table = table_number(schema, table);
+            let columns = element_numbers(alloc, schema, table, columns.as_slice())?;
+            let kind = Kind::Index(Listed::new(columns));
+            Ok(NewElement { table, name, kind })
+        }
+        New::Column { name, kind, table } => {
+            let name = name.clone()?;
+            let table = table_number(schema, table);
+            let kind = Kind::Optional(*kind);
+            Ok(NewElement { table, name, kind })
+        }
+    }
+}
+
+fn moved(alloc: Global, schema: &Schema, moving: &Moving) -> Result<Move, AllocError>
+    ensures { IfOk result (λ step. step ≡ moved schema.now moving.now) }
+{
+    match moving {
+        Moving::Enter { fresh, to } => {
+            let fresh = entered(alloc, schema, fresh)?;
+            Ok(Move::Enter { fresh, to: *to })
+        }
+        Moving::Go { element, to } => {
+            let element = element_of(schema, element);
+            Ok(Move::Go { element, to: *to })
+        }
+    }
+}
+
+/// The moves of a step with their names looked up. Refused for want of memory alone.
+pub fn step_of(alloc: Global, schema: &Schema, moves: &[Moving]) -> Result<Step, AllocError>
+    ensures { IfOk result (λ step. step ≡ step_of schema.now moves.now) }
+{
+    let mut step = Vec::new(alloc);
+    for moving in moves {
+        let next = moved(alloc, schema, moving)?;
+        step.push(next)?;
+    }
+    Ok(Listed::new(step))
+}

@@ -1,0 +1,204 @@
+-- A turn, and why the next one doesn't come.
+use Rattle.std.proofs.Common.{◌≡◌, ℕ, zero, suc, ◌+◌, ◌<◌, ◌≤◌, List, [], ◌∷◌, length, Option, Some, None, Result, Ok, Err, refl, sym, ap, subst, ◌∙◌, ◌⊎◌, inl, inr, arith, Bool, true, false, option_map, add-one, Ordering, Less, Equal, Greater}
+use Rattle.std.proofs.lemmas.Bool.{cases_lt}
+use Rattle.std.proofs.lemmas.Option.{slice_get_within}
+use Rattle.std.specs.Prelude.{◌≢◌, ◌&&◌, ◌^◌, slice_get}
+use Rattle.std.specs.Ordering.{is_eq}
+use Rattle.keycode.specs.Order.{bytes_cmp}
+use Rattle.listed.specs.Refusal.{IsRefusal}
+use Rattle.reorganise.specs.declared.work.Work.{Work}
+use Rattle.reorganise.specs.declared.work.Span.{Span}
+use Rattle.reorganise.specs.declared.work.Progress.{Progress}
+use Rattle.reorganise.specs.declared.reading.Reading.{Reading}
+use Rattle.reorganise.specs.declared.fault.ViewFault.{ViewFault}
+use Rattle.reorganise.specs.declared.fault.ViewFault.TheVariants as view
+use Rattle.reorganise.specs.Pieces.{is_ended, are_ended}
+use Rattle.reorganise.specs.Refusals.{IsSpent, rank, Condition}
+use Rattle.replay.specs.Replay.{progress_of, moved_to}
+use Rattle.world.specs.declared.entry.PieceDone.{PieceDone}
+use Rattle.world.specs.declared.fault.ReadFault.{ReadFault}
+use Rattle.world.specs.declared.fault.ReadFault.TheVariants.{NotWanted, View}
+use Rattle.world.specs.Piecework.{standing, standing_at, ReadStep, PieceStep}
+use Rattle.world.specs.Calls.{counted}
+use Rattle.world.specs.State.{State, facts_of, effect}
+use Rattle.piece_work.specs.declared.fault.WorkFault.{WorkFault}
+use Rattle.piece_work.specs.declared.fault.WorkFault.TheVariants as work_fault
+use Rattle.piece_work.specs.Working.{IsNext, Turn, Turns, WasRead, IsUnnumbered, Stops, WorkStep}
+use Rattle.piece_work.specs.Steps.{IsAt, AreSpent, IsUncommitted}
+use Rattle.piece_work.proofs.Moving.{moved_length, moved_spent, after_piece}
+
+some_one : {A : Type 0} {v w : A} → Some v ≡ (let o : Option A = Some w in o) → v ≡ w
+some_one e = cc
+
+-- ---- the next piece
+
+not_equal : (o : Ordering) → ((o ≢ Less) → ⊥) → is_eq o ≡ false
+not_equal Less h = refl
+not_equal Equal h = absurd (h (λ e. absurd cc))
+not_equal Greater h = refl
+
+-- what is not spent has not ended
+open_span : (p : Progress) (k : ℕ) (span : Span) → slice_get p.pieces k ≡ Some span → ¬ (IsSpent p k) → is_ended span ≡ false
+open_span p k span here unspent = not_equal (bytes_cmp span.cursor span.high) (λ past. unspent (record { span = span; here = here; past = past }))
+
+there : (pieces : List Span) (k : ℕ) → k < length pieces → (span : Span) × (slice_get pieces k ≡ Some span)
+there [] k lt = absurd (omega (arith, lt))
+there (p ∷ ps) zero lt = (p, refl)
+there (p ∷ ps) (suc k) lt = there ps k (omega (arith, lt))
+
+next_at : (s : State) (element pieces piece : ℕ) (span : Span) (at : IsAt s element pieces piece) → slice_get at.progress.pieces piece ≡ Some span → ¬ (IsSpent at.progress piece) → IsNext s element piece
+next_at s element pieces piece span at here unspent =
+    record { progress = at.progress; begun = at.begun; first = record { span = span; here = here; unended = open_span at.progress piece span here unspent; earlier = at.earlier } }
+
+-- two words for one reorganisation
+one_progress : (s : State) (element pieces piece : ℕ) (at : IsAt s element pieces piece) (p : Progress) → progress_of (facts_of s).progress element ≡ Some p → p ≡ at.progress
+one_progress s element pieces piece at p here = some_one (sym here ∙ at.begun)
+
+-- ---- reading
+
+-- a spent piece is passed
+pub spent_on : (s : State) (element pieces piece limit : ℕ) → IsAt s element pieces piece → ReadStep s element piece limit (Err (View view.Spent)) → IsAt s element pieces (piece + 1)
+spent_on s element pieces piece limit at read =
+    let same : read.0 ≡ at.progress = one_progress s element pieces piece at read.0 read.1 in
+    let spent : IsSpent at.progress piece = subst (λ (p : Progress). IsSpent p piece) same (told read.2.0) in
+    record { progress = at.progress; begun = at.begun; count = at.count; earlier = λ k lt. by k spent (at.earlier k) (below k lt) }
+  where
+    told : {A : Type 0} → (view.Spent ≡ view.Memory) ⊎ A → A
+    told (inl e) = absurd cc
+    told (inr a) = a
+
+    below : (k : ℕ) → k < piece + 1 → (k < piece) ⊎ (piece ≡ k)
+    below k lt = elim (cases_lt k piece) [ inl less ↦ inl less | inr over ↦ inr (omega (arith, lt, over)) ]
+
+    by : (k : ℕ) → IsSpent at.progress piece → (k < piece → IsSpent at.progress k) → (k < piece) ⊎ (piece ≡ k) → IsSpent at.progress k
+    by k spent earlier (inl lt) = earlier lt
+    by k spent earlier (inr e) = subst (λ (j : ℕ). IsSpent at.progress j) e spent
+
+pub was_read : (s : State) (element pieces piece limit : ℕ) (read : Reading) → IsAt s element pieces piece → ReadStep s element piece limit (Ok read) → WasRead s element limit piece read
+was_read s element pieces piece limit read at step =
+    let same : step.0 ≡ at.progress = one_progress s element pieces piece at step.0 step.1 in
+    (next_at s element pieces piece step.3.span at (subst (λ (p : Progress). slice_get p.pieces piece ≡ Some step.3.span) same step.3.here) (subst (λ (p : Progress). ¬ (IsSpent p piece)) same (step.2 view.Spent)), step)
+
+-- why a piece that is there is not read, where it isn't spent
+unspent : (p : Progress) (piece limit : ℕ) (span : Span) (fault : ViewFault) → slice_get p.pieces piece ≡ Some span → IsRefusal rank (Condition p piece limit) view.Memory fault → View fault ≢ View view.Spent → ¬ (IsSpent p piece)
+unspent p piece limit span view.BadPiece here refused other = λ spent. past refused.0
+  where
+    past : (view.BadPiece ≡ view.Memory) ⊎ (length p.pieces ≤ piece) → ⊥
+    past (inl e) = absurd cc
+    past (inr le) = absurd (omega (arith, le, slice_get_within p.pieces piece span here))
+unspent p piece limit span view.Spent here refused other = absurd (other refl)
+unspent p piece limit span view.BadLimit here refused other = refused.1 view.Spent (omega arith)
+unspent p piece limit span view.Memory here refused other = refused.1 view.Spent (omega arith)
+
+pub stops_read : (s : State) (element pieces piece moment limit : ℕ) (fault : ReadFault) → IsAt s element pieces piece → piece < pieces → ReadStep s element piece limit (Err fault) → fault ≢ View view.Spent → Stops s element moment limit (work_fault.Read fault)
+stops_read s element pieces piece moment limit NotWanted at lt read other = read
+stops_read s element pieces piece moment limit (View fault) at lt read other =
+    let same : read.0 ≡ at.progress = one_progress s element pieces piece at read.0 read.1 in
+    let refused : IsRefusal rank (Condition at.progress piece limit) view.Memory fault = subst (λ (p : Progress). IsRefusal rank (Condition p piece limit) view.Memory fault) same read.2 in
+    let found = there at.progress.pieces piece (subst (λ (n : ℕ). piece < n) (sym at.count) lt) in
+    (piece, next_at s element pieces piece found.0 at found.1 (unspent at.progress piece limit found.0 fault found.1 refused other), read)
+
+-- ---- a turn
+
+pub turn : (old new : State) (element pieces piece moment limit : ℕ) (read : Reading) (done : PieceDone) → IsAt old element pieces piece → ReadStep old element piece limit (Ok read) → PieceStep old moment read (Ok done) new → Turn old element moment limit new
+turn old new element pieces piece moment limit read done at step committed =
+    record { piece = piece; next = (was_read old element pieces piece limit read at step).0; read = read; read_so = step; done = done; committed = committed }
+
+-- the pieces are the same, and those before stay spent
+pub stays : (old new : State) (element pieces piece moment limit : ℕ) (read : Reading) (done : PieceDone) → IsAt old element pieces piece → ReadStep old element piece limit (Ok read) → PieceStep old moment read (Ok done) new → IsAt new element pieces piece
+stays old new element pieces piece moment limit read done at step committed =
+    let number = read.element.number in
+    let to = read.stretch.high in
+    let place : read.piece ≡ piece = ap (λ (r : Reading). r.piece) step.3.read_is in
+    let state = committed.2.state ∙ ap (effect old) committed.2.entry in
+    record {
+      progress = moved_to number read.piece to at.progress;
+      begun = ap (λ (s : State). progress_of (facts_of s).progress element) state ∙ after_piece old (counted old moment) number read.piece to element at.progress at.begun;
+      count = moved_length number read.piece to at.progress ∙ at.count;
+      earlier = λ k lt. moved_spent number read.piece to at.progress k (subst (λ (n : ℕ). k < n) (sym place) lt) (at.earlier k lt);
+    }
+
+pub one_more : (n m : ℕ) (old middle new : State) (element moment limit : ℕ) → m ≡ n + 1 → Turns n old element moment limit middle → Turn middle element moment limit new → Turns m old element moment limit new
+one_more n m old middle new element moment limit is turns last = subst (λ (k : ℕ). Turns k old element moment limit new) (sym (is ∙ add-one n)) (middle, turns, last)
+
+-- a refused commit leaves all as it was
+pub stops_commit : (s new : State) (element pieces piece moment limit : ℕ) (read : Reading) (fault : WorkFault) → IsAt s element pieces piece → ReadStep s element piece limit (Ok read) → IsUncommitted s moment read fault → new ≡ s → Stops new element moment limit fault
+stops_commit s new element pieces piece moment limit read fault at step why same = subst (λ (x : State). Stops x element moment limit fault) (sym same) (by fault why)
+  where
+    by : (fault : WorkFault) → IsUncommitted s moment read fault → Stops s element moment limit fault
+    by (work_fault.Read fault) why = absurd why
+    by (work_fault.Commit fault) why = (piece, read, was_read s element pieces piece limit read at step, why)
+    by work_fault.Memory why = inl (piece, read, was_read s element pieces piece limit read at step)
+
+-- ---- how it stands
+
+none_some : {A B : Type 0} {v : A} → None ≡ Some v → B
+none_some e = absurd cc
+
+pub not_begun : (s : State) (element : ℕ) → None ≡ standing_at (facts_of s) element → progress_of (facts_of s).progress element ≡ None
+not_begun s element = by (progress_of (facts_of s).progress element)
+  where
+    by : (o : Option Progress) → None ≡ option_map standing o → o ≡ None
+    by None e = refl
+    by (Some p) e = none_some e
+
+-- what is told is told of the begun reorganisation
+pub told_of : (s : State) (element : ℕ) (work : Work) (pieces : ℕ) (ended : Bool) → Some (work, pieces, ended) ≡ standing_at (facts_of s) element
+    → (p : Progress) × (progress_of (facts_of s).progress element ≡ Some p) × (length p.pieces ≡ pieces) × (are_ended p.pieces ≡ ended)
+told_of s element work pieces ended = by (progress_of (facts_of s).progress element) refl
+  where
+    by : (o : Option Progress) → progress_of (facts_of s).progress element ≡ o → Some (work, pieces, ended) ≡ option_map standing o
+        → (p : Progress) × (progress_of (facts_of s).progress element ≡ Some p) × (length p.pieces ≡ pieces) × (are_ended p.pieces ≡ ended)
+    by None is e = none_some (sym e)
+    by (Some p) is e = let same : standing p ≡ (work, pieces, ended) = sym (some_one e) in (p, is, ap (λ (x : Work × ℕ × Bool). x.1) same, ap (λ (x : Work × ℕ × Bool). x.2) same)
+
+pub begins_at : (s : State) (element : ℕ) (work : Work) (pieces : ℕ) (ended : Bool) → Some (work, pieces, ended) ≡ standing_at (facts_of s) element → IsAt s element pieces 0
+begins_at s element work pieces ended told =
+    let t = told_of s element work pieces ended told in
+    record { progress = t.0; begun = t.1; count = t.2; earlier = λ k lt. absurd (omega (arith, lt)) }
+
+pub unnumbered : (s : State) (element : ℕ) (work : Work) (pieces : ℕ) (ended : Bool) → Some (work, pieces, ended) ≡ standing_at (facts_of s) element → 2 ^ 32 ≤ pieces → IsUnnumbered s element
+unnumbered s element work pieces ended told many =
+    let t = told_of s element work pieces ended told in
+    (t.0, t.1, subst (λ (n : ℕ). 2 ^ 32 ≤ n) (sym t.2) many)
+
+-- ---- spent pieces that have not all ended
+
+abbrev OneOpen : List Span → Type 0
+OneOpen pieces = (k : ℕ) × (span : Span) × (slice_get pieces k ≡ Some span) × (is_ended span ≡ false)
+
+open_step : (p : Span) (ps : List Span) → (are_ended ps ≡ false → OneOpen ps) → (b : Bool) → is_ended p ≡ b → (b && are_ended ps) ≡ false → OneOpen (p ∷ ps)
+open_step p ps rest true is e = let r = rest e in (suc r.0, r.1, r.2, r.3)
+open_step p ps rest false is e = (zero, p, refl, is)
+
+one_open : (pieces : List Span) → are_ended pieces ≡ false → OneOpen pieces
+one_open [] e = absurd cc
+one_open (p ∷ ps) e = open_step p ps (one_open ps) (is_ended p) refl e
+
+spent_first : (p : Progress) (k limit : ℕ) (span : Span) → slice_get p.pieces k ≡ Some span → IsSpent p k → IsRefusal rank (Condition p k limit) view.Memory view.Spent
+spent_first p k limit span here spent = (inr spent, lower)
+  where
+    lower : (other : ViewFault) → rank other < 1 → ¬ (Condition p k limit other)
+    lower view.BadPiece lt = λ c. absurd (omega (arith, c, slice_get_within p.pieces k span here))
+    lower view.Spent lt = absurd (omega (arith, lt))
+    lower view.BadLimit lt = absurd (omega (arith, lt))
+    lower view.Memory lt = absurd (omega (arith, lt))
+
+pub stops_past : (s : State) (element moment limit : ℕ) (work : Work) (pieces : ℕ) → AreSpent s element → Some (work, pieces, false) ≡ standing_at (facts_of s) element → Stops s element moment limit (work_fault.Read (View view.Spent))
+stops_past s element moment limit work pieces all told =
+    let at = all.1 in
+    let t = told_of s element work pieces false told in
+    let same : t.0 ≡ at.progress = one_progress s element all.0 all.0 at t.0 t.1 in
+    let found = one_open at.progress.pieces (subst (λ (p : Progress). are_ended p.pieces ≡ false) same t.3) in
+    let within : found.0 < all.0 = subst (λ (n : ℕ). found.0 < n) at.count (slice_get_within at.progress.pieces found.0 found.1 found.2) in (
+      found.0,
+      record { progress = at.progress; begun = at.begun; first = record { span = found.1; here = found.2; unended = found.3; earlier = λ k lt. at.earlier k (omega (arith, lt, within)) } },
+      (at.progress, at.begun, spent_first at.progress found.0 limit found.1 found.2 (at.earlier found.0 within)),
+    )
+
+-- ---- the call
+
+pub stopped : (old new : State) (element moment limit commits : ℕ) (fault told : WorkFault) (result : Result ℕ WorkFault) → result ≡ Err told → told ≡ fault → Turns commits old element moment limit new → Stops new element moment limit fault
+    → WorkStep old element moment limit result new
+stopped old new element moment limit commits fault told result is same turns stops =
+    subst (λ (r : Result ℕ WorkFault). WorkStep old element moment limit r new) (sym (is ∙ ap (λ (f : WorkFault). let r : Result ℕ WorkFault = Err f in r) same)) (commits, turns, stops)

@@ -1,0 +1,30 @@
+-- What the work knows between two turns.
+use Rattle.std.specs.Prelude.{◌≡◌, ℕ, ◌<◌, length, Some, Err}
+use Rattle.reorganise.specs.declared.work.Progress.{Progress}
+use Rattle.reorganise.specs.declared.reading.Reading.{Reading}
+use Rattle.reorganise.specs.Refusals.{IsSpent}
+use Rattle.replay.specs.Replay.{progress_of}
+use Rattle.world.specs.Piecework.{PieceStep}
+use Rattle.world.specs.State.{State, facts_of}
+use Rattle.piece_work.specs.declared.fault.WorkFault.{WorkFault}
+use Rattle.piece_work.specs.declared.fault.WorkFault.TheVariants as work_fault
+
+-- a reorganisation of so many pieces has begun, and those below this one are spent
+pub record IsAt (state : State) (element pieces piece : ℕ) : Type 0 where
+  pub progress : Progress
+  pub begun : progress_of (facts_of state).progress element ≡ Some progress
+  pub count : length progress.pieces ≡ pieces
+  pub earlier : (k : ℕ) → k < piece → IsSpent progress k
+
+abbrev pub HasPieces : State → ℕ → ℕ → Type 0
+HasPieces state element pieces = IsAt state element pieces 0
+
+-- all of them are
+abbrev pub AreSpent : State → ℕ → Type 0
+AreSpent state element = (pieces : ℕ) × IsAt state element pieces pieces
+
+-- why what was read was not committed
+abbrev pub IsUncommitted : State → ℕ → Reading → WorkFault → Type 0
+IsUncommitted state moment read (work_fault.Read fault) = ⊥
+IsUncommitted state moment read (work_fault.Commit fault) = PieceStep state moment read (Err (fault, read)) state
+IsUncommitted state moment read work_fault.Memory = Unit {0}

@@ -1,7 +1,0 @@
-use Rattle.std.proofs.Common.{◌≡◌, take}
-use mathlib.Core.List.{map}
-use Rattle.shell.specs.Naming.{looked_up}
-use Rattle.shell.proofs.naming.all_looked_up.Given as goal
-
-abbrev pub invariant-loop-condition : goal.invariant-loop-condition
-invariant-loop-condition l = l.conds.items ≡ map (looked_up l.schema l.table) (take l.condition-index l.conditions)

@@ -1,0 +1,9 @@
+mod Recent
+mod Newest
+mod Found
+mod Sums
+mod Spelled
+mod Counted
+mod Missing
+mod Reasons
+mod Clean

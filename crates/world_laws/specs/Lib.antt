@@ -1,0 +1,3 @@
+pub mod Recent
+pub mod Found
+pub mod Clean

@@ -1,0 +1,36 @@
+//! What follows from the contracts of the core's calls.
+ghost use Rattle.world_laws.specs.Recent.{CommitsAreRecent, QueriesAreRecent};
+ghost use Rattle.world_laws.specs.Found.{FindsConsistent, FindsExact, FindsEmpty};
+ghost use Rattle.world_laws.specs.Clean.{ChecksAreClean};
+
+/// A transaction that is accepted, whether it is committed or its rows refuse it, and a query that is answered run on the
+/// newest version or on the one before it, never on an older one.
+///
+/// `World::timeline` tells the premises: that the timeline is valid, and that the newest version was published at the
+/// moment of the last entry or before, which is not after the moment that counts.
+pub fn commits_are_recent()
+    ensures commits { CommitsAreRecent }
+    ensures queries { QueriesAreRecent }
+{}
+
+/// A publication moves no pair and no row: the store as it was before is consistent with the version after it. So an
+/// element that is public after it had exactly the pairs that the rows give it already, and one that is absent after it
+/// had none.
+///
+/// Of the World after the call `World::timeline` tells that the timeline is valid, and `World::agrees` that the pairs agree
+/// with the rows.
+pub fn publications_find_exact()
+    ensures consistent { FindsConsistent }
+    ensures public { FindsExact }
+    ensures absent { FindsEmpty }
+{}
+
+/// An audit finds the store clean: no pair is missing, none is there without a reason, and it counts as many rows as the
+/// log has.
+///
+/// The premises are told of every World by `World::timeline` (a valid timeline, with the newest version published at the
+/// moment of the last entry or before), by `World::agrees` (the pairs agree with the rows), and by `Schema::known` of what
+/// `World::newest` gives (a sound version).
+pub fn checks_are_clean()
+    ensures { ChecksAreClean }
+{}
