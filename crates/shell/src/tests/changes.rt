@@ -246,6 +246,7 @@ const REFUSALS: &str = "table t (id int key, a int)\n\
     work t.i at 10 limit 1\n\
     reorganise t.i at 10 pieces 1\n\
     reorganise t.j at 10 pieces 1\n\
+    reorganise t.a at 10 pieces 1\n\
     next at 20\n\
     reorganise t.i at 30 pieces 65\n\
     reorganise t.i at 30 pieces 0\n\
@@ -274,6 +275,7 @@ const REFUSALS_REPLIES: &str = "ok\n\
     ok plan 3\n\
     refused Unknown\n\
     ok version 2\n\
+    refused NotWanted\n\
     refused NotWanted\n\
     refused NotWanted\n\
     refused NotWanted\n\
