@@ -69,7 +69,8 @@ fn plan_from(
 /// - `changes`: the batch, which is brought about as one.
 ///
 /// The changes are tried in order, each against the schema and the whole batch. The first faulty one decides by its lowest fault, in
-/// the order of `PlanFault`. Memory comes last: all is tried before the first growth. Nothing is changed by a refusal.
+/// the order of `PlanFault`. Memory comes last: all is tried before the first growth. Nothing is changed by a refusal. Whether memory is
+/// short is the allocator's word, so no contract can refuse a body that says so of each batch; the tests do.
 ///
 /// After the schema changes of "Online, Asynchronous Schema Change in F1" (Rae et al., 2013).
 pub fn plan(alloc: Global, schema: &Schema, changes: &[Change]) -> Result<LeastPlan, PlanFault>

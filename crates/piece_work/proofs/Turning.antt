@@ -1,9 +1,9 @@
 -- A turn, and why the next one doesn't come.
-use Rattle.std.proofs.Common.{◌≡◌, ℕ, zero, suc, ◌+◌, ◌<◌, ◌≤◌, List, [], ◌∷◌, length, Option, Some, None, Result, Ok, Err, refl, sym, ap, subst, ◌∙◌, ◌⊎◌, inl, inr, arith, Bool, true, false, option_map, add-one, Ordering, Less, Equal, Greater}
+use Rattle.std.proofs.Common.{◌≡◌, ℕ, zero, suc, ◌+◌, ◌<◌, ◌≤◌, List, [], ◌∷◌, length, Option, Some, None, Result, Ok, Err, refl, sym, ap, subst, ◌∙◌, ◌⊎◌, inl, inr, arith, Bool, true, option_map, add-one, Ordering, Less, Equal, Greater}
 use Rattle.std.proofs.lemmas.Bool.{cases_lt}
 use Rattle.std.proofs.lemmas.Option.{slice_get_within}
-use Rattle.std.specs.Prelude.{◌≢◌, ◌&&◌, ◌^◌, slice_get}
-use Rattle.std.specs.Ordering.{is_eq}
+use Rattle.std.specs.Prelude.{◌≢◌, ◌&&◌, slice_get}
+use Rattle.std.specs.Ordering.{is_eq, is_le}
 use Rattle.keycode.specs.Order.{bytes_cmp}
 use Rattle.listed.specs.Refusal.{IsRefusal}
 use Rattle.reorganise.specs.declared.work.Work.{Work}
@@ -14,7 +14,9 @@ use Rattle.reorganise.specs.declared.fault.ViewFault.{ViewFault}
 use Rattle.reorganise.specs.declared.fault.ViewFault.TheVariants as view
 use Rattle.reorganise.specs.Pieces.{is_ended, are_ended}
 use Rattle.reorganise.specs.Refusals.{IsSpent, rank, Condition}
+use Rattle.replay.specs.Kept.{IsInPiece, IsInPieces, AreInPieces}
 use Rattle.replay.specs.Replay.{progress_of, moved_to}
+use Rattle.replay.proofs.Piecework.{at_place}
 use Rattle.world.specs.declared.entry.PieceDone.{PieceDone}
 use Rattle.world.specs.declared.fault.ReadFault.{ReadFault}
 use Rattle.world.specs.declared.fault.ReadFault.TheVariants.{NotWanted, View}
@@ -23,23 +25,36 @@ use Rattle.world.specs.Calls.{counted}
 use Rattle.world.specs.State.{State, facts_of, effect}
 use Rattle.piece_work.specs.declared.fault.WorkFault.{WorkFault}
 use Rattle.piece_work.specs.declared.fault.WorkFault.TheVariants as work_fault
-use Rattle.piece_work.specs.Working.{IsNext, Turn, Turns, WasRead, IsUnnumbered, Stops, WorkStep}
-use Rattle.piece_work.specs.Steps.{IsAt, AreSpent, IsUncommitted}
-use Rattle.piece_work.proofs.Moving.{moved_length, moved_spent, after_piece}
+use Rattle.piece_work.specs.Working.{IsEndedAt, IsNext, Turn, Turns, WasRead, HasEnded, Stops, WorkStep}
+use Rattle.piece_work.specs.Steps.{IsAt, WasSpent, IsUncommitted}
+use Rattle.piece_work.proofs.Moving.{moved_length, moved_ended, after_piece}
 
 some_one : {A : Type 0} {v w : A} → Some v ≡ (let o : Option A = Some w in o) → v ≡ w
 some_one e = cc
 
 -- ---- the next piece
 
-not_equal : (o : Ordering) → ((o ≢ Less) → ⊥) → is_eq o ≡ false
-not_equal Less h = refl
-not_equal Equal h = absurd (h (λ e. absurd cc))
-not_equal Greater h = refl
+is_less : (o : Ordering) → ((o ≢ Less) → ⊥) → o ≡ Less
+is_less Less h = refl
+is_less Equal h = absurd (h (λ e. absurd cc))
+is_less Greater h = absurd (h (λ e. absurd cc))
 
--- what is not spent has not ended
-open_span : (p : Progress) (k : ℕ) (span : Span) → slice_get p.pieces k ≡ Some span → ¬ (IsSpent p k) → is_ended span ≡ false
-open_span p k span here unspent = not_equal (bytes_cmp span.cursor span.high) (λ past. unspent (record { span = span; here = here; past = past }))
+-- what is not spent is below its end
+open_span : (p : Progress) (k : ℕ) (span : Span) → slice_get p.pieces k ≡ Some span → ¬ (IsSpent p k) → bytes_cmp span.cursor span.high ≡ Less
+open_span p k span here unspent = is_less (bytes_cmp span.cursor span.high) (λ past. unspent (record { span = span; here = here; past = past }))
+
+-- what is spent, and not past its end, has ended
+at_end : (o : Ordering) → o ≢ Less → is_le o ≡ true → is_eq o ≡ true
+at_end Less past le = absurd (past refl)
+at_end Equal past le = refl
+at_end Greater past le = absurd cc
+
+ended_span : (p : Progress) (k : ℕ) → IsInPieces p → IsSpent p k → IsEndedAt p k
+ended_span p k within spent = record {
+  span = spent.span;
+  here = spent.here;
+  ended = at_end (bytes_cmp spent.span.cursor spent.span.high) spent.past (at_place IsInPiece p.pieces k spent.span within.cursors spent.here);
+}
 
 there : (pieces : List Span) (k : ℕ) → k < length pieces → (span : Span) × (slice_get pieces k ≡ Some span)
 there [] k lt = absurd (omega (arith, lt))
@@ -56,12 +71,13 @@ one_progress s element pieces piece at p here = some_one (sym here ∙ at.begun)
 
 -- ---- reading
 
--- a spent piece is passed
-pub spent_on : (s : State) (element pieces piece limit : ℕ) → IsAt s element pieces piece → ReadStep s element piece limit (Err (View view.Spent)) → IsAt s element pieces (piece + 1)
+-- a spent piece has ended, and is passed
+pub spent_on : (s : State) (element pieces piece limit : ℕ) → IsAt s element pieces piece → WasSpent s element piece limit → IsAt s element pieces (piece + 1)
 spent_on s element pieces piece limit at read =
-    let same : read.0 ≡ at.progress = one_progress s element pieces piece at read.0 read.1 in
-    let spent : IsSpent at.progress piece = subst (λ (p : Progress). IsSpent p piece) same (told read.2.0) in
-    record { progress = at.progress; begun = at.begun; count = at.count; earlier = λ k lt. by k spent (at.earlier k) (below k lt) }
+    let same : read.0.0 ≡ at.progress = one_progress s element pieces piece at read.0.0 read.0.1 in
+    let spent : IsSpent at.progress piece = subst (λ (p : Progress). IsSpent p piece) same (told read.0.2.0) in
+    let ended : IsEndedAt at.progress piece = ended_span at.progress piece (read.1 element at.progress at.begun) spent in
+    record { progress = at.progress; begun = at.begun; count = at.count; earlier = λ k lt. by k ended (at.earlier k) (below k lt) }
   where
     told : {A : Type 0} → (view.Spent ≡ view.Memory) ⊎ A → A
     told (inl e) = absurd cc
@@ -70,9 +86,9 @@ spent_on s element pieces piece limit at read =
     below : (k : ℕ) → k < piece + 1 → (k < piece) ⊎ (piece ≡ k)
     below k lt = elim (cases_lt k piece) [ inl less ↦ inl less | inr over ↦ inr (omega (arith, lt, over)) ]
 
-    by : (k : ℕ) → IsSpent at.progress piece → (k < piece → IsSpent at.progress k) → (k < piece) ⊎ (piece ≡ k) → IsSpent at.progress k
-    by k spent earlier (inl lt) = earlier lt
-    by k spent earlier (inr e) = subst (λ (j : ℕ). IsSpent at.progress j) e spent
+    by : (k : ℕ) → IsEndedAt at.progress piece → (k < piece → IsEndedAt at.progress k) → (k < piece) ⊎ (piece ≡ k) → IsEndedAt at.progress k
+    by k ended earlier (inl lt) = earlier lt
+    by k ended earlier (inr e) = subst (λ (j : ℕ). IsEndedAt at.progress j) e ended
 
 pub was_read : (s : State) (element pieces piece limit : ℕ) (read : Reading) → IsAt s element pieces piece → ReadStep s element piece limit (Ok read) → WasRead s element limit piece read
 was_read s element pieces piece limit read at step =
@@ -104,7 +120,7 @@ pub turn : (old new : State) (element pieces piece moment limit : ℕ) (read : R
 turn old new element pieces piece moment limit read done at step committed =
     record { piece = piece; next = (was_read old element pieces piece limit read at step).0; read = read; read_so = step; done = done; committed = committed }
 
--- the pieces are the same, and those before stay spent
+-- the pieces are the same, and those before stay ended
 pub stays : (old new : State) (element pieces piece moment limit : ℕ) (read : Reading) (done : PieceDone) → IsAt old element pieces piece → ReadStep old element piece limit (Ok read) → PieceStep old moment read (Ok done) new → IsAt new element pieces piece
 stays old new element pieces piece moment limit read done at step committed =
     let number = read.element.number in
@@ -115,7 +131,7 @@ stays old new element pieces piece moment limit read done at step committed =
       progress = moved_to number read.piece to at.progress;
       begun = ap (λ (s : State). progress_of (facts_of s).progress element) state ∙ after_piece old (counted old moment) number read.piece to element at.progress at.begun;
       count = moved_length number read.piece to at.progress ∙ at.count;
-      earlier = λ k lt. moved_spent number read.piece to at.progress k (subst (λ (n : ℕ). k < n) (sym place) lt) (at.earlier k lt);
+      earlier = λ k lt. moved_ended number read.piece to at.progress k (subst (λ (n : ℕ). k < n) (sym place) lt) (at.earlier k lt);
     }
 
 pub one_more : (n m : ℕ) (old middle new : State) (element moment limit : ℕ) → m ≡ n + 1 → Turns n old element moment limit middle → Turn middle element moment limit new → Turns m old element moment limit new
@@ -128,7 +144,7 @@ stops_commit s new element pieces piece moment limit read fault at step why same
     by : (fault : WorkFault) → IsUncommitted s moment read fault → Stops s element moment limit fault
     by (work_fault.Read fault) why = absurd why
     by (work_fault.Commit fault) why = (piece, read, was_read s element pieces piece limit read at step, why)
-    by work_fault.Memory why = inl (piece, read, was_read s element pieces piece limit read at step)
+    by work_fault.Memory why = (piece, read, was_read s element pieces piece limit read at step)
 
 -- ---- how it stands
 
@@ -142,59 +158,31 @@ not_begun s element = by (progress_of (facts_of s).progress element)
     by None e = refl
     by (Some p) e = none_some e
 
--- what is told is told of the begun reorganisation
-pub told_of : (s : State) (element : ℕ) (work : Work) (pieces : ℕ) (ended : Bool) → Some (work, pieces, ended) ≡ standing_at (facts_of s) element
-    → (p : Progress) × (progress_of (facts_of s).progress element ≡ Some p) × (length p.pieces ≡ pieces) × (are_ended p.pieces ≡ ended)
-told_of s element work pieces ended = by (progress_of (facts_of s).progress element) refl
-  where
-    by : (o : Option Progress) → progress_of (facts_of s).progress element ≡ o → Some (work, pieces, ended) ≡ option_map standing o
-        → (p : Progress) × (progress_of (facts_of s).progress element ≡ Some p) × (length p.pieces ≡ pieces) × (are_ended p.pieces ≡ ended)
-    by None is e = none_some (sym e)
-    by (Some p) is e = let same : standing p ≡ (work, pieces, ended) = sym (some_one e) in (p, is, ap (λ (x : Work × ℕ × Bool). x.1) same, ap (λ (x : Work × ℕ × Bool). x.2) same)
-
+-- so many pieces are told of the begun reorganisation
 pub begins_at : (s : State) (element : ℕ) (work : Work) (pieces : ℕ) (ended : Bool) → Some (work, pieces, ended) ≡ standing_at (facts_of s) element → IsAt s element pieces 0
-begins_at s element work pieces ended told =
-    let t = told_of s element work pieces ended told in
-    record { progress = t.0; begun = t.1; count = t.2; earlier = λ k lt. absurd (omega (arith, lt)) }
-
-pub unnumbered : (s : State) (element : ℕ) (work : Work) (pieces : ℕ) (ended : Bool) → Some (work, pieces, ended) ≡ standing_at (facts_of s) element → 2 ^ 32 ≤ pieces → IsUnnumbered s element
-unnumbered s element work pieces ended told many =
-    let t = told_of s element work pieces ended told in
-    (t.0, t.1, subst (λ (n : ℕ). 2 ^ 32 ≤ n) (sym t.2) many)
-
--- ---- spent pieces that have not all ended
-
-abbrev OneOpen : List Span → Type 0
-OneOpen pieces = (k : ℕ) × (span : Span) × (slice_get pieces k ≡ Some span) × (is_ended span ≡ false)
-
-open_step : (p : Span) (ps : List Span) → (are_ended ps ≡ false → OneOpen ps) → (b : Bool) → is_ended p ≡ b → (b && are_ended ps) ≡ false → OneOpen (p ∷ ps)
-open_step p ps rest true is e = let r = rest e in (suc r.0, r.1, r.2, r.3)
-open_step p ps rest false is e = (zero, p, refl, is)
-
-one_open : (pieces : List Span) → are_ended pieces ≡ false → OneOpen pieces
-one_open [] e = absurd cc
-one_open (p ∷ ps) e = open_step p ps (one_open ps) (is_ended p) refl e
-
-spent_first : (p : Progress) (k limit : ℕ) (span : Span) → slice_get p.pieces k ≡ Some span → IsSpent p k → IsRefusal rank (Condition p k limit) view.Memory view.Spent
-spent_first p k limit span here spent = (inr spent, lower)
+begins_at s element work pieces ended = by (progress_of (facts_of s).progress element) refl
   where
-    lower : (other : ViewFault) → rank other < 1 → ¬ (Condition p k limit other)
-    lower view.BadPiece lt = λ c. absurd (omega (arith, c, slice_get_within p.pieces k span here))
-    lower view.Spent lt = absurd (omega (arith, lt))
-    lower view.BadLimit lt = absurd (omega (arith, lt))
-    lower view.Memory lt = absurd (omega (arith, lt))
+    by : (o : Option Progress) → progress_of (facts_of s).progress element ≡ o → Some (work, pieces, ended) ≡ option_map standing o → IsAt s element pieces 0
+    by None is e = none_some (sym e)
+    by (Some p) is e = record { progress = p; begun = is; count = ap (λ (x : Work × ℕ × Bool). x.1) (sym (some_one e)); earlier = λ k lt. absurd (omega (arith, lt)) }
 
-pub stops_past : (s : State) (element moment limit : ℕ) (work : Work) (pieces : ℕ) → AreSpent s element → Some (work, pieces, false) ≡ standing_at (facts_of s) element → Stops s element moment limit (work_fault.Read (View view.Spent))
-stops_past s element moment limit work pieces all told =
-    let at = all.1 in
-    let t = told_of s element work pieces false told in
-    let same : t.0 ≡ at.progress = one_progress s element all.0 all.0 at t.0 t.1 in
-    let found = one_open at.progress.pieces (subst (λ (p : Progress). are_ended p.pieces ≡ false) same t.3) in
-    let within : found.0 < all.0 = subst (λ (n : ℕ). found.0 < n) at.count (slice_get_within at.progress.pieces found.0 found.1 found.2) in (
-      found.0,
-      record { progress = at.progress; begun = at.begun; first = record { span = found.1; here = found.2; unended = found.3; earlier = λ k lt. at.earlier k (omega (arith, lt, within)) } },
-      (at.progress, at.begun, spent_first at.progress found.0 limit found.1 found.2 (at.earlier found.0 within)),
-    )
+-- there are few of them
+pub few_pieces : (s : State) (element pieces : ℕ) → IsAt s element pieces 0 → AreInPieces (facts_of s).progress → pieces ≤ 64
+few_pieces s element pieces at within = subst (λ (n : ℕ). n ≤ 64) at.count (within element at.progress at.begun).few
+
+-- ---- where all have ended
+
+all_ended : (pieces : List Span) → ((k : ℕ) → k < length pieces → (span : Span) × (slice_get pieces k ≡ Some span) × (is_ended span ≡ true)) → are_ended pieces ≡ true
+all_ended [] at = refl
+all_ended (p ∷ ps) at =
+    let first = at 0 (omega arith) in
+    ap (λ (b : Bool). b && are_ended ps) (ap is_ended (some_one first.1) ∙ first.2) ∙ all_ended ps (λ k lt. at (suc k) (omega (arith, lt)))
+
+pub has_ended : (s : State) (element pieces piece : ℕ) → IsAt s element pieces piece → piece ≤ pieces → pieces ≤ piece → HasEnded s element
+has_ended s element pieces piece at within over =
+    let last : piece ≡ length at.progress.pieces = omega (arith, within, over, at.count) in
+    let every = all_ended at.progress.pieces (λ k lt. let e = at.earlier k (omega (arith, lt, last)) in (e.span, e.here, e.ended)) in
+    (at.progress.kind, length at.progress.pieces, ap (option_map standing) at.begun ∙ ap (λ (b : Bool). Some (at.progress.kind, length at.progress.pieces, b)) every)
 
 -- ---- the call
 

@@ -2,26 +2,29 @@
 use Rattle.std.specs.Prelude.{◌≡◌, ℕ, ◌<◌, length, Some, Err}
 use Rattle.reorganise.specs.declared.work.Progress.{Progress}
 use Rattle.reorganise.specs.declared.reading.Reading.{Reading}
-use Rattle.reorganise.specs.Refusals.{IsSpent}
+use Rattle.replay.specs.Kept.{AreInPieces}
 use Rattle.replay.specs.Replay.{progress_of}
-use Rattle.world.specs.Piecework.{PieceStep}
+use Rattle.world.specs.Piecework.{ReadStep, PieceStep}
 use Rattle.world.specs.State.{State, facts_of}
+use Rattle.world.specs.declared.fault.ReadFault.TheVariants.{View}
+use Rattle.reorganise.specs.declared.fault.ViewFault.TheVariants.{Spent}
 use Rattle.piece_work.specs.declared.fault.WorkFault.{WorkFault}
 use Rattle.piece_work.specs.declared.fault.WorkFault.TheVariants as work_fault
+use Rattle.piece_work.specs.Working.{IsEndedAt}
 
--- a reorganisation of so many pieces has begun, and those below this one are spent
+-- a reorganisation of so many pieces has begun, and those below this one have come to their end
 pub record IsAt (state : State) (element pieces piece : ℕ) : Type 0 where
   pub progress : Progress
   pub begun : progress_of (facts_of state).progress element ≡ Some progress
   pub count : length progress.pieces ≡ pieces
-  pub earlier : (k : ℕ) → k < piece → IsSpent progress k
+  pub earlier : (k : ℕ) → k < piece → IsEndedAt progress k
 
 abbrev pub HasPieces : State → ℕ → ℕ → Type 0
 HasPieces state element pieces = IsAt state element pieces 0
 
--- all of them are
-abbrev pub AreSpent : State → ℕ → Type 0
-AreSpent state element = (pieces : ℕ) × IsAt state element pieces pieces
+-- a piece is refused as spent, and no cursor stands past its end
+abbrev pub WasSpent : State → ℕ → ℕ → ℕ → Type 0
+WasSpent state element piece limit = ReadStep state element piece limit (Err (View Spent)) × AreInPieces (facts_of state).progress
 
 -- why what was read was not committed
 abbrev pub IsUncommitted : State → ℕ → Reading → WorkFault → Type 0

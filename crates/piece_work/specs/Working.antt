@@ -1,11 +1,12 @@
 -- What it is to work a begun reorganisation off, turn by turn.
-use Rattle.std.specs.Prelude.{◌≡◌, ℕ, zero, suc, ◌<◌, ◌≤◌, ◌^◌, length, true, false, Some, None, Result, Ok, Err, ◌⊎◌, slice_get}
+use Rattle.std.specs.Prelude.{◌≡◌, ℕ, zero, suc, ◌<◌, true, Some, None, Result, Ok, Err, slice_get}
+use Rattle.std.specs.declared.cmp.Ordering.TheVariants.{Less}
+use Rattle.keycode.specs.Order.{bytes_cmp}
 use Rattle.reorganise.specs.declared.work.Work.{Work}
 use Rattle.reorganise.specs.declared.work.Span.{Span}
 use Rattle.reorganise.specs.declared.work.Progress.{Progress}
 use Rattle.reorganise.specs.declared.reading.Reading.{Reading}
 use Rattle.reorganise.specs.Pieces.{is_ended}
-use Rattle.reorganise.specs.Refusals.{IsSpent}
 use Rattle.replay.specs.Replay.{progress_of}
 use Rattle.world.specs.declared.entry.PieceDone.{PieceDone}
 use Rattle.world.specs.declared.fault.ReadFault.TheVariants.{NotWanted, View}
@@ -16,12 +17,18 @@ use Rattle.piece_work.specs.declared.fault.WorkFault.TheVariants as work_fault
 
 -- ---- the piece that is next
 
--- its cursor is not at its end, and each piece before it is spent
+-- the piece of this number has come to its end
+pub record IsEndedAt (progress : Progress) (piece : ℕ) : Type 0 where
+  pub span : Span
+  pub here : slice_get progress.pieces piece ≡ Some span
+  pub ended : is_ended span ≡ true
+
+-- its cursor is below its end, and each piece before it has come to its own
 pub record IsFirstOpen (progress : Progress) (piece : ℕ) : Type 0 where
   pub span : Span
   pub here : slice_get progress.pieces piece ≡ Some span
-  pub unended : is_ended span ≡ false
-  pub earlier : (k : ℕ) → k < piece → IsSpent progress k
+  pub unended : bytes_cmp span.cursor span.high ≡ Less
+  pub earlier : (k : ℕ) → k < piece → IsEndedAt progress k
 
 -- of the element's reorganisation as it stands
 pub record IsNext (state : State) (element piece : ℕ) : Type 0 where
@@ -55,16 +62,12 @@ HasEnded state element = (work : Work) × (pieces : ℕ) × (standing_at (facts_
 abbrev pub WasRead : State → ℕ → ℕ → ℕ → Reading → Type 0
 WasRead state element limit piece read = IsNext state element piece × ReadStep state element piece limit (Ok read)
 
--- there are more pieces than numbers for them
-abbrev pub IsUnnumbered : State → ℕ → Type 0
-IsUnnumbered state element = (progress : Progress) × (progress_of (facts_of state).progress element ≡ Some progress) × (2 ^ 32 ≤ length progress.pieces)
-
 -- why the next turn doesn't come: nothing is begun, or the next piece is refused by its read or by its commit; want of memory comes behind the read
 abbrev pub Stops : State → ℕ → ℕ → ℕ → WorkFault → Type 0
 Stops state element moment limit (work_fault.Read NotWanted) = progress_of (facts_of state).progress element ≡ None
 Stops state element moment limit (work_fault.Read (View fault)) = (piece : ℕ) × IsNext state element piece × ReadStep state element piece limit (Err (View fault))
 Stops state element moment limit (work_fault.Commit fault) = (piece : ℕ) × (read : Reading) × WasRead state element limit piece read × PieceStep state moment read (Err (fault, read)) state
-Stops state element moment limit work_fault.Memory = ((piece : ℕ) × (read : Reading) × WasRead state element limit piece read) ⊎ IsUnnumbered state element
+Stops state element moment limit work_fault.Memory = (piece : ℕ) × (read : Reading) × WasRead state element limit piece read
 
 -- ---- the call
 

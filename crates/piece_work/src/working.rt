@@ -4,8 +4,8 @@ ghost use Rattle.reorganise.specs.declared.fault.ViewFault.TheVariants.{Spent};
 ghost use Rattle.world.specs.declared.entry.PieceDone.{PieceDone as Done};
 ghost use Rattle.world.specs.declared.fault.ReadFault.TheVariants.{View};
 ghost use Rattle.world.specs.Piecework.{ReadStep, PieceStep};
-ghost use Rattle.piece_work.specs.Working.{HasEnded, Stops, WorkStep};
-ghost use Rattle.piece_work.specs.Steps.{HasPieces, AreSpent, IsUncommitted};
+ghost use Rattle.piece_work.specs.Working.{Stops, WorkStep};
+ghost use Rattle.piece_work.specs.Steps.{HasPieces, WasSpent, IsUncommitted};
 
 use crate::fault::WorkFault;
 use reorganise::{PieceView, ViewFault, prepare_piece};
@@ -17,13 +17,11 @@ fn pieces_of(world: &World, element: u32) -> Result<u32, WorkFault>
     ensures begun { IfOk result (λ pieces. HasPieces world.now element pieces) }
     ensures stops { IfErr result (λ fault. (moment limit : ℕ) → Stops world.now element moment limit fault) }
 {
+    world.agrees();
     let Some((_, pieces, _)) = world.progress(element) else {
         return Err(WorkFault::Read(ReadFault::NotWanted));
     };
-    match u32::try_from(pieces) {
-        Ok(pieces) => Ok(pieces),
-        Err(_) => Err(WorkFault::Memory),
-    }
+    Ok(pieces as u32)
 }
 
 /// The next items of a piece, none where it has ended.
@@ -34,10 +32,11 @@ fn next_items(
     piece: u32,
     limit: u32,
 ) -> Result<Option<PieceView>, ReadFault>
-    ensures read { IfOk result (λ found. MatchOption found (ReadStep world.now element piece limit (Err (View Spent))) (λ view. ReadStep world.now element piece limit (Ok view))) }
+    ensures read { IfOk result (λ found. MatchOption found (WasSpent world.now element piece limit) (λ view. ReadStep world.now element piece limit (Ok view))) }
     ensures refused { IfErr result (λ fault. ReadStep world.now element piece limit (Err fault)) }
     ensures other { IfErr result (λ fault. fault ≢ View Spent) }
 {
+    world.agrees();
     match world.read_piece(alloc, element, piece, limit) {
         Ok(view) => Ok(Some(view)),
         Err(ReadFault::View(ViewFault::Spent)) => Ok(None),
@@ -60,19 +59,6 @@ fn commit(alloc: Global, world: &mut World, moment: u64, view: PieceView) -> Res
     }
 }
 
-/// Whether each piece, none of which can be read any more, has come to its end.
-fn all_ended(world: &World, element: u32) -> Result<(), WorkFault>
-    requires spent { AreSpent world.now element }
-    ensures ended { OnOk result (HasEnded world.now element) }
-    ensures stops { IfErr result (λ fault. (moment limit : ℕ) → Stops world.now element moment limit fault) }
-{
-    match world.progress(element) {
-        None => Err(WorkFault::Read(ReadFault::NotWanted)),
-        Some((_, _, true)) => Ok(()),
-        Some((_, _, false)) => Err(WorkFault::Read(ReadFault::View(ViewFault::Spent))),
-    }
-}
-
 /// Works a begun reorganisation off: its pieces in order, each read, prepared and committed, at most `limit` items at a
 /// time, until it has ended. Answers the number of commits.
 ///
@@ -81,10 +67,10 @@ fn all_ended(world: &World, element: u32) -> Result<(), WorkFault>
 /// - `limit`: how many items each commit may have, 1 to 1,000.
 ///
 /// It ends at the first refusal, and what was committed before stands. Refused in this order of a turn: `Read` with
-/// `NotWanted` where nothing is begun, else with what `World::read_piece` refuses of the first piece whose cursor is not
-/// at its end (`Spent` only where that cursor stands past it); `Commit` with what `World::commit_piece` refuses; `Memory`
-/// where what was read can't be prepared or counted, or the pieces are more than a `u32` can number. That a piece has
-/// ended is no refusal, so a reorganisation whose pieces have all ended answers 0 whatever the limit.
+/// `NotWanted` where nothing is begun, else with what `World::read_piece` refuses of the first piece whose cursor is
+/// below its end; `Commit` with what `World::commit_piece` refuses; `Memory` where what was read can't be prepared or
+/// counted. That a piece has ended is no refusal, so a reorganisation whose pieces have all ended answers 0 whatever the
+/// limit.
 pub fn work_off(
     alloc: Global,
     world: &mut World,
@@ -109,6 +95,5 @@ pub fn work_off(
             }
         }
     }
-    all_ended(world, element)?;
     Ok(commits)
 }

@@ -34,9 +34,10 @@ use Rattle.reorganise.proofs.Shares.{begun_joined}
 use Rattle.replay.specs.declared.entry.What.TheVariants.{Begin}
 use Rattle.replay.specs.Replay.{Facts, after, work_by, wanted, is_of, progress_of, begun_by, begun_of}
 use Rattle.replay.specs.Kept.{IsKept, IsBegun, core_at, used_before, all_passed, passed, work_in}
-use Rattle.replay.specs.Laws.{BeginsKeep}
+use Rattle.replay.specs.Laws.{BeginsKeep, IsPieceCount}
 use Rattle.replay.proofs.Agree.{at_number}
 use Rattle.replay.proofs.Begun.{get_passed}
+use Rattle.replay.proofs.Cursors.{begin_in_pieces}
 use Rattle.replay.proofs.Soundness.{lawful}
 use Rattle.replay.proofs.Time.{at, kept_later}
 
@@ -135,7 +136,7 @@ state_seen version n above o is = ap state_in (at_number version n above) ∙ by
 -- ---- the begin
 
 module _ (facts : Facts) (now number pieces : ℕ) (element : ElementDef) (work : Work) (later : facts.moment ≤ now) (there : element_at facts.newest number ≡ Some element) (wants : wanted element ≡ Some work)
-    (settled : state_of (used_before facts now) number ≡ element.state) (new : progress_of facts.progress number ≡ None) (some : 1 ≤ pieces) (kept : IsKept facts) where
+    (settled : state_of (used_before facts now) number ≡ element.state) (new : progress_of facts.progress number ≡ None) (count : IsPieceCount pieces) (kept : IsKept facts) where
   abbrev pub b : Progress
   b = begun element work facts.pairs pieces
 
@@ -158,7 +159,7 @@ module _ (facts : Facts) (now number pieces : ℕ) (element : ElementDef) (work 
   is_begun = record {
     element = ap (element_at facts.newest) own ∙ there;
     wanted_so = wants;
-    joined = begun_joined (region_of element work) facts.pairs pieces (omega (arith, some));
+    joined = begun_joined (region_of element work) facts.pairs pieces (omega (arith, count.0));
     bounds = begins_at_bounds element work facts.pairs pieces lawful_element.range.table_below kept.core_kept.formed;
   }
 
@@ -187,6 +188,7 @@ module _ (facts : Facts) (now number pieces : ℕ) (element : ElementDef) (work 
     rows = k.rows;
     rows_before = k.rows_before;
     begun = all_append (IsBegun facts.newest) facts.progress (b ∷ []) k.begun (is_begun, tt);
+    in_pieces = begin_in_pieces element work facts.pairs pieces facts.progress count k.in_pieces;
   }
 
   pub begin_kept_so : IsKept (after facts (record { moment = now; what = Begin number pieces }))
@@ -194,4 +196,4 @@ module _ (facts : Facts) (now number pieces : ℕ) (element : ElementDef) (work 
       subst (λ (more : List Progress). IsKept (record (at facts now) { progress = facts.progress ++ more })) (sym (ap (λ (o : Option ElementDef). begun_of o facts.pairs pieces) there ∙ ap (λ (o : Option Work). begun_by element o facts.pairs pieces) wants)) one_more
 
 pub begins_keep : BeginsKeep
-begins_keep facts now number pieces element work later there wants settled new some kept = begin_kept_so facts now number pieces element work later there wants settled new some kept
+begins_keep facts now number pieces element work later there wants settled new count kept = begin_kept_so facts now number pieces element work later there wants settled new count kept

@@ -13,7 +13,8 @@ use Rattle.schema_version.specs.Moves.{moves_element}
 use Rattle.element_state.specs.Core as core
 use Rattle.element_state.specs.Whole.{number_one}
 use Rattle.reorganise.specs.declared.work.Progress.{Progress}
-use Rattle.replay.specs.Replay.{is_of, progress_of, stays}
+use Rattle.row_map.specs.Rows.{Bytes}
+use Rattle.replay.specs.Replay.{is_of, progress_of, stays, come_to, moved_to}
 use Rattle.replay.specs.Kept.{passed, all_passed}
 
 some_one : {A : Type 0} {v w : A} → Some v ≡ (let o : Option A = Some w in o) → v ≡ w
@@ -104,3 +105,21 @@ all_step Q step ps p here rest false e = rest
 pub all_stayed : (P Q : Progress → Type 0) (step : List Move) (ps : List Progress) → ((p : Progress) → P p → moves_element step p.element.number ≡ false → Q p) → AllByRecursion P ps → AllByRecursion Q (filter (stays step) ps)
 all_stayed P Q step [] f all = tt
 all_stayed P Q step (p ∷ ps) f all = all_step Q step ps p (f p all.0) (all_stayed P Q step ps f all.1) (stays step p) refl
+
+-- ---- a cursor that comes on
+
+moved_number : (n piece : ℕ) (cursor : Bytes) (p : Progress) (b : Bool) → is_of n p ≡ b → (moved_to n piece cursor p).element.number ≡ p.element.number
+moved_number n piece cursor p true e = ap (λ (b : Bool). (let q : Progress = cond b (come_to piece cursor p) p in q).element.number) e
+moved_number n piece cursor p false e = ap (λ (b : Bool). (let q : Progress = cond b (come_to piece cursor p) p in q).element.number) e
+
+-- a reorganisation is found where it was, with its cursor moved
+pub progress_moved : (n piece : ℕ) (cursor : Bytes) (ps : List Progress) (m : ℕ) → progress_of (each (moved_to n piece cursor) ps) m ≡ option_map (moved_to n piece cursor) (progress_of ps m)
+progress_moved n piece cursor [] m = refl
+progress_moved n piece cursor (p ∷ ps) m =
+    ap (λ (x : ℕ). cond (eqb x m) (Some (moved_to n piece cursor p)) (progress_of (each (moved_to n piece cursor) ps) m)) (moved_number n piece cursor p (is_of n p) refl)
+    ∙ ap (cond (is_of m p) (Some (moved_to n piece cursor p))) (progress_moved n piece cursor ps m)
+    ∙ map_cond (is_of m p)
+  where
+    map_cond : (b : Bool) → cond b (Some (moved_to n piece cursor p)) (option_map (moved_to n piece cursor) (progress_of ps m)) ≡ option_map (moved_to n piece cursor) (cond b (Some p) (progress_of ps m))
+    map_cond true = refl
+    map_cond false = refl

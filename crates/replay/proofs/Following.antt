@@ -17,7 +17,7 @@ pub call_kept : (facts : Facts) (now : ℕ) (what : What) → facts.moment ≤ n
 call_kept facts now (Granted lease) later may kept = lease_kept facts now lease later kept
 call_kept facts now (Txn lease ops) later may kept = subst (λ (w : What). IsKept (after_call facts now w)) (sym may.same) (txns_keep facts now may.prepared later may.due may.done kept).1
 call_kept facts now (Publish step) later may kept = publications_keep facts now step later may.0 may.1 may.2 may.3 kept
-call_kept facts now (Begin number pieces) later may kept = begins_keep facts now number pieces may.element may.work later may.there may.wants may.settled may.new may.some kept
+call_kept facts now (Begin number pieces) later may kept = begins_keep facts now number pieces may.element may.work later may.there may.wants may.settled may.new may.count kept
 call_kept facts now (Piece number piece cursor) later may kept = subst (λ (w : What). IsKept (after_call facts now w)) (sym may.same) (pieces_keep facts now number may.read later may.next kept).1
 
 pub log_kept : (facts : Facts) (log : List Entry) → AllFollow facts log → IsKept facts → IsKept (after_all facts log)

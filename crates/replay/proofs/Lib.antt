@@ -2,6 +2,7 @@ pub mod Soundness
 pub mod Time
 pub mod Agree
 pub mod Begun
+pub mod Cursors
 pub mod Moved
 pub mod Publication
 pub mod Beginning

@@ -1,13 +1,15 @@
 -- A piece of a reorganisation: what it writes is what its entry says, and it keeps all.
-use Rattle.std.proofs.Common.{◌≡◌, ℕ, zero, suc, ◌+◌, ◌<◌, ◌≤◌, ◌^◌, List, [], ◌∷◌, Option, Some, None, option_map, refl, sym, ap, subst, ◌∙◌, ◌⊎◌, inl, inr, Bool, true, false, cond, eqb, eqb-true, eq-eqb, ne_eqb, arith, Contains}
+use Rattle.std.proofs.Common.{◌≡◌, ℕ, zero, suc, ◌+◌, ◌<◌, ◌≤◌, ◌^◌, List, [], ◌∷◌, Option, Some, None, option_map, refl, sym, ap, subst, ◌∙◌, ◌⊎◌, inl, inr, Bool, true, false, cond, eqb-true, eq-eqb, ne_eqb, arith, Contains}
 use Rattle.std.specs.Prelude.{◌≢◌, slice_get}
 use Rattle.std.specs.List.{AllByRecursion}
 use mathlib.Core.List.{map as each}
 use Rattle.std.specs.FinMap as map
 use Rattle.std.specs.FinMap.{nat_cmp-IsAntisymmetric}
 use Rattle.std.specs.Cmp.{nat_cmp_total}
+use Rattle.std.specs.Ordering.{is_le}
 use Rattle.byte_map.proofs.Written.{laid-noted, written_here, written_apart}
 use Rattle.keycode.proofs.Orders.{bytes_cmp_total, bytes_cmp-IsAntisymmetric}
+use Rattle.keycode.specs.Order.{bytes_cmp}
 use Rattle.row_map.specs.Rows.{Bytes, Rows, Pairs}
 use Rattle.row_map.specs.Writes.{written_all, laid}
 use Rattle.schema_version.specs.declared.element.Kind.{Kind}
@@ -41,10 +43,11 @@ use Rattle.reorganise.proofs.Clearing.{clear_lays}
 use Rattle.reorganise.proofs.Filling.{fill_lays}
 use Rattle.reorganise.proofs.Holding.{part_is}
 use Rattle.replay.specs.Replay.{Facts, after, wanted, is_of, progress_of, come_to, moved_to, writes_by_piece, span_writes}
-use Rattle.replay.specs.Kept.{IsKept, IsBegun, core_at, all_passed, passed, work_in}
+use Rattle.replay.specs.Kept.{IsKept, IsBegun, AreInPieces, core_at, all_passed, passed, work_in}
 use Rattle.replay.specs.Laws.{IsNextOf, piece_entry, PiecesKeep}
 use Rattle.replay.proofs.Agree.{at_number}
-use Rattle.replay.proofs.Begun.{found, get_passed, passed_at}
+use Rattle.replay.proofs.Begun.{found, get_passed, passed_at, progress_moved}
+use Rattle.replay.proofs.Cursors.{move_in_pieces}
 use Rattle.replay.proofs.Beginning.{with_progress}
 use Rattle.replay.proofs.Soundness.{lawful, fits}
 use Rattle.replay.proofs.Time.{at, kept_later}
@@ -58,26 +61,10 @@ none_some e = absurd cc
 -- ---- lists
 
 -- what all have, the one at a place has
-at_place : {A : Type 0} (P : A → Type 0) (xs : List A) (i : ℕ) (x : A) → AllByRecursion P xs → slice_get xs i ≡ Some x → P x
+pub at_place : {A : Type 0} (P : A → Type 0) (xs : List A) (i : ℕ) (x : A) → AllByRecursion P xs → slice_get xs i ≡ Some x → P x
 at_place P [] i x all at = none_some at
 at_place P (y ∷ ys) zero x all at = subst P (some_one at) all.0
 at_place P (y ∷ ys) (suc i) x all at = at_place P ys i x all.1 at
-
-moved_number : (n piece : ℕ) (cursor : Bytes) (p : Progress) (b : Bool) → is_of n p ≡ b → (moved_to n piece cursor p).element.number ≡ p.element.number
-moved_number n piece cursor p true e = ap (λ (b : Bool). (let q : Progress = cond b (come_to piece cursor p) p in q).element.number) e
-moved_number n piece cursor p false e = ap (λ (b : Bool). (let q : Progress = cond b (come_to piece cursor p) p in q).element.number) e
-
--- a reorganisation is found where it was, with its cursor moved
-progress_moved : (n piece : ℕ) (cursor : Bytes) (ps : List Progress) (m : ℕ) → progress_of (each (moved_to n piece cursor) ps) m ≡ option_map (moved_to n piece cursor) (progress_of ps m)
-progress_moved n piece cursor [] m = refl
-progress_moved n piece cursor (p ∷ ps) m =
-    ap (λ (x : ℕ). cond (eqb x m) (Some (moved_to n piece cursor p)) (progress_of (each (moved_to n piece cursor) ps) m)) (moved_number n piece cursor p (is_of n p) refl)
-    ∙ ap (cond (is_of m p) (Some (moved_to n piece cursor p))) (progress_moved n piece cursor ps m)
-    ∙ map_cond (is_of m p)
-  where
-    map_cond : (b : Bool) → cond b (Some (moved_to n piece cursor p)) (option_map (moved_to n piece cursor) (progress_of ps m)) ≡ option_map (moved_to n piece cursor) (cond b (Some p) (progress_of ps m))
-    map_cond true = refl
-    map_cond false = refl
 
 all_moved : (P : Progress → Type 0) (n piece : ℕ) (cursor : Bytes) → ((p : Progress) → P p → p.element.number ≡ n → P (come_to piece cursor p)) → (ps : List Progress) → AllByRecursion P ps → AllByRecursion P (each (moved_to n piece cursor) ps)
 all_moved P n piece cursor f [] all = tt
@@ -253,6 +240,11 @@ module _ (facts : Facts) (now number : ℕ) (read : Reading) (later : facts.mome
         bounds = bounds_stay (bounds_of q.element q.kind) q.pieces read.piece to (subst (λ (u : Work). IsBound (bounds_of q.element u) to) work (subst (λ (e : ElementDef). IsBound (bounds_of e p.kind) to) same bound_to)) h.bounds;
       }
 
+  in_pieces : AreInPieces (each (moved_to number read.piece to) facts.progress)
+  in_pieces =
+      move_in_pieces facts.progress number read.piece to p next.span next.here next.piece (subst (λ (high : Bytes). is_le (bytes_cmp to high) ≡ true) next.high next.read_so.comes.bounded)
+      (λ m q at. (found (IsBegun facts.newest) facts.progress m q kept.begun at).1) kept.in_pieces
+
   pub piece_kept : IsKept (after facts (piece_entry now number read))
   piece_kept = record {
     counted = k.counted;
@@ -265,6 +257,7 @@ module _ (facts : Facts) (now number : ℕ) (read : Reading) (later : facts.mome
     rows = k.rows;
     rows_before = k.rows_before;
     begun = all_moved (IsBegun facts.newest) number read.piece to come_begun facts.progress k.begun;
+    in_pieces = in_pieces;
   }
 
 pub pieces_keep : PiecesKeep

@@ -51,6 +51,7 @@ use Rattle.replay.specs.Laws.{IsDone, Needs, AreFinished, PublicationsKeep}
 use Rattle.replay.proofs.Agree.{at_number}
 use Rattle.replay.proofs.Begun.{found, stayed, all_stayed, passed_at, from_passed}
 use Rattle.replay.proofs.Moved.{seen, is_zero, get_seen, joined_step, live_state, not_at_once, not_again, column_adding, same_tables, next_rises}
+use Rattle.replay.proofs.Cursors.{stay_in_pieces}
 use Rattle.replay.proofs.Soundness.{lawful}
 use Rattle.replay.proofs.Time.{retired}
 
@@ -354,6 +355,7 @@ module _ (facts : Facts) (step : List Move) (allowed : IsAllowed facts.newest st
         rows = rows_after;
         rows_before = subst (λ (u : Version). AreLawfulRows u facts.rows) (sym used) k.rows;
         begun = begun_after;
+        in_pieces = stay_in_pieces step facts.progress k.in_pieces;
       }
 
 pub publications_keep : PublicationsKeep

@@ -105,6 +105,7 @@ kept_later facts now later k =
       rows = k.rows;
       rows_before = g.rows;
       begun = k.begun;
+      in_pieces = k.in_pieces;
     }
 
 pub lease_kept : (facts : Facts) (now : ℕ) (lease : Lease) → facts.moment ≤ now → IsKept facts → IsKept (after facts (record { moment = now; what = Granted lease }))
@@ -135,4 +136,5 @@ opened_kept opening within sound =
       rows = none;
       rows_before = subst (λ (v : Version). AreLawfulRows v map.empty) (sym same) none;
       begun = tt;
+      in_pieces = λ number progress there. none_some progress there;
     }

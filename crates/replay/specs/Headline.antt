@@ -15,7 +15,7 @@ use Rattle.replay.specs.declared.entry.What.{What}
 use Rattle.replay.specs.declared.entry.What.TheVariants.{Lease as Granted, Txn, Publish, Begin, Piece}
 use Rattle.replay.specs.Replay.{Opening, Facts, start, after, replay, wanted, progress_of}
 use Rattle.replay.specs.Kept.{Agrees, used_before}
-use Rattle.replay.specs.Laws.{IsDue, IsNextOf, AreFinished}
+use Rattle.replay.specs.Laws.{IsDue, IsNextOf, IsPieceCount, AreFinished}
 
 -- a begin that may be accepted: what the element wants, settled in both versions, not begun yet
 pub record MayBegin (facts : Facts) (now number pieces : ℕ) : Type 0 where
@@ -25,7 +25,7 @@ pub record MayBegin (facts : Facts) (now number pieces : ℕ) : Type 0 where
   pub wants : wanted element ≡ Some work
   pub settled : state_of (used_before facts now) number ≡ element.state
   pub new : progress_of facts.progress number ≡ None
-  pub some : 1 ≤ pieces
+  pub count : IsPieceCount pieces
 
 -- a transaction whose reads hold, and that the rows accept
 pub record MayCommit (facts : Facts) (now : ℕ) (what : What) : Type 0 where

@@ -1,9 +1,10 @@
 -- What every log of accepted calls keeps, of which the agreement of the pairs with the rows is a part.
-use Rattle.std.specs.Prelude.{◌≡◌, ℕ, ◌≤◌, List, ◌∷◌, length, Some, nat_lt, if◌then◌else◌}
+use Rattle.std.specs.Prelude.{◌≡◌, ℕ, ◌≤◌, List, ◌∷◌, length, Some, true, nat_lt, if◌then◌else◌}
 use Rattle.std.specs.List.{AllByRecursion}
 use mathlib.Core.List.{map as each}
 use Rattle.std.specs.FinMap.{FinMap, from_entries}
-use Rattle.std.specs.Ordering.{nat_cmp}
+use Rattle.std.specs.Ordering.{nat_cmp, is_le}
+use Rattle.keycode.specs.Order.{bytes_cmp}
 use Rattle.lease.specs.Timeline.{IsValid, IsUsable, earliest, last_publication, newest as newest_number}
 use Rattle.schema_version.specs.Version.{Version, element_at}
 use Rattle.schema_version.specs.Sound.{IsSoundVersion}
@@ -13,11 +14,12 @@ use Rattle.element_state.specs.Core as core
 use Rattle.element_state.specs.Versions.{ElementKind, the_kinds, schema_of}
 use Rattle.reorganise.specs.declared.work.Work.{Work}
 use Rattle.reorganise.specs.declared.work.Work.TheVariants.{Fill, Clear}
+use Rattle.reorganise.specs.declared.work.Span.{Span}
 use Rattle.reorganise.specs.declared.work.Progress.{Progress}
 use Rattle.reorganise.specs.Regions.{region_of, front, back}
 use Rattle.reorganise.specs.Partition.{AreJoined}
 use Rattle.reorganise.specs.Laws.{passed_by, bounds_of, HasBounds}
-use Rattle.replay.specs.Replay.{Facts, before_of, version_at, wanted}
+use Rattle.replay.specs.Replay.{Facts, before_of, version_at, wanted, progress_of}
 
 -- ---- the core as the elements' laws see it
 
@@ -55,6 +57,18 @@ pub record IsBegun (newest : Version) (progress : Progress) : Type 0 where
   pub joined : AreJoined (front (region_of progress.element progress.kind)) (back (region_of progress.element progress.kind)) progress.pieces
   pub bounds : AllByRecursion (HasBounds (bounds_of progress.element progress.kind)) progress.pieces
 
+-- the cursor does not stand past the upper bound
+abbrev pub IsInPiece : Span → Type 0
+IsInPiece piece = is_le (bytes_cmp piece.cursor piece.high) ≡ true
+
+pub record IsInPieces (progress : Progress) : Type 0 where
+  pub few : length progress.pieces ≤ 64
+  pub cursors : AllByRecursion IsInPiece progress.pieces
+
+-- so it is with the begun reorganisation of each element
+abbrev pub AreInPieces : List Progress → Type 0
+AreInPieces begun = (number : ℕ) (progress : Progress) → progress_of begun number ≡ Some progress → IsInPieces progress
+
 pub record IsKept (facts : Facts) : Type 0 where
   -- a version for each publication
   pub counted : length (facts.newest ∷ facts.older) ≡ newest_number facts.line
@@ -70,6 +84,7 @@ pub record IsKept (facts : Facts) : Type 0 where
   pub rows : AreLawfulRows facts.newest facts.rows
   pub rows_before : AreLawfulRows (used_before facts facts.moment) facts.rows
   pub begun : AllByRecursion (IsBegun facts.newest) facts.progress
+  pub in_pieces : AreInPieces facts.progress
 
 -- for every usable version, each element has the pairs that its state demands, by the rows of the log
 abbrev pub Agrees : Facts → Type 0

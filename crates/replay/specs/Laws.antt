@@ -60,11 +60,15 @@ PublicationsKeep =
     (facts : Facts) (now : ℕ) (step : List Move) → facts.moment ≤ now → now ≤ max_moment → earliest facts.line ≤ now → IsAllowed facts.newest step → AreFinished facts step
     → IsKept facts → IsKept (after facts (record { moment = now; what = Publish step }))
 
+-- a reorganisation has 1 to 64 pieces
+abbrev pub IsPieceCount : ℕ → Type 0
+IsPieceCount pieces = (1 ≤ pieces) × (pieces ≤ 64)
+
 -- a reorganisation that the element wants, begun where every version that a lease may still use has it in that state
 abbrev pub BeginsKeep : Type 0
 BeginsKeep =
     (facts : Facts) (now number pieces : ℕ) (element : ElementDef) (work : Work) → facts.moment ≤ now → element_at facts.newest number ≡ Some element → wanted element ≡ Some work
-    → state_of (used_before facts now) number ≡ element.state → progress_of facts.progress number ≡ None → 1 ≤ pieces
+    → state_of (used_before facts now) number ≡ element.state → progress_of facts.progress number ≡ None → IsPieceCount pieces
     → IsKept facts → IsKept (after facts (record { moment = now; what = Begin number pieces }))
 
 -- what was read of a piece of a begun reorganisation as it stands, where its expectation still holds

@@ -1,29 +1,20 @@
 -- The begin of a reorganisation over the fields of a World.
-use Rattle.std.proofs.Common.{◌≡◌, ℕ, ◌+◌, ◌<◌, ◌≤◌, List, [], ◌∷◌, ◌++◌, length, Option, Some, None, Result, Ok, Err, refl, sym, ap, subst, ◌∙◌, inl, inr, Vec, Global, arith, Bool, true, false, cond, nat_lt}
-use Rattle.std.specs.Prelude.{◌≢◌, slice_get}
+use Rattle.std.proofs.Common.{◌≡◌, ℕ, ◌≤◌, List, [], ◌∷◌, ◌++◌, Option, Some, None, refl, sym, ap, subst, ◌∙◌, Vec, Global}
 use Rattle.std.specs.Option.{option_and_then}
-use Rattle.std.proofs.lemmas.Bool.{ltb-true, lt-ltb}
-use Rattle.listed.specs.Refusal.{IsClear, IsRefusal}
-use Rattle.lease.specs.Timeline.{earliest, max_moment}
-use Rattle.schema_version.specs.declared.element.ElementState.{ElementState}
 use Rattle.schema_version.specs.declared.element.ElementDef.{ElementDef}
-use Rattle.schema_version.specs.Version.{Version, element_at, state_of, state_or_absent}
+use Rattle.schema_version.specs.Version.{element_at, state_of, state_or_absent}
 use Rattle.reorganise.specs.declared.work.Work.{Work}
 use Rattle.reorganise.specs.declared.work.Progress.{Progress}
 use Rattle.replay.specs.declared.entry.Entry.{Entry}
 use Rattle.replay.specs.declared.entry.What.TheVariants.{Begin}
-use Rattle.replay.specs.Replay.{Facts, after, wanted, progress_of, begun_by, begun_of, first_or, before_of}
+use Rattle.replay.specs.Replay.{Facts, wanted, begun_by, begun_of}
 use Rattle.replay.specs.Kept.{used_before}
 use Rattle.replay.specs.Laws.{BeginsKeep}
-use Rattle.world.specs.declared.entry.Receipt.{Receipt}
-use Rattle.world.specs.declared.fault.BeginFault.{BeginFault}
-use Rattle.world.specs.declared.fault.BeginFault.TheVariants as begin_fault
 use Rattle.world.specs.declared.world.World.TheInside.{Inside}
-use Rattle.world.specs.Beginning.{wanted_at, IsSettled, IsPieceCount, begin_rank, BeginCondition, BeginAt, Begins}
-use Rattle.world.specs.Calls.{Appends}
-use Rattle.world.specs.Inside.{state_of as state_in, Follow, IsHeld}
+use Rattle.world.specs.Beginning.{wanted_at, IsSettled, Begins}
+use Rattle.world.specs.Inside.{state_of as state_in, IsHeld}
 use Rattle.world.specs.State.{State, facts_of, effect}
-use Rattle.world.proofs.Holding.{held_after, held_same}
+use Rattle.world.proofs.Holding.{held_after}
 
 -- ---- what an element wants
 
@@ -69,4 +60,4 @@ begin_held f s now number pieces progress begun log law h view later_s b_s grown
       begun = grown ∙ ap (λ (ps : List Progress). ps ++ progress ∷ []) w.begun ∙ ap (λ (ps : List Progress). (facts_of (state_in f)).progress ++ ps) (sym (begun_is (facts_of (state_in f)) now number pieces progress b));
       pairs = w.pairs;
     })
-    (law (facts_of (state_in f)) now number pieces b.element b.work (subst (λ (x : State). (facts_of x).moment ≤ now) (sym view) later_s) b.there b.wants (own_state (facts_of (state_in f)) now number b.element b.there b.settled) b.new b.count.0 h.kept)
+    (law (facts_of (state_in f)) now number pieces b.element b.work (subst (λ (x : State). (facts_of x).moment ≤ now) (sym view) later_s) b.there b.wants (own_state (facts_of (state_in f)) now number b.element b.there b.settled) b.new b.count h.kept)

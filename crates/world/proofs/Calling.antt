@@ -1,5 +1,5 @@
 -- Each call of a World over its fields: the relation that it meets, and what is true of the fields afterwards.
-use Rattle.std.proofs.Common.{◌≡◌, ℕ, ◌+◌, ◌<◌, ◌≤◌, max, List, [], ◌∷◌, ◌++◌, length, Option, Some, None, Result, Ok, Err, refl, sym, ap, subst, ◌∙◌, inl, inr, Vec, Global, arith}
+use Rattle.std.proofs.Common.{◌≡◌, ℕ, ◌+◌, ◌<◌, ◌≤◌, List, [], ◌∷◌, ◌++◌, length, Option, Some, None, Result, Ok, Err, refl, sym, ap, subst, ◌∙◌, inl, inr, Vec, Global, arith}
 use Rattle.std.specs.Prelude.{◌≢◌}
 use Rattle.std.specs.FinMap as map
 use Rattle.listed.specs.Refusal.{IsClear, IsFirst}
@@ -20,7 +20,7 @@ use Rattle.txn_store.specs.declared.fault.SetFault.{SetFault}
 use Rattle.txn_store.specs.declared.fault.SetFault.TheVariants as told
 use Rattle.txn_store.specs.Setting.{Sets}
 use Rattle.replay.specs.declared.entry.Entry.{Entry}
-use Rattle.replay.specs.declared.entry.What.TheVariants.{Lease as Granted, Txn}
+use Rattle.replay.specs.declared.entry.What.TheVariants.{Lease as Granted}
 use Rattle.replay.specs.Replay.{Facts, start, version_at, pairs_by, after}
 use Rattle.replay.specs.Kept.{IsKept}
 use Rattle.replay.specs.Laws.{OpeningsKeep, LeasesKeep, IsDue, OutcomesHold, TxnsKeep, RefusedWriteNothing, txn_entry}
@@ -31,9 +31,9 @@ use Rattle.world.specs.declared.fault.GrantFault.TheVariants as grant_fault
 use Rattle.world.specs.declared.world.World.TheInside.{Inside}
 use Rattle.world.specs.Calls.{counted, GrantCondition, LeaseAt, LeaseStep, CommitCondition, commit_rank, CommitAt}
 use Rattle.world.specs.Inside.{state_of, Follow, IsHeld}
-use Rattle.world.specs.State.{State, facts_of, effect, opened}
+use Rattle.world.specs.State.{State, facts_of, effect}
 use Rattle.world.specs.Told.{set_told, lease_told}
-use Rattle.world.proofs.Holding.{held_after, held_same, follow_of, kept_of, facts_after}
+use Rattle.world.proofs.Holding.{held_after, held_same, follow_of}
 
 some_one : {A : Type 0} {v w : A} → Some v ≡ (let o : Option A = Some w in o) → v ≡ w
 some_one e = cc

@@ -4,12 +4,12 @@ use Rattle.std.specs.Prelude.{slice_get, ◌||◌, ◌==◌, zero, suc}
 use Rattle.element_state.specs.Consistent.{IsConsistent}
 use Rattle.lease.specs.declared.lease.Lease.{Lease}
 use Rattle.lease.specs.Refusals.{Serves}
-use Rattle.lease.specs.Timeline.{Timeline, IsUsable, last_publication, newest as newest_number}
+use Rattle.lease.specs.Timeline.{Timeline, last_publication, newest as newest_number}
 use Rattle.lease.proofs.Uses.{usable_to}
 use Rattle.row_map.specs.Rows.{Pairs}
 use Rattle.schema_version.specs.Version.{Version}
 use Rattle.replay.specs.declared.entry.Entry.{Entry}
-use Rattle.replay.specs.Replay.{Facts, start, version_in, version_at, pairs_by, after, after_all}
+use Rattle.replay.specs.Replay.{Facts, start, version_in, version_at, after, after_all}
 use Rattle.replay.specs.Kept.{IsKept, Agrees as AgreesOf}
 use Rattle.world.specs.declared.world.World.TheInside.{Inside}
 use Rattle.world.specs.Calls.{counted}

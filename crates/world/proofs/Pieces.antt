@@ -1,5 +1,5 @@
 -- A piece that is committed, over the fields of a World.
-use Rattle.std.proofs.Common.{◌≡◌, ℕ, ◌+◌, ◌<◌, ◌≤◌, List, [], ◌∷◌, ◌++◌, length, Option, Some, None, Result, Ok, Err, refl, sym, ap, subst, ◌∙◌, inl, inr, Vec, Global, arith}
+use Rattle.std.proofs.Common.{◌≡◌, ℕ, ◌+◌, ◌<◌, ◌≤◌, [], ◌∷◌, ◌++◌, length, Option, Some, None, Ok, Err, refl, sym, ap, subst, ◌∙◌, inl, inr, Vec, Global, arith}
 use Rattle.std.specs.Prelude.{◌≢◌, Bool, slice_get}
 use Rattle.std.specs.Bool.{Decides}
 use mathlib.Core.List.{map as each}
@@ -19,19 +19,18 @@ use Rattle.reorganise.specs.Pieces.{IsReading}
 use Rattle.reorganise.specs.Batches.{expect_of, batch_for}
 use Rattle.replay.specs.declared.entry.Entry.{Entry}
 use Rattle.replay.specs.declared.entry.What.TheVariants.{Piece}
-use Rattle.replay.specs.Replay.{Facts, after, pairs_by, moved_to, progress_of}
+use Rattle.replay.specs.Replay.{Facts, after, pairs_by, moved_to}
 use Rattle.replay.specs.Kept.{IsKept}
 use Rattle.replay.specs.Laws.{IsNextOf, PiecesKeep, piece_entry}
-use Rattle.world.specs.declared.entry.PieceDone.{PieceDone}
 use Rattle.world.specs.declared.fault.PieceFault.{PieceFault}
 use Rattle.world.specs.declared.fault.PieceFault.TheVariants as piece_fault
 use Rattle.world.specs.declared.world.World.TheInside.{Inside}
-use Rattle.world.specs.Inside.{state_of, Follow, IsHeld}
-use Rattle.world.specs.Piecework.{IsSpanOf, IsPieceOf, IsCurrent, piece_rank, PieceCondition, PieceAt}
+use Rattle.world.specs.Inside.{state_of, IsHeld}
+use Rattle.world.specs.Piecework.{IsPieceOf, IsCurrent, piece_rank, PieceCondition, PieceAt}
 use Rattle.world.specs.State.{State, facts_of, effect}
 use Rattle.world.specs.Told.{piece_told}
 use Rattle.world.proofs.Calling.{with_store, same_state}
-use Rattle.world.proofs.Holding.{held_after, held_same}
+use Rattle.world.proofs.Holding.{held_after}
 
 none_some : {A B : Type 0} {v : A} → None ≡ Some v → B
 none_some e = absurd cc

@@ -1,6 +1,5 @@
 -- A publication over the fields of a World: the relation that it meets, and what is true of the fields afterwards.
-use Rattle.std.proofs.Common.{◌≡◌, ℕ, ◌+◌, ◌<◌, ◌≤◌, List, [], ◌∷◌, ◌++◌, length, Option, Some, None, Result, Ok, Err, refl, sym, ap, subst, ◌∙◌, inl, inr, Vec, Global, arith, filter}
-use Rattle.std.specs.Prelude.{slice_get}
+use Rattle.std.proofs.Common.{◌≡◌, ℕ, ◌+◌, ◌<◌, ◌≤◌, List, [], ◌∷◌, ◌++◌, length, Option, Some, None, Ok, Err, refl, sym, ap, subst, ◌∙◌, inl, inr, Vec, Global, arith, filter}
 use Rattle.std.specs.List.{AllZip}
 use Rattle.listed.specs.Refusal.{IsClear, IsRefusal}
 use Rattle.schema_version.specs.contracts.step.MoveClone.TheImpl as MoveClone
@@ -8,7 +7,6 @@ use Rattle.schema_version.specs.contracts.element.KindClone.TheImpl as KindClone
 use Rattle.schema_version.specs.declared.element.Kind.{Kind}
 use Rattle.schema_version.specs.declared.element.Kind.TheVariants.{Index, Optional}
 use Rattle.lease.specs.Timeline.{Timeline, earliest, max_moment, newest as newest_number, after_publication}
-use Rattle.row_map.specs.Rows.{Pairs}
 use Rattle.schema_version.specs.declared.element.ElementState.{ElementState}
 use Rattle.schema_version.specs.declared.element.ElementDef.{ElementDef}
 use Rattle.schema_version.specs.declared.step.Move.{Move}
@@ -20,19 +18,17 @@ use Rattle.schema_version.specs.Version.{Version, element_at}
 use Rattle.reorganise.specs.declared.work.Progress.{Progress}
 use Rattle.replay.specs.declared.entry.Entry.{Entry}
 use Rattle.replay.specs.declared.entry.What.TheVariants.{Publish}
-use Rattle.replay.specs.Replay.{Facts, after, stays}
-use Rattle.replay.specs.Kept.{IsKept}
+use Rattle.replay.specs.Replay.{stays}
 use Rattle.replay.specs.Laws.{AreFinished, PublicationsKeep}
-use Rattle.world.specs.declared.entry.Receipt.{Receipt}
 use Rattle.world.specs.declared.fault.PublishFault.{PublishFault}
 use Rattle.world.specs.declared.fault.PublishFault.TheVariants as publish_fault
 use Rattle.world.specs.declared.world.World.TheInside.{Inside}
-use Rattle.world.specs.Calls.{Appends, counted}
+use Rattle.world.specs.Calls.{Appends}
 use Rattle.world.specs.Inside.{state_of, Follow, IsHeld}
-use Rattle.world.specs.Publishing.{max_versions, IsUnfinished, publish_rank, PublishCondition, PublishAt, PublishStep, MayPublish, IsUnready}
+use Rattle.world.specs.Publishing.{max_versions, publish_rank, PublishCondition, PublishAt, MayPublish, IsUnready}
 use Rattle.world.specs.State.{State, facts_of, effect}
 use Rattle.world.proofs.Awaited.{not_unfinished}
-use Rattle.world.proofs.Holding.{held_after, held_same, follow_of, kept_of}
+use Rattle.world.proofs.Holding.{held_after, held_same, follow_of}
 
 -- ---- the refusals
 

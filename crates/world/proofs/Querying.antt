@@ -1,5 +1,5 @@
 -- Each answer of a query under a lease, and what it says of the state.
-use Rattle.std.proofs.Common.{◌≡◌, ℕ, ◌<◌, ◌≤◌, List, Option, Some, Ok, Err, refl, sym, ap, subst, ◌∙◌, ◌⊎◌, inl, inr, arith}
+use Rattle.std.proofs.Common.{◌≡◌, ℕ, ◌<◌, ◌≤◌, List, Option, Some, Ok, Err, refl, sym, subst, ◌∙◌, ◌⊎◌, inl, inr, arith}
 use Rattle.listed.specs.Refusal.{IsClear, IsFirst}
 use Rattle.lease.specs.declared.lease.Lease.{Lease}
 use Rattle.lease.specs.declared.fault.LeaseFault.{LeaseFault}
@@ -19,7 +19,7 @@ use Rattle.row_query.specs.Refused.Part.{Named, Where}
 use Rattle.schema_version.specs.Version.{Version, Table}
 use Rattle.replay.specs.declared.entry.What.TheVariants.{Lease as Granted}
 use Rattle.replay.specs.Replay.{Facts, version_at, after}
-use Rattle.replay.specs.Kept.{IsKept, Agrees}
+use Rattle.replay.specs.Kept.{IsKept}
 use Rattle.replay.specs.Laws.{LeasesKeep, KeptAgrees}
 use Rattle.world.specs.declared.fault.QueryRefusal.{QueryRefusal}
 use Rattle.world.specs.declared.fault.QueryRefusal.TheVariants as refusal

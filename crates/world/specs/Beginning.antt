@@ -1,6 +1,6 @@
 -- What the begin of a reorganisation answers.
 use Rattle.std.specs.Prelude.{◌≡◌, ◌≢◌, ℕ, ◌<◌, ◌≤◌, Option, Some, None, Result, Ok, Err}
-use Rattle.std.specs.Option.{option_and_then, option_map}
+use Rattle.std.specs.Option.{option_and_then}
 use Rattle.lease.specs.Timeline.{earliest, max_moment}
 use Rattle.listed.specs.Refusal.{IsRefusal, IsClear}
 use Rattle.schema_version.specs.declared.element.ElementDef.{ElementDef}
@@ -11,6 +11,7 @@ use Rattle.reorganise.specs.Pieces.{begun}
 use Rattle.replay.specs.declared.entry.What.TheVariants.{Begin}
 use Rattle.replay.specs.Replay.{Facts, wanted, progress_of}
 use Rattle.replay.specs.Kept.{used_before}
+use Rattle.replay.specs.Laws.{IsPieceCount}
 use Rattle.world.specs.declared.entry.Receipt.{Receipt}
 use Rattle.world.specs.declared.fault.BeginFault.{BeginFault}
 use Rattle.world.specs.declared.fault.BeginFault.TheVariants as begin_fault
@@ -24,9 +25,6 @@ wanted_at facts number = option_and_then wanted (element_at facts.newest number)
 -- the version before the newest, where a lease on it may be in force, has the element in the same state
 abbrev pub IsSettled : Facts → ℕ → ℕ → Type 0
 IsSettled facts now number = state_of (used_before facts now) number ≡ state_of facts.newest number
-
-abbrev pub IsPieceCount : ℕ → Type 0
-IsPieceCount pieces = (1 ≤ pieces) × (pieces ≤ 64)
 
 abbrev pub begin_rank : BeginFault → ℕ
 begin_rank begin_fault.MomentTooLarge = 1

@@ -2,6 +2,7 @@ ghost use Rattle.std.specs.Prelude.{◌≡◌, ◌≤◌, max, IfOk, IfErr, OnOk
 ghost use Rattle.std.specs.FinMap as map;
 ghost use Rattle.lease.specs.Refusals.{Serves};
 ghost use Rattle.lease.specs.Timeline.{IsValid, last_publication};
+ghost use Rattle.replay.specs.Kept.{AreInPieces};
 ghost use Rattle.replay.specs.Replay.{version_at};
 ghost use Rattle.world.specs.Calls.{OpenStep, LeaseStep, CommitStep, CommitAt, IsReadView, IsCheck, counted};
 ghost use Rattle.world.specs.Querying.{QueryStep};
@@ -301,10 +302,12 @@ impl World {
     }
 
     /// Tells that the pairs are those that the log gives, and that they agree with the rows of the log for every
-    /// version that a lease may still use: whatever was called before, in whatever order.
+    /// version that a lease may still use: whatever was called before, in whatever order. Begun reorganisations have at
+    /// most 64 pieces, and no cursor stands past its piece's end.
     pub fn agrees(&self)
         ensures replayed { IsReplayed self.now }
         ensures agrees { Agrees self.now }
+        ensures in_pieces { AreInPieces (facts_of self.now).progress }
     {
         kept_agrees();
         let _log = &self.log;

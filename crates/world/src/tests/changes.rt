@@ -3,7 +3,7 @@
 use super::*;
 use lease::Lease;
 use reorganise::{PreparedPiece, ViewFault, Work, prepare_piece};
-use schema_version::ElementState::{DeleteOnly, Public, WriteOnly};
+use schema_version::ElementState::{Absent, DeleteOnly, Public, WriteOnly};
 use schema_version::{ElementState, Kind, Move, NewElement, Step, StepFault};
 
 // table t (id int key, a int)
@@ -135,11 +135,11 @@ fn piece(alloc: Global, world: &World) -> Option<PreparedPiece> {
     }
 }
 
-fn is_worked(alloc: Global, world: &mut World, piece: Option<PreparedPiece>) -> bool {
+fn is_worked(alloc: Global, world: &mut World, piece: Option<PreparedPiece>, place: u64) -> bool {
     match piece {
         None => false,
         Some(piece) => match world.commit_piece(alloc, 30, piece) {
-            Ok(done) => done.receipt.place == 6 && done.ended,
+            Ok(done) => done.receipt.place == place && done.ended,
             Err(_) => false,
         },
     }
@@ -167,7 +167,7 @@ fn refuses_readings(alloc: Global, world: &World) -> bool {
 fn works_once(alloc: Global, world: &mut World) -> bool {
     let first = piece(alloc, world);
     let second = piece(alloc, world);
-    is_worked(alloc, world, first)
+    is_worked(alloc, world, first, 6)
         && matches!(
             fault_of(alloc, world, second),
             Some(PieceFault::Moved { .. })
@@ -185,11 +185,34 @@ fn fills_and_ends(alloc: Global, world: &mut World) -> bool {
         && gives(alloc, world, 30, going(alloc, Public), (4, 7))
 }
 
+// What is dropped is cleared where no version writes it any more.
+fn begins_clear(alloc: Global, world: &mut World) -> bool {
+    gives(alloc, world, 40, going(alloc, WriteOnly), (5, 8))
+        && gives(alloc, world, 50, going(alloc, DeleteOnly), (6, 9))
+        && is_begin_refused(alloc, world, 50, 1, BeginFault::StillUsed { until: 60 })
+        && world.begin_reorg(alloc, 60, 2, 1).is_ok()
+        && world.progress(2) == Some((Work::Clear, 1, false))
+}
+
+// The clear takes the row's pair away, and only then may the index become absent.
+fn is_dropped(alloc: Global, world: &mut World) -> bool {
+    let unfinished = PublishFault::Unfinished { element: 2 };
+    if !begins_clear(alloc, world) || !refuses(alloc, world, 60, going(alloc, Absent), unfinished) {
+        return false;
+    }
+    let read = piece(alloc, world);
+    is_worked(alloc, world, read, 11)
+        && gives(alloc, world, 60, going(alloc, Absent), (7, 12))
+        && counts(alloc, world) == Ok((1, 0, 0))
+}
+
 fn is_filled(alloc: Global, world: &mut World) -> bool {
     is_filling(alloc, world, "i")
         && fills_and_ends(alloc, world)
         && world.progress(2).is_none()
+        && is_begin_refused(alloc, world, 40, 1, BeginFault::NotWanted)
         && counts(alloc, world) == Ok((1, 0, 0))
+        && is_dropped(alloc, world)
 }
 
 fn index_fills(alloc: Global) -> bool {

@@ -1,8 +1,8 @@
-use Rattle.std.proofs.Common.{refl, sym, subst, rules, zero, ◌≡◌, ◌+◌}
+use Rattle.std.proofs.Common.{refl, sym, subst, rules, zero, arith, ◌≡◌, ◌+◌}
 use Rattle.std.proofs.lemmas.Result.{err_from_is_err_and}
 use Rattle.piece_work.specs.declared.fault.WorkFault.TheVariants as work_fault
 use Rattle.piece_work.specs.Working.{Turns}
-use Rattle.piece_work.proofs.Turning.{stopped, stops_read, stops_commit, stays, turn, one_more}
+use Rattle.piece_work.proofs.Turning.{spent_on, stopped, stops_read, stops_commit, stays, turn, one_more, has_ended}
 use Rattle.piece_work.proofs.working.work_off.Goals as goal
 
 pub returns-in_err-pieces : goal.returns-in_err-pieces
@@ -45,6 +45,16 @@ returns-in_err-commit-in-Some c =
           (stops_commit c.loop-piece.world c.commit.new.world c.args.element c.in_ok-pieces.pieces c.loop-piece.piece c.args.moment c.args.limit c.in-Some.view c.in_err-commit-in-Some.field-0.0 at.at read refused.refused refused.same);
     }
 
+pub loop-piece-preserved-in-None : goal.loop-piece-preserved-in-None
+loop-piece-preserved-in-None c =
+    let at = c.loop-piece.invariant in
+    let read = rw c.in-None.is at c.in_ok-next_items.ensures.read in
+    record {
+      at = spent_on c.loop-piece.world c.args.element c.in_ok-pieces.pieces c.loop-piece.piece c.args.limit at.at read;
+      turns = at.turns;
+      within = omega (arith, c.loop-piece-test.true);
+    }
+
 pub loop-piece-preserved : goal.loop-piece-preserved
 loop-piece-preserved c =
     let at = c.loop-piece.invariant in
@@ -58,10 +68,9 @@ loop-piece-preserved c =
       within = at.within;
     }
 
-pub returns-in_err-all_ended : goal.returns-in_err-all_ended
-returns-in_err-all_ended c =
-    let p = err_from_is_err_and c.from_residual-in_err-all_ended.result c.from_residual-in_err-all_ended.ensures.1 in
+pub returns : goal.returns
+returns c =
+    let at = c.loop-piece.invariant in
     record {
-      step = stopped c.args.world.now c.loop-piece.world c.args.element c.args.moment c.args.limit c.loop-piece.commits c.in_err-all_ended.field-0.0 p.0 c.from_residual-in_err-all_ended.result p.1 p.2 c.loop-piece.invariant.turns
-          (c.in_err-all_ended.ensures.stops c.args.moment c.args.limit);
+      step = (at.turns, has_ended c.loop-piece.world c.args.element c.in_ok-pieces.pieces c.loop-piece.piece at.at at.within c.loop-piece-test.false);
     }

@@ -6,4 +6,5 @@ pub returns : goal.returns
 returns c = record {
   replayed = replayed c.self.inside c.args.self.now c.self.invariant c.self.view_is;
   agrees = agrees c.self.inside c.args.self.now c.self.invariant c.self.view_is (c.kept_agrees.ensures (facts_of c.args.self.now) (kept_of c.self.inside c.args.self.now c.self.invariant c.self.view_is));
+  in_pieces = (kept_of c.self.inside c.args.self.now c.self.invariant c.self.view_is).in_pieces;
 }

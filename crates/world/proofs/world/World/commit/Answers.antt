@@ -1,4 +1,4 @@
-use Rattle.std.proofs.Common.{◌≡◌, false, refl, sym, subst, ap, Some, ◌∙◌, true≢false, rules}
+use Rattle.std.proofs.Common.{◌≡◌, false, refl, sym, subst, ap, ◌∙◌, true≢false, rules}
 use Rattle.world.specs.Calls.{CommitAt}
 use Rattle.world.specs.declared.fault.CommitFault.TheVariants.{WrongSchema}
 use Rattle.world.specs.State.{facts_of}

@@ -1,4 +1,4 @@
-use Rattle.std.proofs.Common.{sym, ap, subst, ◌≡◌, ◌∙◌, Some, true≢false}
+use Rattle.std.proofs.Common.{sym, ap, ◌∙◌, true≢false}
 use Rattle.std.specs.Option.{option_copied}
 use Rattle.schema_version.specs.Version.{element_at}
 use Rattle.world.specs.State.{facts_of}

@@ -1,4 +1,4 @@
-use Rattle.std.proofs.Common.{◌≡◌, ◌∙◌, ◌≤◌, subst, sym, ap, inl, inr, refl}
+use Rattle.std.proofs.Common.{subst, inl, inr, refl}
 use Rattle.std.proofs.lemmas.Result.{err_from_is_err_and}
 use Rattle.schema_version.specs.Moves.{IsAllowed, IsRefused}
 use Rattle.world.proofs.Holding.{follow_of}

@@ -1,4 +1,4 @@
-use Rattle.std.proofs.Common.{sym, ap, ◌∙◌, Some, option_map}
+use Rattle.std.proofs.Common.{sym, ap, ◌∙◌, Some}
 use Rattle.lease.specs.Timeline.{newest}
 use Rattle.world.specs.State.{facts_of}
 use Rattle.world.proofs.Holding.{follow_of, kept_of, under_newest, under_before, some_before}
