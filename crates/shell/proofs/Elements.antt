@@ -10,9 +10,9 @@ use Rattle.world.specs.State.{State, facts_of}
 use Rattle.world.specs.declared.entry.Receipt.{Receipt}
 use Rattle.world.specs.declared.fault.BeginFault.{BeginFault}
 use Rattle.shell.specs.Pieces.{ReadsPiece, read_text}
-use Rattle.shell.specs.Reorganising.{work_word, begun_words, begun_text, worked_text}
+use Rattle.replies.specs.Reorganisations.{work_word, begun_words, begun_text, worked_text}
 use Rattle.shell.specs.Running.{PieceUnder, Begun, Worked, piece_kept}
-use Rattle.shell.specs.Texts.{line}
+use Rattle.replies.specs.Texts.{line}
 use Rattle.shell.specs.declared.pieces.PieceRead.{PieceRead}
 use Rattle.shell.specs.declared.session.Opened.{Opened}
 use Rattle.shell.specs.declared.session.Session.TheVariants.{Running}

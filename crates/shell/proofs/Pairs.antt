@@ -6,7 +6,7 @@ use Rattle.std.specs.FinMap as map
 use Rattle.row_map.specs.Rows.{Bytes, Pairs}
 use Rattle.row_map.specs.Walk.{rest}
 use Rattle.row_map.proofs.Walks.{rest_all}
-use Rattle.shell.specs.Texts.{pair_line}
+use Rattle.replies.specs.Texts.{pair_line}
 
 pub told_more : (text more : List ℕ) (pair : Bytes × Bytes) (here next : List (Bytes × Bytes)) (all : List ℕ) → here ≡ pair ∷ next → text ++ flat_map pair_line here ≡ all → more ≡ text ++ pair_line pair → more ++ flat_map pair_line next ≡ all
 told_more text more pair here next all cut told grown =

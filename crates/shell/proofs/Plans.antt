@@ -12,11 +12,12 @@ use Rattle.world.specs.Publishing.{PublishStep}
 use Rattle.world.specs.State.{State, facts_of}
 use Rattle.world.specs.declared.entry.Receipt.{Receipt}
 use Rattle.world.specs.declared.fault.PublishFault.{PublishFault}
-use Rattle.shell.specs.Planning.{IsPlanOf, planned_text, kept_plan, left_of}
-use Rattle.shell.specs.Publishing.{published_text}
+use Rattle.replies.specs.Plans.{planned_text}
+use Rattle.shell.specs.Planning.{IsPlanOf, kept_plan, left_of}
+use Rattle.replies.specs.Publications.{published_text}
 use Rattle.shell.specs.Running.{Planned, NextOf}
 use Rattle.shell.specs.Session.{Session}
-use Rattle.shell.specs.Texts.{line, refused}
+use Rattle.replies.specs.Texts.{line, refused}
 use Rattle.shell.specs.declared.session.Opened.{Opened}
 use Rattle.shell.specs.declared.session.Session.TheVariants.{Running}
 

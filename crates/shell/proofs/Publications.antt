@@ -10,9 +10,9 @@ use Rattle.world.specs.State.{State, facts_of}
 use Rattle.shell.specs.declared.session.Opened.{Opened}
 use Rattle.shell.specs.declared.session.Session.TheVariants.{Running}
 use Rattle.naming.specs.Moves.{step_of}
-use Rattle.shell.specs.Publishing.{published_text}
+use Rattle.replies.specs.Publications.{published_text}
 use Rattle.shell.specs.Running.{Published}
-use Rattle.shell.specs.Texts.{line}
+use Rattle.replies.specs.Texts.{line}
 
 pub published : (old : Opened) (moment : ℕ) (moves : List Moving) (schema : Version) (step : List Move) (result : Result (ℕ × Receipt) PublishFault) (world : State) (text : List ℕ) (bad : Bool)
     → schema ≡ (facts_of old.world).newest → step ≡ step_of schema moves → PublishStep old.world moment step result world → text ≡ line (published_text result) → bad ≡ false

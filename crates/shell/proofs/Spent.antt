@@ -23,12 +23,12 @@ use Rattle.shell.specs.declared.session.PreparedWork.TheVariants.{Txn, Piece}
 use Rattle.shell.specs.declared.session.Session.TheVariants.{Running}
 use Rattle.naming.specs.Names.{resolved_all}
 use Rattle.reorganise.specs.declared.reading.Reading.{Reading}
-use Rattle.shell.specs.Pieces.{piece_name, piece_text}
+use Rattle.replies.specs.Pieces.{piece_name, piece_text}
 use Rattle.shell.specs.Preparing.{Prepares, prepared_text}
 use Rattle.shell.specs.Running.{CommitOf, TxnEnds, PieceEnds, PrepareUnder, works_after, put_back, taken}
 use Rattle.shell.specs.Session.{Session}
-use Rattle.shell.specs.Texts.{line, refused}
-use Rattle.shell.specs.Transacting.{committed_text, commit_name}
+use Rattle.replies.specs.Texts.{line, refused}
+use Rattle.replies.specs.Transactions.{committed_text, commit_name}
 
 module _ {X : Type 0} where
   -- nothing is there to be taken

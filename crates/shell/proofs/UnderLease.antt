@@ -8,7 +8,7 @@ use Rattle.shell.specs.declared.session.Opened.{Opened}
 use Rattle.shell.specs.declared.session.Session.TheVariants.{Running}
 use Rattle.shell.specs.declared.transacting.Transacted.{Transacted}
 use Rattle.naming.specs.Names.{resolved_all}
-use Rattle.shell.specs.Texts.{line}
+use Rattle.replies.specs.Texts.{line}
 use Rattle.shell.specs.Running.{TxnUnder}
 use Rattle.shell.specs.Transacting.{Transacts, transacted_text}
 

@@ -10,7 +10,7 @@ use Rattle.world.specs.declared.fault.OpenFault.{OpenFault}
 use Rattle.shell.specs.declared.session.Declarations.{Declarations}
 use Rattle.shell.specs.declared.session.Session.TheVariants.{Declaring, Running}
 use Rattle.shell.specs.Session.{Session, empty}
-use Rattle.shell.specs.Texts.{line, bad_line, refused, open_name}
+use Rattle.replies.specs.Texts.{line, bad_line, refused, open_name}
 
 -- the reply is this one line
 abbrev pub IsReply : List ℕ → List ℕ → Bool → Type 0

@@ -1,13 +1,10 @@
-pub mod Texts
 pub mod Session
 pub mod Declaring
 pub mod Preparing
 pub mod Transacting
 pub mod Querying
-pub mod Publishing
 pub mod Forging
 pub mod Pieces
-pub mod Reorganising
 pub mod Planning
 pub mod Running
 pub mod Replies

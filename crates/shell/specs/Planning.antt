@@ -1,6 +1,5 @@
 -- The plan that a script keeps, and what is printed of it.
-use Rattle.std.specs.Prelude.{◌≡◌, ℕ, List, length, [], ◌∷◌, ◌++◌, Result, Ok, Err, ◌⊎◌, codes}
-use Rattle.std.specs.Fmt.{decimal}
+use Rattle.std.specs.Prelude.{◌≡◌, ℕ, List, [], ◌∷◌, Result, Ok, Err, ◌⊎◌}
 use mathlib.Core.List.{map as each}
 use Rattle.change_plan.specs.declared.change.Change.{Change}
 use Rattle.change_plan.specs.declared.fault.PlanFault.{PlanFault}
@@ -9,33 +8,15 @@ use Rattle.change_plan.specs.declared.least_plan.LeastPlan.{LeastPlan}
 use Rattle.change_plan.specs.declared.least_plan.PlanStep.{PlanStep}
 use Rattle.change_plan.specs.Refusals.{IsPlannable, IsRefused}
 use Rattle.change_plan.specs.Schedule.{schedule}
-use Rattle.plan_text.specs.Printing.{plan_lines}
 use Rattle.schema_version.specs.declared.step.Move.{Move}
 use Rattle.schema_version.specs.Version.{Version}
 use Rattle.world.specs.declared.entry.Receipt.{Receipt}
 use Rattle.world.specs.declared.fault.PublishFault.{PublishFault}
-use Rattle.shell.specs.Texts.{line, refused}
 
 -- the batch's schedule, which is the least plan, or why there is none
 abbrev pub IsPlanOf : Version → List Change → Result LeastPlan PlanFault → Type 0
 IsPlanOf version changes (Ok plan) = IsPlannable version changes × (plan.steps ≡ schedule version changes)
 IsPlanOf version changes (Err fault) = ((fault ≡ plan_fault.Memory) × IsPlannable version changes) ⊎ IsRefused version changes fault
-
-abbrev pub plan_name : PlanFault → List ℕ
-plan_name plan_fault.Unknown = codes "Unknown"
-plan_name plan_fault.NameTaken = codes "NameTaken"
-plan_name plan_fault.StillIndexed = codes "StillIndexed"
-plan_name plan_fault.InChange = codes "InChange"
-plan_name plan_fault.Limit = codes "Limit"
-plan_name plan_fault.Memory = codes "Memory"
-
--- a line for each step, and then their number
-abbrev pub steps_text : Version → List PlanStep → List ℕ
-steps_text version steps = plan_lines version 1 steps ++ line (codes "ok plan " ++ decimal (length steps))
-
-abbrev pub planned_text : Version → Result LeastPlan PlanFault → List ℕ
-planned_text version (Ok plan) = steps_text version plan.steps
-planned_text version (Err fault) = line (refused (plan_name fault))
 
 -- what is left behind the first step
 abbrev pub rest_of : List (List Move) → List (List Move)

@@ -1,22 +1,21 @@
 -- A transaction of a script that is read and prepared under its server's lease.
-use Rattle.std.specs.Prelude.{◌≡◌, List, ℕ, Option, Some, ◌↔◌, codes, ◌++◌}
+use Rattle.std.specs.Prelude.{◌≡◌, List, ℕ, Option, Some, ◌↔◌, codes}
 use Rattle.std.specs.FinMap as map
-use Rattle.std.specs.Fmt.{decimal}
 use Rattle.listed.specs.Refusal.{IsRefusal}
 use Rattle.row_map.specs.Rows.{Bytes}
 use Rattle.row_map.specs.Expect.{View}
 use Rattle.schema_version.specs.Version.{Version}
 use Rattle.row_write.specs.declared.op.RowOp.{RowOp}
-use Rattle.row_write.specs.declared.fault.PrepareFault.{PrepareFault}
 use Rattle.row_write.specs.declared.fault.PrepareFault.TheVariants as prepare
 use Rattle.row_write.specs.Made.{PreparedTxn, expects}
 use Rattle.row_write.specs.Prepare.{Condition, rank}
 use Rattle.row_write.specs.Reads.{IsRead}
 use Rattle.world.specs.State.{State}
+use Rattle.replies.specs.Transactions.{prepare_name}
 use Rattle.shell.specs.declared.session.Held.{Held}
 use Rattle.shell.specs.declared.preparing.Preparation.{Preparation}
 use Rattle.shell.specs.declared.preparing.Preparation.TheVariants.{Ready, Unprepared, OutOfMemory}
-use Rattle.shell.specs.Texts.{refused}
+use Rattle.replies.specs.Texts.{refused}
 
 -- each key that the operations read, with its value in the world or with none, and no other key
 abbrev pub IsReadOf : State → Version → List RowOp → View → Type 0
@@ -38,14 +37,6 @@ Prepares world held ops (Unprepared fault) = (view : View) × IsReadOf world hel
 Prepares world held ops OutOfMemory = Unit {0}
 
 -- ---- its reply
-
-abbrev pub prepare_name : PrepareFault → List ℕ
-prepare_name prepare.NoTable = codes "NoTable"
-prepare_name (prepare.NotPublic column) = codes "NotPublic " ++ decimal column
-prepare_name prepare.WrongType = codes "WrongType"
-prepare_name prepare.TooManyOps = codes "TooManyOps"
-prepare_name prepare.ViewMismatch = codes "ViewMismatch"
-prepare_name prepare.Memory = codes "Memory"
 
 -- `ok prepared`
 abbrev pub prepared_text : Preparation → List ℕ

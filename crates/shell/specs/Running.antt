@@ -43,18 +43,21 @@ use Rattle.shell.specs.declared.transacting.Transacted.{Transacted}
 use Rattle.shell.specs.Session.{Session}
 use Rattle.shell.specs.Declaring.{IsReply, IsBad}
 use Rattle.naming.specs.Names.{resolved_all, asked, numbered}
-use Rattle.shell.specs.Texts.{refused, grant_name, leased, pairs_text}
+use Rattle.replies.specs.Texts.{refused, grant_name, leased, pairs_text, check_text}
 use Rattle.shell.specs.Preparing.{Prepares, prepared_text}
 use Rattle.shell.specs.Forging.{Forged}
 use Rattle.naming.specs.Changes.{changes_of}
 use Rattle.naming.specs.Moves.{step_of}
-use Rattle.shell.specs.Pieces.{ReadsPiece, read_text, piece_name, piece_text}
-use Rattle.shell.specs.Publishing.{published_text}
-use Rattle.shell.specs.Planning.{IsPlanOf, planned_text, kept_plan, left_of}
-use Rattle.shell.specs.Reorganising.{begun_text, worked_text}
+use Rattle.replies.specs.Pieces.{piece_name, piece_text}
+use Rattle.shell.specs.Pieces.{ReadsPiece, read_text}
+use Rattle.replies.specs.Publications.{published_text}
+use Rattle.replies.specs.Plans.{planned_text}
+use Rattle.shell.specs.Planning.{IsPlanOf, kept_plan, left_of}
+use Rattle.replies.specs.Reorganisations.{begun_text, worked_text}
 use Rattle.status_line.specs.Status.{IsStatus}
 use Rattle.shell.specs.Querying.{Queried}
-use Rattle.shell.specs.Transacting.{Transacts, transacted_text, committed_text, commit_name}
+use Rattle.replies.specs.Transactions.{committed_text, commit_name}
+use Rattle.shell.specs.Transacting.{Transacts, transacted_text}
 
 -- a refused lease leaves the server's old one
 abbrev pub Leased : Opened → List ℕ → Result Grant GrantFault → State → List ℕ → Bool → Session → Type 0
@@ -162,10 +165,6 @@ abbrev pub Published : Opened → ℕ → List Moving → List ℕ → Bool → 
 Published old moment moves reply bad new =
     (result : Result (ℕ × Receipt) PublishFault) × (world : State) × PublishStep old.world moment (step_of (facts_of old.world).newest moves) result world
     × IsReply (published_text result) reply bad × (new ≡ Running (record old { world = world }))
-
--- `ok rows R missing M extra X`
-abbrev pub check_text : CheckReport → List ℕ
-check_text report = codes "ok rows " ++ decimal report.rows ++ codes " missing " ++ decimal report.missing ++ codes " extra " ++ decimal report.extra
 
 abbrev pub Checked : Opened → List ℕ → Bool → Type 0
 Checked old reply bad = ((report : CheckReport) × IsCheck old.world report × IsReply (check_text report) reply bad) ⊎ IsReply (refused (codes "Memory")) reply bad

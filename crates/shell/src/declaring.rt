@@ -2,7 +2,7 @@
 ghost use Rattle.std.specs.Prelude.{◌≡◌, IfOk, Some, None, false, if◌then◌else◌, codes, string_bytes, bytes_eq};
 ghost use Rattle.grammar.specs.declared.command.Command.TheVariants as command;
 ghost use Rattle.shell.specs.Declaring.{Declares, with_index};
-ghost use Rattle.shell.specs.Texts.{line, refused, open_name};
+ghost use Rattle.replies.specs.Texts.{line};
 ghost use Rattle.shell.specs.declared.session.Session.TheVariants.{Declaring};
 
 use crate::session::{Answer, Declarations, Opened, Session, bad_line, nothing_declared, reply};
@@ -10,9 +10,10 @@ use byte_map::KeyMap;
 use grammar::Command;
 use keycode::Text;
 use listed::Listed;
+use replies::open_refusal;
 use schema_version::TableDef;
 use std::alloc::{AllocError, Global};
-use world::{Config, OpenFault, World};
+use world::{Config, World};
 
 fn ok(alloc: Global, declared: Declarations) -> Result<(Session, Answer), AllocError>
     ensures session { IfOk result (λ x. x.0 ≡ Declaring declared) }
@@ -69,16 +70,6 @@ fn index(
         ok(alloc, declared)
     } else {
         Ok((Session::Declaring(declared), bad_line(alloc)?))
-    }
-}
-
-fn open_refusal(alloc: Global, fault: OpenFault) -> Result<String, AllocError>
-    ensures { IfOk result (λ text. string_bytes text ≡ line (refused (open_name fault))) }
-{
-    match fault {
-        OpenFault::BadTable => "refused BadTable\n".to_string(alloc),
-        OpenFault::BadLength => "refused BadLength\n".to_string(alloc),
-        OpenFault::Memory => "refused Memory\n".to_string(alloc),
     }
 }
 

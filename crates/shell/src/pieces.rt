@@ -1,21 +1,19 @@
 //! Pieces of a reorganisation that are read and prepared in one line and committed in another.
-ghost use Rattle.std.specs.Prelude.{◌≡◌, ◌++◌, IfOk, OnOk, cond, codes, string_bytes};
-ghost use Rattle.std.specs.Fmt.{decimal};
-ghost use Rattle.grammar.specs.Printing.{hex};
+ghost use Rattle.std.specs.Prelude.{◌≡◌, IfOk, string_bytes};
 ghost use Rattle.grammar.specs.declared.command.Command.TheVariants as command;
-ghost use Rattle.shell.specs.Pieces.{ReadsPiece, view_name, read_name, read_text, piece_name, piece_text};
+ghost use Rattle.replies.specs.Texts.{line};
+ghost use Rattle.shell.specs.Pieces.{ReadsPiece, read_text};
 ghost use Rattle.shell.specs.Running.{Answers, piece_kept};
-ghost use Rattle.shell.specs.Texts.{line, refused};
 
 use crate::running::key_of;
 use crate::session::{Answer, Opened, PreparedWork, Session, reply};
-use crate::transacting::push_number;
-use grammar::{ElementName, push_hex};
+use grammar::ElementName;
 use keycode::Text;
 use naming::element_of;
-use reorganise::{PreparedPiece, ViewFault, prepare_piece};
+use reorganise::{PreparedPiece, prepare_piece};
+use replies::unread_line;
 use std::alloc::{AllocError, Global};
-use world::{PieceDone, PieceFault, ReadFault, World};
+use world::{ReadFault, World};
 
 /// What reading and preparing a piece came to.
 #[derive(Drop)]
@@ -41,47 +39,14 @@ fn read_for(alloc: Global, world: &World, element: u32, piece: u32, limit: u32) 
     }
 }
 
-fn push_view(out: &mut String, fault: ViewFault) -> Result<(), AllocError>
-    ensures { OnOk result (string_bytes out.new ≡ string_bytes out.old ++ view_name fault) }
-{
-    match fault {
-        ViewFault::BadPiece => out.push_str("BadPiece"),
-        ViewFault::Spent => out.push_str("Spent"),
-        ViewFault::BadLimit => out.push_str("BadLimit"),
-        ViewFault::Memory => out.push_str("Memory"),
-    }
-}
-
-/// Adds why a piece can't be read.
-pub(crate) fn push_read(out: &mut String, fault: ReadFault) -> Result<(), AllocError>
-    ensures { OnOk result (string_bytes out.new ≡ string_bytes out.old ++ read_name fault) }
-{
-    match fault {
-        ReadFault::NotWanted => out.push_str("NotWanted"),
-        ReadFault::View(fault) => push_view(out, fault),
-    }
-}
-
-fn push_read_text(out: &mut String, how: &PieceRead) -> Result<(), AllocError>
-    ensures { OnOk result (string_bytes out.new ≡ string_bytes out.old ++ read_text how.now) }
-{
-    match how {
-        PieceRead::Ready(_) => out.push_str("ok prepared"),
-        PieceRead::Unread(fault) => {
-            out.push_str("refused ")?;
-            push_read(out, *fault)
-        }
-        PieceRead::OutOfMemory => out.push_str("refused Memory"),
-    }
-}
-
 fn read_line(alloc: Global, how: &PieceRead) -> Result<String, AllocError>
     ensures { IfOk result (λ text. string_bytes text ≡ line (read_text how.now)) }
 {
-    let mut text = String::new(alloc);
-    push_read_text(&mut text, how)?;
-    text.push_str("\n")?;
-    Ok(text)
+    match how {
+        PieceRead::Ready(_) => "ok prepared\n".to_string(alloc),
+        PieceRead::Unread(fault) => unread_line(alloc, *fault),
+        PieceRead::OutOfMemory => "refused Memory\n".to_string(alloc),
+    }
 }
 
 // What could be prepared is kept under its name.
@@ -119,53 +84,4 @@ pub(crate) fn piece(
     let answer = reply(read_line(alloc, &how)?);
     let opened = kept(alloc, opened, work, how)?;
     Ok((Session::Running(opened), answer))
-}
-
-/// Adds why a piece was not committed.
-pub(crate) fn push_piece(out: &mut String, fault: &PieceFault) -> Result<(), AllocError>
-    ensures { OnOk result (string_bytes out.new ≡ string_bytes out.old ++ piece_name fault.now) }
-{
-    match fault {
-        PieceFault::MomentTooLarge => out.push_str("MomentTooLarge"),
-        PieceFault::NotWanted => out.push_str("NotWanted"),
-        PieceFault::WrongElement => out.push_str("WrongElement"),
-        PieceFault::Moved { cursor } => {
-            out.push_str("Moved ")?;
-            push_hex(out, cursor.as_slice())
-        }
-        PieceFault::Conflict { key } => {
-            out.push_str("Conflict ")?;
-            push_hex(out, key.as_slice())
-        }
-        PieceFault::Memory => out.push_str("Memory"),
-    }
-}
-
-/// The reply to a piece that the world did not commit.
-pub(crate) fn unpieced_line(alloc: Global, fault: &PieceFault) -> Result<String, AllocError>
-    ensures { IfOk result (λ text. string_bytes text ≡ line (refused (piece_name fault.now))) }
-{
-    let mut text = String::new(alloc);
-    text.push_str("refused ")?;
-    push_piece(&mut text, fault)?;
-    text.push_str("\n")?;
-    Ok(text)
-}
-
-fn ended_word(ended: bool) -> &'static str
-    ensures { result.now ≡ cond ended (codes " done") (codes " more") }
-{
-    if ended { " done" } else { " more" }
-}
-
-/// The reply to a piece that the world committed.
-pub(crate) fn pieced_line(alloc: Global, done: &PieceDone) -> Result<String, AllocError>
-    ensures { IfOk result (λ text. string_bytes text ≡ line (piece_text done.now)) }
-{
-    let mut text = String::new(alloc);
-    text.push_str("ok piece ")?;
-    push_number(&mut text, done.receipt.place)?;
-    text.push_str(ended_word(done.ended))?;
-    text.push_str("\n")?;
-    Ok(text)
 }

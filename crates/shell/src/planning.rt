@@ -1,58 +1,21 @@
 //! The plan that a script keeps, and its steps.
-ghost use Rattle.std.specs.Prelude.{◌≡◌, ◌++◌, IfOk, OnOk, codes, false, string_bytes};
+ghost use Rattle.std.specs.Prelude.{◌≡◌, IfOk, codes, false, string_bytes};
 ghost use mathlib.Core.List.{map as each};
-ghost use Rattle.change_plan.specs.Plans.{AreAllowed};
 ghost use Rattle.grammar.specs.declared.command.Command.TheVariants as command;
-ghost use Rattle.shell.specs.Planning.{plan_name, left_of, steps_text};
+ghost use Rattle.replies.specs.Texts.{line, refused};
+ghost use Rattle.shell.specs.Planning.{left_of};
 ghost use Rattle.shell.specs.Running.{Answers};
-ghost use Rattle.shell.specs.Texts.{line, refused};
 ghost use Rattle.shell.specs.declared.session.Session.TheVariants.{Running};
 
-use crate::publishing::published_line;
 use crate::session::{Answer, Opened, Session, reply};
-use crate::transacting::push_number;
-use change_plan::{PlanFault, PlanStep, plan as least_plan};
+use change_plan::{PlanStep, plan as least_plan};
 use grammar::Changing;
 use listed::Listed;
 use naming::changes_of;
-use plan_text::plan_text;
-use schema_version::{Schema, Step};
+use replies::{published_line, steps_text, unplanned_line};
+use schema_version::Step;
 use std::alloc::{AllocError, Global};
 use world::{PublishFault, Receipt};
-
-fn push_plan(out: &mut String, fault: PlanFault) -> Result<(), AllocError>
-    ensures { OnOk result (string_bytes out.new ≡ string_bytes out.old ++ plan_name fault) }
-{
-    match fault {
-        PlanFault::Unknown => out.push_str("Unknown"),
-        PlanFault::NameTaken => out.push_str("NameTaken"),
-        PlanFault::StillIndexed => out.push_str("StillIndexed"),
-        PlanFault::InChange => out.push_str("InChange"),
-        PlanFault::Limit => out.push_str("Limit"),
-        PlanFault::Memory => out.push_str("Memory"),
-    }
-}
-
-fn unplanned_text(alloc: Global, fault: PlanFault) -> Result<String, AllocError>
-    ensures { IfOk result (λ text. string_bytes text ≡ line (refused (plan_name fault))) }
-{
-    let mut text = String::new(alloc);
-    text.push_str("refused ")?;
-    push_plan(&mut text, fault)?;
-    text.push_str("\n")?;
-    Ok(text)
-}
-
-fn steps_text(alloc: Global, schema: &Schema, steps: &[PlanStep]) -> Result<String, AllocError>
-    requires allowed { AreAllowed schema.now steps.now }
-    ensures { IfOk result (λ text. string_bytes text ≡ steps_text schema.now steps.now) }
-{
-    let mut text = plan_text(alloc, schema, steps)?;
-    text.push_str("ok plan ")?;
-    push_number(&mut text, steps.len() as u64)?;
-    text.push_str("\n")?;
-    Ok(text)
-}
 
 fn moves_of(alloc: Global, steps: Vec<PlanStep>) -> Result<Vec<Step>, AllocError>
     ensures { IfOk result (λ moves. moves.items ≡ each (λ s. s.step) steps.items) }
@@ -82,7 +45,7 @@ pub(crate) fn plan(
             Ok((Session::Running(opened), reply(text)))
         }
         Err(fault) => {
-            let text = unplanned_text(alloc, fault)?;
+            let text = unplanned_line(alloc, fault)?;
             Ok((Session::Running(opened), reply(text)))
         }
     }

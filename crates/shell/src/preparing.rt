@@ -1,13 +1,15 @@
 //! A transaction of a script is read and prepared under its server's lease.
-ghost use Rattle.std.specs.Prelude.{◌≡◌};
+ghost use Rattle.std.specs.Prelude.{◌≡◌, IfOk, string_bytes};
 ghost use Rattle.naming.specs.Names.{resolved_all};
-ghost use Rattle.shell.specs.Preparing.{Prepares};
+ghost use Rattle.replies.specs.Texts.{line};
+ghost use Rattle.shell.specs.Preparing.{Prepares, prepared_text};
 
 use crate::session::Held;
 use grammar::Operation;
 use naming::resolved_all;
+use replies::unprepared_line;
 use row_write::{PrepareFault, Prepared, prepare, reads_of};
-use std::alloc::Global;
+use std::alloc::{AllocError, Global};
 use world::World;
 
 /// What reading and preparing came to.
@@ -45,5 +47,16 @@ pub(crate) fn prepare_for(
     match prepare(alloc, schema, held.lease, ops, view) {
         Ok(prepared) => Preparation::Ready(prepared),
         Err((fault, _)) => Preparation::Unprepared(fault),
+    }
+}
+
+/// The reply to a preparation.
+pub(crate) fn prepared_line(alloc: Global, how: &Preparation) -> Result<String, AllocError>
+    ensures { IfOk result (λ text. string_bytes text ≡ line (prepared_text how.now)) }
+{
+    match how {
+        Preparation::Ready(_) => "ok prepared\n".to_string(alloc),
+        Preparation::Unprepared(fault) => unprepared_line(alloc, *fault),
+        Preparation::OutOfMemory => "refused Memory\n".to_string(alloc),
     }
 }

@@ -1,186 +1,18 @@
-//! The queries of a script, and how their rows are printed.
-ghost use Rattle.std.specs.Prelude.{◌≡◌, ◌==◌, ◌++◌, IfOk, OnOk, codes, length, string_bytes};
-ghost use Rattle.std.specs.Fmt.{decimal};
-ghost use Rattle.std.specs.List.{find, flat_map};
-ghost use Rattle.std.specs.Option.{option_copied};
-ghost use mathlib.Core.List.{map};
-ghost use Rattle.grammar.specs.Printing.{value_text};
+//! The queries of a script.
+ghost use Rattle.std.specs.Prelude.{◌≡◌, IfOk, string_bytes};
 ghost use Rattle.grammar.specs.declared.command.Command.TheVariants as command;
-ghost use Rattle.row_query.specs.Answer.{is_named};
 ghost use Rattle.naming.specs.Names.{asked};
-ghost use Rattle.shell.specs.Querying.{is_shown, shown, joined, value_or_null, cell_text, cells_text, row_line, rows_text, fault_name, refusal_name, Queried};
+ghost use Rattle.shell.specs.Querying.{Queried};
 ghost use Rattle.shell.specs.Running.{Answers};
-ghost use Rattle.shell.specs.Texts.{line, refused};
 
 use crate::running::no_server;
 use crate::session::{Answer, Held, Opened, Session, reply};
-use crate::transacting::{push_ended, push_number};
-use grammar::{Selection, push_value};
-use keycode::{Text, Value};
-use naming::{asked, is_public_column};
-use row_map::Row;
-use row_query::{Query, QueryFault};
-use schema_version::{ElementDef, Schema};
+use grammar::Selection;
+use keycode::Text;
+use naming::asked;
+use replies::{rows_text, unanswered_line};
 use std::alloc::{AllocError, Global};
-use world::{QueryRefusal, World};
-
-fn is_named(columns: &[u32], number: u32) -> bool
-    ensures { result ≡ is_named columns.now number }
-{
-    columns.iter().any(|c| number == *c)
-}
-
-fn is_shown(query: &Query, element: &ElementDef) -> bool
-    ensures { result ≡ is_shown query.now element.now }
-{
-    is_public_column(element, query.table) && is_named(query.columns.as_slice(), element.number)
-}
-
-// The columns that a query shows, by rising number, each with its name.
-fn shown(alloc: Global, schema: &Schema, query: &Query) -> Result<Vec<(u32, Text)>, AllocError>
-    ensures { IfOk result (λ columns. columns.items ≡ shown schema.now query.now) }
-{
-    let mut columns = Vec::new(alloc);
-    for element in schema.elements() {
-        if is_shown(query, element) {
-            columns.push((element.number, element.name.clone()?))?;
-        }
-    }
-    Ok(columns)
-}
-
-// Values, a comma before each.
-fn push_more_values(out: &mut String, values: &[Value]) -> Result<(), AllocError>
-    ensures { OnOk result (string_bytes out.new ≡ string_bytes out.old ++ flat_map (λ t. codes ", " ++ t) (map value_text values.now)) }
-{
-    for value in values {
-        out.push_str(", ")?;
-        push_value(out, value)?;
-    }
-    Ok(())
-}
-
-fn push_key(out: &mut String, key: &[Value]) -> Result<(), AllocError>
-    ensures { OnOk result (string_bytes out.new ≡ string_bytes out.old ++ joined (map value_text key.now)) }
-{
-    let [first, others @ ..] = key else {
-        return Ok(());
-    };
-    push_value(out, first)?;
-    push_more_values(out, others)
-}
-
-fn found(cells: &[(u32, Value)], number: u32) -> Option<&(u32, Value)>
-    ensures { option_copied result ≡ find (λ cell. cell.0 == number) cells.now }
-{
-    cells.iter().find(|cell| cell.0 == number)
-}
-
-fn push_found(out: &mut String, cell: Option<&(u32, Value)>) -> Result<(), AllocError>
-    ensures { OnOk result (string_bytes out.new ≡ string_bytes out.old ++ value_text (value_or_null (option_copied cell.entry))) }
-{
-    match cell {
-        None => out.push_str("null"),
-        Some(cell) => push_value(out, &cell.1),
-    }
-}
-
-fn push_cell(out: &mut String, row: &Row, column: &(u32, Text)) -> Result<(), AllocError>
-    ensures { OnOk result (string_bytes out.new ≡ string_bytes out.old ++ cell_text row.now column.now) }
-{
-    let cell = found(row.cells.as_slice(), column.0);
-    out.push_str(column.1.as_str())?;
-    out.push_str(" = ")?;
-    push_found(out, cell)?;
-    Ok(())
-}
-
-// Cells, a comma before each.
-fn push_more_cells(out: &mut String, row: &Row, columns: &[(u32, Text)]) -> Result<(), AllocError>
-    ensures { OnOk result (string_bytes out.new ≡ string_bytes out.old ++ flat_map (λ t. codes ", " ++ t) (map (cell_text row.now) columns.now)) }
-{
-    for column in columns {
-        out.push_str(", ")?;
-        push_cell(out, row, column)?;
-    }
-    Ok(())
-}
-
-fn push_cells(out: &mut String, row: &Row, columns: &[(u32, Text)]) -> Result<(), AllocError>
-    ensures { OnOk result (string_bytes out.new ≡ string_bytes out.old ++ cells_text (map (cell_text row.now) columns.now)) }
-{
-    let [first, others @ ..] = columns else {
-        return Ok(());
-    };
-    out.push_str(" ")?;
-    push_cell(out, row, first)?;
-    push_more_cells(out, row, others)
-}
-
-fn push_row(out: &mut String, row: &Row, columns: &[(u32, Text)]) -> Result<(), AllocError>
-    ensures { OnOk result (string_bytes out.new ≡ string_bytes out.old ++ row_line columns.now row.now) }
-{
-    out.push_str("row (")?;
-    push_key(out, row.key.as_slice())?;
-    out.push_str(")")?;
-    push_cells(out, row, columns)?;
-    out.push_str("\n")
-}
-
-fn push_rows(out: &mut String, rows: &[Row], columns: &[(u32, Text)]) -> Result<(), AllocError>
-    ensures { OnOk result (string_bytes out.new ≡ string_bytes out.old ++ flat_map (row_line columns.now) rows.now) }
-{
-    for row in rows {
-        push_row(out, row, columns)?;
-    }
-    Ok(())
-}
-
-fn rows_text(alloc: Global, rows: &[Row], columns: &[(u32, Text)]) -> Result<String, AllocError>
-    ensures { IfOk result (λ text. string_bytes text ≡ rows_text columns.now rows.now) }
-{
-    let mut text = String::new(alloc);
-    push_rows(&mut text, rows, columns)?;
-    text.push_str("ok rows ")?;
-    push_number(&mut text, rows.len() as u64)?;
-    text.push_str("\n")?;
-    Ok(text)
-}
-
-fn push_fault(out: &mut String, fault: QueryFault) -> Result<(), AllocError>
-    ensures { OnOk result (string_bytes out.new ≡ string_bytes out.old ++ fault_name fault) }
-{
-    match fault {
-        QueryFault::NoTable => out.push_str("NoTable"),
-        QueryFault::NotPublic { column } => {
-            out.push_str("NotPublic ")?;
-            push_number(out, u64::from(column))
-        }
-        QueryFault::WrongType => out.push_str("WrongType"),
-        QueryFault::Memory => out.push_str("Memory"),
-    }
-}
-
-fn push_refusal(out: &mut String, refusal: QueryRefusal) -> Result<(), AllocError>
-    ensures { OnOk result (string_bytes out.new ≡ string_bytes out.old ++ refusal_name refusal) }
-{
-    match refusal {
-        QueryRefusal::MomentTooLarge => out.push_str("MomentTooLarge"),
-        QueryRefusal::BadLease => out.push_str("BadLease"),
-        QueryRefusal::LeaseEnded { until, now } => push_ended(out, until, now),
-        QueryRefusal::Query(fault) => push_fault(out, fault),
-    }
-}
-
-fn refused_text(alloc: Global, refusal: QueryRefusal) -> Result<String, AllocError>
-    ensures { IfOk result (λ text. string_bytes text ≡ line (refused (refusal_name refusal))) }
-{
-    let mut text = String::new(alloc);
-    text.push_str("refused ")?;
-    push_refusal(&mut text, refusal)?;
-    text.push_str("\n")?;
-    Ok(text)
-}
+use world::World;
 
 // What a query answers under a lease, as it is printed.
 fn queried(
@@ -195,11 +27,8 @@ fn queried(
     let schema = held.schema.get();
     let query = asked(alloc, schema, selection)?;
     match world.query(alloc, moment, &held.lease, &query) {
-        Ok(rows) => {
-            let columns = shown(alloc, schema, &query)?;
-            rows_text(alloc, rows.as_slice(), columns.as_slice())
-        }
-        Err(refusal) => refused_text(alloc, refusal),
+        Ok(rows) => rows_text(alloc, schema, &query, rows.as_slice()),
+        Err(refusal) => unanswered_line(alloc, refusal),
     }
 }
 

@@ -1,11 +1,11 @@
 //! The lines behind `open`.
-ghost use Rattle.std.specs.Prelude.{◌≡◌, ◌++◌, IfOk, OnOk, false, codes, length, string_bytes};
+ghost use Rattle.std.specs.Prelude.{◌≡◌, IfOk, false, codes, length, string_bytes};
 ghost use Rattle.std.specs.FinMap as map;
 ghost use Rattle.std.specs.List.{flat_map};
 ghost use Rattle.grammar.specs.declared.command.Command.TheVariants as command;
-ghost use Rattle.shell.specs.Running.{Answers, Changes, check_text};
+ghost use Rattle.replies.specs.Texts.{line, refused, pair_line};
+ghost use Rattle.shell.specs.Running.{Answers, Changes};
 ghost use Rattle.shell.specs.declared.session.Session.TheVariants.{Running};
-ghost use Rattle.shell.specs.Texts.{line, refused, grant_name, leased, value_behind, pair_line};
 
 use crate::forging::forge;
 use crate::pieces::piece;
@@ -14,43 +14,18 @@ use crate::publishing::publish;
 use crate::querying::query;
 use crate::reorganising::reorganise;
 use crate::session::{Answer, Held, Opened, Session, bad_line, reply};
-use crate::transacting::{push_number, transact, transacted_line};
+use crate::transacting::{transact, transacted_line};
 use crate::working::work;
 use crate::works::{commit, prepare};
 use byte_map::Bytes;
-use grammar::{Command, Operation, push_hex};
+use grammar::{Command, Operation};
 use keycode::Text;
 use lease::Lease;
+use replies::{check_line, grant_refusal, lease_line, push_number, push_pair};
 use row_map::{key_after, next_pair};
 use status_line::status_line;
 use std::alloc::{AllocError, Global};
-use world::{CheckReport, GrantFault, World};
-
-fn grant_refusal(alloc: Global, fault: GrantFault) -> Result<String, AllocError>
-    ensures { IfOk result (λ text. string_bytes text ≡ line (refused (grant_name fault))) }
-{
-    match fault {
-        GrantFault::MomentTooLarge => "refused MomentTooLarge\n".to_string(alloc),
-        GrantFault::Memory => "refused Memory\n".to_string(alloc),
-    }
-}
-
-fn leased(alloc: Global, lease: &Lease) -> Result<String, AllocError>
-    ensures { IfOk result (λ text. string_bytes text ≡ line (leased lease.now)) }
-{
-    let version = lease.version;
-    let granted = lease.granted;
-    let until = lease.until;
-    let mut text = String::new(alloc);
-    text.push_str("ok lease ")?;
-    write!(text, "{version}")?;
-    text.push_str(" ")?;
-    write!(text, "{granted}")?;
-    text.push_str(" ")?;
-    write!(text, "{until}")?;
-    text.push_str("\n")?;
-    Ok(text)
-}
+use world::World;
 
 /// A name as a key.
 pub(crate) fn key_of(alloc: Global, name: &Text) -> Result<Bytes, AllocError>
@@ -70,7 +45,7 @@ fn lease(
     let name = key_of(alloc, server)?;
     match opened.world.lease(alloc, moment) {
         Ok(grant) => {
-            let answer = reply(leased(alloc, &grant.lease)?);
+            let answer = reply(lease_line(alloc, &grant.lease)?);
             let held = Held {
                 lease: grant.lease,
                 schema: grant.schema,
@@ -110,24 +85,6 @@ fn txn(
     };
     let answer = reply(transacted_line(alloc, &how)?);
     Ok((Session::Running(opened), answer))
-}
-
-fn push_value(text: &mut String, value: &[u8]) -> Result<(), AllocError>
-    ensures { OnOk result (string_bytes text.new ≡ string_bytes text.old ++ value_behind value.now) }
-{
-    if value.is_empty() {
-        return Ok(());
-    }
-    text.push_str(" = ")?;
-    push_hex(text, value)
-}
-
-fn push_pair(text: &mut String, key: &[u8], value: &[u8]) -> Result<(), AllocError>
-    ensures { OnOk result (string_bytes text.new ≡ string_bytes text.old ++ pair_line (key.now, value.now)) }
-{
-    push_hex(text, key)?;
-    push_value(text, value)?;
-    text.push_str("\n")
 }
 
 // All pairs, a line each, and their number.
@@ -170,25 +127,11 @@ fn log(alloc: Global, opened: Opened) -> Result<(Session, Answer), AllocError>
     Ok((Session::Running(opened), reply(text)))
 }
 
-fn checked(alloc: Global, report: CheckReport) -> Result<String, AllocError>
-    ensures { IfOk result (λ text. string_bytes text ≡ line (check_text report)) }
-{
-    let mut text = String::new(alloc);
-    text.push_str("ok rows ")?;
-    push_number(&mut text, report.rows)?;
-    text.push_str(" missing ")?;
-    push_number(&mut text, report.missing)?;
-    text.push_str(" extra ")?;
-    push_number(&mut text, report.extra)?;
-    text.push_str("\n")?;
-    Ok(text)
-}
-
 fn check(alloc: Global, opened: Opened) -> Result<(Session, Answer), AllocError>
     ensures { IfOk result (λ x. Answers opened command.Check (string_bytes x.1.text) x.1.is_bad x.0) }
 {
     let text = match opened.world.check(alloc) {
-        Ok(report) => checked(alloc, report)?,
+        Ok(report) => check_line(alloc, report)?,
         Err(_) => "refused Memory\n".to_string(alloc)?,
     };
     Ok((Session::Running(opened), reply(text)))

@@ -1,6 +1,6 @@
 //! What stands between two lines of a script, and the reply to a line.
 ghost use Rattle.std.specs.Prelude.{◌≡◌, IfOk, string_bytes, true, false};
-ghost use Rattle.shell.specs.Texts.{bad_line};
+ghost use Rattle.replies.specs.Texts.{bad_line};
 ghost use Rattle.shell.specs.Session.{empty, nothing_declared};
 ghost use Rattle.shell.specs.Replies.{Runs, Reply};
 

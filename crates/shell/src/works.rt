@@ -6,16 +6,15 @@ ghost use Rattle.shell.specs.Running.{Answers, TxnEnds, PieceEnds, put_back, tak
 ghost use Rattle.shell.specs.declared.session.Opened.{Opened as OpenedBefore};
 ghost use Rattle.shell.specs.declared.session.PreparedWork.TheVariants.{Txn, Piece};
 ghost use Rattle.shell.specs.declared.session.Session.TheVariants.{Running};
-ghost use Rattle.shell.specs.Texts.{line, refused};
+ghost use Rattle.replies.specs.Texts.{line, refused};
 
-use crate::pieces::{pieced_line, unpieced_line};
-use crate::preparing::{Preparation, prepare_for};
+use crate::preparing::{Preparation, prepare_for, prepared_line};
 use crate::running::{key_of, no_server};
 use crate::session::{Answer, Opened, PreparedWork, Session, reply};
-use crate::transacting::{committed_line, prepared_line, rejected_line};
 use grammar::Operation;
 use keycode::Text;
 use reorganise::PreparedPiece;
+use replies::{committed_line, pieced_line, rejected_line, unpieced_line};
 use row_write::Prepared;
 use std::alloc::{AllocError, Global};
 

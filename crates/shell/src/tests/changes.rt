@@ -57,6 +57,48 @@ const EMPTY_TABLE_REPLIES: &str = "ok\n\
     ok version 4\n\
     ok pairs 0\n";
 
+// The script of examples/add_an_index.script without its remarks: two servers write under two versions while an index enters.
+const ENTERING: &str = "table people (id int key, town text)\n\
+    open\n\
+    lease a at 5\n\
+    txn a at 5: insert people (1) set town = 'Ulm'; insert people (2) set town = 'Bonn'\n\
+    plan: add index by_town on people (town)\n\
+    next at 10\n\
+    lease b at 10\n\
+    txn b at 12: insert people (3) set town = 'Ulm'\n\
+    txn a at 13: delete people (2)\n\
+    next at 20\n\
+    reorganise people.by_town at 29 pieces 2\n\
+    reorganise people.by_town at 30 pieces 2\n\
+    work people.by_town at 30 limit 1\n\
+    next at 30\n\
+    lease a at 30\n\
+    query a at 30: select town from people where town = 'Ulm'\n\
+    check\n";
+
+const ENTERING_REPLIES: &str = "ok\n\
+    ok version 1\n\
+    ok lease 1 5 15\n\
+    ok done 2\n\
+    step 1: people.by_town delete_only\n\
+    step 2: people.by_town write_only\n\
+    step 3: fill people.by_town, people.by_town public\n\
+    ok plan 3\n\
+    ok version 2\n\
+    ok lease 2 10 20\n\
+    ok done 5\n\
+    ok done 6\n\
+    ok version 3\n\
+    refused StillUsed 30\n\
+    ok begun fill 2\n\
+    ok work 2\n\
+    ok version 4\n\
+    ok lease 4 30 40\n\
+    row (1) town = 'Ulm'\n\
+    row (3) town = 'Ulm'\n\
+    ok rows 2\n\
+    ok rows 2 missing 0 extra 0\n";
+
 // A column that is going is read and written by one server, and no more by another.
 const DROPPED_COLUMN: &str = "table t (id int key, a int)\n\
     open\n\
@@ -304,6 +346,11 @@ fn fill_waits_for_delete_only(rt: HostRuntime) {
 #[test]
 fn index_of_an_empty_table(rt: HostRuntime) {
     assert!(rt; answers(rt.alloc(), EMPTY_TABLE, EMPTY_TABLE_REPLIES, 0));
+}
+
+#[test]
+fn an_index_enters_beside_writers(rt: HostRuntime) {
+    assert!(rt; answers(rt.alloc(), ENTERING, ENTERING_REPLIES, 0));
 }
 
 #[test]

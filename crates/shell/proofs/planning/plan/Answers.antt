@@ -1,7 +1,7 @@
 use Rattle.std.proofs.Common.{Ok, Err, ◌∙◌, ap, refl}
 use mathlib.Core.List.{map as each}
 use Rattle.change_plan.specs.declared.least_plan.PlanStep.{PlanStep}
-use Rattle.shell.specs.Planning.{steps_text}
+use Rattle.replies.specs.Plans.{steps_text}
 use Rattle.shell.proofs.Plans.{planned}
 use Rattle.shell.proofs.planning.plan.Goals as goal
 

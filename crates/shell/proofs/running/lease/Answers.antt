@@ -10,7 +10,7 @@ returns-in_ok-insert-in-Ok c = (
   c.lease.new.self,
   c.in-Ok.ensures.step,
   (
-    (c.reply-answer.ensures.text ∙ c.in_ok-leased-in-Ok.ensures, c.reply-answer.ensures.good),
+    (c.reply-answer.ensures.text ∙ c.in_ok-lease_line-in-Ok.ensures, c.reply-answer.ensures.good),
     ap (λ m. let s : Session = Running (record { world = c.lease.new.self; leases = m; works = c.args.opened.works; plan = c.args.opened.plan }) in s)
         (c.in_ok-insert-in-Ok.ensures.ok ∙ ap (λ k. map.insert c.args.opened.leases k (record { lease = c.in-Ok.grant.lease; schema = c.in-Ok.grant.schema })) c.in_ok-name.ensures),
   ),

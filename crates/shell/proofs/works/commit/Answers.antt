@@ -3,7 +3,7 @@ use Rattle.std.specs.Prelude.{codes, string_bytes}
 use Rattle.grammar.specs.declared.command.Command.TheVariants as command
 use Rattle.shell.specs.declared.session.Session.TheVariants.{Running}
 use Rattle.shell.specs.Running.{Answers}
-use Rattle.shell.specs.Texts.{line, refused}
+use Rattle.replies.specs.Texts.{line, refused}
 use Rattle.shell.proofs.Spent.{nothing_prepared}
 use Rattle.shell.proofs.works.commit.Goals as goal
 

@@ -2,8 +2,8 @@ use Rattle.std.proofs.Common.{◌≡◌, take}
 use Rattle.std.specs.Prelude.{filter}
 use mathlib.Core.List.{map}
 use Rattle.schema_version.specs.Version.{live}
-use Rattle.shell.specs.Querying.{is_shown}
-use Rattle.shell.proofs.querying.shown.Given as goal
+use Rattle.replies.specs.Rows.{is_shown}
+use Rattle.replies.proofs.rows.shown.Given as goal
 
 abbrev pub invariant-loop-element : goal.invariant-loop-element
 invariant-loop-element l = l.columns.items ≡ map (λ e. (e.number, e.name)) (filter (is_shown l.query) (take l.element-index (live l.schema)))

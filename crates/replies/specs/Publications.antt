@@ -6,7 +6,7 @@ use Rattle.schema_version.specs.declared.step.StepFault.TheVariants as step_faul
 use Rattle.world.specs.declared.entry.Receipt.{Receipt}
 use Rattle.world.specs.declared.fault.PublishFault.{PublishFault}
 use Rattle.world.specs.declared.fault.PublishFault.TheVariants as publish_fault
-use Rattle.shell.specs.Texts.{refused}
+use Rattle.replies.specs.Texts.{refused}
 
 abbrev pub step_name : StepFault → List ℕ
 step_name step_fault.Unknown = codes "Unknown"

@@ -2,6 +2,7 @@
 use Rattle.std.specs.Prelude.{ℕ, List, [], ◌∷◌, ◌++◌, codes, length}
 use Rattle.std.specs.Fmt.{decimal}
 use Rattle.std.specs.List.{flat_map}
+use Rattle.audit.specs.declared.report.CheckReport.{CheckReport}
 use Rattle.grammar.specs.Printing.{hex}
 use Rattle.lease.specs.declared.lease.Lease.{Lease}
 use Rattle.row_map.specs.Rows.{Bytes}
@@ -46,3 +47,7 @@ pair_line pair = line (hex pair.0 ++ value_behind pair.1)
 -- all pairs, and their number
 abbrev pub pairs_text : List (Bytes × Bytes) → List ℕ
 pairs_text pairs = flat_map pair_line pairs ++ line (codes "ok pairs " ++ decimal (length pairs))
+
+-- `ok rows R missing M extra X`
+abbrev pub check_text : CheckReport → List ℕ
+check_text report = codes "ok rows " ++ decimal report.rows ++ codes " missing " ++ decimal report.missing ++ codes " extra " ++ decimal report.extra

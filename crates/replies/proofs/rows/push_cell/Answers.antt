@@ -1,5 +1,5 @@
-use Rattle.shell.proofs.Queries.{cell_told}
-use Rattle.shell.proofs.querying.push_cell.Goals as goal
+use Rattle.replies.proofs.Cells.{cell_told}
+use Rattle.replies.proofs.rows.push_cell.Goals as goal
 
 pub returns : goal.returns
 returns c =

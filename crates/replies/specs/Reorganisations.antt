@@ -10,8 +10,8 @@ use Rattle.world.specs.declared.fault.BeginFault.{BeginFault}
 use Rattle.world.specs.declared.fault.BeginFault.TheVariants as begin_fault
 use Rattle.piece_work.specs.declared.fault.WorkFault.{WorkFault}
 use Rattle.piece_work.specs.declared.fault.WorkFault.TheVariants as work_fault
-use Rattle.shell.specs.Pieces.{read_name, piece_name}
-use Rattle.shell.specs.Texts.{refused}
+use Rattle.replies.specs.Pieces.{read_name, piece_name}
+use Rattle.replies.specs.Texts.{refused}
 
 abbrev pub begin_name : BeginFault → List ℕ
 begin_name begin_fault.MomentTooLarge = codes "MomentTooLarge"

@@ -1,0 +1,7 @@
+pub mod Texts
+pub mod Transactions
+pub mod Rows
+pub mod Pieces
+pub mod Publications
+pub mod Plans
+pub mod Reorganisations
