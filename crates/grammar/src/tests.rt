@@ -27,6 +27,10 @@ fn sets_of(alloc: Global, name: &str, value: Value) -> Result<Sets, AllocError> 
     Ok(Listed::new(vec![in alloc; (text(alloc, name)?, value)]?))
 }
 
+fn reads(alloc: Global, line: &str, expected: Command) -> bool {
+    read_command(alloc, line.as_bytes()) == Ok(expected)
+}
+
 fn is_bad(alloc: Global, line: &str) -> bool {
     matches!(
         read_command(alloc, line.as_bytes()),
@@ -60,15 +64,15 @@ fn declared(
 #[test]
 fn tables(rt: HostRuntime) -> Result<(), Fail> {
     let alloc = rt.alloc();
-    assert!(rt; read_command(alloc, b"length 007") == Ok(Command::Length(7)));
+    assert!(rt; reads(alloc, "length 007", Command::Length(7)));
     let id = column(alloc, "id", ColumnType::Int)?;
     let a = column(alloc, "a", ColumnType::Int)?;
     let expected = declared(alloc, "t", id, a)?;
-    assert!(rt; read_command(alloc, b"table t (id int key, a int)") == Ok(expected));
+    assert!(rt; reads(alloc, "table t (id int key, a int)", expected));
     let key = column(alloc, "key", ColumnType::Text)?;
     let table = column(alloc, "table", ColumnType::Bool)?;
     let expected = declared(alloc, "on", key, table)?;
-    assert!(rt; read_command(alloc, b" table  on(key text key,table bool ) ") == Ok(expected));
+    assert!(rt; reads(alloc, " table  on(key text key,table bool ) ", expected));
     Ok(())
 }
 
@@ -92,17 +96,17 @@ fn indexes(rt: HostRuntime) -> Result<(), Fail> {
         table: text(alloc, "t")?,
         columns: Listed::new(vec![in alloc; text(alloc, "a")?, text(alloc, "b_2")?]?),
     };
-    assert!(rt; read_command(alloc, b"index i on t (a, b_2)") == Ok(expected));
+    assert!(rt; reads(alloc, "index i on t (a, b_2)", expected));
     Ok(())
 }
 
 #[test]
 fn single_words(rt: HostRuntime) {
     let alloc = rt.alloc();
-    assert!(rt; read_command(alloc, b"open") == Ok(Command::Open));
-    assert!(rt; read_command(alloc, b"pairs ") == Ok(Command::Pairs));
-    assert!(rt; read_command(alloc, b"check") == Ok(Command::Check));
-    assert!(rt; read_command(alloc, b"log") == Ok(Command::Log));
+    assert!(rt; reads(alloc, "open", Command::Open));
+    assert!(rt; reads(alloc, "pairs ", Command::Pairs));
+    assert!(rt; reads(alloc, "check", Command::Check));
+    assert!(rt; reads(alloc, "log", Command::Log));
 }
 
 #[test]
@@ -112,8 +116,7 @@ fn leases(rt: HostRuntime) -> Result<(), Fail> {
         server: text(alloc, "s")?,
         moment: 18446744073709551615,
     };
-    let lease = read_command(alloc, b"lease s at 18446744073709551615");
-    assert!(rt; lease == Ok(expected));
+    assert!(rt; reads(alloc, "lease s at 18446744073709551615", expected));
     Ok(())
 }
 
@@ -124,13 +127,13 @@ fn prepared_work(rt: HostRuntime) -> Result<(), Fail> {
         work: text(alloc, "w")?,
         moment: 12,
     };
-    assert!(rt; read_command(alloc, b"commit w at 12") == Ok(expected));
+    assert!(rt; reads(alloc, "commit w at 12", expected));
     let expected = Command::Prepare {
         work: text(alloc, "w")?,
         server: text(alloc, "s")?,
         operations: Listed::new(vec![in alloc; deleted(alloc, 1)?]?),
     };
-    assert!(rt; read_command(alloc, b"prepare w by s: delete t (1)") == Ok(expected));
+    assert!(rt; reads(alloc, "prepare w by s: delete t (1)", expected));
     Ok(())
 }
 
@@ -171,8 +174,7 @@ fn one_operation(rt: HostRuntime) -> Result<(), Fail> {
     let sets = sets_of(alloc, "a", Value::Int(5))?;
     let operations = vec![in alloc; inserted(alloc, 1, sets)?]?;
     let expected = txn_of(alloc, 0, operations)?;
-    let read = read_command(alloc, b"txn s at 0: insert t (1) set a = 5");
-    assert!(rt; read == Ok(expected));
+    assert!(rt; reads(alloc, "txn s at 0: insert t (1) set a = 5", expected));
     Ok(())
 }
 
@@ -184,8 +186,8 @@ fn three_operations(rt: HostRuntime) -> Result<(), Fail> {
     let second = updated(alloc, -9223372036854775808, sets)?;
     let third = deleted(alloc, 3)?;
     let expected = txn_of(alloc, 3, vec![in alloc; first, second, third]?)?;
-    let line = b"txn s at 3:insert t(2);update t (-9223372036854775808) set a=null;delete t (3)";
-    assert!(rt; read_command(alloc, line) == Ok(expected));
+    let line = "txn s at 3:insert t(2);update t (-9223372036854775808) set a=null;delete t (3)";
+    assert!(rt; reads(alloc, line, expected));
     Ok(())
 }
 
@@ -240,7 +242,7 @@ fn reads_query(
         moment: 4,
         selection,
     };
-    Ok(read_command(alloc, line.as_bytes()) == Ok(expected))
+    Ok(reads(alloc, line, expected))
 }
 
 fn equal(alloc: Global, column: &str, number: i64) -> Result<Condition, AllocError> {
@@ -377,7 +379,7 @@ fn bad_queries(rt: HostRuntime) {
 }
 
 #[test]
-fn bad_lines(rt: HostRuntime) {
+fn bad_words(rt: HostRuntime) {
     let alloc = rt.alloc();
     for line in [
         "insrt",
@@ -392,6 +394,15 @@ fn bad_lines(rt: HostRuntime) {
         "length 5_",
         "length -",
         "length 18446744073709551616",
+    ] {
+        assert!(rt; is_bad(alloc, line), "at {line}");
+    }
+}
+
+#[test]
+fn bad_leases(rt: HostRuntime) {
+    let alloc = rt.alloc();
+    for line in [
         "lease s at 0x",
         "lease s at 0 0",
         "lease s at -0",
@@ -399,6 +410,15 @@ fn bad_lines(rt: HostRuntime) {
         "lease s\tat 0",
         "lease s at 0\r",
         "lease s at >",
+    ] {
+        assert!(rt; is_bad(alloc, line), "at {line}");
+    }
+}
+
+#[test]
+fn bad_declarations(rt: HostRuntime) {
+    let alloc = rt.alloc();
+    for line in [
         "table t ()",
         "table t (a int)",
         "table t (a int, b int key)",
@@ -410,6 +430,15 @@ fn bad_lines(rt: HostRuntime) {
         "index i on t ()",
         "index i on t (a,,b)",
         "index i t (a)",
+    ] {
+        assert!(rt; is_bad(alloc, line), "at {line}");
+    }
+}
+
+#[test]
+fn bad_transactions(rt: HostRuntime) {
+    let alloc = rt.alloc();
+    for line in [
         "txn s at 0:",
         "txn s at 0 insert t (1)",
         "txn s at 0: insert t (1);",
@@ -429,6 +458,11 @@ fn bad_lines(rt: HostRuntime) {
     ] {
         assert!(rt; is_bad(alloc, line), "at {line}");
     }
+}
+
+#[test]
+fn bad_bytes(rt: HostRuntime) {
+    let alloc = rt.alloc();
     assert!(rt;
         matches!(
             read_command(alloc, b"txn s at 0: insert t ('\xff')"),

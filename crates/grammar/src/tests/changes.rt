@@ -1,16 +1,12 @@
 //! Lines on the schema and on its changes, against commands that are written by hand.
-use super::{is_bad, text};
-use crate::{Changing, Command, ElementName, Moving, New, read_command};
+use super::{is_bad, reads, text};
+use crate::{Changing, Command, ElementName, Moving, New};
 use keycode::Text;
 use listed::Listed;
 use row_map::ColumnType;
 use schema_version::ElementState;
 use std::alloc::{AllocError, Global};
 use std::test::*;
-
-fn reads(alloc: Global, line: &str, expected: Command) -> bool {
-    read_command(alloc, line.as_bytes()) == Ok(expected)
-}
 
 fn element(alloc: Global, table: &str, name: &str) -> Result<ElementName, AllocError> {
     Ok(ElementName {
