@@ -284,6 +284,7 @@ impl World {
     pub fn moment(&self) -> u64
         ensures { result ≡ (facts_of self.now).moment }
     {
+        // the field alone answers the same, since no moment is below 0
         self.counted(0)
     }
 
