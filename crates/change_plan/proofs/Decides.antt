@@ -10,7 +10,7 @@ use Rattle.schema_version.specs.declared.element.ElementState.{ElementState}
 use Rattle.schema_version.specs.declared.element.ElementState.TheVariants.{Absent, DeleteOnly, WriteOnly, Public}
 use Rattle.schema_version.specs.declared.element.ElementDef.{ElementDef}
 use Rattle.schema_version.specs.Names as names
-use Rattle.schema_version.specs.Names.{is_name, max_listed, max_elements}
+use Rattle.schema_version.specs.Names.{is_name, is_name_list, max_listed, max_elements}
 use Rattle.schema_version.specs.Version.{Version, Table, table_at, live, is_index, is_public, listed, IsKeyName, count_live}
 use Rattle.schema_version.specs.Moves.{max_like}
 use Rattle.schema_version.specs.Deciding.{has_key_column}
@@ -21,7 +21,7 @@ use Rattle.change_plan.specs.declared.change.Change.{Change}
 use Rattle.change_plan.specs.declared.change.Change.TheVariants.{AddIndex, DropIndex, AddColumn, DropColumn}
 use Rattle.change_plan.specs.Batches.{named, named_index, named_column, adds, adds_column, drops_index, drops_column, lists}
 use Rattle.change_plan.specs.Refusals.{IsInChange, IsTaken, IsStillListed, AddsIndexOn, IsListed, adds_like, is_addition, IsOver, IsColumnList, ChangeFault}
-use Rattle.change_plan.specs.Deciding.{lacks_column, is_taken, is_in_change, still_lists, adds_index_on, is_listed, is_column_list, is_over, change_check}
+use Rattle.change_plan.specs.Deciding.{lacks_column, is_taken, is_in_change, still_lists, adds_index_on, is_listed, is_over, change_check}
 use Rattle.change_plan.proofs.Chain.{Says, chain_says}
 
 never : Decides false ⊥
@@ -75,9 +75,9 @@ lacking old all table columns =
 
 -- ---- limits
 
-column_list : (columns : List (List ℕ)) → Decides (is_column_list columns) (IsColumnList columns)
+column_list : (columns : List (List ℕ)) → Decides (is_name_list columns) (IsColumnList columns)
 column_list columns =
-    Decides-like (is_column_list columns) (λ (some, (few, distinct)). (some, few, distinct)) (λ (some, few, distinct). (some, (few, distinct)))
+    Decides-like (is_name_list columns) (λ (some, (few, distinct)). (some, few, distinct)) (λ (some, few, distinct). (some, (few, distinct)))
     (Decides-and (nat_le 1 (length columns)) (nat_le (length columns) max_listed && names.is_distinct columns) (at_most 1 (length columns))
     (Decides-and (nat_le (length columns) max_listed) (names.is_distinct columns) (at_most (length columns) max_listed) (itself (names.is_distinct columns))))
 
@@ -126,14 +126,14 @@ on_column old all table name (Some column) =
 pub change_says : (old : Version) (all earlier : List Change) (change : Change) → Says (ChangeFault old all earlier change) (change_check old all earlier change)
 change_says old all earlier (AddIndex table name columns) =
     chain_says (ChangeFault old all earlier (AddIndex table name columns)) (not (is_some (table_at old table)) || list_any (lacks_column old all table) columns) (is_taken old earlier table name)
-    (list_any (λ column. list_any (drops_column table column) all) columns) (list_any (λ column. is_in_change (named_column old table column)) columns) (not (is_name name) || (not (is_column_list columns) || is_over old all table true))
+    (list_any (λ column. list_any (drops_column table column) all) columns) (list_any (λ column. is_in_change (named_column old table column)) columns) (not (is_name name) || (not (is_name_list columns) || is_over old all table true))
     (record {
       unknown = Decides-or (not (is_some (table_at old table))) (list_any (lacks_column old all table) columns) (is_false (is_some (table_at old table))) (lacking old all table columns);
       taken = taken old earlier table name;
       indexed = any (λ column. list_any (drops_column table column) all) (λ column. IsTrue (list_any (drops_column table column) all)) columns (λ column. itself (list_any (drops_column table column) all));
       moving = any (λ column. is_in_change (named_column old table column)) (λ column. IsInChange (named_column old table column)) columns (λ column. in_change (named_column old table column));
-      over = Decides-or (not (is_name name)) (not (is_column_list columns) || is_over old all table true) (Decides-not (is_name name) (word name))
-          (Decides-or (not (is_column_list columns)) (is_over old all table true) (Decides-not (is_column_list columns) (column_list columns)) (over old all table true));
+      over = Decides-or (not (is_name name)) (not (is_name_list columns) || is_over old all table true) (Decides-not (is_name name) (word name))
+          (Decides-or (not (is_name_list columns)) (is_over old all table true) (Decides-not (is_name_list columns) (column_list columns)) (over old all table true));
       memory = λ h. h;
     })
 change_says old all earlier (DropIndex table name) =

@@ -1,11 +1,10 @@
 -- The tests by which a batch is found faulty, one change after another.
-use Rattle.std.specs.Prelude.{ℕ, ◌+◌, List, [], ◌∷◌, ◌++◌, length, Bool, true, false, ◌&&◌, ◌||◌, not, ◌==◌, nat_lt, nat_le, count_by, Option, Some, None, is_some, Result, Ok, Err, if◌then◌else◌, bytes_eq}
+use Rattle.std.specs.Prelude.{ℕ, ◌+◌, List, [], ◌∷◌, ◌++◌, Bool, true, false, ◌&&◌, ◌||◌, not, ◌==◌, nat_lt, count_by, Option, Some, None, is_some, Result, Ok, Err, if◌then◌else◌, bytes_eq}
 use Rattle.std.specs.List.{list_any}
 use Rattle.listed.specs.Answers.{◌>>>=◌}
 use Rattle.schema_version.specs.declared.element.Kind.{Kind}
 use Rattle.schema_version.specs.declared.element.ElementDef.{ElementDef}
-use Rattle.schema_version.specs.Names as names
-use Rattle.schema_version.specs.Names.{is_name, max_listed, max_elements}
+use Rattle.schema_version.specs.Names.{is_name, is_name_list, max_elements}
 use Rattle.schema_version.specs.Version.{Version, table_at, live, is_index, is_public, count_live}
 use Rattle.schema_version.specs.Moves.{max_like}
 use Rattle.schema_version.specs.Deciding.{has_key_column}
@@ -54,9 +53,6 @@ abbrev pub is_listed : Version → List Change → ℕ → List ℕ → Option E
 is_listed old all table name None = false
 is_listed old all table name (Some column) = list_any (still_lists all column.number) (live old) || list_any (adds_index_on table name) all
 
-abbrev pub is_column_list : List (List ℕ) → Bool
-is_column_list columns = nat_le 1 (length columns) && (nat_le (length columns) max_listed && names.is_distinct columns)
-
 abbrev pub is_over : Version → List Change → ℕ → Bool → Bool
 is_over old all table index =
     nat_lt (max_like index) (count_live old table index + count_by (adds_like table index) all) || nat_lt (max_elements + 1) (old.next + count_by is_addition all)
@@ -67,7 +63,7 @@ add_index_check old all earlier table name columns =
     (is_taken old earlier table name)
     (list_any (λ column. list_any (drops_column table column) all) columns)
     (list_any (λ column. is_in_change (named_column old table column)) columns)
-    (not (is_name name) || (not (is_column_list columns) || is_over old all table true))
+    (not (is_name name) || (not (is_name_list columns) || is_over old all table true))
 
 abbrev pub drop_index_check : Version → List Change → ℕ → List ℕ → Answer
 drop_index_check old earlier table name =

@@ -7,7 +7,6 @@ mod fault;
 mod finding;
 mod laws;
 mod least_plan;
-mod names;
 mod numbering;
 mod planning;
 mod refusing;

@@ -15,9 +15,8 @@ use crate::fault::PlanFault;
 use crate::finding::{
     has_key_column, is_index, is_like, is_public, lists, named_column, named_index,
 };
-use crate::names::{is_column_list, is_name};
 use keycode::Text;
-use schema_version::{ElementDef, Kind, Schema};
+use schema_version::{ElementDef, Kind, Schema, is_name, is_name_list};
 
 const MAX_COLUMNS: usize = 32;
 
@@ -169,7 +168,7 @@ fn check_added_index(
         return Err(PlanFault::InChange);
     }
     if !is_name(name.as_bytes())
-        || !is_column_list(columns)
+        || !is_name_list(columns)
         || is_over(schema, next, all, table, true)
     {
         return Err(PlanFault::Limit);

@@ -4,7 +4,7 @@ ghost use Rattle.schema_version.specs.declared.table.TableDef.{TableDef as Decla
 ghost use Rattle.schema_version.specs.Names.{is_name as is_name_of, is_among, is_distinct};
 ghost use Rattle.schema_version.specs.Accepting.{names_in, table_names, are_apart as are_apart_of, has_fair_sizes as has_fair_sizes_of, has_names as has_names_of, has_own_names as has_own_names_of, has_names_apart as has_names_apart_of, is_lawful_list as is_lawful_list_of, has_lawful_lists as has_lawful_lists_of, is_lawful_table as is_lawful_table_of, are_lawful as are_lawful_of};
 
-use crate::names::is_name;
+use crate::names::{is_name, is_name_list};
 use crate::table::TableDef;
 use keycode::Text;
 
@@ -15,8 +15,6 @@ const MAX_KEY_COLUMNS: usize = 4;
 const MAX_COLUMNS: usize = 32;
 
 const MAX_INDEXES: usize = 16;
-
-const MAX_LISTED: usize = 4;
 
 // Whether one of these has the name.
 fn has_named<T>(items: &[(Text, T)], name: &[u8]) -> bool
@@ -67,21 +65,6 @@ fn all_apart<T, U>(items: &[(Text, T)], others: &[(Text, U)]) -> bool
     items.iter().all(|i| !has_named(others, i.0.as_bytes()))
 }
 
-fn is_listed(names: &[Text], name: &[u8]) -> bool
-    ensures { result ≡ is_among name.now names.now }
-{
-    names.iter().any(|n| n.as_bytes() == name)
-}
-
-fn are_listed_once(names: &[Text]) -> bool
-    ensures { result ≡ is_distinct names.now }
-{
-    match names {
-        [] => true,
-        [first, rest @ ..] => !is_listed(rest, first.as_bytes()) && are_listed_once(rest),
-    }
-}
-
 fn are_columns<T>(columns: &[(Text, T)], names: &[Text]) -> bool
     ensures { result ≡ list_all (λ name. is_among name (names_in columns.now)) names.now }
 {
@@ -92,10 +75,7 @@ fn are_columns<T>(columns: &[(Text, T)], names: &[Text]) -> bool
 fn is_lawful_list<T>(columns: &[(Text, T)], names: &[Text]) -> bool
     ensures { result ≡ is_lawful_list_of (names_in columns.now) names.now }
 {
-    1 <= names.len()
-        && names.len() <= MAX_LISTED
-        && are_listed_once(names)
-        && are_columns(columns, names)
+    is_name_list(names) && are_columns(columns, names)
 }
 
 fn has_fair_sizes(table: &TableDef) -> bool

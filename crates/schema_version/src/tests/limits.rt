@@ -1,9 +1,9 @@
 //! Names, lists and counts at their limits and past them.
 use super::making::{
     add_index, alone, bare, declared, gives, indexed, names, passes, refuses_column, refuses_index,
-    schema_of, schema_q, table_t, with_column, with_index,
+    schema_of, schema_q, table_t, texts, with_column, with_index,
 };
-use crate::{DeclareFault, Schema, StepFault, TableDef};
+use crate::{DeclareFault, Schema, StepFault, TableDef, is_name, is_name_list};
 use keycode::Text;
 use row_map::ColumnType;
 use std::alloc::{AllocError, Global};
@@ -39,6 +39,27 @@ fn limits_of_names_hold(alloc: Global) -> bool {
 #[test]
 fn names_over_their_limits(rt: HostRuntime) {
     assert!(rt; limits_of_names_hold(rt.alloc()));
+}
+
+#[test]
+fn names_alone(rt: HostRuntime) {
+    assert!(rt; is_name(b"Z_9"));
+    assert!(rt; is_name(LONGEST_NAME.as_bytes()));
+    assert!(rt; !is_name(LONG_NAME.as_bytes()));
+    assert!(rt; !is_name(b""));
+    assert!(rt; !is_name(b"_z"));
+}
+
+fn may_be_listed(alloc: Global, names: &[&str]) -> bool {
+    texts(alloc, names).is_ok_and(|all| is_name_list(all.as_slice()))
+}
+
+#[test]
+fn lists_of_names_alone(rt: HostRuntime) {
+    assert!(rt; may_be_listed(rt.alloc(), &["a", "b", "c", "d"]));
+    assert!(rt; !may_be_listed(rt.alloc(), &["a", "b", "c", "d", "e"]));
+    assert!(rt; !may_be_listed(rt.alloc(), &["a", "b", "a"]));
+    assert!(rt; !may_be_listed(rt.alloc(), &[]));
 }
 
 fn letter(alloc: Global, byte: u8) -> Result<Option<Text>, AllocError> {

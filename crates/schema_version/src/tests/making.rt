@@ -14,7 +14,7 @@ fn push_text(alloc: Global, names: &mut Listed<Text>, name: &str) -> Result<(), 
     Ok(names.push(text(alloc, name)?)?)
 }
 
-fn texts(alloc: Global, names: &[&str]) -> Result<Listed<Text>, AllocError> {
+pub(super) fn texts(alloc: Global, names: &[&str]) -> Result<Listed<Text>, AllocError> {
     let mut all = Listed::new(Vec::new(alloc));
     for name in names {
         push_text(alloc, &mut all, *name)?;
