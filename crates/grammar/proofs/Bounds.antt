@@ -1,13 +1,13 @@
 -- A condition has a token at least, so as many conditions as tokens are no bound.
 use Rattle.std.proofs.Common.{◌≡◌, ℕ, ◌+◌, ◌<◌, ◌≤◌, Bool, true, false, List, [], ◌∷◌, ap, refl, arith, length, Option, Some, None, codes, if◌then◌else◌}
 use Rattle.std.specs.Option.{option_map}
-use Rattle.grammar.specs.declared.token.Token.{Token}
-use Rattle.grammar.specs.declared.token.Mark.{Mark}
-use Rattle.grammar.specs.declared.token.Mark.TheVariants as mark
+use Rattle.tokens.specs.declared.token.Token.{Token}
+use Rattle.tokens.specs.declared.token.Mark.{Mark}
+use Rattle.tokens.specs.declared.token.Mark.TheVariants as mark
 use Rattle.grammar.specs.declared.selection.Condition.{Condition}
 use Rattle.grammar.specs.declared.selection.Condition.TheVariants.{Key, Equal, Between}
-use Rattle.grammar.specs.Productions.{is_mark, is_word, first_by, after_first, name_in, value_in, cut_at, bracketed, each_between, ◌>>=◌}
-use Rattle.grammar.specs.Commands.{value_of, tuple_at, key_condition_at, equal_at, at_least_at, at_most_at, between_at, comparison_at, column_condition_at, condition_at, and_more, conditions_within, conditions_of, IsJoined}
+use Rattle.tokens.specs.Productions.{is_mark, is_word, first_by, after_first, name_in, value_in, cut_at, bracketed, each_between, value_of, ◌>>=◌}
+use Rattle.grammar.specs.Commands.{tuple_at, key_condition_at, equal_at, at_least_at, at_most_at, between_at, comparison_at, column_condition_at, condition_at, and_more, conditions_within, conditions_of, IsJoined}
 
 -- what a production leaves of the tokens is shorter than n
 abbrev Leaves : {A : Type 0} → ℕ → Option (A × List Token) → Type 0

@@ -1,6 +1,3 @@
-pub mod Quotes
-pub mod Skips
-pub mod Cuts
 pub mod Doubling
 pub mod Selections
 pub mod Bounds

@@ -4,13 +4,13 @@ use Rattle.std.proofs.lemmas.List.{drop_more, at_drop_all}
 use Rattle.std.proofs.lemmas.Bool.Decides.{nat_tests}
 use Rattle.std.specs.Bool.{◌==◌}
 use Rattle.std.specs.Option.{option_map}
-use Rattle.grammar.specs.declared.token.Token.{Token}
-use Rattle.grammar.specs.declared.token.Mark.TheVariants as mark
-use Rattle.grammar.specs.declared.fault.LineFault.{LineFault}
+use Rattle.tokens.specs.declared.token.Token.{Token}
+use Rattle.tokens.specs.declared.token.Mark.TheVariants as mark
+use Rattle.tokens.specs.declared.fault.LineFault.{LineFault}
 use Rattle.grammar.specs.declared.selection.Condition.{Condition}
-use Rattle.grammar.specs.Productions.{is_mark, is_word, first_by, after_first, begins_with, name_in, ◌>>=◌, Fails}
-use Rattle.grammar.specs.Commands.{columns_at, condition_at, and_more, conditions_within}
-use Rattle.grammar.proofs.Cuts.{onto, onto_more, fails_on}
+use Rattle.tokens.specs.Productions.{is_mark, is_word, first_by, after_first, name_in, ◌>>=◌, Fails}
+use Rattle.grammar.specs.Commands.{begins_with, columns_at, condition_at, and_more, conditions_within}
+use Rattle.tokens.proofs.Cuts.{onto, onto_more, fails_on}
 
 abbrev pub Names : Type 0
 Names = Option (List (List ℕ) × List Token)

@@ -3,8 +3,8 @@ use Rattle.std.specs.Prelude.{List, [], ◌∷◌, Option, Some, None, if◌then
 use Rattle.std.specs.Option.{option_map}
 use Rattle.schema_version.specs.declared.element.ElementState.{ElementState}
 use Rattle.schema_version.specs.declared.element.ElementState.TheVariants.{DeleteOnly}
-use Rattle.grammar.specs.declared.token.Token.{Token}
-use Rattle.grammar.specs.declared.token.Mark.TheVariants as mark
+use Rattle.tokens.specs.declared.token.Token.{Token}
+use Rattle.tokens.specs.declared.token.Mark.TheVariants as mark
 use Rattle.grammar.specs.declared.element.ElementName.{ElementName}
 use Rattle.grammar.specs.declared.element.New.{New}
 use Rattle.grammar.specs.declared.element.New.TheVariants.{Index, Column}
@@ -12,7 +12,7 @@ use Rattle.grammar.specs.declared.moving.Moving.{Moving}
 use Rattle.grammar.specs.declared.moving.Moving.TheVariants.{Enter, Go}
 use Rattle.grammar.specs.declared.moving.Changing.{Changing}
 use Rattle.grammar.specs.declared.moving.Changing.TheVariants.{Add, DropIndex, DropColumn}
-use Rattle.grammar.specs.Productions.{◌>>=◌, first_by, after_first, at_end, is_mark, is_word, name_in, type_in, state_in, bracketed, each_between, name_of}
+use Rattle.tokens.specs.Productions.{◌>>=◌, first_by, after_first, at_end, is_mark, is_word, name_in, type_in, state_in, bracketed, each_between, name_of}
 
 -- `TABLE.NAME`, and the tokens behind it
 unfoldable pub element_at : List Token → Option (ElementName × List Token)

@@ -3,10 +3,10 @@ use Rattle.std.specs.Prelude.{◌≡◌, ℕ, List, [], ◌∷◌, Option, Some,
 use Rattle.std.specs.Option.{option_map, option_and_then}
 use Rattle.keycode.specs.declared.value.Value.{Value}
 use Rattle.row_map.specs.declared.shape.ColumnType.{ColumnType}
-use Rattle.grammar.specs.declared.token.Token.{Token}
-use Rattle.grammar.specs.declared.token.Mark.TheVariants as mark
-use Rattle.grammar.specs.declared.fault.LineFault.{LineFault}
-use Rattle.grammar.specs.declared.fault.LineFault.TheVariants.{Malformed}
+use Rattle.tokens.specs.declared.token.Token.{Token}
+use Rattle.tokens.specs.declared.token.Mark.TheVariants as mark
+use Rattle.tokens.specs.declared.fault.LineFault.{LineFault}
+use Rattle.tokens.specs.declared.fault.LineFault.TheVariants.{Malformed}
 use Rattle.grammar.specs.declared.columns.Declared.{Declared}
 use Rattle.grammar.specs.declared.operation.Operation.{Operation}
 use Rattle.grammar.specs.declared.operation.Operation.TheVariants.{Insert, Update, Delete}
@@ -16,23 +16,9 @@ use Rattle.grammar.specs.declared.selection.Selection.{Selection}
 use Rattle.grammar.specs.declared.element.ElementName.{ElementName}
 use Rattle.grammar.specs.declared.command.Command.{Command}
 use Rattle.grammar.specs.declared.command.Command.TheVariants as command
-use Rattle.grammar.specs.Tokens.{tokens_of}
-use Rattle.grammar.specs.Productions.{◌>>=◌, first_by, after_first, at_end, is_mark, is_word, name_in, count_in, small_count_in, type_in, value_in, bracketed, each_between, name_of}
+use Rattle.tokens.specs.Tokens.{tokens_of}
+use Rattle.tokens.specs.Productions.{◌>>=◌, first_by, after_first, at_end, is_mark, is_word, name_in, count_in, small_count_in, type_in, value_in, bracketed, each_between, name_of, value_of, set_of}
 use Rattle.grammar.specs.Changes.{element_at, move_of, change_of}
-
--- `VALUE`
-unfoldable pub value_of : List Token → Option Value
-value_of ts = do
-  value ← first_by value_in ts
-  at_end value.0 value.1
-
--- `COLUMN = VALUE`
-unfoldable pub set_of : List Token → Option (List ℕ × Value)
-set_of ts = do
-  column ← first_by name_in ts
-  behind ← after_first (is_mark mark.Equal) column.1
-  value ← value_of behind
-  Some (column.0, value)
 
 -- `[key]`
 abbrev pub key_of : List Token → Option Bool
@@ -184,6 +170,11 @@ unfoldable pub commit_of : List Token → Option Command
 commit_of ts = do
   work ← name_at_moment ts
   at_end (command.Commit work.0.0 work.0.1) work.1
+
+-- whether p is true of the first token
+abbrev pub begins_with : (Token → Bool) → List Token → Bool
+begins_with p [] = false
+begins_with p (t ∷ ts) = p t
 
 -- `COLUMN {, COLUMN}`, and the tokens behind them
 unfoldable pub columns_at : List Token → Option (List (List ℕ) × List Token)

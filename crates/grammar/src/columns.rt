@@ -1,16 +1,13 @@
 //! The columns of a table's declaration.
 ghost use Rattle.std.specs.Prelude.{◌≡◌, true, IfOk};
-ghost use Rattle.grammar.specs.Productions.{Gives};
+ghost use Rattle.tokens.specs.Productions.{Gives};
 ghost use Rattle.grammar.specs.Commands.{key_of, declared_of, keys_lead, keys_first, key_columns, other_columns};
 
-use crate::fault::LineFault;
-use crate::production::Production;
-use crate::reading::{after_word, at_end, kind, name};
-use crate::token::Token;
 use keycode::Text;
 use listed::Listed;
 use row_map::ColumnType;
 use std::alloc::{AllocError, Global};
+use tokens::{LineFault, Production, Token, after_word, at_end, kind, name};
 
 /// A column as a table's declaration has it, and whether it is of the primary key.
 #[derive(Debug, Drop)]

@@ -1,22 +1,20 @@
 ghost use Rattle.listed.specs.Answers.{GivesOr};
-ghost use Rattle.grammar.specs.declared.fault.LineFault.TheVariants.{Memory};
-ghost use Rattle.grammar.specs.Productions.{Gives};
+ghost use Rattle.tokens.specs.declared.fault.LineFault.TheVariants.{Memory};
+ghost use Rattle.tokens.specs.Productions.{Gives};
 ghost use Rattle.grammar.specs.Commands.{length_of, table_of, index_of, name_at_moment, lease_of, txn_of, prepare_of, commit_of, query_of, forge_of, piece_of, moment_at, publish_of, plan_of, next_of, element_at_moment, reorganise_of, work_of, schema_command_of, command_of, command_at};
 
 use crate::columns::{Columns, Declared, keys_first, split};
 use crate::element::{ElementName, element};
-use crate::fault::LineFault;
 use crate::moving::{Changing, Moving};
 use crate::operation::Operation;
-use crate::production::{Production, read_each};
-use crate::reading::{
-    after_mark, after_word, at_end, bracketed, count, is_word, name, small_count,
-};
 use crate::selection::Selection;
-use crate::token::{Mark, Token, tokens_of};
 use keycode::Text;
 use listed::Listed;
 use std::alloc::Global;
+use tokens::{
+    LineFault, Mark, Production, Token, after_mark, after_word, at_end, bracketed, count, is_word,
+    name, read_each, small_count, tokens_of,
+};
 
 /// What a line asks for. Names stay names: what they stand for is the caller's to look up. A moment is a point of the script's own time, which it counts in whole numbers.
 #[derive(Debug, Drop, PartialEq, Eq)]

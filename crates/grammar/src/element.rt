@@ -1,16 +1,16 @@
 //! Elements by their names, and what is to enter.
-ghost use Rattle.grammar.specs.Productions.{Gives};
+ghost use Rattle.tokens.specs.Productions.{Gives};
 ghost use Rattle.grammar.specs.Changes.{element_at, named_on, new_index_at, new_column_at, new_at, to_state_of, optional_to_state_of};
 
-use crate::fault::LineFault;
-use crate::production::read_each;
-use crate::reading::{after_mark, after_word, at_end, bracketed, is_word, kind, name, state};
-use crate::token::{Mark, Token};
 use keycode::Text;
 use listed::Listed;
 use row_map::ColumnType;
 use schema_version::ElementState;
 use std::alloc::Global;
+use tokens::{
+    LineFault, Mark, Token, after_mark, after_word, at_end, bracketed, is_word, kind, name,
+    read_each, state,
+};
 
 /// An element by the names of its table and of itself: `TABLE.NAME`.
 #[derive(Debug, Drop, PartialEq, Eq)]

@@ -4,22 +4,15 @@
 mod columns;
 mod command;
 mod element;
-mod fault;
 mod moving;
 mod operation;
-mod part;
 mod printing;
-mod production;
-mod reading;
 mod selection;
 mod silent;
-mod token;
-mod value;
 
 pub use columns::Columns;
 pub use command::{Command, read_command};
 pub use element::{ElementName, New};
-pub use fault::LineFault;
 pub use moving::{Changing, Moving};
 pub use operation::Operation;
 pub use printing::{push_hex, push_value, state_word};

@@ -1,14 +1,11 @@
 //! The moves of a step, and the changes that a plan brings about.
-ghost use Rattle.grammar.specs.Productions.{Gives};
+ghost use Rattle.tokens.specs.Productions.{Gives};
 ghost use Rattle.grammar.specs.Changes.{enter_of, go_of, move_of, add_of, drop_of, change_of};
 
 use crate::element::{ElementName, New, element, fresh, named_on, optional_to_state, to_state};
-use crate::fault::LineFault;
-use crate::production::Production;
-use crate::reading::{at_end, is_word};
-use crate::token::Token;
 use schema_version::ElementState;
 use std::alloc::Global;
+use tokens::{LineFault, Production, Token, at_end, is_word};
 
 /// A move of a step.
 #[derive(Debug, Drop, PartialEq, Eq)]

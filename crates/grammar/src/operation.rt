@@ -1,14 +1,13 @@
 //! The operations of a transaction.
-ghost use Rattle.grammar.specs.Productions.{Gives};
+ghost use Rattle.tokens.specs.Productions.{Gives};
 ghost use Rattle.grammar.specs.Commands.{tuple_at, sets_of, optional_sets_of, insert_of, update_of, delete_of, operation_of};
 
-use crate::fault::LineFault;
-use crate::production::{Production, read_each};
-use crate::reading::{after_word, at_end, bracketed, is_word, name};
-use crate::token::{Mark, Token};
 use keycode::{Text, Value, Values};
 use listed::Listed;
 use std::alloc::Global;
+use tokens::{
+    LineFault, Mark, Production, Token, after_word, at_end, bracketed, is_word, name, read_each,
+};
 
 /// An operation of a transaction on one row, which the values of its primary key name.
 #[derive(Debug, Drop, PartialEq, Eq)]

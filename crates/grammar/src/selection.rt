@@ -1,17 +1,15 @@
 //! The selection of a query: which columns of which table, under which conditions.
 ghost use Rattle.std.specs.Prelude.{◌≡◌, drop};
-ghost use Rattle.grammar.specs.Productions.{Gives, is_mark, begins_with};
-ghost use Rattle.grammar.specs.Commands.{columns_at, selected_at, key_condition_at, equal_at, at_least_at, at_most_at, between_at, comparison_at, column_condition_at, condition_at, conditions_of, IsJoined, optional_conditions_of, selection_of};
+ghost use Rattle.tokens.specs.Productions.{Gives, is_mark};
+ghost use Rattle.grammar.specs.Commands.{begins_with, columns_at, selected_at, key_condition_at, equal_at, at_least_at, at_most_at, between_at, comparison_at, column_condition_at, condition_at, conditions_of, IsJoined, optional_conditions_of, selection_of};
 
-use crate::fault::LineFault;
 use crate::operation::tuple;
-use crate::production::Production;
-use crate::reading::{after_mark, after_word, is_mark, is_word, name};
-use crate::token::{Mark, Token};
-use crate::value::value;
 use keycode::{Text, Value, Values};
 use listed::Listed;
 use std::alloc::Global;
+use tokens::{
+    LineFault, Mark, Production, Token, after_mark, after_word, is_mark, is_word, name, value,
+};
 
 /// A condition on the rows of a table.
 #[derive(Debug, Drop, PartialEq, Eq)]

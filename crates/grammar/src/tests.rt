@@ -1,13 +1,13 @@
 mod changes;
 
 use super::*;
-use crate::token::{Mark, Token, tokens_of};
 use keycode::{Text, Value, Values};
 use listed::Listed;
 use row_map::ColumnType;
 use schema_version::ElementState;
 use std::alloc::{AllocError, Global};
 use std::test::*;
+use tokens::LineFault;
 
 type Sets = Listed<(Text, Value)>;
 
@@ -469,31 +469,6 @@ fn bad_bytes(rt: HostRuntime) {
             Err(LineFault::Malformed)
         )
     );
-}
-
-#[test]
-fn tokens_without_spaces(rt: HostRuntime) -> Result<(), Fail> {
-    let alloc = rt.alloc();
-    let tokens = tokens_of(alloc, b"between-1 and>=5-3<=t.*")?.ok_or("all are tokens")?;
-    assert_eq!(rt; tokens.len(), 10);
-    let [first, second, third, fourth, ..] = tokens.as_slice() else {
-        return Err("four tokens and more".into());
-    };
-    assert!(rt; matches!(first, Token::Word(word) if word.as_slice() == b"between".as_slice()));
-    assert!(rt;
-        matches!(
-            second,
-            Token::Number {
-                is_negative: true,
-                size: 1
-            }
-        )
-    );
-    assert!(rt; matches!(third, Token::Word(word) if word.as_slice() == b"and".as_slice()));
-    assert!(rt; matches!(fourth, Token::Mark(Mark::AtLeast)));
-    let bad = tokens_of(alloc, b"and>5")?;
-    assert!(rt; bad.is_none());
-    Ok(())
 }
 
 #[test]

@@ -2,7 +2,7 @@
 use Rattle.std.specs.Prelude.{◌≡◌, ℕ, List, [], length, Result, Ok, Err, Bool, false, nat_lt}
 use Rattle.std.specs.Bool.{MatchBool}
 use Rattle.grammar.specs.declared.command.Command.{Command}
-use Rattle.grammar.specs.declared.fault.LineFault.{LineFault}
+use Rattle.tokens.specs.declared.fault.LineFault.{LineFault}
 use Rattle.grammar.specs.Commands.{command_at}
 use Rattle.grammar.specs.Silent.{is_silent}
 use Rattle.shell.specs.declared.session.Session.TheVariants.{Declaring, Running}

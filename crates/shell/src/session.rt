@@ -7,13 +7,14 @@ ghost use Rattle.shell.specs.Replies.{Runs, Reply};
 use crate::declaring::declare;
 use crate::running::answer;
 use byte_map::KeyMap;
-use grammar::{Command, LineFault, is_silent, read_command};
+use grammar::{Command, is_silent, read_command};
 use lease::Lease;
 use listed::{Counted, Listed};
 use reorganise::PreparedPiece;
 use row_write::Prepared;
 use schema_version::{Schema, Step, TableDef};
 use std::alloc::{AllocError, Global};
+use tokens::LineFault;
 use world::World;
 
 /// A lease's length where no line says it, in moments.

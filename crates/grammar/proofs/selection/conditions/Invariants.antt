@@ -1,6 +1,6 @@
 use Rattle.std.proofs.Common.{◌≡◌, drop}
 use Rattle.grammar.specs.Commands.{conditions_of, conditions_within}
-use Rattle.grammar.proofs.Cuts.{onto}
+use Rattle.tokens.proofs.Cuts.{onto}
 use Rattle.grammar.proofs.selection.conditions.Given as goal
 
 abbrev pub invariant-conditions : goal.invariant-conditions
