@@ -9,6 +9,3 @@ mod wanted;
 
 pub use counting::audit;
 pub use report::CheckReport;
-
-#[cfg(test)]
-mod tests;

@@ -18,6 +18,3 @@ pub use fault::PlanFault;
 pub use laws::schedules_are_least;
 pub use least_plan::{LeastPlan, PlanStep, Reorg};
 pub use planning::plan;
-
-#[cfg(test)]
-mod tests;

@@ -18,6 +18,3 @@ pub use operation::Operation;
 pub use printing::{push_hex, push_value, state_word};
 pub use selection::{Condition, Selection};
 pub use silent::is_silent;
-
-#[cfg(test)]
-mod tests;

@@ -10,6 +10,3 @@ pub use fault::{LeaseFault, TimelineFault, TooEarly};
 pub use laws::{two_usable_versions, usable_when};
 pub use lease::Lease;
 pub use timeline::{MAX_LENGTH, MAX_MOMENT, Timeline};
-
-#[cfg(test)]
-mod tests;

@@ -9,6 +9,3 @@ mod working;
 
 pub use fault::WorkFault;
 pub use working::work_off;
-
-#[cfg(test)]
-mod tests;

@@ -5,6 +5,3 @@ mod items;
 mod lines;
 
 pub use lines::plan_text;
-
-#[cfg(test)]
-mod tests;

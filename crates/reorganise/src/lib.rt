@@ -23,6 +23,3 @@ pub use prepared::PreparedPiece;
 pub use preparing::prepare_piece;
 pub use view::PieceView;
 pub use work::{Progress, Span, Work};
-
-#[cfg(test)]
-mod tests;

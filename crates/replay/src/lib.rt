@@ -13,6 +13,3 @@ pub use laws::{
     a_log_says, begins_keep, headline, kept_agrees, leases_keep, openings_keep, pieces_keep,
     publications_keep, transactions_keep,
 };
-
-#[cfg(test)]
-mod tests;

@@ -24,6 +24,3 @@ pub use queries::unanswered_line;
 pub use reorganisations::{begun_line, work_word, worked_line};
 pub use rows::rows_text;
 pub use transactions::{committed_line, rejected_line, unprepared_line};
-
-#[cfg(test)]
-mod tests;

@@ -18,6 +18,3 @@ pub use fault::QueryFault;
 pub use laws::one_refusal;
 pub use path::path_of;
 pub use query::{Cond, Path, Query};
-
-#[cfg(test)]
-mod tests;

@@ -22,6 +22,3 @@ pub use op::{RowOp, RowOps, RowOutcome};
 pub use prepared::Prepared;
 pub use preparing::prepare;
 pub use reads::reads_of;
-
-#[cfg(test)]
-mod tests;

@@ -1,23 +1,9 @@
-//! The script language of the engine, and the program that runs a script.
+//! The program: it runs the script on standard input and writes the replies to standard output.
 #![tactic(auto)]
 
-mod declaring;
-mod forging;
 mod options;
-mod pieces;
-mod planning;
-mod preparing;
-mod publishing;
-mod querying;
-mod reorganising;
-mod run;
-mod running;
-mod session;
-mod status;
-mod transacting;
-mod working;
-mod works;
 
+use script::{run_script, script_status};
 use std::io;
 use std::process::ExitCode;
 
@@ -26,11 +12,11 @@ use std::process::ExitCode;
 fn run_input(rt: &HostRuntime) -> u8 {
     let mut input = rt.stdin();
     let mut output = io::writer(rt);
-    let outcome = run::run_script(rt.alloc(), &mut input, &mut output);
+    let outcome = run_script(rt.alloc(), &mut input, &mut output);
     if let Err(fault) = &outcome {
         let _ = eprintln!(rt; "fault: {fault}");
     }
-    status::script_status(&outcome)
+    script_status(&outcome)
 }
 
 fn main(rt: HostRuntime) -> ExitCode {
@@ -50,6 +36,3 @@ fn main(rt: HostRuntime) -> ExitCode {
         }
     }
 }
-
-#[cfg(test)]
-mod tests;

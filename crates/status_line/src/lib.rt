@@ -6,6 +6,3 @@ mod status;
 mod usable;
 
 pub use status::status_line;
-
-#[cfg(test)]
-mod tests;

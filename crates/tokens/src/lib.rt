@@ -17,6 +17,3 @@ pub use reading::{
 };
 pub use token::{Mark, Token, tokens_of};
 pub use values::value;
-
-#[cfg(test)]
-mod tests;

@@ -9,6 +9,3 @@ mod store;
 pub use fault::SetFault;
 pub use range::Range;
 pub use store::Store;
-
-#[cfg(test)]
-mod tests;

@@ -230,6 +230,7 @@ step_refused f s now p op why store laws view v set is =
       commit_clear (state_of f) now p v.fit set.0,
       sym (laws.outcome (facts_of (state_of f)) now p v.fit.later (due f now p v set.0) v.held.kept) ∙ is,
       same_state f store f.log (refused_same f now p op why store laws v set is) refl,
+      set.0,
     )
 
 pub step_failed : (f : Inside) (s : State) (now : ℕ) (p : PreparedTxn) (fault : SetFault) (as_told : CommitFault) (store : Pairs) (log : Vec Entry Global) → state_of f ≡ s → IsServed f now p → Sets p.expect p.batch f.store (Err fault) store → log.items ≡ f.log.items
@@ -287,4 +288,5 @@ step_done f s now place p store log room entry kept laws view v set done first s
         place = at ∙ ap (λ (es : List Entry). length es + 1) made;
         state = txn_state f now p store log kept v.held wrote.0 second (items ∙ ap (λ (es : List Entry). es ++ kept ∷ []) made) ∙ ap (effect (state_of f)) (sym first);
       },
+      set.0,
     )

@@ -162,4 +162,5 @@ piece_done f s now place ended read store begun log entry law r items ends first
       piece_clear (state_of f) now read current r.set.0,
       ends,
       record { entry = first; place = at; state = piece_state f now read store begun log r.held wrote.0 items ∙ ap (effect (state_of f)) (sym first) },
+      r.set.0,
     )

@@ -6,7 +6,7 @@ use Rattle.audit.specs.Audit.{IsAudit}
 use Rattle.keycode.specs.Order.{bytes_cmp}
 use Rattle.listed.specs.Refusal.{IsRefusal, IsClear}
 use Rattle.lease.specs.Timeline.{IsHonest, IsInForce, granted_at, max_moment, IsLength}
-use Rattle.row_map.specs.Expect.{IsConflict, View}
+use Rattle.row_map.specs.Expect.{IsConflict, Holds, View}
 use Rattle.row_map.specs.Rows.{Bytes}
 use Rattle.schema_version.specs.Declaring.{declared, IsLawful}
 use Rattle.row_write.specs.declared.op.RowOutcome.TheVariants.{Done, Refused}
@@ -99,16 +99,19 @@ CommitCondition old now prepared commit_fault.WrongSchema = version_at (facts_of
 CommitCondition old now prepared (commit_fault.Conflict key) = IsConflict prepared.expect old.pairs key
 CommitCondition old now prepared commit_fault.Memory = ⊥
 
--- now is the moment that counts: a transaction is logged where plain rows accept it, and else refused by its first bad operation
+-- now is the moment that counts: a transaction is logged where plain rows accept it, and else refused by its first bad operation; in both
+-- cases all that it read still holds
 abbrev pub CommitAt : State → ℕ → PreparedTxn → Result Committed CommitFault → State → Type 0
 CommitAt old now prepared (Ok (committed.Done receipt)) new =
     IsClear (CommitCondition old now prepared)
     × (outcome (facts_of old).rows prepared.ops ≡ Done)
     × Appends old now (Txn prepared.lease prepared.ops) receipt new
+    × Holds prepared.expect old.pairs
 CommitAt old now prepared (Ok (committed.Refused op why)) new =
     IsClear (CommitCondition old now prepared)
     × (outcome (facts_of old).rows prepared.ops ≡ Refused op why)
     × (new ≡ old)
+    × Holds prepared.expect old.pairs
 CommitAt old now prepared (Err fault) new = IsRefusal commit_rank (CommitCondition old now prepared) commit_fault.Memory fault × (new ≡ old)
 
 -- a refusal gives the prepared transaction back

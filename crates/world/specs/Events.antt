@@ -9,7 +9,7 @@ use Rattle.world.specs.Calls.{LeaseStep, CommitStep}
 use Rattle.world.specs.Piecework.{PieceStep}
 use Rattle.world.specs.Publishing.{PublishStep}
 use Rattle.world.specs.Querying.{QueryStep}
-use Rattle.world.specs.State.{State}
+use Rattle.world.specs.State.{State, Agrees, IsReplayed}
 
 -- an event answers what its call answers, and leaves what that leaves
 abbrev pub Happens : State → Event → Reply → State → Type 0
@@ -21,8 +21,9 @@ Happens old (event.Begin moment element pieces) (reply.Begin result) new = Begin
 Happens old (event.Piece moment prepared) (reply.Piece result) new = PieceStep old moment prepared result new
 Happens old event reply new = ⊥
 
+-- after each event the pairs are those that the log gives, and the theorem holds
 abbrev pub Runs : State → List Event → List Reply → State → Type 0
 Runs old [] [] new = new ≡ old
-Runs old (event ∷ events) (reply ∷ replies) new = (middle : State) × Happens old event reply middle × Runs middle events replies new
+Runs old (event ∷ events) (reply ∷ replies) new = (middle : State) × Happens old event reply middle × IsReplayed middle × Agrees middle × Runs middle events replies new
 Runs old [] (reply ∷ replies) new = ⊥
 Runs old (event ∷ events) [] new = ⊥

@@ -4,7 +4,7 @@ use Rattle.std.specs.Bool.{Decides}
 use Rattle.std.specs.Option.{option_map}
 use Rattle.lease.specs.Timeline.{max_moment}
 use Rattle.listed.specs.Refusal.{IsRefusal, IsClear}
-use Rattle.row_map.specs.Expect.{IsConflict}
+use Rattle.row_map.specs.Expect.{IsConflict, Holds}
 use Rattle.reorganise.specs.declared.work.Work.{Work}
 use Rattle.reorganise.specs.declared.work.Span.{Span}
 use Rattle.reorganise.specs.declared.work.Progress.{Progress}
@@ -75,12 +75,13 @@ PieceCondition old now read (piece_fault.Moved cursor) = (span : Span) × IsPiec
 PieceCondition old now read (piece_fault.Conflict key) = IsConflict (expect_of read.stretch) old.pairs key
 PieceCondition old now read piece_fault.Memory = ⊥
 
--- now is the moment that counts: the items that were read are written, and the cursor comes on
+-- now is the moment that counts: the items that were read are written, and the cursor comes on; all that was read still holds
 abbrev pub PieceAt : State → ℕ → Reading → Result PieceDone PieceFault → State → Type 0
 PieceAt old now read (Ok done) new =
     IsClear (PieceCondition old now read)
     × Decides done.ended (read.stretch.high ≡ read.high)
     × Appends old now (Piece read.element.number read.piece read.stretch.high) done.receipt new
+    × Holds (expect_of read.stretch) old.pairs
 PieceAt old now read (Err fault) new = IsRefusal piece_rank (PieceCondition old now read) piece_fault.Memory fault × (new ≡ old)
 
 -- a refusal gives the prepared piece back

@@ -8,11 +8,13 @@ use crate::world::World;
 use std::alloc::{AllocError, Global};
 
 impl World {
-    // One event.
+    // One event, and the theorem behind it.
     fn happen(&mut self, alloc: Global, event: Event) -> Reply
         ensures step { Happens self.old event result self.new }
+        ensures replayed { IsReplayed self.new }
+        ensures agrees { Agrees self.new }
     {
-        match event {
+        let reply = match event {
             Event::Lease { moment } => Reply::Lease(self.lease(alloc, moment)),
             Event::Commit { moment, prepared } => Reply::Commit(self.commit(
                 alloc, moment, prepared,
@@ -31,14 +33,16 @@ impl World {
             Event::Piece { moment, prepared } => {
                 Reply::Piece(self.commit_piece(alloc, moment, prepared))
             }
-        }
+        };
+        self.agrees();
+        reply
     }
 
     /// Runs events in their order, from any servers, with any leases and moments, and gives one reply for each.
     ///
     /// Refused for want of memory alone, before the first event; the events come back then, and nothing changed. An
-    /// event that is refused has its refusal as its reply, and the next event runs. After any list of events the pairs
-    /// agree with the rows of the log for every version that a lease may still use.
+    /// event that is refused has its refusal as its reply, and the next event runs. After each event the pairs are those
+    /// that the log gives, and agree with the rows of the log for every version that a lease may still use.
     pub fn run(
         &mut self,
         alloc: Global,

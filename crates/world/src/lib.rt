@@ -27,6 +27,3 @@ pub use fault::{
 };
 pub use replay::{Entry, What};
 pub use world::World;
-
-#[cfg(test)]
-mod tests;

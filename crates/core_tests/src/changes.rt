@@ -1,0 +1,126 @@
+//! An index enters beside a row and is filled. A world is asked by reference: one that is alive across a `?` is dear to prove.
+
+use crate::fixtures::{entering, gives, going, has_row, opened};
+use reorganise::{PreparedPiece, Work, prepare_piece};
+use schema_version::ElementState::{DeleteOnly, Public, WriteOnly};
+use std::alloc::Global;
+use world::{BeginFault, PieceFault, PublishFault, World};
+
+fn is_begin_refused(alloc: Global, world: &mut World, pieces: u32, fault: BeginFault) -> bool {
+    world.begin_reorg(alloc, 30, 2, pieces).err() == Some(fault)
+}
+
+// The refusals stand in their order: a bad count comes before a fill that has begun only where none has.
+fn begins(alloc: Global, world: &mut World) -> bool {
+    is_begin_refused(alloc, world, 0, BeginFault::BadCount)
+        && is_begin_refused(alloc, world, 65, BeginFault::BadCount)
+        && world.begin_reorg(alloc, 30, 2, 1).is_ok()
+        && is_begin_refused(alloc, world, 65, BeginFault::Begun)
+}
+
+// The fill has begun: five entries.
+fn is_filling(alloc: Global, world: &mut World, name: &str) -> bool {
+    has_row(alloc, world)
+        && gives(alloc, world, 10, entering(alloc, name, DeleteOnly), (2, 3))
+        && gives(alloc, world, 20, going(alloc, WriteOnly), (3, 4))
+        && begins(alloc, world)
+}
+
+fn piece(alloc: Global, world: &World) -> Option<PreparedPiece> {
+    match world.read_piece(alloc, 2, 0, 10) {
+        Ok(view) => prepare_piece(alloc, view).ok(),
+        Err(_) => None,
+    }
+}
+
+fn is_worked(alloc: Global, world: &mut World, piece: Option<PreparedPiece>, place: u64) -> bool {
+    match piece {
+        None => false,
+        Some(piece) => match world.commit_piece(alloc, 30, piece) {
+            Ok(done) => done.receipt.place == place && done.ended,
+            Err(_) => false,
+        },
+    }
+}
+
+fn fault_of(alloc: Global, world: &mut World, piece: Option<PreparedPiece>) -> Option<PieceFault> {
+    match piece {
+        None => None,
+        Some(piece) => match world.commit_piece(alloc, 30, piece) {
+            Ok(_) => None,
+            Err((fault, _)) => Some(fault),
+        },
+    }
+}
+
+fn is_unfinished(alloc: Global, world: &mut World) -> bool {
+    match going(alloc, Public) {
+        Ok(step) => {
+            world.publish(alloc, 30, &step).err() == Some(PublishFault::Unfinished { element: 2 })
+        }
+        Err(_) => false,
+    }
+}
+
+fn counts(alloc: Global, world: &World) -> Option<(u64, u64, u64)> {
+    match world.check(alloc) {
+        Ok(report) => Some((report.rows, report.missing, report.extra)),
+        Err(_) => None,
+    }
+}
+
+// Two readings of one piece: the second has moved when the first is committed.
+fn works_once(alloc: Global, world: &mut World) -> bool {
+    let first = piece(alloc, world);
+    let second = piece(alloc, world);
+    is_worked(alloc, world, first, 6)
+        && matches!(
+            fault_of(alloc, world, second),
+            Some(PieceFault::Moved { .. })
+        )
+}
+
+// The fill puts the row's pair, and only then may the index become public.
+fn fills_and_ends(alloc: Global, world: &mut World) -> bool {
+    is_unfinished(alloc, world)
+        && world.progress(2) == Some((Work::Fill, 1, false))
+        && works_once(alloc, world)
+        && world.progress(2) == Some((Work::Fill, 1, true))
+        && gives(alloc, world, 30, going(alloc, Public), (4, 7))
+        && world.progress(2).is_none()
+        && is_begin_refused(alloc, world, 1, BeginFault::NotWanted)
+        && counts(alloc, world) == Some((1, 0, 0))
+}
+
+// A piece of a world whose element 2 is an index of another name, before a fill has begun and after.
+fn refuses_strange(alloc: Global, world: &mut World, other: &World) -> bool {
+    matches!(
+        fault_of(alloc, world, piece(alloc, other)),
+        Some(PieceFault::NotWanted)
+    ) && is_filling(alloc, world, "i")
+        && matches!(
+            fault_of(alloc, world, piece(alloc, other)),
+            Some(PieceFault::WrongElement)
+        )
+        && world.log().len() == 5
+        && fills_and_ends(alloc, world)
+}
+
+fn refuses_other(alloc: Global, other: &World) -> bool {
+    match opened(alloc) {
+        Ok(mut world) => refuses_strange(alloc, &mut world, other),
+        Err(_) => false,
+    }
+}
+
+fn is_index_filled(alloc: Global) -> bool {
+    match opened(alloc) {
+        Ok(mut other) => is_filling(alloc, &mut other, "j") && refuses_other(alloc, &other),
+        Err(_) => false,
+    }
+}
+
+#[test]
+fn fills(rt: HostRuntime) {
+    assert!(rt; is_index_filled(rt.alloc()));
+}

@@ -1,0 +1,11 @@
+//! Each call of the core once, and what no script can ask of it: work under another schema, pieces of another world, a run of events.
+#![tactic(auto)]
+
+#[cfg(test)]
+mod calls;
+#[cfg(test)]
+mod changes;
+#[cfg(test)]
+mod fixtures;
+#[cfg(test)]
+mod versions;

@@ -1,0 +1,13 @@
+//! Tests of the layers over rows, as tables with answers from outside: transactions, queries, audits and reorganisations.
+#![tactic(auto)]
+
+#[cfg(test)]
+mod audits;
+#[cfg(test)]
+mod fixtures;
+#[cfg(test)]
+mod reorganisations;
+#[cfg(test)]
+mod row_queries;
+#[cfg(test)]
+mod row_writes;

@@ -1,0 +1,229 @@
+use crate::fixtures::{
+    A_1, A_3, A_4, EMPTY, FIVE, I_5_1, I_5_3, I_9_4, I_NULL_2, NINE, Pairs, Plain, ROW_1, ROW_2,
+    ROW_3, ROW_4, key, stepped, store, value,
+};
+use Asked::{Between, Equal, Key};
+use Plain::{Int, Null, Text};
+use QueryFault::WrongType;
+use byte_map::{Bytes, KeyMap};
+use keycode::Value;
+use listed::Listed;
+use row_map::Row;
+use row_query::{Cond, Path, Query, QueryFault, answer, path_of};
+use schema_version::ElementState::WriteOnly;
+use schema_version::Schema;
+use std::alloc::{AllocError, Global};
+
+/// A condition as a literal: a key, or the column with its value or its bounds.
+#[derive(Clone, Copy)]
+enum Asked {
+    Key(Plain),
+    Equal(u32, Plain),
+    Between(u32, Option<Plain>, Option<Plain>),
+}
+
+fn bound(alloc: Global, plain: Option<Plain>) -> Result<Option<Value>, AllocError> {
+    match plain {
+        Some(plain) => Ok(Some(value(alloc, plain)?)),
+        None => Ok(None),
+    }
+}
+
+fn condition(alloc: Global, asked: Asked) -> Result<Cond, AllocError> {
+    match asked {
+        Asked::Key(plain) => Ok(Cond::Key(key(alloc, plain)?)),
+        Asked::Equal(column, plain) => Ok(Cond::Equal {
+            column,
+            value: value(alloc, plain)?,
+        }),
+        Asked::Between(column, low, high) => Ok(Cond::Between {
+            column,
+            low: bound(alloc, low)?,
+            high: bound(alloc, high)?,
+        }),
+    }
+}
+
+/// A query of one column of a table.
+fn query(alloc: Global, table: u32, column: u32, asked: &[Asked]) -> Result<Query, AllocError> {
+    let mut conditions = Vec::new(alloc);
+    for asked in asked {
+        conditions.push(condition(alloc, *asked)?)?;
+    }
+    Ok(Query {
+        table,
+        columns: Listed::new(vec![in alloc; column]?),
+        conditions: Listed::new(conditions),
+    })
+}
+
+/// The rows (1) with a = 5, (2), (3) with a = 5 and (4) with a = 9, without the index's pairs.
+const ROWS: Pairs<'static> = &[
+    (ROW_1, EMPTY),
+    (A_1, FIVE),
+    (ROW_2, EMPTY),
+    (ROW_3, EMPTY),
+    (A_3, FIVE),
+    (ROW_4, EMPTY),
+    (A_4, NINE),
+];
+
+/// The same with the index's pairs.
+const INDEXED: Pairs<'static> = &[
+    (ROW_1, EMPTY),
+    (A_1, FIVE),
+    (ROW_2, EMPTY),
+    (ROW_3, EMPTY),
+    (A_3, FIVE),
+    (ROW_4, EMPTY),
+    (A_4, NINE),
+    (I_5_1, EMPTY),
+    (I_NULL_2, EMPTY),
+    (I_5_3, EMPTY),
+    (I_9_4, EMPTY),
+];
+
+/// The key of a row and its value in `a`; 0 in place of what is no number.
+fn content(row: &Row) -> (i64, Option<i64>) {
+    let id = match row.key.as_slice() {
+        [Value::Int(id)] => *id,
+        _ => 0,
+    };
+    match row.cells.as_slice() {
+        [] => (id, None),
+        [(column, Value::Int(a))] if *column == 1 => (id, Some(*a)),
+        _ => (id, Some(0)),
+    }
+}
+
+fn are_rows(rows: &[Row], wanted: &[(i64, Option<i64>)]) -> bool {
+    for (row, wanted) in rows.iter().zip(wanted) {
+        if content(row) != *wanted {
+            return false;
+        }
+    }
+    rows.len() == wanted.len()
+}
+
+/// The path of a query, where it finds these rows.
+fn found(
+    alloc: Global,
+    schema: &Schema,
+    store: &KeyMap<Bytes>,
+    query: &Query,
+    wanted: &[(i64, Option<i64>)],
+) -> Result<Option<Path>, QueryFault> {
+    let rows = answer(alloc, schema, store, query)?;
+    if are_rows(rows.as_slice(), wanted) {
+        Ok(Some(path_of(schema, query)))
+    } else {
+        Ok(None)
+    }
+}
+
+/// The same of a query of one column of a table, where the index is public and has its pairs, or is write-only and has none.
+fn answered(
+    alloc: Global,
+    public: bool,
+    (table, column): (u32, u32),
+    asked: &[Asked],
+    wanted: &[(i64, Option<i64>)],
+) -> Result<Option<Path>, QueryFault> {
+    let query = query(alloc, table, column, asked)?;
+    let store = store(alloc, if public { INDEXED } else { ROWS })?;
+    let schema = stepped(alloc, if public { &[] } else { &[WriteOnly] })?;
+    found(alloc, &schema, &store, &query, wanted)
+}
+
+/// What is asked of the column 1 of table 1, the path and the rows.
+static FOUND: [(&str, bool, &[Asked], Path, &[(i64, Option<i64>)]); 6] = [
+    (
+        "a value",
+        true,
+        &[Equal(1, Int(5))],
+        Path::Index(2),
+        &[(1, Some(5)), (3, Some(5))],
+    ),
+    (
+        "no value",
+        true,
+        &[Equal(1, Null)],
+        Path::Index(2),
+        &[(2, None)],
+    ),
+    (
+        "a key",
+        true,
+        &[Between(1, Some(Int(6)), None), Key(Int(4))],
+        Path::Key,
+        &[(4, Some(9))],
+    ),
+    (
+        "both ends, and no Null",
+        true,
+        &[Between(1, Some(Int(5)), Some(Int(9)))],
+        Path::Index(2),
+        &[(1, Some(5)), (3, Some(5)), (4, Some(9))],
+    ),
+    (
+        "no condition",
+        true,
+        &[],
+        Path::Scan,
+        &[(1, Some(5)), (2, None), (3, Some(5)), (4, Some(9))],
+    ),
+    (
+        "an index that is not read",
+        false,
+        &[Equal(1, Int(5))],
+        Path::Scan,
+        &[(1, Some(5)), (3, Some(5))],
+    ),
+];
+
+#[test]
+fn rows_are_found_by_a_path(rt: HostRuntime) {
+    for (name, public, asked, path, wanted) in &FOUND {
+        let found = answered(rt.alloc(), *public, (1, 1), *asked, *wanted);
+        assert!(rt; found == Ok(Some(*path)), "{name}");
+    }
+}
+
+/// A table and a column, the conditions, and the first fault.
+static REFUSED: [(&str, (u32, u32), &[Asked], QueryFault); 7] = [
+    ("another type", (1, 1), &[Equal(1, Text("x"))], WrongType),
+    (
+        "Null as a bound",
+        (1, 1),
+        &[Between(1, None, Some(Null))],
+        WrongType,
+    ),
+    ("Null as a key", (1, 1), &[Key(Null)], WrongType),
+    ("no table", (2, 7), &[], QueryFault::NoTable),
+    (
+        "a named index",
+        (1, 2),
+        &[Equal(1, Text("x"))],
+        QueryFault::NotPublic { column: 2 },
+    ),
+    (
+        "the first condition",
+        (1, 1),
+        &[Equal(1, Text("x")), Equal(3, Null)],
+        WrongType,
+    ),
+    (
+        "the other way round",
+        (1, 1),
+        &[Equal(3, Null), Equal(1, Text("x"))],
+        QueryFault::NotPublic { column: 3 },
+    ),
+];
+
+#[test]
+fn the_first_fault_of_a_query_is_told(rt: HostRuntime) {
+    for (name, place, asked, fault) in &REFUSED {
+        let refused = answered(rt.alloc(), true, *place, *asked, &[]);
+        assert!(rt; refused == Err(*fault), "{name}");
+    }
+}

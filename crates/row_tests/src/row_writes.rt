@@ -1,0 +1,429 @@
+use crate::fixtures::{
+    A_1, A_2, EMPTY, FIVE, I_5_1, I_6_1, I_NULL_1, Plain, Points, ROW_1, ROW_2, SIX, are_writes,
+    bytes, declared, key, value,
+};
+use Plain::{Bool, Int, Null};
+use PrepareFault::{NoTable, NotPublic, TooManyOps, ViewMismatch, WrongType};
+use RowOutcome::{Done, Refused};
+use Verb::{Delete, Insert, Update};
+use byte_map::{Bytes, KeyMap};
+use keycode::Value;
+use lease::Lease;
+use listed::{Counted, Listed};
+use row_map::{ReadSet, ReadView};
+use row_write::{PrepareFault, Prepared, RowFault, RowOp, RowOutcome, prepare, reads_of};
+use std::alloc::{AllocError, Global};
+
+const LEASE: Lease = Lease {
+    version: 1,
+    granted: 0,
+    until: 10,
+};
+
+/// What an operation does.
+#[derive(Clone, Copy)]
+enum Verb {
+    Insert,
+    Update,
+    Delete,
+}
+
+/// An operation as a literal: what it does, the table, the key and the cells.
+type Op<'a> = (Verb, u32, Plain, &'a [(u32, Plain)]);
+
+fn cells(alloc: Global, plain: &[(u32, Plain)]) -> Result<Listed<(u32, Value)>, AllocError> {
+    let mut cells = Vec::new(alloc);
+    for (column, content) in plain {
+        cells.push((*column, value(alloc, *content)?))?;
+    }
+    Ok(Listed::new(cells))
+}
+
+fn operation(alloc: Global, (verb, table, id, plain): Op) -> Result<RowOp, AllocError> {
+    let key = key(alloc, id)?;
+    let cells = cells(alloc, plain)?;
+    Ok(match verb {
+        Insert => RowOp::Insert { table, key, cells },
+        Update => RowOp::Update { table, key, cells },
+        Delete => RowOp::Delete { table, key },
+    })
+}
+
+fn operations(alloc: Global, plain: &[Op]) -> Result<Vec<RowOp>, AllocError> {
+    let mut ops = Vec::new(alloc);
+    for op in plain {
+        ops.push(operation(alloc, *op)?)?;
+    }
+    Ok(ops)
+}
+
+/// Inserts of so many rows without a value.
+fn inserts(alloc: Global, count: i64) -> Result<Vec<RowOp>, AllocError> {
+    let mut ops = Vec::new(alloc);
+    for id in 0..count {
+        ops.push(operation(alloc, (Insert, 1, Int(id), &[]))?)?;
+    }
+    Ok(ops)
+}
+
+fn point(alloc: Global, value: Option<&[u8]>) -> Result<Option<Bytes>, AllocError> {
+    match value {
+        Some(value) => Ok(Some(bytes(alloc, value)?)),
+        None => Ok(None),
+    }
+}
+
+/// The view in which these keys have these values, or no pair.
+fn view(alloc: Global, points: Points) -> Result<ReadView, AllocError> {
+    let mut view = KeyMap::new(alloc);
+    for (key, value) in points {
+        view.insert(bytes(alloc, key)?, point(alloc, *value)?)?;
+    }
+    Ok(view)
+}
+
+fn read_set(alloc: Global, ops: &[RowOp]) -> Result<ReadSet, AllocError> {
+    let schema = declared(alloc)?;
+    reads_of(alloc, &schema, ops)
+}
+
+/// The view in which these keys have no pair.
+fn bare_view(alloc: Global, reads: &ReadSet) -> Result<ReadView, AllocError> {
+    let mut view = KeyMap::new(alloc);
+    for (key, _) in reads.entries() {
+        view.insert(key.clone()?, None)?;
+    }
+    Ok(view)
+}
+
+fn prepared(alloc: Global, ops: Vec<RowOp>, view: ReadView) -> Result<Prepared, PrepareFault> {
+    let schema = Counted::new(alloc, declared(alloc)?)?;
+    match prepare(alloc, schema, LEASE, Listed::new(ops), view) {
+        Ok(prepared) => Ok(prepared),
+        Err((fault, _)) => Err(fault),
+    }
+}
+
+/// The outcome, where there are just these writes in this order.
+fn outcome_with(prepared: &Prepared, wanted: Points) -> Option<RowOutcome> {
+    if are_writes(prepared.batch().writes(), wanted) {
+        Some(prepared.outcome())
+    } else {
+        None
+    }
+}
+
+/// The same of these operations.
+fn outcome(
+    alloc: Global,
+    plain: &[Op],
+    points: Points,
+    wanted: Points,
+) -> Result<Option<RowOutcome>, PrepareFault> {
+    let ops = operations(alloc, plain)?;
+    let view = view(alloc, points)?;
+    let prepared = prepared(alloc, ops, view)?;
+    Ok(outcome_with(&prepared, wanted))
+}
+
+/// Row 1 is not there, or it has a 5 in `a`, or row 2 is not there either.
+const NO_ROW: Points<'static> = &[(ROW_1, None), (A_1, None)];
+
+const A_ROW: Points<'static> = &[(ROW_1, Some(EMPTY)), (A_1, Some(FIVE))];
+
+const NO_ROWS: Points<'static> = &[(ROW_1, None), (A_1, None), (ROW_2, None), (A_2, None)];
+
+/// Operations, what is read, and what is written.
+static ACCEPTED: [(&str, &[Op], Points, Points); 5] = [
+    (
+        "an insert",
+        &[(Insert, 1, Int(1), &[(1, Int(5))])],
+        NO_ROW,
+        &[
+            (ROW_1, Some(EMPTY)),
+            (A_1, Some(FIVE)),
+            (I_5_1, Some(EMPTY)),
+        ],
+    ),
+    (
+        "an update",
+        &[(Update, 1, Int(1), &[(1, Int(6))])],
+        A_ROW,
+        &[(A_1, Some(SIX)), (I_5_1, None), (I_6_1, Some(EMPTY))],
+    ),
+    (
+        "Null takes the value away",
+        &[(Update, 1, Int(1), &[(1, Null)])],
+        A_ROW,
+        &[(A_1, None), (I_5_1, None), (I_NULL_1, Some(EMPTY))],
+    ),
+    (
+        "a delete",
+        &[(Delete, 1, Int(1), &[])],
+        A_ROW,
+        &[(ROW_1, None), (A_1, None), (I_5_1, None)],
+    ),
+    (
+        "an update of what was inserted",
+        &[
+            (Insert, 1, Int(1), &[(1, Null)]),
+            (Update, 1, Int(1), &[(1, Int(6))]),
+        ],
+        NO_ROW,
+        &[
+            (ROW_1, Some(EMPTY)),
+            (I_NULL_1, Some(EMPTY)),
+            (A_1, Some(SIX)),
+            (I_NULL_1, None),
+            (I_6_1, Some(EMPTY)),
+        ],
+    ),
+];
+
+#[test]
+fn accepted_operations_write_pairs(rt: HostRuntime) {
+    for (name, plain, points, wanted) in &ACCEPTED {
+        let told = outcome(rt.alloc(), *plain, *points, *wanted);
+        assert!(rt; told == Ok(Some(Done)), "{name}");
+    }
+}
+
+const ONE: Op<'static> = (Insert, 1, Int(1), &[]);
+
+const TWO: Op<'static> = (Insert, 1, Int(2), &[]);
+
+/// Operations, what is read, and what is told where nothing is written.
+static TOLD: [(
+    &str,
+    &[Op],
+    Points,
+    Result<Option<RowOutcome>, PrepareFault>,
+); 19] = [
+    ("nothing", &[], &[], Ok(Some(Done))),
+    (
+        "twice",
+        &[ONE, ONE],
+        NO_ROW,
+        Ok(Some(Refused {
+            op: 1,
+            why: RowFault::Duplicate,
+        })),
+    ),
+    (
+        "another between",
+        &[ONE, TWO, ONE],
+        NO_ROWS,
+        Ok(Some(Refused {
+            op: 2,
+            why: RowFault::Duplicate,
+        })),
+    ),
+    (
+        "no row",
+        &[(Delete, 1, Int(1), &[])],
+        NO_ROW,
+        Ok(Some(Refused {
+            op: 0,
+            why: RowFault::NoRow,
+        })),
+    ),
+    (
+        "no row to update",
+        &[ONE, (Update, 1, Int(2), &[])],
+        NO_ROWS,
+        Ok(Some(Refused {
+            op: 1,
+            why: RowFault::NoRow,
+        })),
+    ),
+    (
+        "no table",
+        &[(Insert, 2, Int(1), &[(9, Int(5))])],
+        &[],
+        Err(NoTable),
+    ),
+    (
+        "an index as a column",
+        &[(
+            Insert,
+            1,
+            Null,
+            &[(1, Bool(true)), (2, Int(5)), (9, Int(5))],
+        )],
+        &[],
+        Err(NotPublic { column: 2 }),
+    ),
+    (
+        "a key of Null",
+        &[(Insert, 1, Null, &[])],
+        &[],
+        Err(WrongType),
+    ),
+    (
+        "a key of another type",
+        &[(Insert, 1, Bool(true), &[])],
+        &[],
+        Err(WrongType),
+    ),
+    (
+        "a value of another type",
+        &[(Insert, 1, Int(1), &[(1, Bool(true))])],
+        &[],
+        Err(WrongType),
+    ),
+    (
+        "a column twice",
+        &[(Insert, 1, Int(1), &[(1, Int(5)), (1, Int(5))])],
+        &[],
+        Err(WrongType),
+    ),
+    (
+        "the first operation with a fault",
+        &[ONE, (Insert, 1, Null, &[]), (Insert, 2, Int(1), &[])],
+        &[],
+        Err(WrongType),
+    ),
+    (
+        "a key that is not seen",
+        &[(Delete, 1, Int(1), &[])],
+        &[(ROW_1, None)],
+        Err(ViewMismatch),
+    ),
+    (
+        "a key that is not read",
+        &[(Delete, 1, Int(1), &[])],
+        &[(ROW_1, None), (A_1, None), (ROW_2, None)],
+        Err(ViewMismatch),
+    ),
+    (
+        "an exists pair with a value",
+        &[(Delete, 1, Int(1), &[])],
+        &[(ROW_1, Some(b"\0")), (A_1, None)],
+        Err(ViewMismatch),
+    ),
+    (
+        "a value without its row",
+        &[(Delete, 1, Int(1), &[])],
+        &[(ROW_1, None), (A_1, Some(FIVE))],
+        Err(ViewMismatch),
+    ),
+    (
+        "a Bool",
+        &[(Delete, 1, Int(1), &[])],
+        &[(ROW_1, Some(EMPTY)), (A_1, Some(b"\x04\x01"))],
+        Err(ViewMismatch),
+    ),
+    (
+        "a cut number",
+        &[(Delete, 1, Int(1), &[])],
+        &[(ROW_1, Some(EMPTY)), (A_1, Some(b"\x02\x80"))],
+        Err(ViewMismatch),
+    ),
+    (
+        "a Null",
+        &[(Delete, 1, Int(1), &[])],
+        &[(ROW_1, Some(EMPTY)), (A_1, Some(b"\x01"))],
+        Err(ViewMismatch),
+    ),
+];
+
+#[test]
+fn what_writes_nothing_is_told(rt: HostRuntime) {
+    for (name, plain, points, want) in &TOLD {
+        assert!(rt;
+            outcome(rt.alloc(), *plain, *points, &[]) == *want,
+            "{name}"
+        );
+    }
+}
+
+/// The outcome, and the number of writes.
+fn told(prepared: &Prepared) -> (RowOutcome, usize) {
+    (prepared.outcome(), prepared.batch().writes().len())
+}
+
+/// The same of so many inserts.
+fn inserted(alloc: Global, count: i64) -> Result<(RowOutcome, usize), PrepareFault> {
+    let ops = inserts(alloc, count)?;
+    let reads = read_set(alloc, ops.as_slice())?;
+    let view = bare_view(alloc, &reads)?;
+    let prepared = prepared(alloc, ops, view)?;
+    Ok(told(&prepared))
+}
+
+/// An insert without a value puts its `exists` pair and its pair of the index.
+#[test]
+fn at_most_64_operations(rt: HostRuntime) {
+    assert!(rt; inserted(rt.alloc(), 64) == Ok((Done, 128)));
+    assert!(rt; inserted(rt.alloc(), 65) == Err(TooManyOps));
+}
+
+fn is_one(key: &[Value]) -> bool {
+    match key {
+        [Value::Int(id)] => *id == 1,
+        _ => false,
+    }
+}
+
+/// Whether this is a delete of row 1 alone.
+fn is_delete(ops: &[RowOp]) -> bool {
+    match ops {
+        [RowOp::Delete { table, key }] => *table == 1 && is_one(key.as_slice()),
+        _ => false,
+    }
+}
+
+/// How many keys a transaction expects to find again, whether no range, the number of t in its schema, and whether its
+/// lease, its operations and a copy of them are those of a delete.
+fn parts(prepared: &Prepared) -> (usize, bool, Option<u32>, bool, bool, bool) {
+    let expect = prepared.expect();
+    let copied = match prepared.ops_copied() {
+        Ok(copy) => is_delete(copy.as_slice()),
+        Err(_) => false,
+    };
+    (
+        expect.points.len(),
+        expect.stretch.is_none(),
+        prepared.schema().get().table("t"),
+        *prepared.lease() == LEASE,
+        is_delete(prepared.ops()),
+        copied,
+    )
+}
+
+/// The same of a delete of row 1.
+fn kept(alloc: Global) -> Result<(usize, bool, Option<u32>, bool, bool, bool), PrepareFault> {
+    let ops = operations(alloc, &[(Delete, 1, Int(1), &[])])?;
+    let view = view(alloc, NO_ROW)?;
+    let prepared = prepared(alloc, ops, view)?;
+    Ok(parts(&prepared))
+}
+
+#[test]
+fn what_is_prepared_is_kept(rt: HostRuntime) {
+    assert!(rt; kept(rt.alloc()) == Ok((2, true, Some(1), true, true, true)));
+}
+
+fn are_keys(entries: &[(Bytes, ())], wanted: &[&[u8]]) -> bool {
+    for ((key, _), wanted) in entries.iter().zip(wanted) {
+        if key.as_slice() != *wanted {
+            return false;
+        }
+    }
+    entries.len() == wanted.len()
+}
+
+/// Whether operations read just these keys in this order.
+fn are_read(alloc: Global, plain: &[Op], wanted: &[&[u8]]) -> Result<bool, AllocError> {
+    let ops = operations(alloc, plain)?;
+    let reads = read_set(alloc, ops.as_slice())?;
+    Ok(are_keys(reads.entries(), wanted))
+}
+
+/// The table 2 is not there.
+const READING: &[Op] = &[TWO, ONE, ONE, (Delete, 2, Int(1), &[])];
+
+#[test]
+fn keys_that_are_read(rt: HostRuntime) {
+    assert!(rt; are_read(rt.alloc(), READING, &[ROW_1, A_1, ROW_2, A_2]) == Ok(true));
+}

@@ -1,0 +1,231 @@
+//! Each cell of the table of writes, on rows made by hand. Table 1 has the column 1, and the index 2 over it. The expected bytes are
+//! worked out by hand: a number is 02 and its eight bytes with the highest bit set.
+ghost use Rattle.std.specs.Prelude.{◌≡◌, IfOk, [], ◌∷◌};
+ghost use Rattle.keycode.specs.declared.value.Value.TheVariants.{Int};
+
+use Operation::{Delete, Insert, Update};
+use byte_map::Bytes;
+use element_state::{
+    AnyElement, Element, cell, clear_leaves_none, core_keeps, cover_stays, exact_stays,
+    fill_covers, nothing_grows, subset_stays, two_versions_stay,
+};
+use keycode::{Text, Value};
+use listed::Listed;
+use row_map::{Batch, ColumnType, Row, Write};
+use schema_version::ElementState::{self, Absent, DeleteOnly, Public, WriteOnly};
+use schema_version::{ElementDef, Kind, Way};
+use std::alloc::{AllocError, Global};
+use std::test::*;
+
+/// The pair of the column in row 1: 52, table, key, element.
+const COLUMN: &[u8] = &[0x52, 0, 0, 0, 1, 2, 0x80, 0, 0, 0, 0, 0, 0, 1, 0, 0, 0, 1];
+/// The value 5.
+const FIVE: &[u8] = &[2, 0x80, 0, 0, 0, 0, 0, 0, 5];
+/// The value 6.
+const SIX: &[u8] = &[2, 0x80, 0, 0, 0, 0, 0, 0, 6];
+/// The index's pair of row 1 where the value is 5: 58, element, value, key.
+const AT_FIVE: &[u8] = &[
+    0x58, 0, 0, 0, 2, 2, 0x80, 0, 0, 0, 0, 0, 0, 5, 2, 0x80, 0, 0, 0, 0, 0, 0, 1,
+];
+/// The same where it is 6.
+const AT_SIX: &[u8] = &[
+    0x58, 0, 0, 0, 2, 2, 0x80, 0, 0, 0, 0, 0, 0, 6, 2, 0x80, 0, 0, 0, 0, 0, 0, 1,
+];
+/// The same where there is none: Null is 01.
+const AT_NULL: &[u8] = &[0x58, 0, 0, 0, 2, 1, 2, 0x80, 0, 0, 0, 0, 0, 0, 1];
+
+/// What is done with row 1.
+#[derive(Clone, Copy)]
+enum Operation {
+    Insert,
+    Update,
+    Delete,
+}
+
+/// A key with the value that is put, or none where its pair goes.
+type Wrote = (&'static [u8], Option<&'static [u8]>);
+
+/// An element, its state, an operation, the value of row 1 in the column before it and behind it, and what it writes for the element.
+type Case = (
+    u32,
+    ElementState,
+    Operation,
+    Option<i64>,
+    Option<i64>,
+    &'static [Wrote],
+);
+
+static WRITES: [Case; 32] = [
+    (2, Absent, Insert, None, Some(5), &[]),
+    (2, Absent, Update, Some(5), Some(6), &[]),
+    (2, Absent, Delete, Some(5), None, &[]),
+    (1, Absent, Insert, None, Some(5), &[]),
+    (1, Absent, Update, Some(5), Some(6), &[]),
+    (1, Absent, Delete, Some(5), None, &[]),
+    (2, DeleteOnly, Insert, None, Some(5), &[]),
+    (2, DeleteOnly, Update, Some(5), Some(6), &[(AT_FIVE, None)]),
+    (2, DeleteOnly, Update, Some(5), Some(5), &[]),
+    (2, DeleteOnly, Delete, Some(6), None, &[(AT_SIX, None)]),
+    (2, WriteOnly, Insert, None, Some(5), &[(AT_FIVE, Some(&[]))]),
+    (
+        2,
+        WriteOnly,
+        Update,
+        Some(5),
+        Some(6),
+        &[(AT_FIVE, None), (AT_SIX, Some(&[]))],
+    ),
+    (2, WriteOnly, Update, Some(5), Some(5), &[]),
+    (2, WriteOnly, Delete, Some(6), None, &[(AT_SIX, None)]),
+    (2, Public, Insert, None, Some(5), &[(AT_FIVE, Some(&[]))]),
+    (2, Public, Insert, None, None, &[(AT_NULL, Some(&[]))]),
+    (
+        2,
+        Public,
+        Update,
+        Some(5),
+        Some(6),
+        &[(AT_FIVE, None), (AT_SIX, Some(&[]))],
+    ),
+    (2, Public, Update, Some(5), Some(5), &[]),
+    (2, Public, Delete, Some(6), None, &[(AT_SIX, None)]),
+    (1, DeleteOnly, Insert, None, Some(5), &[]),
+    (1, DeleteOnly, Update, Some(5), Some(6), &[]),
+    (1, DeleteOnly, Delete, Some(6), None, &[(COLUMN, None)]),
+    (1, Public, Insert, None, None, &[]),
+    (1, Public, Insert, None, Some(5), &[(COLUMN, Some(FIVE))]),
+    (1, Public, Update, Some(5), Some(5), &[]),
+    (1, Public, Update, None, None, &[]),
+    (1, Public, Update, Some(5), Some(6), &[(COLUMN, Some(SIX))]),
+    (1, Public, Update, Some(6), None, &[(COLUMN, None)]),
+    (1, Public, Update, None, Some(5), &[(COLUMN, Some(FIVE))]),
+    (1, Public, Delete, Some(5), None, &[(COLUMN, None)]),
+    // A removal of a pair that is not there is noted too.
+    (1, Public, Delete, None, None, &[(COLUMN, None)]),
+    (1, DeleteOnly, Delete, None, None, &[(COLUMN, None)]),
+];
+
+/// The row of a key, with a value in the column 1 or none.
+fn row(alloc: Global, key: i64, a: Option<i64>) -> Result<Row, AllocError>
+    ensures { IfOk result (λ r. r.key ≡ Int key ∷ []) }
+{
+    let key = Listed::new(vec![in alloc; Value::Int(key)]?);
+    let cells = match a {
+        None => Vec::new(alloc),
+        Some(a) => vec![in alloc; (1, Value::Int(a))]?,
+    };
+    Ok(Row {
+        key,
+        cells: Listed::new(cells),
+    })
+}
+
+fn kind(alloc: Global, number: u32) -> Result<Kind, AllocError> {
+    if number == 1 {
+        return Ok(Kind::Optional(ColumnType::Int));
+    }
+    Ok(Kind::Index(Listed::new(vec![in alloc; 1]?)))
+}
+
+/// The column 1, or else the index of this number.
+fn element(alloc: Global, number: u32) -> Result<AnyElement, AllocError> {
+    let kind = kind(alloc, number)?;
+    AnyElement::of(&ElementDef {
+        number,
+        table: 1,
+        name: Text::new(String::new(alloc)),
+        kind,
+        state: Public,
+        way: Way::Adding,
+    })
+}
+
+fn is_value(value: &Option<Bytes>, want: Option<&[u8]>) -> bool {
+    match (value, want) {
+        (Some(value), Some(want)) => value.as_slice() == want,
+        (None, None) => true,
+        _ => false,
+    }
+}
+
+fn are_writes(writes: &[Write], want: &[Wrote]) -> bool {
+    match (writes, want) {
+        ([], []) => true,
+        ([first, rest @ ..], [wanted, others @ ..]) => {
+            first.0.as_slice() == wanted.0
+                && is_value(&first.1, wanted.1)
+                && are_writes(rest, others)
+        }
+        _ => false,
+    }
+}
+
+fn writes(alloc: Global, element: &AnyElement, case: &Case, old: &Row, new: &Row) -> bool
+    requires { old.now.key ≡ new.now.key }
+{
+    let mut batch = Batch::new(alloc);
+    let noted = match case.2 {
+        Insert => element.on_insert(alloc, case.1, new, &mut batch),
+        Update => element.on_update(alloc, case.1, old, new, &mut batch),
+        Delete => element.on_delete(alloc, case.1, old, &mut batch),
+    };
+    noted.is_ok() && are_writes(batch.writes(), case.5)
+}
+
+fn writes_of_rows(alloc: Global, element: &AnyElement, case: &Case) -> Result<bool, AllocError> {
+    let old = row(alloc, 1, case.3)?;
+    let new = row(alloc, 1, case.4)?;
+    Ok(writes(alloc, element, case, &old, &new))
+}
+
+fn holds(alloc: Global, case: &Case) -> Result<bool, AllocError> {
+    let element = element(alloc, case.0)?;
+    writes_of_rows(alloc, &element, case)
+}
+
+#[test]
+fn operations(rt: HostRuntime) {
+    for row in 0..WRITES.len() {
+        assert!(rt; holds(rt.alloc(), &WRITES[row]) == Ok(true), "row {row}");
+    }
+}
+
+fn are_lawful(element: &AnyElement) {
+    subset_stays(element);
+    exact_stays(element);
+    nothing_grows(element);
+    cover_stays(element);
+    two_versions_stay(element);
+    fill_covers(element);
+    clear_leaves_none(element);
+    core_keeps();
+}
+
+fn has_cells(row: &Row) -> bool {
+    matches!(cell(row, 1), Some(Value::Int(5))) && cell(row, 2).is_none()
+}
+
+fn fills(alloc: Global, element: &AnyElement, row: &Row) -> bool {
+    match element.fill_of(alloc, row) {
+        Ok(Some(pair)) => {
+            element.number() == 2 && pair.0.as_slice() == AT_FIVE && pair.1.is_empty()
+        }
+        Ok(None) => element.number() == 1,
+        Err(_) => false,
+    }
+}
+
+/// The element's own number is told, a row's cells are found, and only an index is filled.
+fn reads(alloc: Global, number: u32) -> Result<bool, AllocError> {
+    let element = element(alloc, number)?;
+    are_lawful(&element);
+    let row = row(alloc, 1, Some(5))?;
+    Ok(element.number() == number && has_cells(&row) && fills(alloc, &element, &row))
+}
+
+#[test]
+fn fills_and_cells(rt: HostRuntime) {
+    for number in [1, 2] {
+        assert!(rt; reads(rt.alloc(), number) == Ok(true), "element {number}");
+    }
+}

@@ -1,0 +1,11 @@
+//! Tests of versions of the schema, of plans and of the pairs of elements, on values worked out by hand.
+#![tactic(auto)]
+
+#[cfg(test)]
+mod elements;
+#[cfg(test)]
+mod making;
+#[cfg(test)]
+mod plans;
+#[cfg(test)]
+mod versions;

@@ -1,0 +1,151 @@
+//! Tables, versions and steps, made from plain literals.
+use keycode::Text;
+use listed::Listed;
+use row_map::ColumnType;
+use schema_version::ElementState::{self, DeleteOnly};
+use schema_version::{
+    Columns, DeclareFault, Kind, Move, NewElement, Schema, Step, StepFault, TableDef,
+};
+use std::alloc::{AllocError, Global};
+
+/// A move of the table 1: an element goes to a state, a column of integers enters, or an index over these columns.
+#[derive(Clone, Copy)]
+pub enum Plain {
+    Go(u32, ElementState),
+    Column(&'static str),
+    Index(&'static str, &'static [u32], ElementState),
+}
+
+/// Steps in turn.
+pub type Path = &'static [&'static [Plain]];
+
+/// Tables of these names, each with the key z, these columns of integers, and these indexes, all over the same columns. Each byte
+/// is a name.
+pub type PlainTables = (&'static [u8], &'static [u8], &'static [u8], &'static [u8]);
+
+/// The columns 1 to 5, and the index 6 over the first of them.
+pub const TABLE_T: PlainTables = (b"t", b"abcde", b"i", b"a");
+
+/// A table with as many columns and indexes as there may be.
+pub const FULL: PlainTables = (
+    b"t",
+    b"ABCDEFGHIJKLMNOPQRSTUVWXYZabcdef",
+    b"hijklmnopqrstuvw",
+    b"A",
+);
+
+pub fn text(alloc: Global, name: &str) -> Result<Text, AllocError> {
+    Ok(Text::new(String::from_str(alloc, name)?))
+}
+
+fn letter(alloc: Global, byte: u8) -> Result<Text, AllocError> {
+    match Text::from_utf8(vec![in alloc; byte]?) {
+        Some(name) => Ok(name),
+        None => text(alloc, ""),
+    }
+}
+
+pub fn texts(alloc: Global, names: &[u8]) -> Result<Listed<Text>, AllocError> {
+    let mut all = Vec::new(alloc);
+    for name in names {
+        all.push(letter(alloc, *name)?)?;
+    }
+    Ok(Listed::new(all))
+}
+
+fn ints(alloc: Global, names: &[u8]) -> Result<Columns, AllocError> {
+    let mut columns = Vec::new(alloc);
+    for name in names {
+        columns.push((letter(alloc, *name)?, ColumnType::Int))?;
+    }
+    Ok(Listed::new(columns))
+}
+
+fn index(alloc: Global, name: u8, over: &[u8]) -> Result<(Text, Listed<Text>), AllocError> {
+    let name = letter(alloc, name)?;
+    Ok((name, texts(alloc, over)?))
+}
+
+fn indexes(
+    alloc: Global,
+    names: &[u8],
+    over: &[u8],
+) -> Result<Listed<(Text, Listed<Text>)>, AllocError> {
+    let mut all = Vec::new(alloc);
+    for name in names {
+        all.push(index(alloc, *name, over)?)?;
+    }
+    Ok(Listed::new(all))
+}
+
+fn table(alloc: Global, name: u8, plain: &PlainTables) -> Result<TableDef, AllocError> {
+    Ok(TableDef {
+        name: letter(alloc, name)?,
+        key: ints(alloc, b"z")?,
+        columns: ints(alloc, plain.1)?,
+        indexes: indexes(alloc, plain.2, plain.3)?,
+    })
+}
+
+fn tables(alloc: Global, plain: &PlainTables) -> Result<Vec<TableDef>, AllocError> {
+    let mut all = Vec::new(alloc);
+    for name in plain.0 {
+        all.push(table(alloc, *name, plain)?)?;
+    }
+    Ok(all)
+}
+
+pub fn declared(alloc: Global, plain: &PlainTables) -> Result<Schema, DeclareFault> {
+    Schema::declared(alloc, &tables(alloc, plain)?)
+}
+
+fn enters(alloc: Global, name: &str, kind: Kind, to: ElementState) -> Result<Move, AllocError> {
+    let fresh = NewElement {
+        table: 1,
+        name: text(alloc, name)?,
+        kind,
+    };
+    Ok(Move::Enter { fresh, to })
+}
+
+fn made(alloc: Global, plain: Plain) -> Result<Move, AllocError> {
+    match plain {
+        Plain::Go(element, to) => Ok(Move::Go { element, to }),
+        Plain::Column(name) => enters(alloc, name, Kind::Optional(ColumnType::Int), DeleteOnly),
+        Plain::Index(name, columns, to) => {
+            let columns = Listed::new(Vec::from_slice(alloc, columns)?);
+            enters(alloc, name, Kind::Index(columns), to)
+        }
+    }
+}
+
+pub fn step(alloc: Global, plain: &[Plain]) -> Result<Step, AllocError> {
+    let mut moves = Vec::new(alloc);
+    for a in plain {
+        moves.push(made(alloc, *a)?)?;
+    }
+    Ok(Listed::new(moves))
+}
+
+fn after(alloc: Global, schema: &Schema, plain: &[Plain]) -> Result<Schema, StepFault> {
+    schema.apply(&step(alloc, plain)?)
+}
+
+/// The version after these steps, and an empty one.
+fn reached(alloc: Global, schema: &Schema, path: &[&'static [Plain]]) -> Result<Schema, StepFault> {
+    match path {
+        [] => after(alloc, schema, &[]),
+        [first, rest @ ..] => match after(alloc, schema, *first) {
+            Ok(next) => reached(alloc, &next, rest),
+            Err(fault) => Err(fault),
+        },
+    }
+}
+
+/// The version of these tables after these steps. That the tables may be declared is tested by itself.
+pub fn version(alloc: Global, plain: &PlainTables, path: Path) -> Result<Schema, StepFault> {
+    match declared(alloc, plain) {
+        Ok(schema) => reached(alloc, &schema, path),
+        Err(_) => Err(StepFault::Memory),
+    }
+}

@@ -1,0 +1,123 @@
+//! A script from its bytes to the bytes of its replies.
+ghost use Rattle.std.specs.Prelude.{◌≡◌, ◌++◌, ◌+◌, ◌<◌, ◌≤◌, List, ℕ, length, IfOk, IfErr, OnOk, OnErr};
+ghost use Rattle.std.specs.Io.KnownBytes.{Keeps, Appends};
+ghost use Rattle.script.specs.Script.{limit, Answered, Ran, IsRead, AppendsFront};
+
+use session::Session;
+use std::alloc::Global;
+use std::io::{Read, Write};
+use thiserror::Error;
+
+/// What came of a script that was run to its end.
+#[derive(Clone, Copy, Debug, PartialEq, Eq)]
+pub struct Summary {
+    /// How many lines it has, with blank lines and remarks.
+    pub lines: u64,
+    /// How many of them are bad.
+    pub bad: u64,
+}
+
+/// Why a script was not run to its end.
+#[derive(Clone, Copy, Debug, Drop, PartialEq, Eq, Error)]
+pub enum ScriptFault {
+    /// The reader failed; nothing was written.
+    #[error("read")]
+    Read,
+    /// The script has more than 16,777,216 bytes; nothing was written.
+    #[error("too long")]
+    TooLong,
+    /// The script is no UTF-8; nothing was written.
+    #[error("not utf-8")]
+    NotUtf8,
+    /// The writer failed or took nothing; a front of the replies was written.
+    #[error("write")]
+    Write,
+    /// Memory ran out; a front of the replies was written.
+    #[error("memory")]
+    Memory,
+}
+
+// The longest script, in bytes.
+const LIMIT: usize = 16_777_216;
+
+/// All that is left to read, or the first fault. That a reader failed is its own to say, and no contract sees it: that
+/// `Read` isn't answered at random is shown by the tests.
+fn read_all<R: Read>(alloc: Global, reader: &mut R) -> Result<Vec<u8>, ScriptFault>
+    ensures read { IsRead (R.remaining reader.old) result }
+    ensures bounded { IfOk result (λ bytes. length bytes.items ≤ limit) }
+{
+    let mut bytes = Vec::new(alloc);
+    let mut chunk = [0u8; 4096];
+    for _ in 0..=LIMIT {
+        let Ok(count) = reader.read(&mut chunk) else {
+            return Err(ScriptFault::Read);
+        };
+        if count == 0 {
+            return Ok(bytes);
+        }
+        if LIMIT - bytes.len() < count {
+            return Err(ScriptFault::TooLong);
+        }
+        if bytes.extend_from_slice(&chunk[..count]).is_err() {
+            return Err(ScriptFault::Memory);
+        }
+    }
+    Err(ScriptFault::TooLong)
+}
+
+/// Writes all of the text. At an `Err` a front of it went out. That a writer failed is its own to say, as with a reader.
+fn write_all<W: Write>(writer: &mut W, text: &[u8]) -> Result<(), ScriptFault>
+    ensures ok { OnOk result (Appends (W.contents writer.old) (W.contents writer.new) text.now) }
+    ensures err { IfErr result (λ fault. fault ≡ ScriptFault.Write) }
+    ensures cut { OnErr result (AppendsFront (W.contents writer.old) (W.contents writer.new) text.now) }
+{
+    let mut rest = text;
+    while !rest.is_empty() {
+        let Ok(count) = writer.write(rest) else {
+            return Err(ScriptFault::Write);
+        };
+        if count == 0 {
+            return Err(ScriptFault::Write);
+        }
+        rest = rest.split_at(count).1;
+    }
+    Ok(())
+}
+
+/// Answers each line, and writes each answer before the next line is read.
+fn answer_lines<W: Write>(alloc: Global, text: &str, writer: &mut W) -> Result<Summary, ScriptFault>
+    requires { length text.now ≤ limit }
+    ensures { (out : List ℕ) × Appends (W.contents writer.old) (W.contents writer.new) out × Answered text.now out result }
+{
+    let mut session = Session::new(alloc);
+    let mut lines = 0u64;
+    let mut bad = 0u64;
+    for line in text.lines() {
+        let Ok(answer) = session.reply_to(alloc, line) else {
+            return Err(ScriptFault::Memory);
+        };
+        write_all(writer, answer.text.as_str().as_bytes())?;
+        lines += 1;
+        bad += u64::from(answer.is_bad);
+    }
+    Ok(Summary { lines, bad })
+}
+
+/// Reads a script to its end, and writes the reply to each line when the line is done.
+///
+/// Refused where the reader fails (`Read`), and then where the script is too long (`TooLong`) or no UTF-8 (`NotUtf8`):
+/// nothing is written. Refused later where the writer fails (`Write`) or memory runs out (`Memory`): what was written
+/// is a front of the replies.
+pub fn run_script<R: Read, W: Write>(
+    alloc: Global,
+    reader: &mut R,
+    writer: &mut W,
+) -> Result<Summary, ScriptFault>
+    ensures { Ran (R.remaining reader.old) (W.contents writer.old) (W.contents writer.new) result }
+{
+    let bytes = read_all(alloc, reader)?;
+    let Ok(text) = std::str::from_utf8(bytes.as_slice()) else {
+        return Err(ScriptFault::NotUtf8);
+    };
+    answer_lines(alloc, text, writer)
+}

@@ -1,0 +1,19 @@
+//! The exit status of the program.
+ghost use Rattle.std.specs.Prelude.{◌≡◌};
+ghost use Rattle.script.specs.Status.{status_of};
+
+use crate::run::{ScriptFault, Summary};
+
+/// The exit status after a script: 0 where every line was good, 1 where a line was bad, 3 where the script could not be
+/// read, 4 where a reply could not be written, 5 for want of memory.
+pub fn script_status(outcome: &Result<Summary, ScriptFault>) -> u8
+    ensures { result ≡ status_of outcome.now }
+{
+    match outcome {
+        Ok(summary) if summary.bad == 0 => 0,
+        Ok(_) => 1,
+        Err(ScriptFault::Read | ScriptFault::TooLong | ScriptFault::NotUtf8) => 3,
+        Err(ScriptFault::Write) => 4,
+        Err(ScriptFault::Memory) => 5,
+    }
+}

@@ -1,0 +1,9 @@
+pub mod Indexing
+pub mod Transactions
+pub mod Pairs
+pub mod UnderLease
+pub mod Spent
+pub mod Queries
+pub mod Publications
+pub mod Elements
+pub mod Plans

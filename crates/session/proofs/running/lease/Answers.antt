@@ -1,0 +1,28 @@
+use Rattle.std.proofs.Common.{Ok, Err, ap, ◌∙◌}
+use Rattle.std.specs.FinMap as map
+use Rattle.session.specs.declared.session.Session.{Session}
+use Rattle.session.specs.declared.session.Session.TheVariants.{Running}
+use Rattle.session.proofs.running.lease.Goals as goal
+
+pub returns-in_ok-insert-in-Ok : goal.returns-in_ok-insert-in-Ok
+returns-in_ok-insert-in-Ok c = (
+  Ok c.in-Ok.grant,
+  c.lease.new.self,
+  c.in-Ok.ensures.step,
+  (
+    (c.reply-answer.ensures.text ∙ c.in_ok-lease_line-in-Ok.ensures, c.reply-answer.ensures.good),
+    ap (λ m. let s : Session = Running (record { world = c.lease.new.self; leases = m; works = c.args.opened.works; plan = c.args.opened.plan }) in s)
+        (c.in_ok-insert-in-Ok.ensures.ok ∙ ap (λ k. map.insert c.args.opened.leases k (record { lease = c.in-Ok.grant.lease; schema = c.in-Ok.grant.schema })) c.in_ok-name.ensures),
+  ),
+)
+
+pub returns-in_ok-grant_refusal-in-Err : goal.returns-in_ok-grant_refusal-in-Err
+returns-in_ok-grant_refusal-in-Err c = (
+  Err c.in-Err.fault,
+  c.lease.new.self,
+  c.in-Err.ensures.step,
+  (
+    (c.reply-answer-in-Err.ensures.text ∙ c.in_ok-grant_refusal-in-Err.ensures, c.reply-answer-in-Err.ensures.good),
+    ap (λ w. let s : Session = Running (record { world = w; leases = c.args.opened.leases; works = c.args.opened.works; plan = c.args.opened.plan }) in s) c.in-Err.ensures.step.1,
+  ),
+)

@@ -1,0 +1,10 @@
+pub mod Session
+pub mod Declaring
+pub mod Preparing
+pub mod Transacting
+pub mod Querying
+pub mod Forging
+pub mod Pieces
+pub mod Planning
+pub mod Running
+pub mod Replies

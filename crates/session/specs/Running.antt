@@ -1,0 +1,194 @@
+-- What the lines behind `open` do.
+use Rattle.std.specs.Prelude.{◌≡◌, ℕ, List, [], ◌∷◌, length, Option, Some, None, Result, Ok, Err, Bool, false, ◌⊎◌, ◌++◌, codes}
+use Rattle.std.specs.FinMap as map
+use Rattle.std.specs.Fmt.{decimal}
+use Rattle.audit.specs.declared.report.CheckReport.{CheckReport}
+use Rattle.grammar.specs.declared.command.Command.{Command}
+use Rattle.grammar.specs.declared.command.Command.TheVariants as command
+use Rattle.grammar.specs.declared.moving.Moving.{Moving}
+use Rattle.grammar.specs.declared.operation.Operation.{Operation}
+use Rattle.grammar.specs.declared.selection.Selection.{Selection}
+use Rattle.row_write.specs.Made.{PreparedTxn}
+use Rattle.world.specs.Calls.{LeaseStep, CommitStep, IsCheck}
+use Rattle.change_plan.specs.declared.change.Change.{Change}
+use Rattle.change_plan.specs.declared.fault.PlanFault.{PlanFault}
+use Rattle.change_plan.specs.declared.least_plan.LeastPlan.{LeastPlan}
+use Rattle.piece_work.specs.declared.fault.WorkFault.{WorkFault}
+use Rattle.piece_work.specs.Working.{WorkStep}
+use Rattle.reorganise.specs.declared.reading.Reading.{Reading}
+use Rattle.schema_version.specs.declared.step.Move.{Move}
+use Rattle.world.specs.Beginning.{BeginStep}
+use Rattle.world.specs.Piecework.{PieceStep}
+use Rattle.world.specs.Publishing.{PublishStep}
+use Rattle.world.specs.State.{State, facts_of}
+use Rattle.world.specs.declared.entry.Grant.{Grant}
+use Rattle.world.specs.declared.entry.PieceDone.{PieceDone}
+use Rattle.world.specs.declared.entry.Receipt.{Receipt}
+use Rattle.world.specs.declared.committed.Committed.{Committed}
+use Rattle.world.specs.declared.fault.BeginFault.{BeginFault}
+use Rattle.world.specs.declared.fault.CommitFault.{CommitFault}
+use Rattle.world.specs.declared.fault.GrantFault.{GrantFault}
+use Rattle.world.specs.declared.fault.PieceFault.{PieceFault}
+use Rattle.world.specs.declared.fault.PublishFault.{PublishFault}
+use Rattle.session.specs.declared.pieces.PieceRead.{PieceRead}
+use Rattle.session.specs.declared.pieces.PieceRead.TheVariants as pieces
+use Rattle.session.specs.declared.session.Held.{Held}
+use Rattle.session.specs.declared.session.PreparedWork.{PreparedWork}
+use Rattle.session.specs.declared.session.PreparedWork.TheVariants.{Txn, Piece}
+use Rattle.session.specs.declared.session.Opened.{Opened}
+use Rattle.session.specs.declared.session.Session.TheVariants.{Running}
+use Rattle.session.specs.declared.preparing.Preparation.{Preparation}
+use Rattle.session.specs.declared.preparing.Preparation.TheVariants.{Ready, Unprepared, OutOfMemory}
+use Rattle.session.specs.declared.transacting.Transacted.{Transacted}
+use Rattle.session.specs.Session.{Session}
+use Rattle.session.specs.Declaring.{IsReply, IsBad}
+use Rattle.naming.specs.Names.{resolved_all, asked, numbered}
+use Rattle.replies.specs.Texts.{refused, grant_name, leased, pairs_text, check_text}
+use Rattle.session.specs.Preparing.{Prepares, prepared_text}
+use Rattle.session.specs.Forging.{Forged}
+use Rattle.naming.specs.Changes.{changes_of}
+use Rattle.naming.specs.Moves.{step_of}
+use Rattle.replies.specs.Pieces.{piece_name, piece_text}
+use Rattle.session.specs.Pieces.{ReadsPiece, read_text}
+use Rattle.replies.specs.Publications.{published_text}
+use Rattle.replies.specs.Plans.{planned_text}
+use Rattle.session.specs.Planning.{IsPlanOf, kept_plan, left_of}
+use Rattle.replies.specs.Reorganisations.{begun_text, worked_text}
+use Rattle.status_line.specs.Status.{IsStatus}
+use Rattle.session.specs.Querying.{Queried}
+use Rattle.replies.specs.Transactions.{committed_text, commit_name}
+use Rattle.session.specs.Transacting.{Transacts, transacted_text}
+
+-- a refused lease leaves the server's old one
+abbrev pub Leased : Opened → List ℕ → Result Grant GrantFault → State → List ℕ → Bool → Session → Type 0
+Leased old server (Ok given) world reply bad new =
+    IsReply (leased given.lease) reply bad × (new ≡ Running (record old { world = world; leases = map.insert old.leases server (record { lease = given.lease; schema = given.schema }) }))
+Leased old server (Err fault) world reply bad new = IsReply (refused (grant_name fault)) reply bad × (new ≡ Running old)
+
+-- a transaction under the server's lease, where it has one
+abbrev pub TxnUnder : Opened → Option Held → ℕ → List Operation → List ℕ → Bool → Session → Type 0
+TxnUnder old None moment operations reply bad new = IsReply (refused (codes "NoServer")) reply bad × (new ≡ Running old)
+TxnUnder old (Some held) moment operations reply bad new =
+    (how : Transacted) × (world : State) × Transacts old.world held moment (resolved_all held.schema operations) how world
+    × IsReply (transacted_text how) reply bad × (new ≡ Running (record old { world = world }))
+
+-- this stands under the name, in place of what stood there
+abbrev pub put_back : Opened → List ℕ → PreparedWork → Opened
+put_back old work prepared = record old { works = map.insert old.works work prepared }
+
+-- what was prepared is kept under its name
+abbrev pub works_after : Opened → List ℕ → Preparation → Opened
+works_after old work (Ready prepared) = put_back old work (Txn prepared)
+works_after old work (Unprepared fault) = old
+works_after old work OutOfMemory = old
+
+-- a preparation under the server's lease, where it has one
+abbrev pub PrepareUnder : Opened → Option Held → List ℕ → List Operation → List ℕ → Bool → Session → Type 0
+PrepareUnder old None work operations reply bad new = IsReply (refused (codes "NoServer")) reply bad × (new ≡ Running old)
+PrepareUnder old (Some held) work operations reply bad new =
+    (how : Preparation) × Prepares old.world held (resolved_all held.schema operations) how
+    × IsReply (prepared_text how) reply bad × (new ≡ Running (works_after old work how))
+
+-- what stands behind a work that is spent
+abbrev pub taken : Opened → List ℕ → Opened
+taken old work = record old { works = map.remove old.works work }
+
+-- a transaction is spent where the world accepts it or its rows refuse it, and else stays
+abbrev pub TxnLeaves : Opened → List ℕ → Result Committed (CommitFault × PreparedTxn) → State → List ℕ → Bool → Session → Type 0
+TxnLeaves old work (Ok done) world reply bad new = IsReply (committed_text done) reply bad × (new ≡ Running (record (taken old work) { world = world }))
+TxnLeaves old work (Err refusal) world reply bad new = IsReply (refused (commit_name refusal.0)) reply bad × (new ≡ Running old)
+
+abbrev pub TxnEnds : Opened → List ℕ → ℕ → PreparedTxn → List ℕ → Bool → Session → Type 0
+TxnEnds old work moment prepared reply bad new =
+    (result : Result Committed (CommitFault × PreparedTxn)) × (world : State) × CommitStep old.world moment prepared result world × TxnLeaves old work result world reply bad new
+
+-- a piece is spent where the world accepts it, and else stays
+abbrev pub PieceLeaves : Opened → List ℕ → Result PieceDone (PieceFault × Reading) → State → List ℕ → Bool → Session → Type 0
+PieceLeaves old work (Ok done) world reply bad new = IsReply (piece_text done) reply bad × (new ≡ Running (record (taken old work) { world = world }))
+PieceLeaves old work (Err refusal) world reply bad new = IsReply (refused (piece_name refusal.0)) reply bad × (new ≡ Running old)
+
+abbrev pub PieceEnds : Opened → List ℕ → ℕ → Reading → List ℕ → Bool → Session → Type 0
+PieceEnds old work moment read reply bad new =
+    (result : Result PieceDone (PieceFault × Reading)) × (world : State) × PieceStep old.world moment read result world × PieceLeaves old work result world reply bad new
+
+-- the commit of what was prepared under the name
+abbrev pub CommitOf : Opened → Option PreparedWork → List ℕ → ℕ → List ℕ → Bool → Session → Type 0
+CommitOf old None work moment reply bad new = IsReply (refused (codes "NoWork")) reply bad × (new ≡ Running old)
+CommitOf old (Some (Txn prepared)) work moment reply bad new = TxnEnds old work moment prepared reply bad new
+CommitOf old (Some (Piece read)) work moment reply bad new = PieceEnds old work moment read reply bad new
+
+-- a piece of an element of the newest version is read and prepared, and is then kept under its name
+abbrev pub piece_kept : Opened → List ℕ → PieceRead → Opened
+piece_kept old work (pieces.Ready read) = put_back old work (Piece read)
+piece_kept old work (pieces.Unread fault) = old
+piece_kept old work pieces.OutOfMemory = old
+
+abbrev pub PieceUnder : Opened → List ℕ → ℕ → ℕ → ℕ → List ℕ → Bool → Session → Type 0
+PieceUnder old work number piece limit reply bad new =
+    (how : PieceRead) × ReadsPiece old.world number piece limit how × IsReply (read_text how) reply bad × (new ≡ Running (piece_kept old work how))
+
+-- a reorganisation of an element of the newest version begins
+abbrev pub Begun : Opened → ℕ → ℕ → ℕ → List ℕ → Bool → Session → Type 0
+Begun old number moment pieces reply bad new =
+    (result : Result Receipt BeginFault) × (world : State) × BeginStep old.world moment number pieces result world
+    × IsReply (begun_text (facts_of old.world).newest number pieces result) reply bad × (new ≡ Running (record old { world = world }))
+
+-- a begun reorganisation of an element of the newest version is worked off
+abbrev pub Worked : Opened → ℕ → ℕ → ℕ → List ℕ → Bool → Session → Type 0
+Worked old number moment limit reply bad new =
+    (result : Result ℕ WorkFault) × (world : State) × WorkStep old.world number moment limit result world × IsReply (worked_text result) reply bad × (new ≡ Running (record old { world = world }))
+
+-- the least plan of these changes, from the newest version
+abbrev pub Planned : Opened → List Change → List ℕ → Bool → Session → Type 0
+Planned old changes reply bad new =
+    (result : Result LeastPlan PlanFault) × IsPlanOf (facts_of old.world).newest changes result × (reply ≡ planned_text (facts_of old.world).newest result) × (bad ≡ false)
+    × (new ≡ Running (record old { plan = kept_plan old.plan result }))
+
+-- the first step that is left of the kept plan is published
+abbrev pub NextOf : Opened → List (List Move) → ℕ → List ℕ → Bool → Session → Type 0
+NextOf old [] moment reply bad new = IsReply (refused (codes "NoPlan")) reply bad × (new ≡ Running old)
+NextOf old (step ∷ rest) moment reply bad new =
+    (result : Result (ℕ × Receipt) PublishFault) × (world : State) × PublishStep old.world moment step result world × IsReply (published_text result) reply bad
+    × (new ≡ Running (record old { world = world; plan = left_of old.plan result }))
+
+-- how the world stands
+abbrev pub Told : Opened → List ℕ → Bool → Type 0
+Told old reply bad = (text : List ℕ) × IsStatus old.world text × IsReply text reply bad
+
+-- a query under the server's lease, where it has one
+abbrev pub QueryUnder : Opened → Option Held → ℕ → Selection → List ℕ → Bool → Session → Type 0
+QueryUnder old None moment selection reply bad new = IsReply (refused (codes "NoServer")) reply bad × (new ≡ Running old)
+QueryUnder old (Some held) moment selection reply bad new = Queried old.world held moment (asked held.schema selection) reply × (bad ≡ false) × (new ≡ Running old)
+
+-- a step is published, by the names of the newest version
+abbrev pub Published : Opened → ℕ → List Moving → List ℕ → Bool → Session → Type 0
+Published old moment moves reply bad new =
+    (result : Result (ℕ × Receipt) PublishFault) × (world : State) × PublishStep old.world moment (step_of (facts_of old.world).newest moves) result world
+    × IsReply (published_text result) reply bad × (new ≡ Running (record old { world = world }))
+
+abbrev pub Checked : Opened → List ℕ → Bool → Type 0
+Checked old reply bad = ((report : CheckReport) × IsCheck old.world report × IsReply (check_text report) reply bad) ⊎ IsReply (refused (codes "Memory")) reply bad
+
+-- the commands that change the schema
+abbrev pub Changes : Opened → Command → List ℕ → Bool → Session → Type 0
+Changes old (command.Forge server version granted until) reply bad new = Forged old server (record { version = version; granted = granted; until = until }) reply bad new
+Changes old (command.Publish moment moves) reply bad new = Published old moment moves reply bad new
+Changes old (command.Piece work element piece limit) reply bad new = PieceUnder old work (numbered (facts_of old.world).newest element) piece limit reply bad new
+Changes old (command.Reorganise element moment pieces) reply bad new = Begun old (numbered (facts_of old.world).newest element) moment pieces reply bad new
+Changes old (command.Work element moment limit) reply bad new = Worked old (numbered (facts_of old.world).newest element) moment limit reply bad new
+Changes old (command.Plan changes) reply bad new = Planned old (changes_of (facts_of old.world).newest changes) reply bad new
+Changes old (command.Next moment) reply bad new = NextOf old old.plan moment reply bad new
+Changes old command.Status reply bad new = Told old reply bad × (new ≡ Running old)
+Changes old _ reply bad new = IsBad (Running old) reply bad new
+
+abbrev pub Answers : Opened → Command → List ℕ → Bool → Session → Type 0
+Answers old (command.Lease server moment) reply bad new =
+    (result : Result Grant GrantFault) × (world : State) × LeaseStep old.world moment result world × Leased old server result world reply bad new
+Answers old (command.Txn server moment operations) reply bad new = TxnUnder old (map.get old.leases server) moment operations reply bad new
+Answers old command.Pairs reply bad new = (reply ≡ pairs_text (map.entries old.world.pairs)) × (bad ≡ false) × (new ≡ Running old)
+Answers old command.Check reply bad new = Checked old reply bad × (new ≡ Running old)
+Answers old command.Log reply bad new = IsReply (codes "ok log " ++ decimal (length old.world.log)) reply bad × (new ≡ Running old)
+Answers old (command.Prepare work server operations) reply bad new = PrepareUnder old (map.get old.leases server) work operations reply bad new
+Answers old (command.Commit work moment) reply bad new = CommitOf old (map.get old.works work) work moment reply bad new
+Answers old (command.Query server moment selection) reply bad new = QueryUnder old (map.get old.leases server) moment selection reply bad new
+Answers old other reply bad new = Changes old other reply bad new

@@ -1,0 +1,37 @@
+//! A lease that is written by hand.
+ghost use Rattle.std.specs.Prelude.{◌≡◌, IfOk, string_bytes};
+ghost use Rattle.session.specs.Forging.{schema_or_newest, Forged};
+
+use crate::running::key_of;
+use crate::session::{Answer, Held, Opened, Session, reply};
+use keycode::Text;
+use lease::Lease;
+use listed::Counted;
+use schema_version::Schema;
+use std::alloc::{AllocError, Global};
+use world::World;
+
+fn schema_or_newest(world: &World, version: u64) -> Result<Counted<Schema>, AllocError>
+    ensures { IfOk result (λ schema. schema ≡ schema_or_newest world.now version) }
+{
+    match world.schema(version) {
+        Some(schema) => schema.clone(),
+        None => world.newest().clone(),
+    }
+}
+
+/// `forge`: the server has this lease from now on, in place of its old one.
+pub(crate) fn forge(
+    alloc: Global,
+    mut opened: Opened,
+    server: &Text,
+    lease: Lease,
+) -> Result<(Session, Answer), AllocError>
+    ensures { IfOk result (λ x. Forged opened server.now lease (string_bytes x.1.text) x.1.is_bad x.0) }
+{
+    let name = key_of(alloc, server)?;
+    let schema = schema_or_newest(&opened.world, lease.version)?;
+    let answer = reply("ok\n".to_string(alloc)?);
+    opened.leases.insert(name, Held { lease, schema })?;
+    Ok((Session::Running(opened), answer))
+}

@@ -1,0 +1,50 @@
+//! The queries of a script.
+ghost use Rattle.std.specs.Prelude.{◌≡◌, IfOk, string_bytes};
+ghost use Rattle.grammar.specs.declared.command.Command.TheVariants as command;
+ghost use Rattle.naming.specs.Names.{asked};
+ghost use Rattle.session.specs.Querying.{Queried};
+ghost use Rattle.session.specs.Running.{Answers};
+
+use crate::running::no_server;
+use crate::session::{Answer, Held, Opened, Session, reply};
+use grammar::Selection;
+use keycode::Text;
+use naming::asked;
+use replies::{rows_text, unanswered_line};
+use std::alloc::{AllocError, Global};
+use world::World;
+
+// What a query answers under a lease, as it is printed.
+fn queried(
+    alloc: Global,
+    world: &World,
+    held: &Held,
+    moment: u64,
+    selection: &Selection,
+) -> Result<String, AllocError>
+    ensures { IfOk result (λ text. Queried world.now held.now moment (asked held.now.schema selection.now) (string_bytes text)) }
+{
+    let schema = held.schema.get();
+    let query = asked(alloc, schema, selection)?;
+    match world.query(alloc, moment, &held.lease, &query) {
+        Ok(rows) => rows_text(alloc, schema, &query, rows.as_slice()),
+        Err(refusal) => unanswered_line(alloc, refusal),
+    }
+}
+
+/// `query`: the rows that the world answers under the server's lease.
+pub(crate) fn query(
+    alloc: Global,
+    opened: Opened,
+    server: &Text,
+    moment: u64,
+    selection: &Selection,
+) -> Result<(Session, Answer), AllocError>
+    ensures { IfOk result (λ x. Answers opened (command.Query server.now moment selection.now) (string_bytes x.1.text) x.1.is_bad x.0) }
+{
+    let text = match opened.leases.get(server.as_bytes()) {
+        Some(held) => queried(alloc, &opened.world, held, moment, selection)?,
+        None => return no_server(alloc, opened),
+    };
+    Ok((Session::Running(opened), reply(text)))
+}

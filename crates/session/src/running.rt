@@ -1,0 +1,221 @@
+//! The lines behind `open`.
+ghost use Rattle.std.specs.Prelude.{◌≡◌, IfOk, false, codes, length, string_bytes};
+ghost use Rattle.std.specs.FinMap as map;
+ghost use Rattle.std.specs.List.{flat_map};
+ghost use Rattle.grammar.specs.declared.command.Command.TheVariants as command;
+ghost use Rattle.replies.specs.Texts.{line, refused, pair_line};
+ghost use Rattle.session.specs.Running.{Answers, Changes};
+ghost use Rattle.session.specs.declared.session.Session.TheVariants.{Running};
+
+use crate::forging::forge;
+use crate::pieces::piece;
+use crate::planning::{next, plan};
+use crate::publishing::publish;
+use crate::querying::query;
+use crate::reorganising::reorganise;
+use crate::session::{Answer, Held, Opened, Session, bad_line, reply};
+use crate::transacting::{transact, transacted_line};
+use crate::working::work;
+use crate::works::{commit, prepare};
+use byte_map::Bytes;
+use grammar::{Command, Operation};
+use keycode::Text;
+use lease::Lease;
+use replies::{check_line, grant_refusal, lease_line, push_number, push_pair};
+use row_map::{key_after, next_pair};
+use status_line::status_line;
+use std::alloc::{AllocError, Global};
+use world::World;
+
+/// A name as a key.
+pub(crate) fn key_of(alloc: Global, name: &Text) -> Result<Bytes, AllocError>
+    ensures { IfOk result (λ key. key ≡ name.now) }
+{
+    Bytes::new(Vec::from_slice(alloc, name.as_bytes())?)
+}
+
+fn lease(
+    alloc: Global,
+    mut opened: Opened,
+    server: &Text,
+    moment: u64,
+) -> Result<(Session, Answer), AllocError>
+    ensures { IfOk result (λ x. Answers opened (command.Lease server.now moment) (string_bytes x.1.text) x.1.is_bad x.0) }
+{
+    let name = key_of(alloc, server)?;
+    match opened.world.lease(alloc, moment) {
+        Ok(grant) => {
+            let answer = reply(lease_line(alloc, &grant.lease)?);
+            let held = Held {
+                lease: grant.lease,
+                schema: grant.schema,
+            };
+            opened.leases.insert(name, held)?;
+            Ok((Session::Running(opened), answer))
+        }
+        Err(fault) => {
+            let answer = reply(grant_refusal(alloc, fault)?);
+            Ok((Session::Running(opened), answer))
+        }
+    }
+}
+
+/// The reply where the server has no lease.
+pub(crate) fn no_server(alloc: Global, opened: Opened) -> Result<(Session, Answer), AllocError>
+    ensures session { IfOk result (λ x. x.0 ≡ Running opened) }
+    ensures text { IfOk result (λ x. string_bytes x.1.text ≡ line (refused (codes "NoServer"))) }
+    ensures good { IfOk result (λ x. x.1.is_bad ≡ false) }
+{
+    let answer = reply("refused NoServer\n".to_string(alloc)?);
+    Ok((Session::Running(opened), answer))
+}
+
+fn txn(
+    alloc: Global,
+    mut opened: Opened,
+    server: &Text,
+    moment: u64,
+    operations: &[Operation],
+) -> Result<(Session, Answer), AllocError>
+    ensures { IfOk result (λ x. Answers opened (command.Txn server.now moment operations.now) (string_bytes x.1.text) x.1.is_bad x.0) }
+{
+    let how = match opened.leases.get(server.as_bytes()) {
+        Some(held) => transact(alloc, &mut opened.world, held, moment, operations),
+        None => return no_server(alloc, opened),
+    };
+    let answer = reply(transacted_line(alloc, &how)?);
+    Ok((Session::Running(opened), answer))
+}
+
+// All pairs, a line each, and their number.
+fn all_pairs(alloc: Global, world: &World) -> Result<(String, u64), AllocError>
+    ensures text { IfOk result (λ x. string_bytes x.0 ≡ flat_map pair_line (map.entries world.now.pairs)) }
+    ensures number { IfOk result (λ x. x.1 ≡ length (map.entries world.now.pairs)) }
+{
+    let mut text = String::new(alloc);
+    let mut number = 0u64;
+    let mut from = Vec::new(alloc);
+    while let Some((key, value)) = next_pair(world, from.as_slice()) {
+        push_pair(&mut text, key, value)?;
+        if number == u64::MAX {
+            return Err(AllocError);
+        }
+        number += 1;
+        from = key_after(alloc, key)?;
+    }
+    Ok((text, number))
+}
+
+fn pairs(alloc: Global, opened: Opened) -> Result<(Session, Answer), AllocError>
+    ensures { IfOk result (λ x. Answers opened command.Pairs (string_bytes x.1.text) x.1.is_bad x.0) }
+{
+    let (mut text, number) = all_pairs(alloc, &opened.world)?;
+    text.push_str("ok pairs ")?;
+    push_number(&mut text, number)?;
+    text.push_str("\n")?;
+    Ok((Session::Running(opened), reply(text)))
+}
+
+fn log(alloc: Global, opened: Opened) -> Result<(Session, Answer), AllocError>
+    ensures { IfOk result (λ x. Answers opened command.Log (string_bytes x.1.text) x.1.is_bad x.0) }
+{
+    let number = opened.world.log().len() as u64;
+    let mut text = String::new(alloc);
+    text.push_str("ok log ")?;
+    push_number(&mut text, number)?;
+    text.push_str("\n")?;
+    Ok((Session::Running(opened), reply(text)))
+}
+
+fn check(alloc: Global, opened: Opened) -> Result<(Session, Answer), AllocError>
+    ensures { IfOk result (λ x. Answers opened command.Check (string_bytes x.1.text) x.1.is_bad x.0) }
+{
+    let text = match opened.world.check(alloc) {
+        Ok(report) => check_line(alloc, report)?,
+        Err(_) => "refused Memory\n".to_string(alloc)?,
+    };
+    Ok((Session::Running(opened), reply(text)))
+}
+
+fn status(alloc: Global, opened: Opened) -> Result<(Session, Answer), AllocError>
+    ensures { IfOk result (λ x. Answers opened command.Status (string_bytes x.1.text) x.1.is_bad x.0) }
+{
+    let mut text = status_line(alloc, &opened.world)?;
+    text.push_str("\n")?;
+    Ok((Session::Running(opened), reply(text)))
+}
+
+// What a line that changes the schema answers, and what it leaves.
+fn change(alloc: Global, opened: Opened, command: Command) -> Result<(Session, Answer), AllocError>
+    ensures { IfOk result (λ x. Changes opened command (string_bytes x.1.text) x.1.is_bad x.0) }
+{
+    match command {
+        Command::Forge {
+            server,
+            version,
+            granted,
+            until,
+        } => {
+            let lease = Lease {
+                version,
+                granted,
+                until,
+            };
+            forge(alloc, opened, &server, lease)
+        }
+        Command::Publish { moment, moves } => publish(alloc, opened, moment, moves.as_slice()),
+        Command::Piece {
+            work,
+            element,
+            piece: number,
+            limit,
+        } => piece(alloc, opened, &work, &element, number, limit),
+        Command::Reorganise {
+            element,
+            moment,
+            pieces,
+        } => reorganise(alloc, opened, &element, moment, pieces),
+        Command::Work {
+            element,
+            moment,
+            limit,
+        } => work(alloc, opened, &element, moment, limit),
+        Command::Plan { changes } => plan(alloc, opened, changes.as_slice()),
+        Command::Next { moment } => next(alloc, opened, moment),
+        Command::Status => status(alloc, opened),
+        _ => Ok((Session::Running(opened), bad_line(alloc)?)),
+    }
+}
+
+/// What a line behind `open` answers, and what it leaves.
+pub(crate) fn answer(
+    alloc: Global,
+    opened: Opened,
+    command: Command,
+) -> Result<(Session, Answer), AllocError>
+    ensures { IfOk result (λ x. Answers opened command (string_bytes x.1.text) x.1.is_bad x.0) }
+{
+    match command {
+        Command::Lease { server, moment } => lease(alloc, opened, &server, moment),
+        Command::Txn {
+            server,
+            moment,
+            operations,
+        } => txn(alloc, opened, &server, moment, operations.as_slice()),
+        Command::Pairs => pairs(alloc, opened),
+        Command::Check => check(alloc, opened),
+        Command::Log => log(alloc, opened),
+        Command::Prepare {
+            work,
+            server,
+            operations,
+        } => prepare(alloc, opened, &work, &server, operations.as_slice()),
+        Command::Commit { work, moment } => commit(alloc, opened, &work, moment),
+        Command::Query {
+            server,
+            moment,
+            selection,
+        } => query(alloc, opened, &server, moment, &selection),
+        other => change(alloc, opened, other),
+    }
+}

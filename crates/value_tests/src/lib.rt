@@ -1,0 +1,17 @@
+//! Tests of the layers from lists to the store of pairs, as tables with answers from outside.
+#![tactic(auto)]
+
+#[cfg(test)]
+mod byte_maps;
+#[cfg(test)]
+mod codes;
+#[cfg(test)]
+mod fixtures;
+#[cfg(test)]
+mod leases;
+#[cfg(test)]
+mod lists;
+#[cfg(test)]
+mod rows;
+#[cfg(test)]
+mod stores;

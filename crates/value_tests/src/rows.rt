@@ -1,0 +1,287 @@
+//! Table 1 has the primary key `id` and the column `a`, which is element 1, both numbers, and an index on `a`, which is
+//! element 2. Its row 1 has a 5 in `a`. A key of a row is 52, the table, the key, and the element or 0; one of an index
+//! is 58, the element, the value and the key. A number is 02 and its eight bytes with the highest bit flipped.
+use crate::fixtures::{Plain, byte, bytes, value, writes};
+use byte_map::Bytes;
+use keycode::{KeyFault, Value};
+use listed::Listed;
+use row_map::{
+    Batch, ColumnType, KeyOf, Row, ShapeFault, TableShape, Write, check_row, column_key,
+    exists_key, fits, index_key, key_after, read_key, row_from_pairs,
+};
+use std::alloc::{AllocError, Global};
+
+/// The `exists` pair of row 1.
+const EXISTS: &[u8] = b"\x52\0\0\0\x01\x02\x80\0\0\0\0\0\0\x01\0\0\0\0";
+/// The pair of column `a` in row 1.
+const COLUMN: &[u8] = b"\x52\0\0\0\x01\x02\x80\0\0\0\0\0\0\x01\0\0\0\x01";
+/// The index's pair of row 1.
+const INDEX: &[u8] = b"\x58\0\0\0\x02\x02\x80\0\0\0\0\0\0\x05\x02\x80\0\0\0\0\0\0\x01";
+/// The `exists` pair of a row whose key is Null.
+const NULL_ROW: &[u8] = b"\x52\0\0\0\x01\x01\0\0\0\0";
+/// The value 5.
+const FIVE: &[u8] = b"\x02\x80\0\0\0\0\0\0\x05";
+
+/// What a key is of: its letter, its number and the element of a column, with its values where these are one number or
+/// two.
+fn parts(of: &KeyOf) -> (u8, u32, u32, Option<(i64, i64)>) {
+    match of {
+        KeyOf::Exists { table, key } => (b'R', *table, 0, two(key.as_slice())),
+        KeyOf::Column {
+            table,
+            key,
+            element,
+        } => (b'R', *table, *element, two(key.as_slice())),
+        KeyOf::Index { element, values } => (b'X', *element, 0, two(values.as_slice())),
+    }
+}
+
+/// One number and 0, or two numbers.
+fn two(values: &[Value]) -> Option<(i64, i64)> {
+    match values {
+        [Value::Int(first)] => Some((*first, 0)),
+        [Value::Int(first), Value::Int(second)] => Some((*first, *second)),
+        _ => None,
+    }
+}
+
+/// The spelling of a key.
+fn spelled(alloc: Global, of: &KeyOf) -> Result<Bytes, AllocError> {
+    match of {
+        KeyOf::Exists { table, key } => exists_key(alloc, *table, key.as_slice()),
+        KeyOf::Column {
+            table,
+            key,
+            element,
+        } => column_key(alloc, *table, key.as_slice(), *element),
+        KeyOf::Index { element, values } => {
+            let (value, key) = values.as_slice().split_at(values.len().min(1));
+            index_key(alloc, *element, value, key)
+        }
+    }
+}
+
+/// What the bytes are the key of, and whether that is spelled so.
+fn key_read(
+    alloc: Global,
+    bytes: &[u8],
+) -> Result<((u8, u32, u32, Option<(i64, i64)>), bool), KeyFault> {
+    let of = read_key(alloc, bytes)?;
+    let again = spelled(alloc, &of)?;
+    Ok((parts(&of), again.as_slice() == bytes))
+}
+
+const KEYS: &[(
+    &[u8],
+    Result<((u8, u32, u32, Option<(i64, i64)>), bool), KeyFault>,
+)] = &[
+    (EXISTS, Ok(((b'R', 1, 0, Some((1, 0))), true))),
+    (COLUMN, Ok(((b'R', 1, 1, Some((1, 0))), true))),
+    (INDEX, Ok(((b'X', 2, 0, Some((5, 1))), true))),
+    (NULL_ROW, Ok(((b'R', 1, 0, None), true))),
+    (b"", Err(KeyFault::Short)),
+    (b"\x52", Err(KeyFault::Short)),
+    (b"\x51", Err(KeyFault::BadTag)),
+    (b"\x52\0\0\0\x01", Err(KeyFault::Short)),
+    (b"\x52\0\0\0\x01\x01\0\0\0", Err(KeyFault::Short)),
+    (b"\x52\0\0\0\x01\x01\0\0\0\0\x09", Err(KeyFault::BadTag)),
+    (
+        b"\x52\0\0\0\x01\x01\x01\x01\x01\x01\0\0\0\0",
+        Err(KeyFault::BadTag),
+    ),
+    (b"\x58\0\0\0\x02\x01", Err(KeyFault::BadTag)),
+    (b"\x58\0\0\0\x02\x03a\0\x02", Err(KeyFault::BadEscape)),
+    (b"\x58\0\0\0\x02\x03\xc3\0\x01", Err(KeyFault::NotUtf8)),
+];
+
+#[test]
+fn keys_are_read_and_spelled_so_or_the_first_fault_is_told(rt: HostRuntime) {
+    for (bytes, want) in KEYS {
+        assert!(rt; key_read(rt.alloc(), bytes) == *want, "{bytes:?}");
+    }
+}
+
+fn shape(alloc: Global) -> Result<TableShape, AllocError> {
+    Ok(TableShape {
+        number: 1,
+        key: Listed::new(vec![in alloc; ColumnType::Int]?),
+        columns: Listed::new(vec![in alloc; (1, ColumnType::Int)]?),
+    })
+}
+
+/// The number of a row's key, the element of its cell and its number; noughts where it has not one of each.
+fn content(row: &Option<Row>) -> Option<(i64, u32, i64)> {
+    match row {
+        None => None,
+        Some(row) => match (row.key.as_slice(), row.cells.as_slice()) {
+            ([Value::Int(key)], [(element, Value::Int(number))]) => Some((*key, *element, *number)),
+            _ => Some((0, 0, 0)),
+        },
+    }
+}
+
+fn pairs(alloc: Global, spelled: &[(&[u8], &[u8])]) -> Result<Vec<(Bytes, Bytes)>, AllocError> {
+    let mut pairs = Vec::new(alloc);
+    for (key, value) in spelled {
+        let key = bytes(alloc, key)?;
+        pairs.push((key, bytes(alloc, value)?))?;
+    }
+    Ok(pairs)
+}
+
+/// The row that these pairs spell.
+fn row_read(
+    alloc: Global,
+    spelled: &[(&[u8], &[u8])],
+) -> Result<Option<(i64, u32, i64)>, ShapeFault> {
+    let pairs = pairs(alloc, spelled)?;
+    let shape = shape(alloc)?;
+    let row = row_from_pairs(alloc, &shape, pairs.as_slice())?;
+    Ok(content(&row))
+}
+
+const PAIRS: &[(
+    &[(&[u8], &[u8])],
+    Result<Option<(i64, u32, i64)>, ShapeFault>,
+)] = &[
+    (&[(EXISTS, b""), (COLUMN, FIVE)], Ok(Some((1, 1, 5)))),
+    (&[(COLUMN, FIVE)], Ok(None)),
+    (&[(INDEX, b"")], Err(ShapeFault::WrongArity)),
+    (&[(COLUMN, b"\x01")], Err(ShapeFault::WrongType)),
+    (&[(EXISTS, b"\x01")], Err(ShapeFault::WrongType)),
+    (&[(NULL_ROW, b"")], Err(ShapeFault::NullInKey)),
+];
+
+#[test]
+fn rows_are_read_of_their_pairs(rt: HostRuntime) {
+    for (spelled, want) in PAIRS {
+        assert!(rt; row_read(rt.alloc(), spelled) == *want, "{spelled:?}");
+    }
+}
+
+/// A row of this key, with this value in an element.
+fn row(alloc: Global, key: &[Plain], element: u32, cell: Plain) -> Result<Row, AllocError> {
+    let mut values = Vec::new(alloc);
+    for plain in key {
+        values.push(value(alloc, *plain)?)?;
+    }
+    let cells = vec![in alloc; (element, value(alloc, cell)?)]?;
+    Ok(Row {
+        key: Listed::new(values),
+        cells: Listed::new(cells),
+    })
+}
+
+/// What is wrong with such a row, if anything is.
+fn checked(
+    alloc: Global,
+    key: &[Plain],
+    element: u32,
+    cell: Plain,
+) -> Result<Option<ShapeFault>, AllocError> {
+    let row = row(alloc, key, element, cell)?;
+    let shape = shape(alloc)?;
+    Ok(check_row(&shape, &row).err())
+}
+
+const ROWS: &[(&str, &[Plain], u32, Plain, Option<ShapeFault>)] = &[
+    ("its own", &[Plain::Int(1)], 1, Plain::Int(5), None),
+    (
+        "a truth value",
+        &[Plain::Int(1)],
+        1,
+        Plain::Bool(true),
+        Some(ShapeFault::WrongType),
+    ),
+    (
+        "no column",
+        &[Plain::Int(1)],
+        2,
+        Plain::Int(5),
+        Some(ShapeFault::WrongType),
+    ),
+    (
+        "a null key",
+        &[Plain::Null],
+        1,
+        Plain::Int(5),
+        Some(ShapeFault::NullInKey),
+    ),
+    (
+        "two keys",
+        &[Plain::Int(1), Plain::Null],
+        1,
+        Plain::Int(5),
+        Some(ShapeFault::WrongArity),
+    ),
+];
+
+#[test]
+fn rows_are_checked(rt: HostRuntime) {
+    for (name, key, element, cell, want) in ROWS {
+        assert!(rt;
+            checked(rt.alloc(), key, *element, *cell) == Ok(*want),
+            "{name}"
+        );
+    }
+}
+
+#[test]
+fn a_null_fits_no_column(rt: HostRuntime) {
+    let bool = Value::Bool(false);
+    let null = Value::Null;
+    assert!(rt; fits(ColumnType::Bool, &bool) && !fits(ColumnType::Bool, &null));
+}
+
+/// Whether a write is this one.
+fn is_write(write: Option<&Write>, wanted: (u8, Option<u8>)) -> bool {
+    match (write, wanted) {
+        (Some((key, None)), (at, None)) => key.as_slice() == [at].as_slice(),
+        (Some((key, Some(value))), (at, Some(content))) => {
+            key.as_slice() == [at].as_slice() && value.as_slice() == [content].as_slice()
+        }
+        _ => false,
+    }
+}
+
+/// A batch that puts 5 at 1, removes 1, and then notes that 2 is removed.
+fn batch(alloc: Global) -> Result<Batch, AllocError> {
+    let mut batch = Batch::new(alloc);
+    let key = byte(alloc, 1)?;
+    batch.put(key, byte(alloc, 5)?)?;
+    batch.remove(byte(alloc, 1)?)?;
+    batch.note_all(writes(alloc, [(2, None)].as_slice())?)?;
+    Ok(batch)
+}
+
+/// How many writes it has, and whether these are they.
+fn noted(alloc: Global) -> Result<(usize, bool, bool, bool), AllocError> {
+    let batch = batch(alloc)?;
+    let writes = batch.writes();
+    Ok((
+        writes.len(),
+        is_write(writes.get(0), (1, Some(5))),
+        is_write(writes.get(1), (1, None)),
+        is_write(writes.get(2), (2, None)),
+    ))
+}
+
+#[test]
+fn batches_note_their_writes(rt: HostRuntime) {
+    assert!(rt; noted(rt.alloc()) == Ok((3, true, true, true)));
+}
+
+fn is_after(alloc: Global, key: &[u8], after: &[u8]) -> Result<bool, AllocError> {
+    Ok(key_after(alloc, key)?.as_slice() == after)
+}
+
+#[test]
+fn a_zero_makes_the_key_after(rt: HostRuntime) {
+    let first = is_after(rt.alloc(), [].as_slice(), [0].as_slice());
+    let other = is_after(
+        rt.alloc(),
+        [0x52, 0xff].as_slice(),
+        [0x52, 0xff, 0].as_slice(),
+    );
+    assert!(rt; (first, other) == (Ok(true), Ok(true)));
+}
