@@ -35,7 +35,7 @@ pub enum LeaseFault {
     #[error("the moment is above 2^62")]
     MomentTooLarge,
     /// No timeline such as this one could have granted it.
-    #[error("the lease was never granted")]
+    #[error("no grant could have given the lease")]
     BadLease,
     #[error("the lease ended at {until}, and now is {now}")]
     LeaseEnded {

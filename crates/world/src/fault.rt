@@ -49,8 +49,8 @@ pub enum CommitFault {
     /// The moment that counts is above 2^62.
     #[error("the moment is above 2^62")]
     MomentTooLarge,
-    /// The lease was never granted.
-    #[error("the lease was never granted")]
+    /// No grant could have given the lease.
+    #[error("no grant could have given the lease")]
     BadLease,
     /// The lease ended before the moment that counts.
     #[error("the lease ended at {until}, and now is {now}")]
@@ -80,8 +80,8 @@ pub enum QueryRefusal {
     /// The moment that counts is above 2^62.
     #[error("the moment is above 2^62")]
     MomentTooLarge,
-    /// The lease was never granted.
-    #[error("the lease was never granted")]
+    /// No grant could have given the lease.
+    #[error("no grant could have given the lease")]
     BadLease,
     /// The lease ended before the moment that counts.
     #[error("the lease ended at {until}, and now is {now}")]

@@ -180,7 +180,7 @@ impl World {
     ///
     /// The query runs under the schema of the lease's version, whichever of its paths finds the rows. The moment that
     /// counts is the greater of `moment` and the moment of the last entry. Refused in this order: `MomentTooLarge` where
-    /// the moment that counts is above 2^62; `BadLease` where the lease was never granted; `LeaseEnded` where it is not
+    /// the moment that counts is above 2^62; `BadLease` where no grant could have given it; `LeaseEnded` where it is not
     /// in force any more; `Query` with what `row_query::answer` refuses, want of memory last.
     pub fn query(
         &self,
@@ -204,7 +204,7 @@ impl World {
     ///
     /// The moment that counts is the greater of `moment` and the moment of the last entry. Refused in this order, and
     /// then nothing changes and the prepared transaction comes back: `MomentTooLarge` where the moment that counts is
-    /// above 2^62; `BadLease` where its lease was never granted; `LeaseEnded` where its lease is not in force any
+    /// above 2^62; `BadLease` where no grant could have given its lease; `LeaseEnded` where its lease is not in force any
     /// more; `WrongSchema` where the schema that it was prepared under does not equal that of its lease's version;
     /// `Conflict` with the least key whose pair is not what was read; `Memory`, which may come in place of
     /// Conflict. A write carries its lease's end and isn't committed after it, as in the F1 paper.
