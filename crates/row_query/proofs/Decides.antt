@@ -9,7 +9,7 @@ use Rattle.listed.specs.Refusal.{IsFirst, IsClear}
 use Rattle.keycode.specs.declared.value.Value.{Value}
 use Rattle.keycode.specs.declared.value.Value.TheVariants.{Null, Int, Text, Bool as Flag}
 use Rattle.row_map.specs.declared.shape.ColumnType.{ColumnType}
-use Rattle.row_map.specs.Shape.{has_type, is_null, is_key_value}
+use Rattle.row_map.specs.Shape.{is_null}
 use Rattle.schema_version.specs.Shape.{key_types}
 use Rattle.schema_version.specs.Sound.{IsSoundVersion}
 use Rattle.schema_version.specs.Version.{Version, Table, table_at, live}
@@ -19,7 +19,8 @@ use Rattle.row_query.specs.declared.fault.QueryFault.TheVariants.{NoTable, NotPu
 use Rattle.row_query.specs.declared.query.Cond.{Cond}
 use Rattle.row_query.specs.declared.query.Cond.TheVariants.{Key, Equal, Between}
 use Rattle.row_query.specs.declared.query.Query.{Query}
-use Rattle.row_query.specs.Checked.{column_type, is_key_for, is_bound, tested, condition_check, conditions_check, columns_check, check_in, query_check}
+use Rattle.row_query.specs.Checked.{column_type, is_key_for, may_equal, is_bound, tested, condition_check, conditions_check, columns_check, check_in, query_check}
+use Rattle.row_query.specs.Kinds.{has_kind}
 use Rattle.row_query.specs.Refused.{IsColumn, IsHidden, Part, Named, Where, parts, IsBadBound, PartFault, rank, IsFirstPartFault, IsRefused, IsSound}
 use Rattle.row_query.proofs.Columns.{column_says, column_from}
 
@@ -31,11 +32,11 @@ passed = Ok tt
 
 -- ---- keys and values
 
-pointwise_each : (columns : List (List ℕ × ColumnType)) (key : List Value) → is_key_for columns key ≡ pointwise has_type (key_types columns) key
+pointwise_each : (columns : List (List ℕ × ColumnType)) (key : List Value) → is_key_for columns key ≡ pointwise has_kind (key_types columns) key
 pointwise_each [] [] = refl
 pointwise_each [] (v ∷ vs) = refl
 pointwise_each (c ∷ cs) [] = refl
-pointwise_each (c ∷ cs) (v ∷ vs) = ap (λ b. has_type c.1 v && b) (pointwise_each cs vs)
+pointwise_each (c ∷ cs) (v ∷ vs) = ap (λ b. has_kind c.1 v && b) (pointwise_each cs vs)
 
 null_is : (v : Value) → is_null v ≡ true → v ≡ Null
 null_is Null e = refl
@@ -112,9 +113,9 @@ module _ (v : Version) (sound : IsSoundVersion v) (number : ℕ) (table : Table)
       lower WrongType lt h = absurd (omega (arith, lt))
       lower Memory lt h = h
 
-  equal_first : (column : ℕ) (value : Value) (type : ColumnType) → column_type (live v) number column ≡ Some type → is_key_value type value ≡ false → IsFirst rank (Fault (Where (Equal column value))) WrongType
+  equal_first : (column : ℕ) (value : Value) (type : ColumnType) → column_type (live v) number column ≡ Some type → may_equal type value ≡ false → IsFirst rank (Fault (Where (Equal column value))) WrongType
   equal_first column value type is e =
-      let n = neither (has_type type value) (is_null value) e in
+      let n = neither (has_kind type value) (is_null value) e in
       ((null_test value n.1, (type, column_says v sound number column type is, λ fits. not_both fits n.0)), lower)
     where
       lower : (other : QueryFault) → rank other < 3 → ¬ (Fault (Where (Equal column value)) other)
@@ -123,16 +124,16 @@ module _ (v : Version) (sound : IsSoundVersion v) (number : ℕ) (table : Table)
       lower WrongType lt h = absurd (omega (arith, lt))
       lower Memory lt h = h
 
-  fits_same : (column : ℕ) (value : Value) (s t : ColumnType) → column_type (live v) number column ≡ Some s → IsColumn v number column t → has_type s value ≡ true → has_type t value ≡ true
-  fits_same column value s t is has e = ap (λ k. has_type k value) (same_type column s t is has) ∙ e
+  fits_same : (column : ℕ) (value : Value) (s t : ColumnType) → column_type (live v) number column ≡ Some s → IsColumn v number column t → has_kind s value ≡ true → has_kind t value ≡ true
+  fits_same column value s t is has e = ap (λ k. has_kind k value) (same_type column s t is has) ∙ e
 
-  equal_clear : (column : ℕ) (value : Value) (type : ColumnType) → column_type (live v) number column ≡ Some type → is_key_value type value ≡ true → IsClear (Fault (Where (Equal column value)))
+  equal_clear : (column : ℕ) (value : Value) (type : ColumnType) → column_type (live v) number column ≡ Some type → may_equal type value ≡ true → IsClear (Fault (Where (Equal column value)))
   equal_clear column value type is e NoTable h = h
   equal_clear column value type is e (NotPublic c) h = shown column type is h.1
   equal_clear column value type is e WrongType h =
-      elim (has_type type value) as (λ b. has_type type value ≡ b → ⊥) [
+      elim (has_kind type value) as (λ b. has_kind type value ≡ b → ⊥) [
         | true ↦ λ p. h.1.2 (fits_same column value type h.1.0 is h.1.1 p)
-        | false ↦ λ p. h.0 (null_is value (either (has_type type value) (is_null value) e p))
+        | false ↦ λ p. h.0 (null_is value (either (has_kind type value) (is_null value) e p))
       ] refl
   equal_clear column value type is e Memory h = h
 
@@ -194,9 +195,9 @@ module _ (v : Version) (sound : IsSoundVersion v) (number : ℕ) (table : Table)
         | false ↦ λ e. key_first key e
       ] refl
   condition_says (Equal column value) =
-      elim (column_type (live v) number column) as (λ o. column_type (live v) number column ≡ o → Says (Where (Equal column value)) (tested column o (λ type. is_key_value type value))) [
+      elim (column_type (live v) number column) as (λ o. column_type (live v) number column ≡ o → Says (Where (Equal column value)) (tested column o (λ type. may_equal type value))) [
         | None ↦ λ is. equal_hidden column value is
-        | Some type ↦ λ is. elim (is_key_value type value) as (λ b. is_key_value type value ≡ b → Says (Where (Equal column value)) (cond b (Ok tt) (Err WrongType))) [
+        | Some type ↦ λ is. elim (may_equal type value) as (λ b. may_equal type value ≡ b → Says (Where (Equal column value)) (cond b (Ok tt) (Err WrongType))) [
           | true ↦ λ e. equal_clear column value type is e
           | false ↦ λ e. equal_first column value type is e
         ] refl

@@ -1,5 +1,5 @@
 -- The tests by which a query's fault is found, in the order in which they are made.
-use Rattle.std.specs.Prelude.{ℕ, List, [], ◌∷◌, Option, Some, None, Bool, true, ◌&&◌, ◌==◌, Result, Ok, Err, option_map, is_some, if◌then◌else◌, filter}
+use Rattle.std.specs.Prelude.{ℕ, List, [], ◌∷◌, Option, Some, None, Bool, true, ◌&&◌, ◌||◌, ◌==◌, Result, Ok, Err, option_map, is_some, if◌then◌else◌, filter}
 use Rattle.std.specs.List.{AllByRecursion, find}
 use Rattle.std.specs.Cmp.Lexicographic.{pointwise}
 use mathlib.Core.List.{map as each}
@@ -7,7 +7,7 @@ use Rattle.listed.specs.Answers.{◌>>>=◌}
 use Rattle.keycode.specs.declared.value.Value.{Value}
 use Rattle.keycode.specs.Valid.{IsValue, AreValues}
 use Rattle.row_map.specs.declared.shape.ColumnType.{ColumnType}
-use Rattle.row_map.specs.Shape.{has_type, is_key_value}
+use Rattle.row_map.specs.Shape.{is_null}
 use Rattle.schema_version.specs.declared.element.ElementDef.{ElementDef}
 use Rattle.schema_version.specs.Version.{Version, Table, table_at, live, is_public, type_of_kind, is_public_column}
 use Rattle.row_query.specs.declared.fault.QueryFault.{QueryFault}
@@ -15,6 +15,7 @@ use Rattle.row_query.specs.declared.fault.QueryFault.TheVariants.{NoTable, NotPu
 use Rattle.row_query.specs.declared.query.Cond.{Cond}
 use Rattle.row_query.specs.declared.query.Cond.TheVariants.{Key, Equal, Between}
 use Rattle.row_query.specs.declared.query.Query.{Query}
+use Rattle.row_query.specs.Kinds.{has_kind}
 
 -- whether this is the public element of the table under the number
 abbrev pub is_shown : ℕ → ℕ → ElementDef → Bool
@@ -33,11 +34,15 @@ abbrev pub public_numbers : List ElementDef → ℕ → List ℕ
 public_numbers elements table = each (λ (e : ElementDef). e.number) (filter (is_public_column table) elements)
 
 abbrev pub is_key_for : List (List ℕ × ColumnType) → List Value → Bool
-is_key_for columns key = pointwise (λ (column : List ℕ × ColumnType) value. has_type column.1 value) columns key
+is_key_for columns key = pointwise (λ (column : List ℕ × ColumnType) value. has_kind column.1 value) columns key
+
+-- with Null the rows without a value are asked for
+abbrev pub may_equal : ColumnType → Value → Bool
+may_equal type value = has_kind type value || is_null value
 
 abbrev pub is_bound : ColumnType → Option Value → Bool
 is_bound type None = true
-is_bound type (Some bound) = has_type type bound
+is_bound type (Some bound) = has_kind type bound
 
 -- a condition on a column that may not be public
 abbrev pub tested : ℕ → Option ColumnType → (ColumnType → Bool) → Result (Unit {0}) QueryFault
@@ -46,7 +51,7 @@ tested column (Some type) test = if test type then Ok tt else Err WrongType
 
 abbrev pub condition_check : List ElementDef → ℕ → List (List ℕ × ColumnType) → Cond → Result (Unit {0}) QueryFault
 condition_check elements table key (Key wanted) = if is_key_for key wanted then Ok tt else Err WrongType
-condition_check elements table key (Equal column value) = tested column (column_type elements table column) (λ type. is_key_value type value)
+condition_check elements table key (Equal column value) = tested column (column_type elements table column) (λ type. may_equal type value)
 condition_check elements table key (Between column low high) = tested column (column_type elements table column) (λ type. is_bound type low && is_bound type high)
 
 abbrev pub conditions_check : List ElementDef → ℕ → List (List ℕ × ColumnType) → List Cond → Result (Unit {0}) QueryFault

@@ -7,7 +7,6 @@ use Rattle.listed.specs.Refusal.{IsFirst, IsClear}
 use Rattle.keycode.specs.declared.value.Value.{Value}
 use Rattle.keycode.specs.declared.value.Value.TheVariants.{Null}
 use Rattle.row_map.specs.declared.shape.ColumnType.{ColumnType}
-use Rattle.row_map.specs.Shape.{has_type}
 use Rattle.schema_version.specs.declared.element.ElementState.TheVariants.{Public}
 use Rattle.schema_version.specs.declared.element.Kind.TheVariants.{Optional}
 use Rattle.schema_version.specs.declared.element.ElementDef.{ElementDef}
@@ -18,6 +17,7 @@ use Rattle.row_query.specs.declared.query.Cond.TheVariants.{Key, Equal, Between}
 use Rattle.row_query.specs.declared.query.Query.{Query}
 use Rattle.row_query.specs.declared.fault.QueryFault.{QueryFault}
 use Rattle.row_query.specs.declared.fault.QueryFault.TheVariants.{NoTable, NotPublic, WrongType, Memory}
+use Rattle.row_query.specs.Kinds.{has_kind}
 
 -- the number names a public column of the table, of this type
 pub record IsColumn (version : Version) (table number : ℕ) (type : ColumnType) : Type 0 where
@@ -40,15 +40,15 @@ pub data Part : Type 0 where
 abbrev pub parts : Query → List Part
 parts query = each Named query.columns ++ each Where query.conditions
 
--- a value of each key column's type, hence no Null and no text over the limit
+-- a value of each key column's kind and no more, hence no Null
 abbrev pub IsTypedKey : Table → List Value → Type 0
-IsTypedKey table key = IsTrue (pointwise has_type (key_types table.key) key)
+IsTypedKey table key = IsTrue (pointwise has_kind (key_types table.key) key)
 
--- the column is public and its type is another than the value's. Null has none
+-- the column is public and its kind is another than the value's. Null has none
 abbrev pub IsMistyped : Version → ℕ → ℕ → Value → Type 0
-IsMistyped version table column value = (type : ColumnType) × IsColumn version table column type × (¬ (IsTrue (has_type type value)))
+IsMistyped version table column value = (type : ColumnType) × IsColumn version table column type × (¬ (IsTrue (has_kind type value)))
 
--- a bound that is given and isn't of the column's type
+-- a bound that is given and isn't of the column's kind
 abbrev pub IsBadBound : Version → ℕ → ℕ → Option Value → Type 0
 IsBadBound version table column None = ⊥
 IsBadBound version table column (Some bound) = IsMistyped version table column bound

@@ -75,7 +75,8 @@ fn find<V: PairView>(
 /// - `schema`: the version under which the query runs. It reads the columns and indexes that are public there.
 /// - `view`: the pairs of a store. Where they agree with the version and with rows, those rows are what is answered.
 /// - `query`: a table, columns and conditions. Equal with Null finds the rows without a value; Between has its bounds
-///   included and never finds a row without a value.
+///   included and never finds a row without a value. A text over 1,024 bytes is no fault: in a key and with Equal it finds
+///   nothing, as a bound it is compared as every value is.
 ///
 /// The rows are found by the path that `path_of` tells. By a key one row is read, by an index only the pairs between the
 /// condition's values. An index that isn't public is never read: some rows may have no pair there (Rae et al., PVLDB

@@ -1,17 +1,17 @@
-//! Whether a query is of a known table, public columns and their types.
+//! Whether a query is of a known table, public columns and values of their kinds.
 ghost use Rattle.std.specs.Prelude.{◌≡◌, true, OnOk, IfOk, IfErr, Ok};
 ghost use Rattle.std.specs.List.{find};
 ghost use Rattle.std.specs.Option.{option_copied};
 ghost use Rattle.keycode.specs.Valid.{IsValue, AreValues};
-ghost use Rattle.row_map.specs.Shape.{is_key_value};
 ghost use Rattle.schema_version.specs.Version.{is_public as is_public_of, is_public_column as is_public_column_of};
-ghost use Rattle.row_query.specs.Checked.{is_shown as is_shown_of, column_type as column_type_of, public_numbers as public_numbers_of, is_key_for as is_key_for_of, is_bound as is_bound_of, condition_check, conditions_check, columns_check, query_check, IsKnownBound, IsKnown, AreKnown};
+ghost use Rattle.row_query.specs.Checked.{is_shown as is_shown_of, column_type as column_type_of, public_numbers as public_numbers_of, is_key_for as is_key_for_of, may_equal as may_equal_of, is_bound as is_bound_of, condition_check, conditions_check, columns_check, query_check, IsKnownBound, IsKnown, AreKnown};
+ghost use Rattle.row_query.specs.Kinds.{has_kind as has_kind_of};
 ghost use Rattle.row_query.specs.Refused.{IsRefused, IsSound};
 
 use crate::fault::QueryFault;
 use crate::query::{Cond, Query};
 use keycode::{Text, Value};
-use row_map::{ColumnType, fits};
+use row_map::ColumnType;
 use schema_version::{ElementDef, ElementState, Kind, Schema};
 use std::alloc::{AllocError, Global};
 
@@ -65,7 +65,27 @@ pub(crate) fn public_numbers(
         .collect(alloc)
 }
 
-/// Whether the values are a key of the table.
+/// Whether the value is of the kind, however long a text is: that no row holds one over 1,024 bytes makes it no fault.
+/// Null is of no kind.
+fn has_kind(kind: ColumnType, value: &Value) -> bool
+    ensures test { result ≡ has_kind_of kind value.now }
+    ensures known { IsValue value.now }
+{
+    match value {
+        Value::Null => false,
+        Value::Int(n) => {
+            let _n = *n;
+            matches!(kind, ColumnType::Int)
+        }
+        Value::Text(text) => {
+            let _bytes = text.as_bytes();
+            matches!(kind, ColumnType::Text)
+        }
+        Value::Bool(_) => matches!(kind, ColumnType::Bool),
+    }
+}
+
+/// Whether the values are of the kinds of the table's key, one for each.
 fn is_key_for(columns: &[(Text, ColumnType)], key: &[Value]) -> bool
     ensures test { result ≡ is_key_for_of columns.now key.now }
     ensures known { result ≡ true → AreValues key.now }
@@ -74,18 +94,18 @@ fn is_key_for(columns: &[(Text, ColumnType)], key: &[Value]) -> bool
         return false;
     }
     for i in 0..key.len() {
-        if !fits(columns[i].1, &key[i]) {
+        if !has_kind(columns[i].1, &key[i]) {
             return false;
         }
     }
     true
 }
 
-fn fits_or_null(kind: ColumnType, value: &Value) -> bool
-    ensures test { result ≡ is_key_value kind value.now }
+fn may_equal(kind: ColumnType, value: &Value) -> bool
+    ensures test { result ≡ may_equal_of kind value.now }
     ensures known { IsValue value.now }
 {
-    fits(kind, value) || matches!(value, Value::Null)
+    has_kind(kind, value) || matches!(value, Value::Null)
 }
 
 fn is_bound(kind: ColumnType, bound: &Option<Value>) -> bool
@@ -94,7 +114,7 @@ fn is_bound(kind: ColumnType, bound: &Option<Value>) -> bool
 {
     match bound {
         None => true,
-        Some(value) => fits(kind, value),
+        Some(value) => has_kind(kind, value),
     }
 }
 
@@ -111,7 +131,7 @@ fn check_condition(
         Cond::Key(wanted) => is_key_for(key, wanted.as_slice()),
         Cond::Equal { column, value } => match column_type(elements, table, *column) {
             None => return Err(QueryFault::NotPublic { column: *column }),
-            Some(kind) => fits_or_null(kind, value),
+            Some(kind) => may_equal(kind, value),
         },
         Cond::Between { column, low, high } => match column_type(elements, table, *column) {
             None => return Err(QueryFault::NotPublic { column: *column }),

@@ -17,8 +17,8 @@ pub enum QueryFault {
         /// The number.
         column: u32,
     },
-    /// A key of another number of values than the table's; a value of another type than its column's, a text over 1,024
-    /// bytes included; Null in a key or as a bound.
+    /// A key of another number of values than the table's; a value of another kind than its column's; Null in a key or as
+    /// a bound. A text over 1,024 bytes is a text like any other: no row holds it, and it is compared as any value is.
     #[error("a value of another type, or a null in a key or as a bound")]
     WrongType,
     /// Want of memory, which never stands in place of another refusal.

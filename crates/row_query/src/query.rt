@@ -1,7 +1,8 @@
 use keycode::{Value, Values};
 use listed::Listed;
 
-/// What a row must meet to be answered. Columns go by their element numbers, and values are ordered as keycode has it.
+/// What a row must meet to be answered. Columns go by their element numbers, and values are ordered as keycode has it. A
+/// text may be of any length: one over 1,024 bytes is no row's, and rows lie below and above it as by any other.
 #[derive(Clone, Debug, Drop, PartialEq, Eq)]
 pub enum Cond {
     /// The row has this primary key.
