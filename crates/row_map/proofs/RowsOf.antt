@@ -30,7 +30,7 @@ type_known kind.Int (Flag b) e = absurd cc
 type_known kind.Text (Flag b) e = absurd cc
 type_known kind.Bool (Flag b) e = (b, refl)
 
-type_passes : (k : ColumnType) (v : Value) → IsOfType k v → has_type k v ≡ true
+pub type_passes : (k : ColumnType) (v : Value) → IsOfType k v → has_type k v ≡ true
 type_passes kind.Int v h = ap (has_type kind.Int) h.1
 type_passes kind.Text v h = ap (has_type kind.Text) h.1 ∙ le-leb (length h.0) 1024 h.2
 type_passes kind.Bool v h = ap (has_type kind.Bool) h.1
@@ -42,7 +42,7 @@ no_null kind.Bool v h = ap is_null h.1
 
 -- ---- columns
 
-some_is : {A : Type 0} (x y : A) → Some x ≡ Some y → x ≡ y
+pub some_is : {A : Type 0} (x y : A) → Some x ≡ Some y → x ≡ y
 some_is x y e = cc
 
 column_known : (cs : List (ℕ × ColumnType)) (e : ℕ) (k : ColumnType) → type_of cs e ≡ Some k → IsColumn cs e k

@@ -1,12 +1,17 @@
--- What a row of a table is, place by place.
-use Rattle.std.specs.Prelude.{◌≡◌, ◌≢◌, ℕ, ℤ, ◌<◌, ◌≤◌, Bool, List, length, Some, Ok, slice_get, Contains, AllPairs, ◌↔◌}
+-- What a row of a table is, place by place, and which pairs spell it.
+use Rattle.std.specs.Prelude.{◌≡◌, ◌≢◌, ℕ, ℤ, ◌<◌, ◌≤◌, ◌^◌, Bool, List, [], length, Some, Ok, slice_get, Contains, AllPairs, ◌↔◌}
 use Rattle.keycode.specs.declared.value.Value.{Value}
 use Rattle.keycode.specs.declared.value.Value.TheVariants.{Int, Text, Bool as Flag}
 use Rattle.row_map.specs.declared.shape.ColumnType.{ColumnType}
 use Rattle.row_map.specs.declared.shape.ColumnType.TheVariants as kind
 use Rattle.row_map.specs.declared.shape.TableShape.{TableShape}
 use Rattle.row_map.specs.declared.shape.Row.{Row}
-use Rattle.row_map.specs.Shape.{row_check}
+use Rattle.keycode.specs.Code.{code}
+use Rattle.keycode.specs.Valid.{AreValues}
+use Rattle.row_map.specs.Keys.{row_code}
+use Rattle.row_map.specs.Pairs.{row_from}
+use Rattle.row_map.specs.Rows.{Bytes}
+use Rattle.row_map.specs.Shape.{IsCellList, row_check}
 
 -- a value of the type. Null is of none, and a text has at most 1,024 bytes
 abbrev pub IsOfType : ColumnType → Value → Type 0
@@ -31,3 +36,32 @@ pub record IsRowOf (shape : TableShape) (row : Row) : Type 0 where
 -- the test passes just the rows of the table
 abbrev pub RowsAreChecked : Type 0
 RowsAreChecked = (shape : TableShape) (row : Row) → (row_check shape row ≡ Ok tt) ↔ IsRowOf shape row
+
+-- the columns list this number
+abbrev pub IsListed : List (ℕ × ColumnType) → ℕ → Type 0
+IsListed columns number = (type : ColumnType) × Contains columns (number, type)
+
+-- a shape whose rows have keys: 1 to 4 key columns; the others by strictly rising number, so each once
+pub record IsShape (shape : TableShape) : Type 0 where
+  pub table : shape.number < 2 ^ 32
+  pub some_key : 1 ≤ length shape.key
+  pub short_key : length shape.key ≤ 4
+  pub numbers : (number : ℕ) → IsListed shape.columns number → (0 < number) × (number < 2 ^ 24)
+  pub rising : AllPairs (λ a b. a.0 < b.0) shape.columns
+
+-- the row's `exists` pair, the pair of a cell, or a pair of the row for an element that the shape does not list
+pub data IsPairOf (shape : TableShape) (row : Row) (pair : Bytes × Bytes) : Type 0 where
+  OfRow : pair ≡ (row_code shape.number row.key 0, []) → IsPairOf shape row pair
+  OfCell : (number : ℕ) (value : Value) → Contains row.cells (number, value) → pair ≡ (row_code shape.number row.key number, code value) → IsPairOf shape row pair
+  OfUnlisted : (number : ℕ) (bytes : Bytes) → 0 < number → number < 2 ^ 24 → ¬ (IsListed shape.columns number) → pair ≡ (row_code shape.number row.key number, bytes) → IsPairOf shape row pair
+
+-- the pairs, in any order and any of them again, are the row's `exists` pair, those of its cells, and others that do
+-- not count
+pub record Spell (pairs : List (Bytes × Bytes)) (shape : TableShape) (row : Row) : Type 0 where
+  pub there : Contains pairs (row_code shape.number row.key 0, [])
+  pub cells : (number : ℕ) (value : Value) → Contains row.cells (number, value) → Contains pairs (row_code shape.number row.key number, code value)
+  pub only : (pair : Bytes × Bytes) → Contains pairs pair → IsPairOf shape row pair
+
+-- from the pairs that spell a row of the table comes that row
+abbrev pub SpelledRowsComeBack : Type 0
+SpelledRowsComeBack = (shape : TableShape) (row : Row) (pairs : List (Bytes × Bytes)) → IsShape shape → IsRowOf shape row → AreValues row.key → IsCellList row.cells → Spell pairs shape row → row_from shape pairs ≡ Ok (Some row)
