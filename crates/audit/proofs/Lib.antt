@@ -1,2 +1,5 @@
 pub mod Tallies
 pub mod Cells
+pub mod Zero
+pub mod Cell
+pub mod Present

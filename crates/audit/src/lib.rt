@@ -2,10 +2,12 @@
 #![tactic(auto)]
 
 mod counting;
+mod laws;
 mod reason;
 mod report;
 mod spelled;
 mod wanted;
 
 pub use counting::audit;
+pub use laws::nothing_is_missing_when;
 pub use report::CheckReport;

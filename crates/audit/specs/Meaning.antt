@@ -1,0 +1,52 @@
+-- The plain meaning of an audit: the rows that the pairs of a store spell, and the pairs that these rows call for.
+use Rattle.std.specs.Prelude.{◌≡◌, ◌↔◌, ℕ, List, [], Some, Ok, IsTrue}
+use Rattle.std.specs.FinMap as map
+use Rattle.keycode.specs.declared.value.Value.{Value}
+use Rattle.keycode.specs.Reading.{value_at}
+use Rattle.row_map.specs.declared.key.KeyOf.TheVariants.{Exists}
+use Rattle.row_map.specs.declared.shape.ColumnType.{ColumnType}
+use Rattle.row_map.specs.Keys.{row_code}
+use Rattle.row_map.specs.Rows.{Bytes, RowKey, Cells, Pairs}
+use Rattle.row_map.specs.Shape.{has_type}
+use Rattle.schema_version.specs.declared.element.ElementState.TheVariants.{Public}
+use Rattle.schema_version.specs.declared.element.Kind.TheVariants.{Index, Optional}
+use Rattle.schema_version.specs.declared.element.ElementDef.{ElementDef}
+use Rattle.schema_version.specs.Sound.{IsSoundVersion}
+use Rattle.schema_version.specs.Version.{Version, element_at}
+use Rattle.element_state.specs.Index.{index_pair}
+use Rattle.audit.specs.declared.report.CheckReport.{CheckReport}
+use Rattle.audit.specs.Audit.{IsAudit}
+use Rattle.audit.specs.Spelled.{key_read}
+
+-- the store has a pair whose key is that of the row's `exists` pair
+pub record HasExistsPair (pairs : Pairs) (row : RowKey) : Type 0 where
+  pub key : Bytes
+  pub value : Bytes
+  pub there : map.get pairs key ≡ Some value
+  pub names : key_read key ≡ Some (Exists row.0 row.1)
+
+-- the row has a pair of a public column of its table, and that is the code of just this value, of the column's type
+pub record HasValue (version : Version) (pairs : Pairs) (row : RowKey) (column : ℕ) (value : Value) : Type 0 where
+  pub element : ElementDef
+  pub type : ColumnType
+  pub known : element_at version column ≡ Some element
+  pub home : element.table ≡ row.0
+  pub kind : element.kind ≡ Optional type
+  pub public : element.state ≡ Public
+  pub bytes : Bytes
+  pub there : map.get pairs (row_code row.0 row.1 column) ≡ Some bytes
+  pub reads : value_at bytes ≡ Ok (value, [])
+  pub fits : IsTrue (has_type type value)
+
+-- the pairs spell the row: its `exists` pair is there, and its cells are the values of its columns' pairs
+pub record IsSpelled (version : Version) (pairs : Pairs) (row : RowKey) (cells : Cells) : Type 0 where
+  pub exists : HasExistsPair pairs row
+  pub values : (column : ℕ) (value : Value) → (map.get cells column ≡ Some value) ↔ HasValue version pairs row column value
+
+-- each public index has its pair, with the empty value, of each row of its table that the pairs spell
+abbrev pub HasIndexPairs : Version → Pairs → Type 0
+HasIndexPairs version pairs = (number : ℕ) (element : ElementDef) (columns : List ℕ) → element_at version number ≡ Some element → element.kind ≡ Index columns → element.state ≡ Public
+    → (primary : List Value) (cells : Cells) → IsSpelled version pairs (element.table, primary) cells → map.get pairs (index_pair number columns (element.table, primary) cells) ≡ Some []
+
+abbrev pub NothingIsMissingWhen : Type 0
+NothingIsMissingWhen = (version : Version) (pairs : Pairs) (report : CheckReport) → IsSoundVersion version → IsAudit version pairs report → (report.missing ≡ 0) ↔ HasIndexPairs version pairs
