@@ -1,5 +1,7 @@
 pub mod Tallies
 pub mod Cells
 pub mod Zero
-pub mod Cell
+pub mod RowsRead
 pub mod Present
+pub mod Exists
+pub mod Reasons

@@ -27,7 +27,7 @@ use Rattle.element_state.specs.Operations.{cells_of, fill_pair}
 use Rattle.audit.specs.Audit.{given, differs, is_absent, lacks, missing_by, missing_beside}
 use Rattle.audit.specs.Meaning.{HasExistsPair, IsSpelled, HasIndexPairs, NothingIsMissingWhen}
 use Rattle.audit.specs.Spelled.{key_read, row_at}
-use Rattle.audit.proofs.Cell.{public_is, read_cells, read_is_spelled, same_indexed}
+use Rattle.audit.proofs.RowsRead.{public_is, read_cells, read_is_spelled, same_indexed}
 use Rattle.audit.proofs.Zero.{sum_zero, zero_sum, count_zero, zero_count, all_values, values_all, all_found}
 
 same_where_not : (b : Bool) → not b ≡ false → b ≡ true

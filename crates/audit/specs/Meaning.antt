@@ -1,9 +1,10 @@
 -- The plain meaning of an audit: the rows that the pairs of a store spell, and the pairs that these rows call for.
-use Rattle.std.specs.Prelude.{◌≡◌, ◌↔◌, ℕ, List, [], Some, Ok, IsTrue}
+use Rattle.std.specs.Prelude.{◌≡◌, ◌↔◌, ℕ, ◌<◌, ◌^◌, List, [], Some, Ok, IsTrue}
 use Rattle.std.specs.FinMap as map
+use Rattle.std.specs.List.{AllByRecursion}
 use Rattle.keycode.specs.declared.value.Value.{Value}
 use Rattle.keycode.specs.Reading.{value_at}
-use Rattle.row_map.specs.declared.key.KeyOf.TheVariants.{Exists}
+use Rattle.row_map.specs.declared.key.KeyOf.TheVariants.{Exists, Column}
 use Rattle.row_map.specs.declared.shape.ColumnType.{ColumnType}
 use Rattle.row_map.specs.Keys.{row_code}
 use Rattle.row_map.specs.Rows.{Bytes, RowKey, Cells, Pairs}
@@ -12,7 +13,7 @@ use Rattle.schema_version.specs.declared.element.ElementState.TheVariants.{Publi
 use Rattle.schema_version.specs.declared.element.Kind.TheVariants.{Index, Optional}
 use Rattle.schema_version.specs.declared.element.ElementDef.{ElementDef}
 use Rattle.schema_version.specs.Sound.{IsSoundVersion}
-use Rattle.schema_version.specs.Version.{Version, element_at}
+use Rattle.schema_version.specs.Version.{Version, element_at, IsLiveColumn}
 use Rattle.element_state.specs.Index.{index_pair}
 use Rattle.audit.specs.declared.report.CheckReport.{CheckReport}
 use Rattle.audit.specs.Audit.{IsAudit}
@@ -25,8 +26,8 @@ pub record HasExistsPair (pairs : Pairs) (row : RowKey) : Type 0 where
   pub there : map.get pairs key ≡ Some value
   pub names : key_read key ≡ Some (Exists row.0 row.1)
 
--- the row has a pair of a public column of its table, and that is the code of just this value, of the column's type
-pub record HasValue (version : Version) (pairs : Pairs) (row : RowKey) (column : ℕ) (value : Value) : Type 0 where
+-- the row has this value in a column: the pair of a public column of its table is there, and is the code of just the value, of the column's type
+pub record HasCell (version : Version) (pairs : Pairs) (row : RowKey) (column : ℕ) (value : Value) : Type 0 where
   pub element : ElementDef
   pub type : ColumnType
   pub known : element_at version column ≡ Some element
@@ -41,7 +42,7 @@ pub record HasValue (version : Version) (pairs : Pairs) (row : RowKey) (column :
 -- the pairs spell the row: its `exists` pair is there, and its cells are the values of its columns' pairs
 pub record IsSpelled (version : Version) (pairs : Pairs) (row : RowKey) (cells : Cells) : Type 0 where
   pub exists : HasExistsPair pairs row
-  pub values : (column : ℕ) (value : Value) → (map.get cells column ≡ Some value) ↔ HasValue version pairs row column value
+  pub values : (column : ℕ) (value : Value) → (map.get cells column ≡ Some value) ↔ HasCell version pairs row column value
 
 -- each public index has its pair, with the empty value, of each row of its table that the pairs spell
 abbrev pub HasIndexPairs : Version → Pairs → Type 0
@@ -50,3 +51,20 @@ HasIndexPairs version pairs = (number : ℕ) (element : ElementDef) (columns : L
 
 abbrev pub NothingIsMissingWhen : Type 0
 NothingIsMissingWhen = (version : Version) (pairs : Pairs) (report : CheckReport) → IsSoundVersion version → IsAudit version pairs report → (report.missing ≡ 0) ↔ HasIndexPairs version pairs
+
+-- keys and values are strings of bytes, as those of every store are
+abbrev pub AreByteStrings : Pairs → Type 0
+AreByteStrings pairs = (key value : Bytes) → map.get pairs key ≡ Some value → AllByRecursion (λ b. b < 2 ^ 8) key × AllByRecursion (λ b. b < 2 ^ 8) value
+
+-- why a pair is there: it is an `exists` pair, or that of a live column of its table beside its row's `exists` pair, or the one that a live index has of a row that the pairs spell
+pub data Belongs (version : Version) (pairs : Pairs) (key value : Bytes) : Type 0 where
+  ExistsPair : (row : RowKey) → key_read key ≡ Some (Exists row.0 row.1) → Belongs version pairs key value
+  ColumnPair : (row : RowKey) (column : ℕ) → key_read key ≡ Some (Column row.0 row.1 column) → IsLiveColumn version row.0 column → HasExistsPair pairs row → Belongs version pairs key value
+  IndexPair : (number : ℕ) (element : ElementDef) (columns : List ℕ) → element_at version number ≡ Some element → element.kind ≡ Index columns
+      → (primary : List Value) (cells : Cells) → IsSpelled version pairs (element.table, primary) cells → key ≡ index_pair number columns (element.table, primary) cells → value ≡ [] → Belongs version pairs key value
+
+abbrev pub EachPairBelongs : Version → Pairs → Type 0
+EachPairBelongs version pairs = (key value : Bytes) → map.get pairs key ≡ Some value → Belongs version pairs key value
+
+abbrev pub NothingIsExtraWhen : Type 0
+NothingIsExtraWhen = (version : Version) (pairs : Pairs) (report : CheckReport) → IsSoundVersion version → AreByteStrings pairs → IsAudit version pairs report → (report.extra ≡ 0) ↔ EachPairBelongs version pairs

@@ -1,5 +1,5 @@
 //! What the counts of an audit mean, each a function whose contract says it: calling it does nothing.
-ghost use Rattle.audit.specs.Meaning.{NothingIsMissingWhen};
+ghost use Rattle.audit.specs.Meaning.{NothingIsExtraWhen, NothingIsMissingWhen};
 
 /// An audit counts nothing as missing if and only if each public index has its pair of each row that the pairs spell.
 ///
@@ -7,4 +7,12 @@ ghost use Rattle.audit.specs.Meaning.{NothingIsMissingWhen};
 /// columns spell: what isn't the code of just one value of the column's type counts as none.
 pub fn nothing_is_missing_when()
     ensures { NothingIsMissingWhen }
+{}
+
+/// An audit counts nothing as extra if and only if each pair is an `exists` pair, or one of a live column of its own table
+/// beside its row's `exists` pair, or the one that a live index has of a row that the pairs spell.
+///
+/// The pairs are strings of bytes, as those of every store are.
+pub fn nothing_is_extra_when()
+    ensures { NothingIsExtraWhen }
 {}

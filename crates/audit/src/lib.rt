@@ -9,5 +9,5 @@ mod spelled;
 mod wanted;
 
 pub use counting::audit;
-pub use laws::nothing_is_missing_when;
+pub use laws::{nothing_is_extra_when, nothing_is_missing_when};
 pub use report::CheckReport;

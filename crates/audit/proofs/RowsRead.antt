@@ -30,7 +30,7 @@ use Rattle.element_state.specs.Clears.{left_true, right_true}
 use Rattle.element_state.specs.Index.{indexed}
 use Rattle.element_state.specs.Operations.{cells_of}
 use Rattle.audit.specs.Spelled.{single_value, spelled, public_type, cell_by, stored_cell, row_at}
-use Rattle.audit.specs.Meaning.{HasExistsPair, HasValue, IsSpelled}
+use Rattle.audit.specs.Meaning.{HasExistsPair, HasCell, IsSpelled}
 
 -- ---- one value
 
@@ -90,24 +90,24 @@ module _ (version : Version) (pairs : Pairs) (table : ℕ) (primary : List Value
   abbrev value_of : ℕ → Option Value
   value_of number = value_by number (type_here (element_at version number))
 
-  value_says : (n : ℕ) (v : Value) → value_of n ≡ Some v → HasValue version pairs (table, primary) n v
+  value_says : (n : ℕ) (v : Value) → value_of n ≡ Some v → HasCell version pairs (table, primary) n v
   value_says n v is = at_element (element_at version n) refl is
     where
-      at_bytes : (element : ElementDef) (type : ColumnType) → element_at version n ≡ Some element → IsTyped table element type → (o : Option Bytes) → map.get pairs (row_code table primary n) ≡ o → spelled type o ≡ Some v → HasValue version pairs (table, primary) n v
+      at_bytes : (element : ElementDef) (type : ColumnType) → element_at version n ≡ Some element → IsTyped table element type → (o : Option Bytes) → map.get pairs (row_code table primary n) ≡ o → spelled type o ≡ Some v → HasCell version pairs (table, primary) n v
       at_bytes element type known typed None there e = absurd (none_some v e)
       at_bytes element type known typed (Some bytes) there e =
           let s = single_says type (value_at bytes) v e in
           record { element = element; type = type; known = known; home = typed.home; kind = typed.kind; public = typed.public; bytes = bytes; there = there; reads = s.0; fits = s.1 }
 
-      at_type : (element : ElementDef) → element_at version n ≡ Some element → (o : Option ColumnType) → public_type table element ≡ o → value_by n o ≡ Some v → HasValue version pairs (table, primary) n v
+      at_type : (element : ElementDef) → element_at version n ≡ Some element → (o : Option ColumnType) → public_type table element ≡ o → value_by n o ≡ Some v → HasCell version pairs (table, primary) n v
       at_type element known None typed e = absurd (none_some v e)
       at_type element known (Some type) typed e = at_bytes element type known (typed_says table element type typed) (map.get pairs (row_code table primary n)) refl e
 
-      at_element : (o : Option ElementDef) → element_at version n ≡ o → value_by n (type_here o) ≡ Some v → HasValue version pairs (table, primary) n v
+      at_element : (o : Option ElementDef) → element_at version n ≡ o → value_by n (type_here o) ≡ Some v → HasCell version pairs (table, primary) n v
       at_element None known e = absurd (none_some v e)
       at_element (Some element) known e = at_type element known (public_type table element) refl e
 
-  value_from : (n : ℕ) (v : Value) → HasValue version pairs (table, primary) n v → value_of n ≡ Some v
+  value_from : (n : ℕ) (v : Value) → HasCell version pairs (table, primary) n v → value_of n ≡ Some v
   value_from n v has =
       ap (λ (o : Option ElementDef). value_by n (type_here o)) has.known
       ∙ ap (value_by n) (typed_from table has.element has.type has.home has.kind has.public)
@@ -180,7 +180,7 @@ module _ (version : Version) (pairs : Pairs) (table : ℕ) (primary : List Value
     got : (n : ℕ) → map.get read_cells n ≡ find nat_cmp n (stored (map.entries version.elements))
     got n = map.get-from_entries nat_cmp_total (row_at version pairs table primary).cells n
 
-    cells_spelled : (n : ℕ) (v : Value) → (map.get read_cells n ≡ Some v) ↔ HasValue version pairs (table, primary) n v
+    cells_spelled : (n : ℕ) (v : Value) → (map.get read_cells n ≡ Some v) ↔ HasCell version pairs (table, primary) n v
     cells_spelled n v = (
       λ is. value_says n v (stored_says n v (map.entries version.elements) all_own (sym (got n) ∙ is)),
       λ has. got n ∙ stored_from n v has.element (map.entries version.elements) all_own (sym (map.get-entries version.elements n) ∙ has.known) (value_from n v has),
