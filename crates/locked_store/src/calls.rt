@@ -1,0 +1,297 @@
+//! The calls through the lock. Each answers what the world answers in one critical section, and is refused before it with
+//! `WentBack` where the log is shorter than the handle's front. The front then stays; else it is the length of the log
+//! after the call, also where the world refuses.
+ghost use Rattle.std.specs.Prelude.{◌≡◌, IfOk};
+ghost use Rattle.locked_store.specs.Answers.{Answers, AnswersBack, Finds, told, told_back, no_place, grant_place, commit_place, publish_place, receipt_place, piece_place};
+ghost use Rattle.world.specs.Beginning.{BeginStep};
+ghost use Rattle.world.specs.Calls.{LeaseStep, CommitStep, IsReadView, IsCheck};
+ghost use Rattle.world.specs.Piecework.{PieceStep, ReadStep, standing_at};
+ghost use Rattle.world.specs.Publishing.{PublishStep};
+ghost use Rattle.world.specs.Querying.{QueryStep};
+ghost use Rattle.world.specs.State.{facts_of, recent};
+
+use crate::fault::{SharedFault, WentBack};
+use crate::handle::Handle;
+use crate::room::Room;
+use crate::shared::Shared;
+use lease::Lease;
+use listed::{Counted, Listed};
+use reorganise::{PieceView, PreparedPiece, Work};
+use row_map::{ReadSet, ReadView, Row};
+use row_query::Query;
+use row_write::Prepared;
+use schema_version::{Schema, Step};
+use std::alloc::{AllocError, Global};
+use std::sync::Wait;
+use world::{
+    BeginFault, CheckReport, CommitFault, Committed, Grant, GrantFault, PieceDone, PieceFault,
+    PublishFault, QueryRefusal, ReadFault, Receipt,
+};
+
+// What the world answered.
+fn through<T, E>(answer: Result<T, E>) -> Result<T, SharedFault<E>>
+    ensures { result ≡ told answer }
+{
+    match answer {
+        Ok(value) => Ok(value),
+        Err(fault) => Err(SharedFault::World(fault)),
+    }
+}
+
+// What the world answered, with what it gives back.
+fn through_back<T, E, P>(answer: Result<T, (E, P)>) -> Result<T, (SharedFault<E>, P)>
+    ensures { result ≡ told_back answer }
+{
+    match answer {
+        Ok(value) => Ok(value),
+        Err((fault, back)) => Err((SharedFault::World(fault), back)),
+    }
+}
+
+impl<L: Room> Shared<L> {
+    /// Grants a lease on the newest version, as `World::lease` does.
+    ///
+    /// Refused in this order: `WentBack` where the log is shorter than the handle's front; `World` with what `World::lease`
+    /// refuses.
+    #[tactic(auto, using(crate::proofs::Through::answers))]
+    pub fn lease(
+        &self,
+        rt: &impl Wait,
+        alloc: Global,
+        me: &mut Handle<L>,
+        moment: u64,
+    ) -> Result<Grant, SharedFault<GrantFault>>
+        ensures { Answers L.opening me.old result me.new (λ c r d. LeaseStep c moment r d) grant_place }
+    {
+        let mut locked = self.locked.lock(rt);
+        let seen = locked.len();
+        if seen < me.front {
+            return Err(SharedFault::WentBack { seen });
+        }
+        through(locked.lease(alloc, me, moment))
+    }
+
+    /// The schema of the newest version or of the one before, by its number, as `World::schema` gives it; None for any other
+    /// number. It is an owner of its own, so that it outlives the critical section.
+    ///
+    /// Refused in this order: `WentBack` where the log is shorter than the handle's front; `World` for want of memory.
+    #[tactic(auto, using(crate::proofs::Through::answers))]
+    pub fn schema(
+        &self,
+        rt: &impl Wait,
+        me: &mut Handle<L>,
+        version: u64,
+    ) -> Result<Option<Counted<Schema>>, SharedFault<AllocError>>
+        ensures { Answers L.opening me.old result me.new (λ c r d. IfOk r (λ s. s ≡ recent (facts_of c) version) × (d ≡ c)) no_place }
+    {
+        let locked = self.locked.lock(rt);
+        let seen = locked.len();
+        if seen < me.front {
+            return Err(SharedFault::WentBack { seen });
+        }
+        through(locked.schema(me, version))
+    }
+
+    /// The pairs of these keys, as `World::read` gives them.
+    ///
+    /// Refused in this order: `WentBack` where the log is shorter than the handle's front; `World` with what `World::read`
+    /// refuses.
+    #[tactic(auto, using(crate::proofs::Through::answers))]
+    pub fn read(
+        &self,
+        rt: &impl Wait,
+        alloc: Global,
+        me: &mut Handle<L>,
+        keys: &ReadSet,
+    ) -> Result<ReadView, SharedFault<AllocError>>
+        ensures { Answers L.opening me.old result me.new (λ c r d. IfOk r (λ view. IsReadView c keys.now view) × (d ≡ c)) no_place }
+    {
+        let locked = self.locked.lock(rt);
+        let seen = locked.len();
+        if seen < me.front {
+            return Err(SharedFault::WentBack { seen });
+        }
+        through(locked.read(alloc, me, keys))
+    }
+
+    /// Commits a prepared transaction, as `World::commit` does.
+    ///
+    /// Refused in this order: `WentBack` where the log is shorter than the handle's front; `World` with what `World::commit`
+    /// refuses. What was prepared comes back with each refusal.
+    #[tactic(auto, using(crate::proofs::Through::answers_back))]
+    pub fn commit(
+        &self,
+        rt: &impl Wait,
+        alloc: Global,
+        me: &mut Handle<L>,
+        moment: u64,
+        prepared: Prepared,
+    ) -> Result<Committed, (SharedFault<CommitFault>, Prepared)>
+        ensures { AnswersBack L.opening me.old prepared result me.new (λ c r d. CommitStep c moment prepared r d) commit_place }
+    {
+        let mut locked = self.locked.lock(rt);
+        let seen = locked.len();
+        if seen < me.front {
+            return Err((SharedFault::WentBack { seen }, prepared));
+        }
+        through_back(locked.commit(alloc, me, moment, prepared))
+    }
+
+    /// The rows that a query asks for, as `World::query` gives them.
+    ///
+    /// Refused in this order: `WentBack` where the log is shorter than the handle's front; `World` with what `World::query`
+    /// refuses.
+    #[tactic(auto, using(crate::proofs::Through::answers))]
+    pub fn query(
+        &self,
+        rt: &impl Wait,
+        alloc: Global,
+        me: &mut Handle<L>,
+        moment: u64,
+        lease: &Lease,
+        query: &Query,
+    ) -> Result<Listed<Row>, SharedFault<QueryRefusal>>
+        ensures { Answers L.opening me.old result me.new (λ c r d. QueryStep c moment lease.now query.now r × (d ≡ c)) no_place }
+    {
+        let locked = self.locked.lock(rt);
+        let seen = locked.len();
+        if seen < me.front {
+            return Err(SharedFault::WentBack { seen });
+        }
+        through(locked.query(alloc, me, moment, lease, query))
+    }
+
+    /// Publishes the version that a step gives, as `World::publish` does.
+    ///
+    /// Refused in this order: `WentBack` where the log is shorter than the handle's front; `World` with what `World::publish`
+    /// refuses.
+    #[tactic(auto, using(crate::proofs::Through::answers))]
+    pub fn publish(
+        &self,
+        rt: &impl Wait,
+        alloc: Global,
+        me: &mut Handle<L>,
+        moment: u64,
+        step: &Step,
+    ) -> Result<(u64, Receipt), SharedFault<PublishFault>>
+        ensures { Answers L.opening me.old result me.new (λ c r d. PublishStep c moment step.now r d) publish_place }
+    {
+        let mut locked = self.locked.lock(rt);
+        let seen = locked.len();
+        if seen < me.front {
+            return Err(SharedFault::WentBack { seen });
+        }
+        through(locked.publish(alloc, me, moment, step))
+    }
+
+    /// Begins a reorganisation, as `World::begin_reorg` does.
+    ///
+    /// Refused in this order: `WentBack` where the log is shorter than the handle's front; `World` with what `World::begin_reorg`
+    /// refuses.
+    #[tactic(auto, using(crate::proofs::Through::answers))]
+    pub fn begin_reorg(
+        &self,
+        rt: &impl Wait,
+        alloc: Global,
+        me: &mut Handle<L>,
+        moment: u64,
+        element: u32,
+        pieces: u32,
+    ) -> Result<Receipt, SharedFault<BeginFault>>
+        ensures { Answers L.opening me.old result me.new (λ c r d. BeginStep c moment element pieces r d) receipt_place }
+    {
+        let mut locked = self.locked.lock(rt);
+        let seen = locked.len();
+        if seen < me.front {
+            return Err(SharedFault::WentBack { seen });
+        }
+        through(locked.begin_reorg(alloc, me, moment, element, pieces))
+    }
+
+    /// How the begun reorganisation of an element stands, as `World::progress` tells it. Refused with `WentBack` alone, where
+    /// the log is shorter than the handle's front.
+    #[tactic(auto, using(crate::proofs::Through::finds))]
+    pub fn progress(
+        &self,
+        rt: &impl Wait,
+        me: &mut Handle<L>,
+        element: u32,
+    ) -> Result<Option<(Work, usize, bool)>, WentBack>
+        ensures { Finds L.opening me.old result me.new (λ c x. x ≡ standing_at (facts_of c) element) }
+    {
+        let locked = self.locked.lock(rt);
+        let seen = locked.len();
+        if seen < me.front {
+            return Err(WentBack { seen });
+        }
+        Ok(locked.progress(me, element))
+    }
+
+    /// Reads the next items of a piece, as `World::read_piece` does.
+    ///
+    /// Refused in this order: `WentBack` where the log is shorter than the handle's front; `World` with what `World::read_piece`
+    /// refuses.
+    #[tactic(auto, using(crate::proofs::Through::answers))]
+    pub fn read_piece(
+        &self,
+        rt: &impl Wait,
+        alloc: Global,
+        me: &mut Handle<L>,
+        element: u32,
+        piece: u32,
+        limit: u32,
+    ) -> Result<PieceView, SharedFault<ReadFault>>
+        ensures { Answers L.opening me.old result me.new (λ c r d. ReadStep c element piece limit r × (d ≡ c)) no_place }
+    {
+        let locked = self.locked.lock(rt);
+        let seen = locked.len();
+        if seen < me.front {
+            return Err(SharedFault::WentBack { seen });
+        }
+        through(locked.read_piece(alloc, me, element, piece, limit))
+    }
+
+    /// Commits a prepared piece, as `World::commit_piece` does.
+    ///
+    /// Refused in this order: `WentBack` where the log is shorter than the handle's front; `World` with what `World::commit_piece`
+    /// refuses. What was prepared comes back with each refusal.
+    #[tactic(auto, using(crate::proofs::Through::answers_back))]
+    pub fn commit_piece(
+        &self,
+        rt: &impl Wait,
+        alloc: Global,
+        me: &mut Handle<L>,
+        moment: u64,
+        prepared: PreparedPiece,
+    ) -> Result<PieceDone, (SharedFault<PieceFault>, PreparedPiece)>
+        ensures { AnswersBack L.opening me.old prepared result me.new (λ c r d. PieceStep c moment prepared r d) piece_place }
+    {
+        let mut locked = self.locked.lock(rt);
+        let seen = locked.len();
+        if seen < me.front {
+            return Err((SharedFault::WentBack { seen }, prepared));
+        }
+        through_back(locked.commit_piece(alloc, me, moment, prepared))
+    }
+
+    /// Audits the pairs by the newest version, as `World::check` does.
+    ///
+    /// Refused in this order: `WentBack` where the log is shorter than the handle's front; `World` with what `World::check`
+    /// refuses.
+    #[tactic(auto, using(crate::proofs::Through::answers))]
+    pub fn check(
+        &self,
+        rt: &impl Wait,
+        alloc: Global,
+        me: &mut Handle<L>,
+    ) -> Result<CheckReport, SharedFault<AllocError>>
+        ensures { Answers L.opening me.old result me.new (λ c r d. IfOk r (λ report. IsCheck c report) × (d ≡ c)) no_place }
+    {
+        let locked = self.locked.lock(rt);
+        let seen = locked.len();
+        if seen < me.front {
+            return Err(SharedFault::WentBack { seen });
+        }
+        through(locked.check(alloc, me))
+    }
+}

@@ -1,0 +1,18 @@
+//! A world behind one lock, and the handles through which threads call it; receipts against a log.
+#![tactic(auto)]
+
+mod calls;
+mod fault;
+mod handle;
+mod locked;
+mod receipts;
+mod room;
+mod same_entry;
+mod same_ops;
+mod shared;
+
+pub use fault::{Missing, ReceiptFault, ShareFault, SharedFault, WentBack};
+pub use handle::Handle;
+pub use receipts::reconcile;
+pub use room::Room;
+pub use shared::Shared;

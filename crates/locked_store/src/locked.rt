@@ -1,0 +1,281 @@
+//! What lies behind the lock, and the calls of one critical section: each is one call of the world.
+ghost use Rattle.std.specs.Prelude.{◌≡◌, ◌≤◌, length, IfOk, option_map};
+ghost use Rattle.locked_store.specs.Answers.{Takes, Found, no_place, grant_place, commit_place, publish_place, receipt_place, piece_place};
+ghost use Rattle.locked_store.specs.Cores.{IsCore};
+ghost use Rattle.world.specs.Beginning.{BeginStep};
+ghost use Rattle.world.specs.Calls.{LeaseStep, CommitStep, IsReadView, IsCheck};
+ghost use Rattle.world.specs.Piecework.{PieceStep, ReadStep, standing_at};
+ghost use Rattle.world.specs.Publishing.{PublishStep};
+ghost use Rattle.world.specs.Querying.{QueryStep};
+ghost use Rattle.world.specs.State.{facts_of, recent};
+
+use crate::handle::Handle;
+use crate::room::Room;
+use lease::Lease;
+use listed::{Counted, Listed};
+use reorganise::{PieceView, PreparedPiece, Work};
+use row_map::{ReadSet, ReadView, Row};
+use row_query::Query;
+use row_write::Prepared;
+use schema_version::{Schema, Step};
+use std::alloc::{AllocError, Global};
+use std::marker::Model;
+use std::sync::ledger::Book;
+use world::{
+    BeginFault, CheckReport, CommitFault, Committed, Grant, GrantFault, PieceDone, PieceFault,
+    PublishFault, QueryRefusal, ReadFault, Receipt, World,
+};
+
+/// The world, and how many entries its calls added since it was shared. Contracts see it as the state of the world.
+///
+/// Whenever the lock is free, the pairs are the replay of the log and agree with the rows for every version that a lease may
+/// still use, and the handles' shares add up to the entries that were added.
+#[derive(Drop)]
+pub(crate) struct Locked<L: Room> {
+    pub(crate) world: World,
+    pub(crate) added: u64,
+    pub(crate) book: Book<L>,
+}
+
+impl<L: Room> Model for Locked<L> {
+    ghost use Rattle.std.specs.Prelude.{◌≡◌, ◌+◌, length};
+    ghost use Rattle.world.specs.State.{State};
+    ghost use Rattle.world.specs.Code.{state_code};
+    ghost use Rattle.locked_store.specs.Cores.{IsCore};
+
+    ghost Value = { State };
+
+    ghost coded = { state_code };
+
+    ghost view = { λ l. l.world };
+
+    ghost invariant = { λ l. IsCore L.opening l.world × (length l.world.log ≡ L.since + l.added) × (l.book.total ≡ l.added) × (L.handles ≡ L.parts) };
+}
+
+/// The length of the log.
+pub(crate) fn log_len(world: &World) -> u64
+    ensures { result ≡ length world.now.log }
+{
+    world.log().len() as u64
+}
+
+// An owner more of a schema.
+fn same(schema: Option<&Counted<Schema>>) -> Result<Option<Counted<Schema>>, AllocError>
+    ensures { IfOk result (λ s. s ≡ option_map (λ r. r.now) schema.entry) }
+{
+    match schema {
+        Some(schema) => Ok(Some(schema.clone()?)),
+        None => Ok(None),
+    }
+}
+
+impl<L: Room> Locked<L> {
+    pub(crate) fn len(&self) -> u64
+        ensures { result ≡ length self.now.log }
+    {
+        log_len(&self.world)
+    }
+
+    // Tells that the world is a core of the opening.
+    fn is_core(&self)
+        ensures { IsCore L.opening self.now }
+    {
+        let _world = &self.world;
+    }
+
+    // Moves the front to the length of the log.
+    fn look(&self, me: &mut Handle<L>)
+        ensures core { IsCore L.opening self.now }
+        ensures front { me.new.front ≡ length self.now.log }
+        ensures same { (me.new.id ≡ me.old.id) × (me.new.count ≡ me.old.count) }
+    {
+        me.front = log_len(&self.world);
+        self.is_core();
+    }
+
+    pub(crate) fn lease(
+        &mut self,
+        alloc: Global,
+        me: &mut Handle<L>,
+        moment: u64,
+    ) -> Result<Grant, GrantFault>
+        requires { me.old.front ≤ length self.old.log }
+        ensures { Takes L.opening me.old self.old result self.new me.new (λ c r d. LeaseStep c moment r d) grant_place }
+    {
+        self.is_core();
+        let Locked { world, added, book } = self;
+        let result = world.lease(alloc, moment);
+        let len = log_len(world);
+        if result.is_ok() {
+            book.add(&mut me.share, 1);
+            *added += 1;
+        }
+        me.front = len;
+        world.agrees();
+        result
+    }
+
+    pub(crate) fn schema(
+        &self,
+        me: &mut Handle<L>,
+        version: u64,
+    ) -> Result<Option<Counted<Schema>>, AllocError>
+        requires { me.old.front ≤ length self.now.log }
+        ensures { Takes L.opening me.old self.now result self.now me.new (λ c r d. IfOk r (λ s. s ≡ recent (facts_of c) version) × (d ≡ c)) no_place }
+    {
+        self.look(me);
+        same(self.world.schema(version))
+    }
+
+    pub(crate) fn read(
+        &self,
+        alloc: Global,
+        me: &mut Handle<L>,
+        keys: &ReadSet,
+    ) -> Result<ReadView, AllocError>
+        requires { me.old.front ≤ length self.now.log }
+        ensures { Takes L.opening me.old self.now result self.now me.new (λ c r d. IfOk r (λ view. IsReadView c keys.now view) × (d ≡ c)) no_place }
+    {
+        self.look(me);
+        self.world.read(alloc, keys)
+    }
+
+    pub(crate) fn commit(
+        &mut self,
+        alloc: Global,
+        me: &mut Handle<L>,
+        moment: u64,
+        prepared: Prepared,
+    ) -> Result<Committed, (CommitFault, Prepared)>
+        requires { me.old.front ≤ length self.old.log }
+        ensures { Takes L.opening me.old self.old result self.new me.new (λ c r d. CommitStep c moment prepared r d) commit_place }
+    {
+        self.is_core();
+        let Locked { world, added, book } = self;
+        let result = world.commit(alloc, moment, prepared);
+        let len = log_len(world);
+        if matches!(&result, Ok(Committed::Done(_))) {
+            book.add(&mut me.share, 1);
+            *added += 1;
+        }
+        me.front = len;
+        world.agrees();
+        result
+    }
+
+    pub(crate) fn query(
+        &self,
+        alloc: Global,
+        me: &mut Handle<L>,
+        moment: u64,
+        lease: &Lease,
+        query: &Query,
+    ) -> Result<Listed<Row>, QueryRefusal>
+        requires { me.old.front ≤ length self.now.log }
+        ensures { Takes L.opening me.old self.now result self.now me.new (λ c r d. QueryStep c moment lease.now query.now r × (d ≡ c)) no_place }
+    {
+        self.look(me);
+        self.world.query(alloc, moment, lease, query)
+    }
+
+    pub(crate) fn publish(
+        &mut self,
+        alloc: Global,
+        me: &mut Handle<L>,
+        moment: u64,
+        step: &Step,
+    ) -> Result<(u64, Receipt), PublishFault>
+        requires { me.old.front ≤ length self.old.log }
+        ensures { Takes L.opening me.old self.old result self.new me.new (λ c r d. PublishStep c moment step.now r d) publish_place }
+    {
+        self.is_core();
+        let Locked { world, added, book } = self;
+        let result = world.publish(alloc, moment, step);
+        let len = log_len(world);
+        if result.is_ok() {
+            book.add(&mut me.share, 1);
+            *added += 1;
+        }
+        me.front = len;
+        world.agrees();
+        result
+    }
+
+    pub(crate) fn begin_reorg(
+        &mut self,
+        alloc: Global,
+        me: &mut Handle<L>,
+        moment: u64,
+        element: u32,
+        pieces: u32,
+    ) -> Result<Receipt, BeginFault>
+        requires { me.old.front ≤ length self.old.log }
+        ensures { Takes L.opening me.old self.old result self.new me.new (λ c r d. BeginStep c moment element pieces r d) receipt_place }
+    {
+        self.is_core();
+        let Locked { world, added, book } = self;
+        let result = world.begin_reorg(alloc, moment, element, pieces);
+        let len = log_len(world);
+        if result.is_ok() {
+            book.add(&mut me.share, 1);
+            *added += 1;
+        }
+        me.front = len;
+        world.agrees();
+        result
+    }
+
+    pub(crate) fn progress(&self, me: &mut Handle<L>, element: u32) -> Option<(Work, usize, bool)>
+        requires { me.old.front ≤ length self.now.log }
+        ensures { Found L.opening me.old self.now result me.new (λ c x. x ≡ standing_at (facts_of c) element) }
+    {
+        self.look(me);
+        self.world.progress(element)
+    }
+
+    pub(crate) fn read_piece(
+        &self,
+        alloc: Global,
+        me: &mut Handle<L>,
+        element: u32,
+        piece: u32,
+        limit: u32,
+    ) -> Result<PieceView, ReadFault>
+        requires { me.old.front ≤ length self.now.log }
+        ensures { Takes L.opening me.old self.now result self.now me.new (λ c r d. ReadStep c element piece limit r × (d ≡ c)) no_place }
+    {
+        self.look(me);
+        self.world.read_piece(alloc, element, piece, limit)
+    }
+
+    pub(crate) fn commit_piece(
+        &mut self,
+        alloc: Global,
+        me: &mut Handle<L>,
+        moment: u64,
+        prepared: PreparedPiece,
+    ) -> Result<PieceDone, (PieceFault, PreparedPiece)>
+        requires { me.old.front ≤ length self.old.log }
+        ensures { Takes L.opening me.old self.old result self.new me.new (λ c r d. PieceStep c moment prepared r d) piece_place }
+    {
+        self.is_core();
+        let Locked { world, added, book } = self;
+        let result = world.commit_piece(alloc, moment, prepared);
+        let len = log_len(world);
+        if result.is_ok() {
+            book.add(&mut me.share, 1);
+            *added += 1;
+        }
+        me.front = len;
+        world.agrees();
+        result
+    }
+
+    pub(crate) fn check(&self, alloc: Global, me: &mut Handle<L>) -> Result<CheckReport, AllocError>
+        requires { me.old.front ≤ length self.now.log }
+        ensures { Takes L.opening me.old self.now result self.now me.new (λ c r d. IfOk r (λ report. IsCheck c report) × (d ≡ c)) no_place }
+    {
+        self.look(me);
+        self.world.check(alloc)
+    }
+}

@@ -1,0 +1,53 @@
+//! Equality of entries of the log.
+ghost use Rattle.std.specs.Bool.{Decides};
+ghost use Rattle.std.specs.Prelude.{◌≡◌};
+
+use crate::same_ops::are_same_ops;
+use replay::{Entry, What};
+use schema_version::Step;
+
+// Whether two steps are the same.
+fn is_same_step(one: &Step, other: &Step) -> bool
+    ensures { Decides result (one.now ≡ other.now) }
+{
+    one == other
+}
+
+// Whether two calls did the same.
+fn did_same(one: &What, other: &What) -> bool
+    ensures { Decides result (one.now ≡ other.now) }
+{
+    match (one, other) {
+        (What::Lease(lease), What::Lease(second)) => lease == second,
+        (What::Txn(lease, ops), What::Txn(second, more)) => lease == second
+            && are_same_ops(ops.as_slice(), more.as_slice()),
+        (What::Publish(step), What::Publish(second)) => is_same_step(step, second),
+        (
+            What::Begin { element, pieces },
+            What::Begin {
+                element: second,
+                pieces: count,
+            },
+        ) => element == second && pieces == count,
+        (
+            What::Piece {
+                element,
+                piece,
+                cursor,
+            },
+            What::Piece {
+                element: second,
+                piece: number,
+                cursor: key,
+            },
+        ) => element == second && piece == number && cursor == key,
+        _ => false,
+    }
+}
+
+/// Whether two entries are the same.
+pub(crate) fn is_same_entry(one: &Entry, other: &Entry) -> bool
+    ensures { Decides result (one.now ≡ other.now) }
+{
+    one.moment == other.moment && did_same(one.what.get(), other.what.get())
+}
