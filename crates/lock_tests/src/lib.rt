@@ -1,0 +1,11 @@
+//! A shared world under one thread and under two: what no clause says of its calls, and receipts against its log.
+#![tactic(auto)]
+
+#[cfg(test)]
+mod counts;
+#[cfg(test)]
+mod fixtures;
+#[cfg(test)]
+mod one_handle;
+#[cfg(test)]
+mod two_threads;
