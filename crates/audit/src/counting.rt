@@ -1,3 +1,4 @@
+//! Going over a store's pairs and counting the rows, what is missing and what is too much.
 ghost use Rattle.std.specs.Prelude.{◌≡◌, IfOk};
 ghost use Rattle.audit.specs.Audit.{IsAudit, missing_by, judged as judged_of, tally};
 ghost use Rattle.std.specs.FinMap as map;

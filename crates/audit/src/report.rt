@@ -1,3 +1,4 @@
+//! What an audit counts.
 ghost use Rattle.std.specs.Prelude.{◌≡◌, ◌+◌, IfOk};
 ghost use Rattle.audit.specs.Audit.{added};
 

@@ -1,3 +1,4 @@
+//! The changes that a batch asks for.
 use keycode::Text;
 use listed::Listed;
 use schema_version::Kind;

@@ -1,3 +1,4 @@
+//! Looking for changes of a batch by table and name.
 ghost use Rattle.std.specs.Prelude.{◌≡◌, ◌&&◌, ◌==◌, bytes_eq};
 ghost use Rattle.std.specs.List.{list_any};
 ghost use Rattle.change_plan.specs.Batches.{is_same_name as is_same_name_of, adds_column as adds_column_of, adds as adds_of, drops_index as drops_index_of, drops_column as drops_column_of, lists_added as lists_added_of, drops_index_on as drops_index_on_of, is_under_dropped as is_under_dropped_of};

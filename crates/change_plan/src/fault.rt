@@ -1,3 +1,4 @@
+//! Why a batch cannot be planned.
 ghost use Rattle.std.specs.Prelude.{◌≡◌};
 ghost use Rattle.change_plan.specs.declared.fault.PlanFault.TheVariants.{Memory};
 

@@ -1,3 +1,4 @@
+//! Looking for the elements that a change names.
 ghost use Rattle.std.specs.Prelude.{◌≡◌, Some, bytes_eq};
 ghost use Rattle.std.specs.List.{list_any};
 ghost use Rattle.std.specs.Option.{option_copied};

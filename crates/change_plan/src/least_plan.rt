@@ -1,3 +1,4 @@
+//! Plans: steps, each with the reorganisations that have to end before it.
 use listed::Listed;
 use schema_version::Step;
 

@@ -1,3 +1,4 @@
+//! The numbers that added elements will have.
 ghost use Rattle.std.specs.Prelude.{◌≡◌, ◌+◌, ◌≤◌, [], ◌∷◌, if◌then◌else◌, IsTrue, count_by, IfOk, option_to_list};
 ghost use mathlib.Core.List.{map as each};
 ghost use Rattle.schema_version.specs.Names.{max_elements};

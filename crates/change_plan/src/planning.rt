@@ -1,3 +1,4 @@
+//! From a batch of changes to its least plan.
 ghost use Rattle.std.specs.Prelude.{◌≡◌, ◌+◌, ◌≤◌, ◌⊎◌, IfOk, IfErr, OnOk, count_by};
 ghost use Rattle.schema_version.specs.Names.{max_elements};
 ghost use Rattle.change_plan.specs.declared.fault.PlanFault.TheVariants.{Memory};

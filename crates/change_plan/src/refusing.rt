@@ -1,3 +1,4 @@
+//! The faults of one change, in their order.
 ghost use Rattle.std.specs.Prelude.{◌≡◌, ◌+◌, ◌==◌, ◌&&◌, count_by, nat_lt};
 ghost use Rattle.std.specs.List.{list_any};
 ghost use Rattle.schema_version.specs.declared.element.ElementDef.{ElementDef as ElementDefinition};

@@ -1,3 +1,4 @@
+//! The steps of a plan, made from what each element does at each time.
 ghost use Rattle.std.specs.Prelude.{◌≡◌, ◌<◌, IfOk, option_to_list, flat_map};
 ghost use Rattle.change_plan.specs.Schedule.{move_between as move_between_of, work_between as work_between_of, move_of as move_of_trip, work_of_trip, step_at as step_at_time, longest as longest_of, steps_from};
 

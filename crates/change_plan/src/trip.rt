@@ -1,3 +1,4 @@
+//! When an element takes which of its edges.
 ghost use Rattle.std.specs.Prelude.{◌≡◌};
 ghost use Rattle.change_plan.specs.Schedule.{departure as departure_of, timetable as timetable_of, walk as walk_of, state_at as state_at_of};
 

@@ -1,3 +1,4 @@
+//! An element of any kind.
 ghost use Rattle.std.specs.Prelude.{◌≡◌, IfOk};
 ghost use Rattle.element_state.specs.Kinds.{kind_meaning, table_of_any, meaning_of_any, IsLawfulElement, laws_of_any, clear_of_any, clears_of_any};
 

@@ -1,3 +1,4 @@
+//! What an optional column writes in each state.
 ghost use Rattle.std.specs.Prelude.{◌≡◌, OnOk, OnErr, IfOk, Some, None};
 ghost use Rattle.std.specs.FinMap as map;
 ghost use Rattle.keycode.specs.Code.{code};

@@ -1,3 +1,4 @@
+//! The trait of elements, and the laws of what they write.
 ghost use Rattle.std.specs.Prelude.{◌≡◌, OnOk, OnErr, IfOk, ℕ};
 ghost use Rattle.row_map.specs.Writes.{noted};
 ghost use Rattle.element_state.specs.Elements.{Meaning};

@@ -1,3 +1,4 @@
+//! What an index writes in each state.
 ghost use Rattle.std.specs.Prelude.{◌≡◌, OnOk, OnErr, IfOk, Some, None, [], ◌∷◌, ◌++◌, true, false};
 ghost use Rattle.row_map.specs.Writes.{noted};
 ghost use Rattle.row_map.specs.Keys.{index_code};

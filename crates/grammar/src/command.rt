@@ -1,3 +1,4 @@
+//! Commands, and which line is which.
 ghost use Rattle.listed.specs.Answers.{GivesOr};
 ghost use Rattle.tokens.specs.declared.fault.LineFault.TheVariants.{Memory};
 ghost use Rattle.tokens.specs.Productions.{Gives};

@@ -1,3 +1,4 @@
+//! Lines that ask for nothing.
 ghost use Rattle.std.specs.Prelude.{◌≡◌};
 ghost use Rattle.grammar.specs.Silent.{is_remark, is_blank, is_silent};
 

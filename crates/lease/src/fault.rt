@@ -1,3 +1,4 @@
+//! Why no timeline, no lease and no publication.
 ghost use Rattle.std.specs.Prelude.{◌≡◌};
 ghost use Rattle.lease.specs.declared.fault.TimelineFault.TheVariants.{Memory};
 

@@ -1,3 +1,4 @@
+//! When each version was published, and which leases that allows.
 ghost use Rattle.std.specs.Prelude.{◌≡◌, ◌+◌, ◌≤◌, ◌<◌, ◌↔◌, IsTrue, IsOk, IfOk, IfErr, OnOk, OnErr, Ok, Err};
 ghost use Rattle.listed.specs.Refusal.{IsFirst};
 ghost use Rattle.lease.specs.Timeline.{IsValid, IsLength, IsHonest, IsUsable, WasNewest, opened, after_publication, newest, last_publication, earliest, granted_at, max_moment};

@@ -1,3 +1,4 @@
+//! Why a reorganisation was not worked off.
 ghost use Rattle.std.specs.Prelude.{◌≡◌};
 ghost use Rattle.piece_work.specs.declared.fault.WorkFault.TheVariants as work;
 

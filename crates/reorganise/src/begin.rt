@@ -1,3 +1,4 @@
+//! Where the pieces of a reorganisation begin and end.
 ghost use Rattle.std.specs.Prelude.{◌≡◌, ◌≤◌, IfOk};
 ghost use Rattle.reorganise.specs.Regions.{items, region_of as region_for, front as front_of, back as back_of};
 ghost use Rattle.reorganise.specs.Pieces.{bound as bound_of, spans as spans_of, begun, are_ended};

@@ -1,3 +1,4 @@
+//! Why a piece is not read.
 ghost use Rattle.std.specs.Prelude.{◌≡◌};
 ghost use Rattle.reorganise.specs.declared.fault.ViewFault.TheVariants.{Memory};
 

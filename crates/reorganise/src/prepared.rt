@@ -1,3 +1,4 @@
+//! A piece that was read and prepared.
 ghost use Rattle.std.specs.Prelude.{◌≡◌};
 ghost use Rattle.reorganise.specs.Pieces.{IsReading};
 ghost use Rattle.reorganise.specs.Batches.{expect_of, batch_for};

@@ -1,3 +1,4 @@
+//! The next items of a piece, as they were read.
 ghost use Rattle.std.specs.Prelude.{◌≡◌};
 ghost use Rattle.reorganise.specs.Pieces.{IsReading};
 

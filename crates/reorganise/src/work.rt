@@ -1,3 +1,4 @@
+//! Fills and clears, their pieces and how far each has come.
 use byte_map::Bytes;
 use listed::Listed;
 use schema_version::ElementDef;

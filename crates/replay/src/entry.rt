@@ -1,3 +1,4 @@
+//! The entries of a log.
 use byte_map::Bytes;
 use lease::Lease;
 use listed::Counted;

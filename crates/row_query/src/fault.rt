@@ -1,3 +1,4 @@
+//! Why a query is refused.
 ghost use Rattle.std.specs.Prelude.{◌≡◌};
 ghost use Rattle.row_query.specs.declared.fault.QueryFault.TheVariants.{Memory};
 

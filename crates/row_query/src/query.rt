@@ -1,3 +1,4 @@
+//! Queries and their conditions.
 use keycode::{Value, Values};
 use listed::Listed;
 

@@ -1,3 +1,4 @@
+//! Audits of stores that no list of calls could give.
 use crate::fixtures::{A_1, A_2, EMPTY, FIVE, I_5_1, I_NULL_1, Pairs, ROW_1, stepped, store};
 use audit::audit;
 use byte_map::{Bytes, KeyMap};

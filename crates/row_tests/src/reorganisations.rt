@@ -1,3 +1,4 @@
+//! Pieces over stores that are put together by hand.
 use crate::fixtures::{
     A_1, A_2, EMPTY, FIVE, I_5_1, I_6_2, I_7_3, I_NULL_1, I_NULL_2, Pairs, Points, ROW_1, ROW_2,
     ROW_3, ROW_4, ROW_5, are_writes, store, text,

@@ -1,3 +1,4 @@
+//! Queries, by the paths that they take and by what they refuse.
 use crate::fixtures::{
     A_1, A_3, A_4, EMPTY, FIVE, I_5_1, I_5_3, I_9_4, I_NULL_2, NINE, Pairs, Plain, ROW_1, ROW_2,
     ROW_3, ROW_4, key, stepped, store, value,

@@ -1,3 +1,4 @@
+//! What transactions read, and what their preparation gives.
 use crate::fixtures::{
     A_1, A_2, EMPTY, FIVE, I_5_1, I_6_1, I_NULL_1, Plain, Points, ROW_1, ROW_2, SIX, are_writes,
     bytes, declared, key, value,

@@ -1,3 +1,4 @@
+//! Why rows refuse an operation, and why a transaction cannot be prepared.
 ghost use Rattle.std.specs.Prelude.{◌≡◌};
 ghost use Rattle.row_write.specs.declared.fault.PrepareFault.TheVariants.{Memory};
 

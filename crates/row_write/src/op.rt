@@ -1,3 +1,4 @@
+//! Operations on rows.
 use crate::fault::RowFault;
 use keycode::{Value, Values};
 use listed::Listed;

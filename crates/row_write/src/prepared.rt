@@ -1,3 +1,4 @@
+//! Transactions that were prepared.
 ghost use Rattle.std.specs.Prelude.{◌≡◌, IfOk};
 ghost use Rattle.row_write.specs.Made.{IsMade};
 

@@ -1,3 +1,4 @@
+//! The faults of a step's moves, in their order.
 ghost use Rattle.std.specs.Prelude.{◌≡◌, ◌+◌, is_some, nat_lt, nat_le, count_by};
 ghost use Rattle.std.specs.List.{find};
 ghost use Rattle.schema_version.specs.Version.{table_at, element_at};

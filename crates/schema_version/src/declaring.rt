@@ -1,3 +1,4 @@
+//! Version 1, from the tables that are declared.
 ghost use Rattle.std.specs.Prelude.{◌≡◌, ◌+◌, ◌≤◌, ◌++◌, map, length, IfOk, OnOk, IsTrue, []};
 ghost use Rattle.std.specs.List.{list_all};
 ghost use Rattle.schema_version.specs.Version.{Version};

@@ -1,3 +1,4 @@
+//! Which declarations are lawful.
 ghost use Rattle.std.specs.Prelude.{◌≡◌, not, bytes_eq};
 ghost use Rattle.std.specs.List.{list_all, list_any};
 ghost use Rattle.schema_version.specs.declared.table.TableDef.{TableDef as Declared};

@@ -1,3 +1,4 @@
+//! The edges between states.
 ghost use Rattle.std.specs.Prelude.{◌≡◌, ◌==◌, ◌&&◌, count_by, bytes_eq, option_map};
 ghost use Rattle.std.specs.List.{list_any, find};
 ghost use Rattle.schema_version.specs.Version.{is_like as is_like_of, is_index as is_index_of, is_column as is_column_of, is_public as is_public_of, listed as listed_of, is_named as is_named_of};

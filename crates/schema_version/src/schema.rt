@@ -1,3 +1,4 @@
+//! A version of the schema, and its readers.
 ghost use Rattle.std.specs.Bool.{Decides};
 ghost use Rattle.std.specs.Prelude.{◌≡◌, ◌+◌, Option, slice_get, bytes_eq, position};
 ghost use Rattle.std.specs.List.{find};

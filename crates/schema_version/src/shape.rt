@@ -1,3 +1,4 @@
+//! The shape of a table's rows in a version.
 ghost use Rattle.std.specs.Prelude.{◌≡◌, IfOk};
 ghost use Rattle.std.specs.List.{filter_map};
 ghost use Rattle.schema_version.specs.Shape.{public_column as public_column_of, column_types, key_types as key_types_of, shape_of};

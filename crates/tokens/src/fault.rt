@@ -1,3 +1,4 @@
+//! Why a line is not read.
 ghost use Rattle.std.specs.Prelude.{◌≡◌};
 ghost use Rattle.tokens.specs.declared.fault.LineFault.TheVariants.{Memory};
 

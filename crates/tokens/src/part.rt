@@ -1,3 +1,4 @@
+//! Bytes of a line.
 ghost use Rattle.std.specs.Prelude.{◌≡◌};
 
 use std::marker::Model;

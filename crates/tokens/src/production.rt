@@ -1,3 +1,4 @@
+//! Lists whose parts are each read whole.
 ghost use Rattle.std.specs.Prelude.{List, Option};
 ghost use Rattle.tokens.specs.declared.token.Token.{Token};
 ghost use Rattle.tokens.specs.Productions.{Gives, each_between};

@@ -1,3 +1,4 @@
+//! The tokens of a line.
 ghost use Rattle.std.specs.Prelude.{◌≡◌, ◌∷◌, ◌≤◌, ◌+◌, length, IfOk, IfSome};
 ghost use Rattle.std.specs.Option.{option_map};
 ghost use Rattle.tokens.specs.Tokens.{is_word_byte, word_len, number_of, text_len, with_equal, mark_at, token_at, tokens_of};

@@ -1,3 +1,4 @@
+//! Where two ranges of pairs first differ.
 ghost use Rattle.std.specs.Prelude.{◌≡◌, option_map};
 ghost use Rattle.txn_store.specs.Conflict.{difference};
 

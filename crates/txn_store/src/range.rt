@@ -1,3 +1,4 @@
+//! Going over the pairs of a range of keys.
 ghost use Rattle.std.specs.Prelude.{◌≡◌, ◌++◌, [], IfNone, option_map, option_to_list};
 
 use byte_map::Bytes;

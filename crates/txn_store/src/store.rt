@@ -1,3 +1,4 @@
+//! The store of pairs.
 ghost use Rattle.std.specs.Prelude.{◌≡◌, ◌==◌, IfOk, IfSome, IfNone, option_map};
 ghost use Rattle.std.specs.FinMap as map;
 ghost use Rattle.byte_map.specs.Walk.{within};

@@ -1,3 +1,4 @@
+//! Byte strings and maps.
 use crate::fixtures::{are, bytes, written};
 use byte_map::Bytes;
 use std::alloc::{AllocError, Global};

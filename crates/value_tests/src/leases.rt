@@ -1,3 +1,4 @@
+//! Timelines and leases.
 use lease::{Lease, LeaseFault, MAX_MOMENT, Timeline, TimelineFault, TooEarly};
 use std::alloc::Global;
 

@@ -1,3 +1,4 @@
+//! Lists.
 use listed::{Counted, Listed};
 use std::alloc::{AllocError, Global};
 use std::cmp::Ordering;

@@ -1,3 +1,4 @@
+//! What a store writes, and what it refuses.
 use crate::fixtures::{are, byte, byte_or_none, is_byte, writes, written};
 use byte_map::{KeyMap, sorted};
 use row_map::{Batch, Expect, PairView, ReadView, Stretch, next_pair, next_within};

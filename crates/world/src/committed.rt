@@ -1,3 +1,4 @@
+//! What became of a transaction.
 use crate::entry::Receipt;
 use row_write::RowFault;
 

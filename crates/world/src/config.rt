@@ -1,3 +1,4 @@
+//! With what a world is opened.
 use listed::Listed;
 use schema_version::TableDef;
 

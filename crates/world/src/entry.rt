@@ -1,3 +1,4 @@
+//! What accepted calls give back: receipts, grants and ended pieces.
 use lease::Lease;
 use listed::Counted;
 use replay::Entry;

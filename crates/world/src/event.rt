@@ -1,3 +1,4 @@
+//! Calls as values: events and their replies.
 use crate::committed::Committed;
 use crate::entry::{Grant, PieceDone, Receipt};
 use crate::fault::{BeginFault, CommitFault, GrantFault, PieceFault, PublishFault, QueryRefusal};

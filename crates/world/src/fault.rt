@@ -1,3 +1,4 @@
+//! Why calls of the core are refused.
 ghost use Rattle.std.specs.Prelude.{◌≡◌};
 ghost use Rattle.world.specs.declared.fault.BeginFault.TheVariants as begin;
 ghost use Rattle.world.specs.declared.fault.CommitFault.TheVariants as commit;

@@ -1,3 +1,4 @@
+//! The core: what it keeps, how it is opened, and the calls that lend, lease, read and commit.
 ghost use Rattle.std.specs.Prelude.{◌≡◌, ◌≤◌, max, IfOk, IfErr, OnOk, OnErr, option_map, Result, Some};
 ghost use Rattle.std.specs.FinMap as map;
 ghost use Rattle.lease.specs.Refusals.{Serves};
