@@ -5,7 +5,7 @@ use Rattle.change_plan.specs.declared.fault.PlanFault.{PlanFault}
 use Rattle.change_plan.specs.declared.fault.PlanFault.TheVariants as plan_fault
 use Rattle.change_plan.specs.declared.least_plan.LeastPlan.{LeastPlan}
 use Rattle.change_plan.specs.declared.least_plan.PlanStep.{PlanStep}
-use Rattle.plan_text.specs.Printing.{plan_lines}
+use Rattle.replies.specs.PlanLines.{plan_lines}
 use Rattle.schema_version.specs.Version.{Version}
 use Rattle.replies.specs.Texts.{line, refused}
 

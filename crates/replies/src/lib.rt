@@ -7,6 +7,8 @@ mod leases;
 mod numbers;
 mod pairs;
 mod pieces;
+mod plan_items;
+mod plan_lines;
 mod plans;
 mod publications;
 mod queries;

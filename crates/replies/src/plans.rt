@@ -5,8 +5,8 @@ ghost use Rattle.replies.specs.Plans.{plan_name, steps_text};
 ghost use Rattle.replies.specs.Texts.{line, refused};
 
 use crate::numbers::push_number;
+use crate::plan_lines::plan_text;
 use change_plan::{PlanFault, PlanStep};
-use plan_text::plan_text;
 use schema_version::Schema;
 use std::alloc::{AllocError, Global};
 

@@ -3,7 +3,7 @@ use Rattle.std.proofs.Common.{◌≡◌, ℕ, List, [], ◌∷◌, ◌++◌, Res
 use Rattle.std.specs.Prelude.{flat_map}
 use Rattle.std.specs.List.{join_by}
 use mathlib.Core.List.{map}
-use Rattle.plan_text.specs.Printing.{joined}
+use Rattle.replies.specs.PlanLines.{joined}
 
 more_mapped : {X : Type 0} (f : X → List ℕ) (separator : List ℕ) (xs : List X) → flat_map (λ x. separator ++ f x) xs ≡ flat_map (λ text. separator ++ text) (map f xs)
 more_mapped f separator [] = refl

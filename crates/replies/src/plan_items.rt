@@ -2,7 +2,7 @@
 ghost use Rattle.std.specs.Prelude.{◌≡◌, ◌++◌, IfOk, OnOk, string_bytes};
 ghost use mathlib.Core.List.{map};
 ghost use Rattle.schema_version.specs.Version.{table_at};
-ghost use Rattle.plan_text.specs.Printing.{name_or_empty, dotted, element_text, reorg_text, move_text, item_texts, joined};
+ghost use Rattle.replies.specs.PlanLines.{name_or_empty, dotted, element_text, reorg_text, move_text, item_texts, joined};
 
 use change_plan::{PlanStep, Reorg};
 use grammar::state_word;

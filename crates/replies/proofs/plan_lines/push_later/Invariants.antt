@@ -1,8 +1,8 @@
 use Rattle.std.proofs.Common.{◌≡◌, ◌+◌, ◌++◌, drop}
 use Rattle.std.specs.Prelude.{string_bytes}
 use Rattle.change_plan.specs.Plans.{AreAllowed}
-use Rattle.plan_text.specs.Printing.{plan_lines}
-use Rattle.plan_text.proofs.lines.push_later.Given as goal
+use Rattle.replies.specs.PlanLines.{plan_lines}
+use Rattle.replies.proofs.plan_lines.push_later.Given as goal
 
 abbrev pub invariant-loop-step : goal.invariant-loop-step
 invariant-loop-step l =

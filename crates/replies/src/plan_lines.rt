@@ -2,9 +2,9 @@
 ghost use Rattle.std.specs.Prelude.{◌≡◌, ◌++◌, IfOk, OnOk, string_bytes};
 ghost use Rattle.schema_version.specs.Moves.{IsAllowed, after_step};
 ghost use Rattle.change_plan.specs.Plans.{AreAllowed};
-ghost use Rattle.plan_text.specs.Printing.{step_line, plan_lines};
+ghost use Rattle.replies.specs.PlanLines.{step_line, plan_lines};
 
-use crate::items::joined;
+use crate::plan_items::joined;
 use change_plan::PlanStep;
 use schema_version::{Schema, Step, StepFault};
 use std::alloc::{AllocError, Global};
@@ -64,7 +64,11 @@ fn push_later(
 /// Refused for want of memory alone, and nothing is left then.
 ///
 /// After the schema changes of "Online, Asynchronous Schema Change in F1" (Rae et al., 2013).
-pub fn plan_text(alloc: Global, schema: &Schema, steps: &[PlanStep]) -> Result<String, AllocError>
+pub(crate) fn plan_text(
+    alloc: Global,
+    schema: &Schema,
+    steps: &[PlanStep],
+) -> Result<String, AllocError>
     requires allowed { AreAllowed schema.now steps.now }
     ensures { IfOk result (λ text. string_bytes text ≡ plan_lines schema.now 1 steps.now) }
 {
