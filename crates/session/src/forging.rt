@@ -1,9 +1,10 @@
 //! A lease that is written by hand.
 ghost use Rattle.std.specs.Prelude.{◌≡◌, IfOk, string_bytes};
 ghost use Rattle.session.specs.Forging.{schema_or_newest, Forged};
+ghost use Rattle.session.specs.declared.session.Session.TheVariants.{Running};
 
 use crate::running::key_of;
-use crate::session::{Answer, Held, Opened, Session, reply};
+use crate::session::{Answer, Held, Opened, reply};
 use keycode::Text;
 use lease::Lease;
 use listed::Counted;
@@ -23,15 +24,15 @@ fn schema_or_newest(world: &World, version: u64) -> Result<Counted<Schema>, Allo
 /// `forge`: the server has this lease from now on, in place of its old one.
 pub(crate) fn forge(
     alloc: Global,
-    mut opened: Opened,
+    opened: &mut Opened,
     server: &Text,
     lease: Lease,
-) -> Result<(Session, Answer), AllocError>
-    ensures { IfOk result (λ x. Forged opened server.now lease (string_bytes x.1.text) x.1.is_bad x.0) }
+) -> Result<Answer, AllocError>
+    ensures { IfOk result (λ a. Forged opened.old server.now lease (string_bytes a.text) a.is_bad (Running opened.new)) }
 {
     let name = key_of(alloc, server)?;
     let schema = schema_or_newest(&opened.world, lease.version)?;
     let answer = reply("ok\n".to_string(alloc)?);
     opened.leases.insert(name, Held { lease, schema })?;
-    Ok((Session::Running(opened), answer))
+    Ok(answer)
 }

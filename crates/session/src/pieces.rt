@@ -3,10 +3,11 @@ ghost use Rattle.std.specs.Prelude.{◌≡◌, IfOk, string_bytes};
 ghost use Rattle.grammar.specs.declared.command.Command.TheVariants as command;
 ghost use Rattle.replies.specs.Texts.{line};
 ghost use Rattle.session.specs.Pieces.{ReadsPiece, read_text};
+ghost use Rattle.session.specs.declared.session.Session.TheVariants.{Running};
 ghost use Rattle.session.specs.Running.{Answers, piece_kept};
 
 use crate::running::key_of;
-use crate::session::{Answer, Opened, PreparedWork, Session, reply};
+use crate::session::{Answer, Opened, PreparedWork, reply};
 use grammar::ElementName;
 use keycode::Text;
 use naming::element_of;
@@ -50,38 +51,33 @@ fn read_line(alloc: Global, how: &PieceRead) -> Result<String, AllocError>
 }
 
 // What could be prepared is kept under its name.
-fn kept(
-    alloc: Global,
-    mut opened: Opened,
-    work: &Text,
-    how: PieceRead,
-) -> Result<Opened, AllocError>
-    ensures { IfOk result (λ after. after ≡ piece_kept opened work.now how) }
+fn kept(alloc: Global, opened: &mut Opened, work: &Text, how: PieceRead) -> Result<(), AllocError>
+    ensures { IfOk result (λ done. opened.new ≡ piece_kept opened.old work.now how) }
 {
     match how {
         PieceRead::Ready(prepared) => {
             let name = key_of(alloc, work)?;
             opened.works.insert(name, PreparedWork::Piece(prepared))?;
-            Ok(opened)
+            Ok(())
         }
-        PieceRead::Unread(_) | PieceRead::OutOfMemory => Ok(opened),
+        PieceRead::Unread(_) | PieceRead::OutOfMemory => Ok(()),
     }
 }
 
 /// `piece`: what could be prepared is kept under its name, in place of what was there; else what was there stays.
 pub(crate) fn piece(
     alloc: Global,
-    opened: Opened,
+    opened: &mut Opened,
     work: &Text,
     element: &ElementName,
     piece: u32,
     limit: u32,
-) -> Result<(Session, Answer), AllocError>
-    ensures { IfOk result (λ x. Answers opened (command.Piece work.now element.now piece limit) (string_bytes x.1.text) x.1.is_bad x.0) }
+) -> Result<Answer, AllocError>
+    ensures { IfOk result (λ a. Answers opened.old (command.Piece work.now element.now piece limit) (string_bytes a.text) a.is_bad (Running opened.new)) }
 {
     let number = element_of(opened.world.newest().get(), element);
     let how = read_for(alloc, &opened.world, number, piece, limit);
     let answer = reply(read_line(alloc, &how)?);
-    let opened = kept(alloc, opened, work, how)?;
-    Ok((Session::Running(opened), answer))
+    kept(alloc, opened, work, how)?;
+    Ok(answer)
 }

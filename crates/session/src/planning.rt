@@ -7,7 +7,7 @@ ghost use Rattle.session.specs.Planning.{left_of};
 ghost use Rattle.session.specs.Running.{Answers};
 ghost use Rattle.session.specs.declared.session.Session.TheVariants.{Running};
 
-use crate::session::{Answer, Opened, Session, reply};
+use crate::session::{Answer, Opened, reply};
 use change_plan::{PlanStep, plan as least_plan};
 use grammar::Changing;
 use listed::Listed;
@@ -30,10 +30,10 @@ fn moves_of(alloc: Global, steps: Vec<PlanStep>) -> Result<Vec<Step>, AllocError
 /// `plan`: the least plan of the changes, from the newest version, is printed and kept.
 pub(crate) fn plan(
     alloc: Global,
-    mut opened: Opened,
+    opened: &mut Opened,
     changes: &[Changing],
-) -> Result<(Session, Answer), AllocError>
-    ensures { IfOk result (λ x. Answers opened (command.Plan changes.now) (string_bytes x.1.text) x.1.is_bad x.0) }
+) -> Result<Answer, AllocError>
+    ensures { IfOk result (λ a. Answers opened.old (command.Plan changes.now) (string_bytes a.text) a.is_bad (Running opened.new)) }
 {
     let schema = opened.world.newest().get();
     let changes = changes_of(alloc, schema, changes)?;
@@ -42,22 +42,20 @@ pub(crate) fn plan(
             let text = steps_text(alloc, schema, found.steps.as_slice())?;
             let moves = moves_of(alloc, found.steps.into_vec())?;
             opened.plan = Listed::new(moves);
-            Ok((Session::Running(opened), reply(text)))
+            Ok(reply(text))
         }
         Err(fault) => {
             let text = unplanned_line(alloc, fault)?;
-            Ok((Session::Running(opened), reply(text)))
+            Ok(reply(text))
         }
     }
 }
 
-fn no_plan(alloc: Global, opened: Opened) -> Result<(Session, Answer), AllocError>
-    ensures session { IfOk result (λ x. x.0 ≡ Running opened) }
-    ensures text { IfOk result (λ x. string_bytes x.1.text ≡ line (refused (codes "NoPlan"))) }
-    ensures good { IfOk result (λ x. x.1.is_bad ≡ false) }
+fn no_plan(alloc: Global) -> Result<Answer, AllocError>
+    ensures text { IfOk result (λ a. string_bytes a.text ≡ line (refused (codes "NoPlan"))) }
+    ensures good { IfOk result (λ a. a.is_bad ≡ false) }
 {
-    let answer = reply("refused NoPlan\n".to_string(alloc)?);
-    Ok((Session::Running(opened), answer))
+    Ok(reply("refused NoPlan\n".to_string(alloc)?))
 }
 
 // What is left of a plan: a step that was published is taken off.
@@ -72,18 +70,15 @@ fn left_of(plan: Listed<Step>, published: &Result<(u64, Receipt), PublishFault>)
 }
 
 /// `next`: the first step of the kept plan that was not accepted yet is published.
-pub(crate) fn next(
-    alloc: Global,
-    mut opened: Opened,
-    moment: u64,
-) -> Result<(Session, Answer), AllocError>
-    ensures { IfOk result (λ x. Answers opened (command.Next moment) (string_bytes x.1.text) x.1.is_bad x.0) }
+pub(crate) fn next(alloc: Global, opened: &mut Opened, moment: u64) -> Result<Answer, AllocError>
+    ensures { IfOk result (λ a. Answers opened.old (command.Next moment) (string_bytes a.text) a.is_bad (Running opened.new)) }
 {
     let [step, ..] = opened.plan.as_slice() else {
-        return no_plan(alloc, opened);
+        return no_plan(alloc);
     };
     let published = opened.world.publish(alloc, moment, step);
     let answer = reply(published_line(alloc, &published)?);
-    opened.plan = left_of(opened.plan, &published);
-    Ok((Session::Running(opened), answer))
+    let plan = std::mem::replace(&mut opened.plan, Listed::new(Vec::new(alloc)));
+    opened.plan = left_of(plan, &published);
+    Ok(answer)
 }

@@ -1,9 +1,10 @@
 //! The publication of a version by a script.
 ghost use Rattle.std.specs.Prelude.{◌≡◌, IfOk, string_bytes};
 ghost use Rattle.grammar.specs.declared.command.Command.TheVariants as command;
+ghost use Rattle.session.specs.declared.session.Session.TheVariants.{Running};
 ghost use Rattle.session.specs.Running.{Answers};
 
-use crate::session::{Answer, Opened, Session, reply};
+use crate::session::{Answer, Opened, reply};
 use grammar::Moving;
 use naming::step_of;
 use replies::published_line;
@@ -12,14 +13,13 @@ use std::alloc::{AllocError, Global};
 /// `publish`: the names of the moves are looked up in the newest version, and the step is published.
 pub(crate) fn publish(
     alloc: Global,
-    mut opened: Opened,
+    opened: &mut Opened,
     moment: u64,
     moves: &[Moving],
-) -> Result<(Session, Answer), AllocError>
-    ensures { IfOk result (λ x. Answers opened (command.Publish moment moves.now) (string_bytes x.1.text) x.1.is_bad x.0) }
+) -> Result<Answer, AllocError>
+    ensures { IfOk result (λ a. Answers opened.old (command.Publish moment moves.now) (string_bytes a.text) a.is_bad (Running opened.new)) }
 {
     let step = step_of(alloc, opened.world.newest().get(), moves)?;
     let published = opened.world.publish(alloc, moment, &step);
-    let answer = reply(published_line(alloc, &published)?);
-    Ok((Session::Running(opened), answer))
+    Ok(reply(published_line(alloc, &published)?))
 }

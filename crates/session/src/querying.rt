@@ -3,10 +3,11 @@ ghost use Rattle.std.specs.Prelude.{◌≡◌, IfOk, string_bytes};
 ghost use Rattle.grammar.specs.declared.command.Command.TheVariants as command;
 ghost use Rattle.naming.specs.Names.{asked};
 ghost use Rattle.session.specs.Querying.{Queried};
+ghost use Rattle.session.specs.declared.session.Session.TheVariants.{Running};
 ghost use Rattle.session.specs.Running.{Answers};
 
 use crate::running::no_server;
-use crate::session::{Answer, Held, Opened, Session, reply};
+use crate::session::{Answer, Held, Opened, reply};
 use grammar::Selection;
 use keycode::Text;
 use naming::asked;
@@ -35,16 +36,16 @@ fn queried(
 /// `query`: the rows that the world answers under the server's lease.
 pub(crate) fn query(
     alloc: Global,
-    opened: Opened,
+    opened: &Opened,
     server: &Text,
     moment: u64,
     selection: &Selection,
-) -> Result<(Session, Answer), AllocError>
-    ensures { IfOk result (λ x. Answers opened (command.Query server.now moment selection.now) (string_bytes x.1.text) x.1.is_bad x.0) }
+) -> Result<Answer, AllocError>
+    ensures { IfOk result (λ a. Answers opened.now (command.Query server.now moment selection.now) (string_bytes a.text) a.is_bad (Running opened.now)) }
 {
     let text = match opened.leases.get(server.as_bytes()) {
         Some(held) => queried(alloc, &opened.world, held, moment, selection)?,
-        None => return no_server(alloc, opened),
+        None => return no_server(alloc),
     };
-    Ok((Session::Running(opened), reply(text)))
+    Ok(reply(text))
 }

@@ -13,7 +13,7 @@ use crate::planning::{next, plan};
 use crate::publishing::publish;
 use crate::querying::query;
 use crate::reorganising::reorganise;
-use crate::session::{Answer, Held, Opened, Session, bad_line, reply};
+use crate::session::{Answer, Held, Opened, bad_line, reply};
 use crate::transacting::{transact, transacted_line};
 use crate::working::work;
 use crate::works::{commit, prepare};
@@ -36,11 +36,11 @@ pub(crate) fn key_of(alloc: Global, name: &Text) -> Result<Bytes, AllocError>
 
 fn lease(
     alloc: Global,
-    mut opened: Opened,
+    opened: &mut Opened,
     server: &Text,
     moment: u64,
-) -> Result<(Session, Answer), AllocError>
-    ensures { IfOk result (λ x. Answers opened (command.Lease server.now moment) (string_bytes x.1.text) x.1.is_bad x.0) }
+) -> Result<Answer, AllocError>
+    ensures { IfOk result (λ a. Answers opened.old (command.Lease server.now moment) (string_bytes a.text) a.is_bad (Running opened.new)) }
 {
     let name = key_of(alloc, server)?;
     match opened.world.lease(alloc, moment) {
@@ -51,40 +51,34 @@ fn lease(
                 schema: grant.schema,
             };
             opened.leases.insert(name, held)?;
-            Ok((Session::Running(opened), answer))
+            Ok(answer)
         }
-        Err(fault) => {
-            let answer = reply(grant_refusal(alloc, fault)?);
-            Ok((Session::Running(opened), answer))
-        }
+        Err(fault) => { Ok(reply(grant_refusal(alloc, fault)?)) }
     }
 }
 
 /// The reply where the server has no lease.
-pub(crate) fn no_server(alloc: Global, opened: Opened) -> Result<(Session, Answer), AllocError>
-    ensures session { IfOk result (λ x. x.0 ≡ Running opened) }
-    ensures text { IfOk result (λ x. string_bytes x.1.text ≡ line (refused (codes "NoServer"))) }
-    ensures good { IfOk result (λ x. x.1.is_bad ≡ false) }
+pub(crate) fn no_server(alloc: Global) -> Result<Answer, AllocError>
+    ensures text { IfOk result (λ a. string_bytes a.text ≡ line (refused (codes "NoServer"))) }
+    ensures good { IfOk result (λ a. a.is_bad ≡ false) }
 {
-    let answer = reply("refused NoServer\n".to_string(alloc)?);
-    Ok((Session::Running(opened), answer))
+    Ok(reply("refused NoServer\n".to_string(alloc)?))
 }
 
 fn txn(
     alloc: Global,
-    mut opened: Opened,
+    opened: &mut Opened,
     server: &Text,
     moment: u64,
     operations: &[Operation],
-) -> Result<(Session, Answer), AllocError>
-    ensures { IfOk result (λ x. Answers opened (command.Txn server.now moment operations.now) (string_bytes x.1.text) x.1.is_bad x.0) }
+) -> Result<Answer, AllocError>
+    ensures { IfOk result (λ a. Answers opened.old (command.Txn server.now moment operations.now) (string_bytes a.text) a.is_bad (Running opened.new)) }
 {
     let how = match opened.leases.get(server.as_bytes()) {
         Some(held) => transact(alloc, &mut opened.world, held, moment, operations),
-        None => return no_server(alloc, opened),
+        None => return no_server(alloc),
     };
-    let answer = reply(transacted_line(alloc, &how)?);
-    Ok((Session::Running(opened), answer))
+    Ok(reply(transacted_line(alloc, &how)?))
 }
 
 // All pairs, a line each, and their number.
@@ -106,48 +100,48 @@ fn all_pairs(alloc: Global, world: &World) -> Result<(String, u64), AllocError>
     Ok((text, number))
 }
 
-fn pairs(alloc: Global, opened: Opened) -> Result<(Session, Answer), AllocError>
-    ensures { IfOk result (λ x. Answers opened command.Pairs (string_bytes x.1.text) x.1.is_bad x.0) }
+fn pairs(alloc: Global, opened: &Opened) -> Result<Answer, AllocError>
+    ensures { IfOk result (λ a. Answers opened.now command.Pairs (string_bytes a.text) a.is_bad (Running opened.now)) }
 {
     let (mut text, number) = all_pairs(alloc, &opened.world)?;
     text.push_str("ok pairs ")?;
     push_number(&mut text, number)?;
     text.push_str("\n")?;
-    Ok((Session::Running(opened), reply(text)))
+    Ok(reply(text))
 }
 
-fn log(alloc: Global, opened: Opened) -> Result<(Session, Answer), AllocError>
-    ensures { IfOk result (λ x. Answers opened command.Log (string_bytes x.1.text) x.1.is_bad x.0) }
+fn log(alloc: Global, opened: &Opened) -> Result<Answer, AllocError>
+    ensures { IfOk result (λ a. Answers opened.now command.Log (string_bytes a.text) a.is_bad (Running opened.now)) }
 {
     let number = opened.world.log().len() as u64;
     let mut text = String::new(alloc);
     text.push_str("ok log ")?;
     push_number(&mut text, number)?;
     text.push_str("\n")?;
-    Ok((Session::Running(opened), reply(text)))
+    Ok(reply(text))
 }
 
-fn check(alloc: Global, opened: Opened) -> Result<(Session, Answer), AllocError>
-    ensures { IfOk result (λ x. Answers opened command.Check (string_bytes x.1.text) x.1.is_bad x.0) }
+fn check(alloc: Global, opened: &Opened) -> Result<Answer, AllocError>
+    ensures { IfOk result (λ a. Answers opened.now command.Check (string_bytes a.text) a.is_bad (Running opened.now)) }
 {
     let text = match opened.world.check(alloc) {
         Ok(report) => check_line(alloc, report)?,
         Err(_) => "refused Memory\n".to_string(alloc)?,
     };
-    Ok((Session::Running(opened), reply(text)))
+    Ok(reply(text))
 }
 
-fn status(alloc: Global, opened: Opened) -> Result<(Session, Answer), AllocError>
-    ensures { IfOk result (λ x. Answers opened command.Status (string_bytes x.1.text) x.1.is_bad x.0) }
+fn status(alloc: Global, opened: &Opened) -> Result<Answer, AllocError>
+    ensures { IfOk result (λ a. Answers opened.now command.Status (string_bytes a.text) a.is_bad (Running opened.now)) }
 {
     let mut text = status_line(alloc, &opened.world)?;
     text.push_str("\n")?;
-    Ok((Session::Running(opened), reply(text)))
+    Ok(reply(text))
 }
 
 // What a line that changes the schema answers, and what it leaves.
-fn change(alloc: Global, opened: Opened, command: Command) -> Result<(Session, Answer), AllocError>
-    ensures { IfOk result (λ x. Changes opened command (string_bytes x.1.text) x.1.is_bad x.0) }
+fn change(alloc: Global, opened: &mut Opened, command: Command) -> Result<Answer, AllocError>
+    ensures { IfOk result (λ a. Changes opened.old command (string_bytes a.text) a.is_bad (Running opened.new)) }
 {
     match command {
         Command::Forge {
@@ -183,17 +177,17 @@ fn change(alloc: Global, opened: Opened, command: Command) -> Result<(Session, A
         Command::Plan { changes } => plan(alloc, opened, changes.as_slice()),
         Command::Next { moment } => next(alloc, opened, moment),
         Command::Status => status(alloc, opened),
-        _ => Ok((Session::Running(opened), bad_line(alloc)?)),
+        _ => bad_line(alloc),
     }
 }
 
 /// What a line behind `open` answers, and what it leaves.
 pub(crate) fn answer(
     alloc: Global,
-    opened: Opened,
+    opened: &mut Opened,
     command: Command,
-) -> Result<(Session, Answer), AllocError>
-    ensures { IfOk result (λ x. Answers opened command (string_bytes x.1.text) x.1.is_bad x.0) }
+) -> Result<Answer, AllocError>
+    ensures { IfOk result (λ a. Answers opened.old command (string_bytes a.text) a.is_bad (Running opened.new)) }
 {
     match command {
         Command::Lease { server, moment } => lease(alloc, opened, &server, moment),

@@ -122,11 +122,16 @@ impl Session {
     }
 
     // What a command answers, and what it leaves.
-    fn run(self, alloc: Global, command: Command) -> Result<(Session, Answer), AllocError>
-        ensures { IfOk result (λ x. Runs self command (string_bytes x.1.text) x.1.is_bad x.0) }
+    fn run(&mut self, alloc: Global, command: Command) -> Result<Answer, AllocError>
+        ensures { IfOk result (λ a. Runs self.old command (string_bytes a.text) a.is_bad self.new) }
     {
         match self {
-            Session::Declaring(declared) => declare(alloc, declared, command),
+            Session::Declaring(declared) => {
+                let declared = std::mem::replace(declared, nothing_declared(alloc));
+                let (next, answer) = declare(alloc, declared, command)?;
+                *self = next;
+                Ok(answer)
+            }
             Session::Running(opened) => answer(alloc, opened, command),
         }
     }
@@ -146,12 +151,7 @@ impl Session {
         match read_command(alloc, bytes) {
             Err(LineFault::Malformed) => bad_line(alloc),
             Err(LineFault::Memory) => Err(AllocError),
-            Ok(command) => {
-                let session = std::mem::replace(self, Session::new(alloc));
-                let (next, answer) = session.run(alloc, command)?;
-                *self = next;
-                Ok(answer)
-            }
+            Ok(command) => self.run(alloc, command),
         }
     }
 }

@@ -11,8 +11,8 @@ returns-in_ok-insert-in-Ok c = (
   c.in-Ok.ensures.step,
   (
     (c.reply-answer.ensures.text ∙ c.in_ok-lease_line-in-Ok.ensures, c.reply-answer.ensures.good),
-    ap (λ m. let s : Session = Running (record { world = c.lease.new.self; leases = m; works = c.args.opened.works; plan = c.args.opened.plan }) in s)
-        (c.in_ok-insert-in-Ok.ensures.ok ∙ ap (λ k. map.insert c.args.opened.leases k (record { lease = c.in-Ok.grant.lease; schema = c.in-Ok.grant.schema })) c.in_ok-name.ensures),
+    ap (λ m. let s : Session = Running (record { world = c.lease.new.self; leases = m; works = c.args.opened.now.works; plan = c.args.opened.now.plan }) in s)
+        (c.in_ok-insert-in-Ok.ensures.ok ∙ ap (λ k. map.insert c.args.opened.now.leases k (record { lease = c.in-Ok.grant.lease; schema = c.in-Ok.grant.schema })) c.in_ok-name.ensures),
   ),
 )
 
@@ -22,7 +22,7 @@ returns-in_ok-grant_refusal-in-Err c = (
   c.lease.new.self,
   c.in-Err.ensures.step,
   (
-    (c.reply-answer-in-Err.ensures.text ∙ c.in_ok-grant_refusal-in-Err.ensures, c.reply-answer-in-Err.ensures.good),
-    ap (λ w. let s : Session = Running (record { world = w; leases = c.args.opened.leases; works = c.args.opened.works; plan = c.args.opened.plan }) in s) c.in-Err.ensures.step.1,
+    (c.reply.ensures.text ∙ c.in_ok-grant_refusal-in-Err.ensures, c.reply.ensures.good),
+    ap (λ w. let s : Session = Running (record { world = w; leases = c.args.opened.now.leases; works = c.args.opened.now.works; plan = c.args.opened.now.plan }) in s) c.in-Err.ensures.step.1,
   ),
 )
