@@ -10,7 +10,7 @@ use std::alloc::{AllocError, Global};
 use tokens::{LineFault, Production, Token, after_word, at_end, kind, name};
 
 /// A column as a table's declaration has it, and whether it is of the primary key.
-#[derive(Debug, Drop)]
+#[derive(Drop)]
 pub struct Declared {
     pub name: Text,
     pub kind: ColumnType,

@@ -18,7 +18,7 @@ use tokens::{
 };
 
 /// What a line asks for. Names stay names: what they stand for is the caller's to look up. A moment is a point of the script's own time, which it counts in whole numbers.
-#[derive(Debug, Drop, PartialEq, Eq)]
+#[derive(Drop)]
 pub enum Command {
     /// `length N`: a lease's length, in moments.
     Length(u64),

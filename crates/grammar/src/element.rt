@@ -13,14 +13,14 @@ use tokens::{
 };
 
 /// An element by the names of its table and of itself: `TABLE.NAME`.
-#[derive(Debug, Drop, PartialEq, Eq)]
+#[derive(Drop)]
 pub struct ElementName {
     pub table: Text,
     pub name: Text,
 }
 
 /// What is to enter.
-#[derive(Debug, Drop, PartialEq, Eq)]
+#[derive(Drop)]
 pub enum New {
     /// `index NAME on TABLE ( COLUMN {, COLUMN} )`
     Index {

@@ -8,7 +8,7 @@ use std::alloc::Global;
 use tokens::{LineFault, Production, Token, at_end, is_word};
 
 /// A move of a step.
-#[derive(Debug, Drop, PartialEq, Eq)]
+#[derive(Drop)]
 pub enum Moving {
     /// `add NEW [to STATE]`; no `to` is `to delete_only`.
     Enter {
@@ -23,7 +23,7 @@ pub enum Moving {
 }
 
 /// A change that a plan brings about.
-#[derive(Debug, Drop, PartialEq, Eq)]
+#[derive(Drop)]
 pub enum Changing {
     /// `add NEW`
     Add(New),

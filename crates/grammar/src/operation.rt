@@ -10,7 +10,7 @@ use tokens::{
 };
 
 /// An operation of a transaction on one row, which the values of its primary key name.
-#[derive(Debug, Drop, PartialEq, Eq)]
+#[derive(Drop)]
 pub enum Operation {
     /// `insert TABLE ( VALUE {, VALUE} ) [set COLUMN = VALUE {, COLUMN = VALUE}]`; no `set` makes an empty list.
     Insert {

@@ -12,7 +12,7 @@ use tokens::{
 };
 
 /// A condition on the rows of a table.
-#[derive(Debug, Drop, PartialEq, Eq)]
+#[derive(Drop)]
 pub enum Condition {
     /// `key = ( VALUE {, VALUE} )`: the values of the primary key.
     Key(Values),
@@ -30,7 +30,7 @@ pub enum Condition {
 }
 
 /// `select COLUMN {, COLUMN} from TABLE [where COND {and COND}]`, or `*` in place of the columns. Without `where` there is no condition.
-#[derive(Debug, Drop, PartialEq, Eq)]
+#[derive(Drop)]
 pub struct Selection {
     pub table: Text,
     /// The columns in the order of the line, or `None` for `*`.

@@ -24,7 +24,7 @@ const USUAL_LENGTH: u64 = 10;
 const MAX_LINE: usize = 65_536;
 
 /// What was declared so far.
-#[derive(Debug, Drop)]
+#[derive(Drop)]
 pub struct Declarations {
     /// The tables, each with its indexes.
     pub tables: Listed<TableDef>,

@@ -13,7 +13,7 @@ use std::alloc::{AllocError, Global};
 use world::{CommitFault, Committed, World};
 
 /// How a transaction ended.
-#[derive(Debug, Drop)]
+#[derive(Drop)]
 pub(crate) enum Transacted {
     /// It was committed, or the rows refused it.
     Ended(Committed),
