@@ -12,7 +12,8 @@ use std::alloc::{AllocError, Global};
 use std::sync::Wait;
 use world::{Committed, Config, Grant, OpenFault, Receipt, World};
 
-fn named(alloc: Global, name: &str) -> Result<Text, AllocError> {
+/// The text of a name.
+pub(crate) fn named(alloc: Global, name: &str) -> Result<Text, AllocError> {
     Ok(Text::new(String::from_str(alloc, name)?))
 }
 

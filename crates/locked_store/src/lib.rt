@@ -7,8 +7,6 @@ mod handle;
 mod locked;
 mod receipts;
 mod room;
-mod same_entry;
-mod same_ops;
 mod shared;
 
 pub use fault::{Missing, ReceiptFault, ShareFault, SharedFault, WentBack};

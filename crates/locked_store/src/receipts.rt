@@ -4,7 +4,6 @@ ghost use Rattle.locked_store.specs.Faults.{Faulty};
 ghost use Rattle.locked_store.specs.Receipts.{Agree};
 
 use crate::fault::ReceiptFault;
-use crate::same_entry::is_same_entry;
 use std::alloc::{AllocError, Global};
 use world::{Entry, Receipt, World};
 
@@ -30,7 +29,7 @@ fn unmarked(log: &[Entry], receipts: &[Receipt]) -> ReceiptFault
     if place == 0 || place > log.len() as u64 {
         return ReceiptFault::NoPlace { place };
     }
-    if !is_same_entry(&log[(place - 1) as usize], &receipt.entry) {
+    if !log[(place - 1) as usize].is_same(&receipt.entry) {
         return ReceiptFault::OtherEntry { place };
     }
     ReceiptFault::Memory
@@ -50,7 +49,7 @@ fn tested(alloc: Global, log: &[Entry], receipts: &[Receipt]) -> Result<(), Rece
             return Err(ReceiptFault::NoPlace { place });
         }
         let at = (place - 1) as usize;
-        if !is_same_entry(&log[at], &receipt.entry) {
+        if !log[at].is_same(&receipt.entry) {
             return Err(ReceiptFault::OtherEntry { place });
         }
         if seen[at] {

@@ -11,5 +11,6 @@ pub mod Changes
 pub mod Operating
 pub mod Spelling
 pub mod Transaction
-pub mod Worked
 pub mod Following
+pub mod Computing
+pub mod Worked

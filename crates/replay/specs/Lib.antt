@@ -1,4 +1,5 @@
 pub mod Replay
+pub mod Code
 pub mod Small
 pub mod Kept
 pub mod Laws

@@ -1,6 +1,6 @@
 //! What each accepted call keeps: each is a call without a body, so that a contract names it.
 ghost use Rattle.replay.specs.Headline.{Headline};
-ghost use Rattle.replay.specs.Worked.{ALogSays};
+ghost use Rattle.replay.specs.Worked.{ALogSays, ALogFollows};
 ghost use Rattle.replay.specs.Laws.{OpeningsKeep, LeasesKeep, PublicationsKeep, OutcomesHold, TxnsKeep, RefusedWriteNothing, BeginsKeep, PiecesKeep, KeptAgrees};
 
 /// An empty store under one sound version keeps all.
@@ -52,7 +52,10 @@ pub fn headline()
     ensures { Headline }
 {}
 
-/// What a short log says, worked out by hand: a lease at 9, and at 10 a step that enters a column.
+/// What a log with an entry of each kind says, worked out by hand: a lease at 0, an insert at 1, an index that enters
+/// delete-only at 10 and goes write-only at 20, a lease on each of their versions, the begin of its fill at 30, a piece that fills
+/// the pair of the row, and the step to public. Each entry may follow those before it, so that the theorem speaks of this log.
 pub fn a_log_says()
-    ensures { ALogSays }
+    ensures says { ALogSays }
+    ensures follows { ALogFollows }
 {}

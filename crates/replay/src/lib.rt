@@ -7,6 +7,7 @@
 
 mod entry;
 mod laws;
+mod same;
 
 pub use entry::{Entry, What};
 pub use laws::{

@@ -2,8 +2,8 @@
 ghost use Rattle.std.specs.Bool.{Decides};
 ghost use Rattle.std.specs.Prelude.{◌≡◌, length};
 
+use crate::op::RowOp;
 use keycode::Value;
-use row_write::RowOp;
 
 fn is_same_value(a: &Value, b: &Value) -> bool
     ensures { Decides result (a.now ≡ b.now) }
@@ -83,8 +83,8 @@ fn is_same_op(a: &RowOp, b: &RowOp) -> bool
     }
 }
 
-/// Whether these are the same operations in the same order.
-pub(crate) fn are_same_ops(a: &[RowOp], b: &[RowOp]) -> bool
+/// Whether these are the same operations in the same order, with the same values. Never refused.
+pub fn are_same_ops(a: &[RowOp], b: &[RowOp]) -> bool
     ensures { Decides result (a.now ≡ b.now) }
 {
     match (a, b) {

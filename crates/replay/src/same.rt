@@ -2,8 +2,8 @@
 ghost use Rattle.std.specs.Bool.{Decides};
 ghost use Rattle.std.specs.Prelude.{◌≡◌};
 
-use crate::same_ops::are_same_ops;
-use replay::{Entry, What};
+use crate::entry::{Entry, What};
+use row_write::are_same_ops;
 use schema_version::Step;
 
 // Whether two steps are the same.
@@ -45,9 +45,11 @@ fn did_same(one: &What, other: &What) -> bool
     }
 }
 
-/// Whether two entries are the same.
-pub(crate) fn is_same_entry(one: &Entry, other: &Entry) -> bool
-    ensures { Decides result (one.now ≡ other.now) }
-{
-    one.moment == other.moment && did_same(one.what.get(), other.what.get())
+impl Entry {
+    /// Whether the other entry is the same: of the same moment, and of a call that did the same. Never refused.
+    pub fn is_same(&self, other: &Entry) -> bool
+        ensures { Decides result (self.now ≡ other.now) }
+    {
+        self.moment == other.moment && did_same(self.what.get(), other.what.get())
+    }
 }

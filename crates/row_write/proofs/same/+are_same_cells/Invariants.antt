@@ -1,5 +1,5 @@
 use Rattle.std.proofs.Common.{length}
-use Rattle.locked_store.proofs.same_ops.+are_same_cells.Given as goal
+use Rattle.row_write.proofs.same.+are_same_cells.Given as goal
 
 abbrev pub decreases-are_same_cells : goal.decreases-are_same_cells
 decreases-are_same_cells l = length l.a.now
