@@ -12,6 +12,8 @@ mod leases;
 #[cfg(test)]
 mod lists;
 #[cfg(test)]
+mod pages;
+#[cfg(test)]
 mod rows;
 #[cfg(test)]
 mod stores;

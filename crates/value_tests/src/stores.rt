@@ -1,5 +1,5 @@
 //! What a store writes, and what it refuses.
-use crate::fixtures::{are, byte, byte_or_none, is_byte, writes, written};
+use crate::fixtures::{are, byte, byte_or_none, writes, written};
 use byte_map::{KeyMap, sorted};
 use row_map::{Batch, Expect, PairView, ReadView, Stretch, next_pair, next_within};
 use std::alloc::{AllocError, Global};
@@ -78,7 +78,7 @@ fn go_over(mut range: Range, wanted: &[(u8, u8)]) -> bool {
         match range.next() {
             None => return false,
             Some((found, content)) => {
-                if !is_byte(found, *key) || !is_byte(content, *value) {
+                if plain(Some((found, content))) != Some((*key, *value)) {
                     return false;
                 }
             }
