@@ -11,4 +11,4 @@ use Rattle.server.proofs.desk.DeskPort.lease.Goals as goal
 pub returns-clause-granted : goal.returns-clause-granted
 returns-clause-granted g c =
     subst (λ (a : Result (Lease × Version) (SharedFault GrantFault)). IfOk a (λ given. IsGranted g.L.Room.opening given.0 given.1)) (sym c.kept_apart-answer.ensures.lent)
-        (granted g.L.Room.opening _ _ _ _ c.lease-granted.ensures)
+    (granted g.L.Room.opening _ _ _ _ c.lease-granted.ensures)
