@@ -1,0 +1,41 @@
+-- What the lock answers, as a port's answers.
+use Rattle.std.proofs.Common.{◌≡◌, ℕ, ◌+◌, ap, arith}
+use Rattle.std.specs.Prelude.{Result, Ok, Err, IfOk}
+use Rattle.std.specs.declared.alloc.AllocError.{AllocError}
+use Rattle.row_map.specs.Expect.{View}
+use Rattle.row_write.specs.Made.{PreparedTxn}
+use Rattle.replay.specs.Replay.{Opening}
+use Rattle.world.specs.Calls.{LeaseStep, CommitStep, IsReadView}
+use Rattle.world.specs.declared.committed.Committed.{Committed}
+use Rattle.world.specs.declared.committed.Committed.TheVariants as committed
+use Rattle.world.specs.declared.entry.Grant.{Grant}
+use Rattle.world.specs.declared.fault.CommitFault.{CommitFault}
+use Rattle.world.specs.declared.fault.GrantFault.{GrantFault}
+use Rattle.locked_store.specs.declared.fault.SharedFault.{SharedFault}
+use Rattle.locked_store.specs.declared.fault.SharedFault.TheVariants as shared
+use Rattle.locked_store.specs.Answers.{Answers, AnswersBack, grant_place, commit_place, no_place}
+use Rattle.locked_store.specs.Known.{Known}
+use Rattle.server.specs.Desks.{IsGranted, IsReadOfCore, lent, lent_count}
+use Rattle.server.specs.Outcomes.{Keys, IsCommitOf}
+
+pub granted : (opening : Opening) (v w : Known) (moment : ℕ) (answer : Result Grant (SharedFault GrantFault)) → Answers opening v answer w (λ c r d. LeaseStep c moment r d) grant_place
+    → IfOk (lent answer) (λ given. IsGranted opening given.0 given.1)
+granted opening v w moment (Ok given) a = (a.0, moment, a.2.0, a.2.3.1, a.2.3.2)
+granted opening v w moment (Err fault) a = tt
+
+pub granted_count : (opening : Opening) (v w : Known) (moment : ℕ) (answer : Result Grant (SharedFault GrantFault)) → Answers opening v answer w (λ c r d. LeaseStep c moment r d) grant_place
+    → w.count ≡ v.count + lent_count answer
+granted_count opening v w moment (Ok given) a = a.2.5.1
+granted_count opening v w moment (Err (shared.World fault)) a = omega (arith, a.2.5.1)
+granted_count opening v w moment (Err (shared.WentBack seen)) a = omega (arith, ap (λ (k : Known). k.count) a.1)
+
+pub viewed : (opening : Opening) (v w : Known) (keys : Keys) (answer : Result View (SharedFault AllocError)) → Answers opening v answer w (λ c r d. IfOk r (λ view. IsReadView c keys view) × (d ≡ c)) no_place
+    → IfOk answer (λ view. IsReadOfCore opening keys view)
+viewed opening v w keys (Ok view) a = (a.0, a.2.0, a.2.3.0)
+viewed opening v w keys (Err fault) a = tt
+
+pub own : (opening : Opening) (v w : Known) (moment : ℕ) (prepared : PreparedTxn) (answer : Result Committed (SharedFault CommitFault × PreparedTxn))
+    → AnswersBack opening v prepared answer w (λ c r d. CommitStep c moment prepared r d) commit_place → IfOk answer (λ done. IsCommitOf prepared.ops done)
+own opening v w moment prepared (Ok (committed.Done receipt)) a = (prepared.lease, ap (λ e. e.what) a.2.3.2.entry)
+own opening v w moment prepared (Ok (committed.Refused op why)) a = tt
+own opening v w moment prepared (Err refusal) a = tt

@@ -1,0 +1,3 @@
+pub mod Tallies
+pub mod Outcomes
+pub mod Desks

@@ -1,0 +1,16 @@
+//! Servers over a shared world: one request through a port, tried again after a conflict, and many requests by workers.
+//!
+//! That a server reads, prepares and commits under a lease, and begins anew where what it read has changed, is of F1 ("Online,
+//! Asynchronous Schema Change in F1", Rae et al., PVLDB 6(11), 2013).
+#![tactic(auto)]
+
+mod desk;
+mod port;
+mod request;
+mod serving;
+mod tally;
+
+pub use port::Port;
+pub use request::{Outcome, Request};
+pub use serving::serve_one;
+pub use tally::{Last, Tally};

@@ -1,0 +1,77 @@
+//! What one server needs of a shared world.
+ghost use Rattle.std.specs.Prelude.{◌≡◌, ◌+◌, ◌<◌, ◌^◌, IfOk};
+ghost use Rattle.server.specs.Tallies.{tally as tally_of, retried, last_of_grant, last_of_read, last_of_commit};
+ghost use Rattle.server.specs.Outcomes.{IsCommitOf, given_by};
+
+use crate::tally::Tally;
+use lease::Lease;
+use listed::Counted;
+use locked_store::SharedFault;
+use row_map::{ReadSet, ReadView};
+use row_write::Prepared;
+use schema_version::Schema;
+use std::alloc::{AllocError, Global};
+use world::{CommitFault, Committed, GrantFault};
+
+/// Leases, reads and commits of one server, as `Shared` answers them through a handle. A port keeps the receipts of its leases, and
+/// a tally of its answers.
+pub trait Port {
+    ghost use Rattle.std.specs.Prelude.{ℕ};
+    ghost use Rattle.lease.specs.declared.lease.Lease.{Lease};
+    ghost use Rattle.schema_version.specs.Version.{Version};
+    ghost use Rattle.row_map.specs.Expect.{View};
+    ghost use Rattle.server.specs.Outcomes.{Keys};
+    ghost use Rattle.server.specs.declared.tally.Tally.{Tally};
+
+    // its tally
+    ghost tally: { Self → Tally };
+
+    // how many entries its calls added
+    ghost count: { Self → ℕ };
+
+    // how many receipts it keeps
+    ghost kept: { Self → ℕ };
+
+    // which leases it may grant, each with the schema of its version
+    ghost grants: { Lease → Version → Type 0 };
+
+    // what it may answer where these keys are to be read
+    ghost reads: { Keys → View → Type 0 };
+
+    /// Takes a lease on the newest version at `moment`, and gives it with the schema of that version. The port keeps the receipt,
+    /// whose room is made first.
+    ///
+    /// Refused as `Shared::lease` is; `Memory` also where there is no room for the receipt.
+    fn lease(
+        &mut self,
+        alloc: Global,
+        moment: u64,
+    ) -> Result<(Lease, Counted<Schema>), SharedFault<GrantFault>>
+        requires { (tally self.old).retries < 2 ^ 63 }
+        ensures tallied { tally self.new ≡ tally_of (tally self.old).retries (last_of_grant result) }
+        ensures counted { count self.new + kept self.old ≡ count self.old + kept self.new }
+        ensures granted { IfOk result (λ given. grants given.0 given.1) };
+
+    /// The pairs of these keys. Refused as `Shared::read` is.
+    fn read(&mut self, alloc: Global, keys: &ReadSet) -> Result<ReadView, SharedFault<AllocError>>
+        requires { (tally self.old).retries < 2 ^ 63 }
+        ensures tallied { tally self.new ≡ tally_of (tally self.old).retries (last_of_read result) }
+        ensures same { (count self.new ≡ count self.old) × (kept self.new ≡ kept self.old) }
+        ensures viewed { IfOk result (λ view. reads keys.now view) };
+
+    /// Commits a prepared transaction at `moment`. Refused as `Shared::commit` is; what was prepared comes back with each refusal.
+    fn commit(
+        &mut self,
+        alloc: Global,
+        moment: u64,
+        prepared: Prepared,
+    ) -> Result<Committed, (SharedFault<CommitFault>, Prepared)>
+        requires { (tally self.old).retries < 2 ^ 63 }
+        ensures tallied { tally self.new ≡ tally_of ((tally self.old).retries + retried (last_of_commit result)) (last_of_commit result) }
+        ensures counted { (count self.new ≡ count self.old + given_by result) × (kept self.new ≡ kept self.old) }
+        ensures own { IfOk result (λ done. IsCommitOf prepared.ops done) };
+
+    /// How many of its answers were a conflict or the end of a lease, and its last answer.
+    fn tally(&self) -> Tally
+        ensures { result ≡ tally self.now };
+}

@@ -1,0 +1,44 @@
+//! What servers are asked, and what becomes of it.
+use row_write::{PrepareFault, RowFault, RowOps};
+use world::{CommitFault, Receipt};
+
+/// A transaction that a server is to commit.
+#[derive(Debug, Drop)]
+pub struct Request {
+    /// The moment of its lease and of its commit; the greater of it and the moment of the last entry counts.
+    pub moment: u64,
+    /// Its operations, at most 64.
+    pub ops: RowOps,
+}
+
+/// What became of a request.
+#[derive(Debug, Drop)]
+pub enum Outcome {
+    /// It is committed, and this is the receipt for its entry.
+    Done(Receipt),
+    /// The rows refuse it, and nothing changed.
+    Row {
+        /// The first operation that is refused, counted from 0.
+        op: usize,
+        /// Why.
+        why: RowFault,
+    },
+    /// It could not be prepared.
+    Unprepared(PrepareFault),
+    /// Its lease or its commit was refused, and no further try would help.
+    Rejected(CommitFault),
+    /// As many tries as were allowed ended in a conflict or with the end of their lease.
+    Busy {
+        /// How many.
+        tries: u32,
+    },
+    /// The gate did not let it start.
+    Held,
+    /// The log was shorter than the handle had seen it.
+    WentBack {
+        /// The length of the log.
+        seen: u64,
+    },
+    /// Want of memory.
+    Memory,
+}

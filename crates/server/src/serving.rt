@@ -1,0 +1,174 @@
+//! One request, tried until a try ends otherwise than in a conflict or with the end of its lease.
+ghost use Rattle.std.specs.Prelude.{◌≡◌, ℕ, ◌+◌, ◌<◌, ◌≤◌, ◌^◌, IfOk, IfErr, MatchOption};
+ghost use Rattle.server.specs.Outcomes.{IsEnd, IsServed, receipts_of, receipts_by, unprepared_by};
+
+use crate::port::Port;
+use crate::request::{Outcome, Request};
+use lease::Lease;
+use listed::Counted;
+use locked_store::SharedFault;
+use row_write::{PrepareFault, Prepared, RowOps, prepare, reads_of};
+use schema_version::Schema;
+use std::alloc::{AllocError, Global};
+use world::{CommitFault, Committed, GrantFault};
+
+// The lease at hand, or else a new one.
+fn held_or_new<P: Port>(
+    alloc: Global,
+    port: &mut P,
+    request: &Request,
+    held: Option<(Lease, Counted<Schema>)>,
+) -> Result<(Lease, Counted<Schema>), Outcome>
+    requires room { (P.tally port.old).retries < 2 ^ 63 }
+    requires held { MatchOption held (Unit {0}) (λ h. P.grants h.0 h.1) }
+    ensures granted { IfOk result (λ h. P.grants h.0 h.1) }
+    ensures over { IfErr result (λ o. IsEnd P.grants P.reads request.now.ops o (P.tally port.new).last) }
+    ensures retries { (P.tally port.new).retries ≡ (P.tally port.old).retries }
+    ensures counted { P.count port.new + P.kept port.old ≡ P.count port.old + P.kept port.new + receipts_by result }
+{
+    if let Some(held) = held {
+        return Ok(held);
+    }
+    match port.lease(alloc, request.moment) {
+        Ok(granted) => Ok(granted),
+        Err(SharedFault::WentBack { seen }) => Err(Outcome::WentBack { seen }),
+        Err(SharedFault::World(GrantFault::MomentTooLarge)) => {
+            Err(Outcome::Rejected(CommitFault::MomentTooLarge))
+        }
+        Err(SharedFault::World(GrantFault::Memory)) => Err(Outcome::Memory),
+    }
+}
+
+// The request's operations once more.
+fn ops_of(request: &Request) -> Result<RowOps, AllocError>
+    ensures { IfOk result (λ ops. ops ≡ request.now.ops) }
+{
+    request.ops.clone()
+}
+
+// What is told of a request that is not prepared.
+fn unprepared(fault: PrepareFault) -> Outcome
+    ensures { result ≡ unprepared_by fault }
+{
+    match fault {
+        PrepareFault::Memory => Outcome::Memory,
+        fault => Outcome::Unprepared(fault),
+    }
+}
+
+// What is prepared of the request by what the port reads, outside of any lock.
+fn prepared_by<P: Port>(
+    alloc: Global,
+    port: &mut P,
+    request: &Request,
+    lease: Lease,
+    schema: &Counted<Schema>,
+) -> Result<Prepared, Outcome>
+    requires room { (P.tally port.old).retries < 2 ^ 63 }
+    requires granted { P.grants lease schema.now }
+    ensures own { IfOk result (λ p. p.ops ≡ request.now.ops) }
+    ensures over { IfErr result (λ o. IsEnd P.grants P.reads request.now.ops o (P.tally port.new).last) }
+    ensures retries { (P.tally port.new).retries ≡ (P.tally port.old).retries }
+    ensures counted { P.count port.new + P.kept port.old ≡ P.count port.old + P.kept port.new + receipts_by result }
+{
+    let Ok(keys) = reads_of(alloc, schema.get(), request.ops.as_slice()) else {
+        return Err(Outcome::Memory);
+    };
+    let view = match port.read(alloc, &keys) {
+        Ok(view) => view,
+        Err(SharedFault::WentBack { seen }) => return Err(Outcome::WentBack { seen }),
+        Err(SharedFault::World(_)) => return Err(Outcome::Memory),
+    };
+    let Ok(schema) = schema.clone() else {
+        return Err(Outcome::Memory);
+    };
+    let Ok(ops) = ops_of(request) else {
+        return Err(Outcome::Memory);
+    };
+    match prepare(alloc, schema, lease, ops, view) {
+        Ok(prepared) => Ok(prepared),
+        Err((fault, _)) => Err(unprepared(fault)),
+    }
+}
+
+// Commits what was prepared. Where another try is to follow: whether the lease still serves.
+fn committed_by<P: Port>(
+    alloc: Global,
+    port: &mut P,
+    request: &Request,
+    prepared: Prepared,
+) -> Result<bool, Outcome>
+    requires room { (P.tally port.old).retries < 2 ^ 63 }
+    requires own { prepared.ops ≡ request.now.ops }
+    ensures over { IfErr result (λ o. IsEnd P.grants P.reads request.now.ops o (P.tally port.new).last) }
+    ensures again { IfOk result (λ _. (P.tally port.new).retries ≡ (P.tally port.old).retries + 1) }
+    ensures once { IfErr result (λ _. (P.tally port.new).retries ≡ (P.tally port.old).retries) }
+    ensures counted { P.count port.new + P.kept port.old ≡ P.count port.old + P.kept port.new + receipts_by result }
+{
+    match port.commit(alloc, request.moment, prepared) {
+        Ok(Committed::Done(receipt)) => Err(Outcome::Done(receipt)),
+        Ok(Committed::Refused { op, why }) => Err(Outcome::Row { op, why }),
+        Err((SharedFault::WentBack { seen }, _)) => Err(Outcome::WentBack { seen }),
+        Err((SharedFault::World(CommitFault::Conflict { key: _ }), _)) => Ok(true),
+        Err((SharedFault::World(CommitFault::LeaseEnded { .. }), _)) => Ok(false),
+        Err((SharedFault::World(CommitFault::MomentTooLarge), _)) => {
+            Err(Outcome::Rejected(CommitFault::MomentTooLarge))
+        }
+        Err((SharedFault::World(CommitFault::BadLease), _)) => {
+            Err(Outcome::Rejected(CommitFault::BadLease))
+        }
+        Err((SharedFault::World(CommitFault::WrongSchema), _)) => {
+            Err(Outcome::Rejected(CommitFault::WrongSchema))
+        }
+        Err((SharedFault::World(CommitFault::Memory), _)) => Err(Outcome::Memory),
+    }
+}
+
+// One try. Where another is to follow: the lease, where it still serves.
+fn tried<P: Port>(
+    alloc: Global,
+    port: &mut P,
+    request: &Request,
+    held: Option<(Lease, Counted<Schema>)>,
+) -> Result<Option<(Lease, Counted<Schema>)>, Outcome>
+    requires room { (P.tally port.old).retries < 2 ^ 63 }
+    requires held { MatchOption held (Unit {0}) (λ h. P.grants h.0 h.1) }
+    ensures held { IfOk result (λ held. MatchOption held (Unit {0}) (λ h. P.grants h.0 h.1)) }
+    ensures over { IfErr result (λ o. IsEnd P.grants P.reads request.now.ops o (P.tally port.new).last) }
+    ensures again { IfOk result (λ _. (P.tally port.new).retries ≡ (P.tally port.old).retries + 1) }
+    ensures once { IfErr result (λ _. (P.tally port.new).retries ≡ (P.tally port.old).retries) }
+    ensures counted { P.count port.new + P.kept port.old ≡ P.count port.old + P.kept port.new + receipts_by result }
+{
+    let (lease, schema) = held_or_new(alloc, port, request, held)?;
+    let prepared = prepared_by(alloc, port, request, lease, &schema)?;
+    if committed_by(alloc, port, request, prepared)? {
+        Ok(Some((lease, schema)))
+    } else {
+        Ok(None)
+    }
+}
+
+/// Serves one request through a port. A try is a lease where there is none at hand, a read, a preparation and a commit. One that
+/// ends in a conflict is followed by another under the same lease, and one whose lease has ended by another under a new one.
+///
+/// - `request`: the operations, and the moment of each lease and commit.
+/// - `tries`: how many such tries there are at most, from 1 to 1,000. After so many the outcome is `Busy`.
+///
+/// A lease that is refused with `MomentTooLarge` gives `Rejected` with it, and any want of memory `Memory`.
+#[tactic(auto, using(crate::proofs::Ends::served))]
+pub fn serve_one<P: Port>(alloc: Global, port: &mut P, request: &Request, tries: u32) -> Outcome
+    requires tries { (1 ≤ tries) × (tries ≤ 1000) }
+    requires room { (P.tally port.old).retries ≤ 2 ^ 62 }
+    ensures served { IsServed P.grants P.reads request.now.ops tries (P.tally port.old) result (P.tally port.new) }
+    ensures few { (P.tally port.new).retries ≤ (P.tally port.old).retries + tries }
+    ensures counted { P.count port.new + P.kept port.old ≡ P.count port.old + P.kept port.new + receipts_of result }
+{
+    let mut held = None;
+    for _i in 0..tries {
+        match tried(alloc, port, request, held) {
+            Ok(again) => held = again,
+            Err(outcome) => return outcome,
+        }
+    }
+    Outcome::Busy { tries }
+}

@@ -1,0 +1,105 @@
+//! The counter under one seat and under two threads.
+ghost use Rattle.std.specs.Prelude.{◌≡◌};
+
+use claims::{ClaimFault, ClaimSeat, Claims, Drawing, Opened};
+use std::alloc::Global;
+use std::marker::Brand;
+use std::sync::Wait;
+use std::thread::{Threads, join};
+
+// What one seat draws of two numbers, and the number that would have come next.
+fn alone<T: Drawing>(alloc: Global, opened: Opened) -> Result<[Option<usize>; 4], ClaimFault>
+    requires { (opened.table.shared.table_id ≡ T.table) × (opened.total ≡ T.total) × (opened.seats ≡ T.seats) }
+{
+    let (claims, mut seats) = Claims::<T>::new(alloc, opened)?;
+    let Some(mut seat) = seats.pop() else {
+        return Err(ClaimFault::BadCount);
+    };
+    let first = claims.claim(&mut seat);
+    let second = claims.claim(&mut seat);
+    let third = claims.claim(&mut seat);
+    let fourth = claims.claim(&mut seat);
+    if third != fourth || seats.push(seat).is_err() {
+        return Err(ClaimFault::Memory);
+    }
+    let next = claims.finish(seats) as usize;
+    Ok([first, second, third, Some(next)])
+}
+
+#[test]
+fn one_seat_draws_in_turn(rt: HostRuntime) {
+    let Ok(opened) = Opened::new(rt.alloc(), 2, 1) else {
+        panic!(rt; "no counter");
+    };
+    let drawn = alone::<Brand>(rt.alloc(), opened);
+    assert!(rt; drawn == Ok([Some(0), Some(1), None, Some(3)]));
+}
+
+// How many numbers this seat draws in 1,000 turns.
+fn drain<T: Drawing>(claims: &Claims<T>, mut seat: ClaimSeat<T>) -> (ClaimSeat<T>, u64) {
+    let mut count = 0u64;
+    for _ in 0..1000 {
+        if claims.claim(&mut seat).is_some() {
+            count = count.wrapping_add(1);
+        }
+    }
+    (seat, count)
+}
+
+// How many numbers two threads draw, and the number that would have come next.
+fn two<T: Drawing + Send + Sync, R: Threads + Wait + Sync>(
+    rt: &R,
+    alloc: Global,
+    opened: Opened,
+) -> Result<(u64, u64), ClaimFault>
+    requires { (opened.table.shared.table_id ≡ T.table) × (opened.total ≡ T.total) × (opened.seats ≡ T.seats) }
+{
+    let (claims, mut seats) = Claims::<T>::new(alloc, opened)?;
+    let second = seats.pop();
+    let first = seats.pop();
+    let (Some(first), Some(second)) = (first, second) else {
+        return Err(ClaimFault::BadCount);
+    };
+    let shared = &claims;
+    let (a, b) = join(
+        rt,
+        move || drain(shared, first),
+        move || drain(shared, second),
+    );
+    if seats.push(a.0).is_err() || seats.push(b.0).is_err() {
+        return Err(ClaimFault::Memory);
+    }
+    Ok((a.1.wrapping_add(b.1), claims.finish(seats)))
+}
+
+#[test]
+fn two_seats_draw_all(rt: HostRuntime) {
+    let Ok(opened) = Opened::new(rt.alloc(), 700, 2) else {
+        panic!(rt; "no counter");
+    };
+    let drawn = two::<Brand, _>(&rt, rt.alloc(), opened);
+    assert!(rt; drawn == Ok((700, 702)));
+}
+
+// Whether there is such a counter, or why there is none.
+fn told(alloc: Global, total: usize, seats: usize) -> Result<(), ClaimFault> {
+    Opened::new(alloc, total, seats)?;
+    Ok(())
+}
+
+#[test]
+fn from_1_to_64_seats(rt: HostRuntime) {
+    let rows = [
+        (0, 0, Err(ClaimFault::BadCount)),
+        (0, 1, Ok(())),
+        (1_000_000, 64, Ok(())),
+        (1_000_001, 1, Err(ClaimFault::BadCount)),
+        (1, 65, Err(ClaimFault::BadCount)),
+    ];
+    for (total, seats, answer) in rows {
+        assert!(rt;
+            told(rt.alloc(), total, seats) == answer,
+            "{total} numbers, {seats} seats"
+        );
+    }
+}
