@@ -113,29 +113,25 @@ fn batches_are_those_of_a_sorted_list(rt: HostRuntime) -> Result<(), Fail> {
 /// How many pairs a view gives, one after another from the least key on.
 fn walked<P: PairView>(alloc: Global, view: &P) -> Result<usize, AllocError> {
     let mut from = Vec::new(alloc);
-    let mut count = 0;
-    for _step in 0..200 {
+    for count in 0..200 {
         let Some((key, _)) = view.next_at(from.as_slice()) else {
             return Ok(count);
         };
         from = key_after(alloc, key)?;
-        count += 1;
     }
-    Ok(count)
+    Ok(200)
 }
 
 /// How many pairs a range gives.
 fn ranged(store: &Store) -> usize {
     let high = [255];
     let mut range = store.range([].as_slice(), high.as_slice());
-    let mut count = 0;
-    for _step in 0..200 {
+    for count in 0..200 {
         if range.next().is_none() {
             return count;
         }
-        count += 1;
     }
-    count
+    200
 }
 
 /// Of 65 keys that one batch puts and, behind a snapshot, one batch removes: how many a range gives between the two,
