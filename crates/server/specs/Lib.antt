@@ -1,3 +1,4 @@
 pub mod Tallies
 pub mod Outcomes
 pub mod Desks
+pub mod Works

@@ -15,6 +15,7 @@ use std::sync::Wait;
 use world::{CommitFault, Committed, Grant, GrantFault, Receipt};
 
 /// A server's handle, with the receipts of its leases and its tally.
+#[derive(Drop)]
 pub(crate) struct Desk<'a, L: Room, R: Wait> {
     pub(crate) rt: &'a R,
     pub(crate) shared: &'a Shared<L>,

@@ -5,11 +5,14 @@
 #![tactic(auto)]
 
 mod desk;
+mod gate;
 mod port;
 mod request;
 mod serving;
 mod tally;
+mod worker;
 
+pub use gate::{FreeGate, Gate};
 pub use port::Port;
 pub use request::{Outcome, Request};
 pub use serving::serve_one;
