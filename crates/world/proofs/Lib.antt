@@ -1,6 +1,7 @@
 pub mod Holding
 pub mod Calling
 pub mod Querying
+pub mod Snapshots
 pub mod Viewing
 pub mod Awaited
 pub mod Publications

@@ -33,7 +33,7 @@ use Rattle.world.proofs.Holding.{follow_of, kept_of, later}
 
 -- ---- a lease that does not serve
 
-last : (fault : QueryFault) → 4 ≤ query_rank (refusal.Query fault)
+pub last : (fault : QueryFault) → 4 ≤ query_rank (refusal.Query fault)
 last NoTable = omega arith
 last (NotPublic column) = omega arith
 last WrongType = omega arith
@@ -80,13 +80,17 @@ sound_none s now lease query version at sound one (NotPublic column) = λ c. one
 sound_none s now lease query version at sound one WrongType = λ c. one version query sound WrongType (subst (λ (v : Version). IsRefused v query WrongType) (some_same (sym c.1 ∙ at)) c.2)
 sound_none s now lease query version at sound one Memory = λ c. c
 
--- where the lease serves and the query is sound, nothing stands against an answer
-clear : (s : State) (now : ℕ) (lease : Lease) (query : Asked) (version : Version) → Serves (facts_of s).line lease now → version_at (facts_of s) lease.version ≡ Some version → IsSound version query → HasOneRefusal
+-- nothing of the lease stands against an answer
+abbrev pub NoneBelow : State → ℕ → Lease → Asked → Type 0
+NoneBelow s now lease query = (other : QueryRefusal) → query_rank other < 4 → ¬ (QueryCondition s now lease query other)
+
+-- where besides the query is sound, nothing stands against an answer
+pub clear : (s : State) (now : ℕ) (lease : Lease) (query : Asked) (version : Version) → NoneBelow s now lease query → version_at (facts_of s) lease.version ≡ Some version → IsSound version query → HasOneRefusal
     → IsClear (QueryCondition s now lease query)
-clear s now lease query version v at sound one refusal.MomentTooLarge = served_lower s now lease query v refusal.MomentTooLarge (omega arith)
-clear s now lease query version v at sound one refusal.BadLease = served_lower s now lease query v refusal.BadLease (omega arith)
-clear s now lease query version v at sound one (refusal.LeaseEnded until counted_at) = served_lower s now lease query v (refusal.LeaseEnded until counted_at) (omega arith)
-clear s now lease query version v at sound one (refusal.Query fault) = sound_none s now lease query version at sound one fault
+clear s now lease query version lower at sound one refusal.MomentTooLarge = lower refusal.MomentTooLarge (omega arith)
+clear s now lease query version lower at sound one refusal.BadLease = lower refusal.BadLease (omega arith)
+clear s now lease query version lower at sound one (refusal.LeaseEnded until counted_at) = lower (refusal.LeaseEnded until counted_at) (omega arith)
+clear s now lease query version lower at sound one (refusal.Query fault) = sound_none s now lease query version at sound one fault
 
 no_memory : (version : Version) (number : ℕ) (table : Table) (part : Part) → ¬ (PartFault version number table part Memory)
 no_memory version number table (Named column) = λ c. c
@@ -94,14 +98,14 @@ no_memory version number table (Where (Key key)) = λ c. c
 no_memory version number table (Where (Equal column value)) = λ c. c
 no_memory version number table (Where (Between column low high)) = λ c. c
 
-faulty_at : (s : State) (now : ℕ) (lease : Lease) (query : Asked) (version : Version) (fault : QueryFault) → Serves (facts_of s).line lease now → version_at (facts_of s) lease.version ≡ Some version → HasOneRefusal
+pub faulty_at : (s : State) (now : ℕ) (lease : Lease) (query : Asked) (version : Version) (fault : QueryFault) → NoneBelow s now lease query → version_at (facts_of s) lease.version ≡ Some version → HasOneRefusal
     → ((fault ≡ Memory) × IsSound version query) ⊎ IsRefused version query fault → QueryAt s now lease query (Err (refusal.Query fault))
-faulty_at s now lease query version fault v at one (inl short) =
-    subst (λ (x : QueryFault). QueryAt s now lease query (Err (refusal.Query x))) (sym short.0) (inl refl, λ other lt. clear s now lease query version v at short.1 one other)
-faulty_at s now lease query version NoTable v at one (inr is) = (inr (version, at, is), served_lower s now lease query v)
-faulty_at s now lease query version (NotPublic column) v at one (inr is) = (inr (version, at, is), served_lower s now lease query v)
-faulty_at s now lease query version WrongType v at one (inr is) = (inr (version, at, is), served_lower s now lease query v)
-faulty_at s now lease query version Memory v at one (inr is) = absurd (no_memory version query.table is.0 is.2.2 is.2.4.0)
+faulty_at s now lease query version fault lower at one (inl short) =
+    subst (λ (x : QueryFault). QueryAt s now lease query (Err (refusal.Query x))) (sym short.0) (inl refl, λ other lt. clear s now lease query version lower at short.1 one other)
+faulty_at s now lease query version NoTable lower at one (inr is) = (inr (version, at, is), lower)
+faulty_at s now lease query version (NotPublic column) lower at one (inr is) = (inr (version, at, is), lower)
+faulty_at s now lease query version WrongType lower at one (inr is) = (inr (version, at, is), lower)
+faulty_at s now lease query version Memory lower at one (inr is) = absurd (no_memory version query.table is.0 is.2.2 is.2.4.0)
 
 -- ---- in the words of the call
 
@@ -117,17 +121,21 @@ pub query_faulty : (f : Inside) (s : State) (moment now : ℕ) (lease : Lease) (
     → ((fault ≡ Memory) × IsSound schema query) ⊎ IsRefused schema query fault → as_told ≡ refusal.Query fault → QueryStep s moment lease query (Err as_told)
 query_faulty f s moment now lease query schema fault as_told v one is told =
     subst (λ (r : QueryRefusal). QueryStep s moment lease query (Err r)) (sym told)
-    (subst (λ (n : ℕ). QueryAt s n lease query (Err (refusal.Query fault))) v.counts (faulty_at s now lease query schema fault v.serves v.schema_is one is))
+    (subst (λ (n : ℕ). QueryAt s n lease query (Err (refusal.Query fault))) v.counts (faulty_at s now lease query schema fault (served_lower s now lease query v.serves) v.schema_is one is))
 
 -- time goes by up to the moment that counts, and the lease's version still counts then
 consistent_now : (facts : Facts) (now : ℕ) (lease : Lease) (schema : Version) → LeasesKeep → KeptAgrees → IsKept facts → facts.moment ≤ now → Serves facts.line lease now → version_at facts lease.version ≡ Some schema → IsConsistent schema facts.rows facts.pairs
 consistent_now facts now lease schema goes agrees k after_last v at =
     agrees (after facts (record { moment = now; what = Granted lease })) (goes facts now lease after_last k) lease.version schema (lease, refl, v.honest, v.in_force) at
 
+-- the store agrees with the rows of the log
+pub consistent_held : (f : Inside) (s : State) (moment now : ℕ) (lease : Lease) (schema : Version) → LeasesKeep → KeptAgrees → IsServed f s moment now lease schema → IsConsistent schema (facts_of s).rows f.store
+consistent_held f s moment now lease schema goes agrees v =
+    subst (λ (p : Pairs). IsConsistent schema (facts_of s).rows p) (sym (follow_of f s v.held v.view).pairs)
+    (consistent_now (facts_of s) now lease schema goes agrees (kept_of f s v.held v.view) (later f s moment now v.counts) v.serves v.schema_is)
+
 pub query_answered : (f : Inside) (s : State) (moment now : ℕ) (lease : Lease) (query : Asked) (schema : Version) (found : List Row) → LeasesKeep → KeptAgrees → IsServed f s moment now lease schema → HasOneRefusal → IsSound schema query
     → ((rows : Rows) → IsConsistent schema rows f.store → found ≡ plain_answer rows query) → QueryStep s moment lease query (Ok found)
 query_answered f s moment now lease query schema found goes agrees v one sound answers =
-    let agree : IsConsistent schema (facts_of s).rows f.store
-    = subst (λ (p : Pairs). IsConsistent schema (facts_of s).rows p) (sym (follow_of f s v.held v.view).pairs) (consistent_now (facts_of s) now lease schema goes agrees (kept_of f s v.held v.view) (later f s moment now v.counts) v.serves v.schema_is) in
     subst (λ (n : ℕ). QueryAt s n lease query (Ok found)) v.counts
-    (clear s now lease query schema v.serves v.schema_is sound one, answers (facts_of s).rows agree)
+    (clear s now lease query schema (served_lower s now lease query v.serves) v.schema_is sound one, answers (facts_of s).rows (consistent_held f s moment now lease schema goes agrees v))

@@ -1,13 +1,16 @@
--- How a state of the core is told apart from another.
+-- How a state of the core is told apart from another, and what a snapshot is of from what another is of.
 use Rattle.std.specs.Prelude.{List, refl}
 use Rattle.std.specs.FinMap as map
 use Rattle.std.specs.Coded.{Coded, code_by, coded×, coded_list, coded_ℕ}
 use Rattle.keycode.specs.Order.{bytes_cmp}
 use Rattle.row_map.specs.Rows.{Pairs}
+use Rattle.schema_version.specs.Held.{version_code}
+use Rattle.schema_version.specs.Version.{Version}
 use Rattle.replay.specs.Code.{opening_code}
 use Rattle.replay.specs.Replay.{Opening}
 use Rattle.replay.specs.declared.entry.Entry.{Entry}
 use Rattle.replay.specs.contracts.entry.Entry as entry
+use Rattle.world.specs.Snapshots.{Taken}
 use Rattle.world.specs.State.{State}
 
 abbrev pub state_code : Coded State
@@ -15,4 +18,11 @@ state_code =
     code_by (Opening × (List Entry × Pairs)) (coded× opening_code (coded× (coded_list entry.the_row.coded) (map.code {R = bytes_cmp} (coded_list coded_ℕ) (coded_list coded_ℕ))))
     (λ s. (s.opening, (s.log, s.pairs)))
     (λ t. record { opening = t.0; log = t.1.0; pairs = t.1.1 })
+    (λ _. refl)
+
+abbrev pub taken_code : Coded Taken
+taken_code =
+    code_by (Version × Pairs) (coded× version_code (map.code {R = bytes_cmp} (coded_list coded_ℕ) (coded_list coded_ℕ)))
+    (λ t. (t.version, t.pairs))
+    (λ p. record { version = p.0; pairs = p.1 })
     (λ _. refl)

@@ -1,6 +1,7 @@
 pub mod State
 pub mod Calls
 pub mod Querying
+pub mod Snapshots
 pub mod Code
 pub mod Inside
 pub mod Told

@@ -1,4 +1,4 @@
--- What a commit, a piece or a query tells of the store's refusal, and of a lease's.
+-- What a commit, a piece, a query or a snapshot tells of the store's refusal, and of a lease's.
 use Rattle.lease.specs.declared.fault.LeaseFault.{LeaseFault}
 use Rattle.lease.specs.declared.fault.LeaseFault.TheVariants as lease_fault
 use Rattle.txn_store.specs.declared.fault.SetFault.{SetFault}
@@ -9,6 +9,8 @@ use Rattle.world.specs.declared.fault.PieceFault.{PieceFault}
 use Rattle.world.specs.declared.fault.PieceFault.TheVariants as piece
 use Rattle.world.specs.declared.fault.QueryRefusal.{QueryRefusal}
 use Rattle.world.specs.declared.fault.QueryRefusal.TheVariants as query
+use Rattle.world.specs.declared.fault.SnapshotFault.{SnapshotFault}
+use Rattle.world.specs.declared.fault.SnapshotFault.TheVariants as snapshot_fault
 
 abbrev pub set_told : SetFault → CommitFault
 set_told (told.Conflict key) = commit.Conflict key
@@ -23,6 +25,11 @@ abbrev pub query_told : LeaseFault → QueryRefusal
 query_told lease_fault.MomentTooLarge = query.MomentTooLarge
 query_told lease_fault.BadLease = query.BadLease
 query_told (lease_fault.LeaseEnded until now) = query.LeaseEnded until now
+
+abbrev pub snapshot_told : LeaseFault → SnapshotFault
+snapshot_told lease_fault.MomentTooLarge = snapshot_fault.MomentTooLarge
+snapshot_told lease_fault.BadLease = snapshot_fault.BadLease
+snapshot_told (lease_fault.LeaseEnded until now) = snapshot_fault.LeaseEnded until now
 
 abbrev pub piece_told : SetFault → PieceFault
 piece_told (told.Conflict key) = piece.Conflict key

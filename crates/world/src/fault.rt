@@ -8,7 +8,8 @@ ghost use Rattle.world.specs.declared.fault.PieceFault.TheVariants as piece;
 ghost use Rattle.world.specs.declared.fault.PublishFault.TheVariants as publish;
 ghost use Rattle.world.specs.declared.fault.ReadFault.TheVariants as read;
 ghost use Rattle.world.specs.declared.fault.QueryRefusal.TheVariants as query;
-ghost use Rattle.world.specs.Told.{set_told, lease_told, query_told, piece_told};
+ghost use Rattle.world.specs.declared.fault.SnapshotFault.TheVariants as snapshot_fault;
+ghost use Rattle.world.specs.Told.{set_told, lease_told, query_told, snapshot_told, piece_told};
 
 use byte_map::Bytes;
 use lease::{LeaseFault, TooEarly};
@@ -95,6 +96,28 @@ pub enum QueryRefusal {
     /// The query has a fault under the schema of the lease's version, or want of memory, which comes last.
     #[error("{0}")]
     Query(QueryFault),
+}
+
+/// Why no snapshot was taken. Of several reasons the first in this order is told.
+#[derive(Clone, Copy, Debug, PartialEq, Eq, Error)]
+pub enum SnapshotFault {
+    /// The moment that counts is above 2^62.
+    #[error("the moment is above 2^62")]
+    MomentTooLarge,
+    /// No grant could have given the lease.
+    #[error("no grant could have given the lease")]
+    BadLease,
+    /// The lease ended before the moment that counts.
+    #[error("the lease ended at {until}, and now is {now}")]
+    LeaseEnded {
+        /// The end of the lease.
+        until: u64,
+        /// The moment that counts.
+        now: u64,
+    },
+    /// Want of memory.
+    #[error("out of memory")]
+    Memory,
 }
 
 /// Why no version was published. Of several reasons the first in this order is told.
@@ -256,6 +279,26 @@ impl From<QueryFault> for QueryRefusal {
 
     fn from(told: QueryFault) -> QueryRefusal {
         QueryRefusal::Query(told)
+    }
+}
+
+impl From<LeaseFault> for SnapshotFault {
+    ghost from_gives = { λ told fault. fault ≡ snapshot_told told };
+
+    fn from(told: LeaseFault) -> SnapshotFault {
+        match told {
+            LeaseFault::MomentTooLarge => SnapshotFault::MomentTooLarge,
+            LeaseFault::BadLease => SnapshotFault::BadLease,
+            LeaseFault::LeaseEnded { until, now } => SnapshotFault::LeaseEnded { until, now },
+        }
+    }
+}
+
+impl From<AllocError> for SnapshotFault {
+    ghost from_gives = { λ _ fault. fault ≡ snapshot_fault.Memory };
+
+    fn from(_: AllocError) -> SnapshotFault {
+        SnapshotFault::Memory
     }
 }
 

@@ -14,6 +14,7 @@ mod opening;
 mod piecework;
 mod publishing;
 mod reading;
+mod snapshot;
 mod world;
 
 pub use audit::{CheckReport, audit};
@@ -23,7 +24,8 @@ pub use entry::{Grant, PieceDone, Receipt};
 pub use event::{Event, Reply};
 pub use fault::{
     BeginFault, CommitFault, GrantFault, OpenFault, PieceFault, PublishFault, QueryRefusal,
-    ReadFault,
+    ReadFault, SnapshotFault,
 };
 pub use replay::{Entry, What};
+pub use snapshot::Snapshot;
 pub use world::World;

@@ -129,7 +129,7 @@ impl World {
     }
 
     // The schema of the version of a lease that serves.
-    fn under(&self, lease: &Lease, now: u64) -> &Counted<Schema>
+    pub(crate) fn under(&self, lease: &Lease, now: u64) -> &Counted<Schema>
         requires later { (facts_of self.now).moment ≤ now }
         requires serves { Serves (facts_of self.now).line lease.now now }
         ensures { version_at (facts_of self.now) lease.now.version ≡ Some result.now }

@@ -1,0 +1,80 @@
+//! Snapshots of the core: what its rows were under the version of a lease, whatever is committed later.
+ghost use Rattle.std.specs.Prelude.{◌≡◌, ◌⊎◌, IfOk, IfErr, OnOk};
+ghost use Rattle.element_state.specs.Consistent.{IsConsistent};
+ghost use Rattle.row_map.specs.Rows.{Rows};
+ghost use Rattle.row_query.specs.declared.fault.QueryFault.TheVariants.{Memory};
+ghost use Rattle.row_query.specs.Answer.{plain_answer};
+ghost use Rattle.row_query.specs.Refused.{IsRefused, IsSound};
+ghost use Rattle.world.specs.Snapshots.{SnapshotStep};
+
+use crate::fault::SnapshotFault;
+use crate::world::World;
+use lease::Lease;
+use listed::{Counted, Listed};
+use replay::{kept_agrees, leases_keep};
+use row_map::Row;
+use row_query::{Query, QueryFault, answer};
+use schema_version::Schema;
+use std::alloc::Global;
+use std::marker::Model;
+use txn_store::PairSnapshot;
+
+/// What a World held when the snapshot was taken, and the schema of the lease's version. It stays that, whatever is
+/// committed to the World later, also when the lease has ended or the World is gone: it takes no lock and knows no World.
+/// Contracts see it as the version and the pairs.
+#[derive(Drop)]
+pub struct Snapshot {
+    /// The schema of the lease's version.
+    schema: Counted<Schema>,
+    /// The pairs of the store, shared with it.
+    pairs: PairSnapshot,
+}
+
+impl Model for Snapshot {
+    ghost use Rattle.world.specs.Code.{taken_code};
+    ghost use Rattle.world.specs.Snapshots.{Taken};
+
+    ghost Value = { Taken };
+
+    ghost coded = { taken_code };
+
+    ghost view = { λ s. record { version = s.schema; pairs = s.pairs } };
+}
+
+impl Snapshot {
+    /// The rows that a query asks for, as they were when the snapshot was taken: in the order of their primary keys, each
+    /// with its values in the named columns.
+    ///
+    /// `query` is asked under the schema of the version of the lease that the snapshot was taken under. It is answered as by
+    /// `row_query::answer`, and refused as there: `NoTable`; then of the named columns in their order and the conditions in
+    /// theirs, the first with a fault by its lowest, `NotPublic` and then `WrongType`; `Memory` last. A refusal leaves
+    /// nothing behind.
+    pub fn query(&self, alloc: Global, query: &Query) -> Result<Listed<Row>, QueryFault>
+        ensures refused { IfErr result (λ fault. ((fault ≡ Memory) × IsSound self.now.version query.now) ⊎ IsRefused self.now.version query.now fault) }
+        ensures clear { OnOk result (IsSound self.now.version query.now) }
+        ensures rows { (rows : Rows) → IsConsistent self.now.version rows self.now.pairs → IfOk result (λ found. found ≡ plain_answer rows query.now) }
+    {
+        answer(alloc, self.schema.get(), &self.pairs, query)
+    }
+}
+
+impl World {
+    /// A snapshot of what is committed now, to be queried later under the schema of the lease's version. The schema and
+    /// the pairs are shared, and none is copied; nothing changes.
+    ///
+    /// The moment that counts is the greater of `moment` and the moment of the last entry. Refused in this order:
+    /// `MomentTooLarge` where the moment that counts is above 2^62; `BadLease` where no grant could have given `lease`;
+    /// `LeaseEnded` where it is not in force any more; `Memory`.
+    pub fn snapshot(&self, moment: u64, lease: &Lease) -> Result<Snapshot, SnapshotFault>
+        ensures { SnapshotStep self.now moment lease.now result }
+    {
+        kept_agrees();
+        leases_keep();
+        let now = self.counted(moment);
+        self.line.standing(lease, now)?;
+        let schema = self.under(lease, now);
+        let schema = schema.clone()?;
+        let pairs = self.store.snapshot()?;
+        Ok(Snapshot { schema, pairs })
+    }
+}
