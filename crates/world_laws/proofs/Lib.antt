@@ -1,4 +1,5 @@
 mod Recent
+mod Snapshots
 mod Newest
 mod Found
 mod Sums

@@ -23,7 +23,7 @@ last_two line version some = elim (number_one version (newest line)) [
   ]
 ]
 
-lease_recent : (s : State) (now : ℕ) (lease : Lease) → IsPublishedBy s now → ¬ (¬ (IsHonest (facts_of s).line now lease)) → ¬ (¬ (IsInForce lease now)) → IsLastTwo (facts_of s).line lease.version
+pub lease_recent : (s : State) (now : ℕ) (lease : Lease) → IsPublishedBy s now → ¬ (¬ (IsHonest (facts_of s).line now lease)) → ¬ (¬ (IsInForce lease now)) → IsLastTwo (facts_of s).line lease.version
 lease_recent s now lease by honest in_force =
     last_two (facts_of s).line lease.version (λ none. honest (λ h. in_force (λ f. none (usable_last (facts_of s).line lease.version now by.valid by.past (lease, refl, h, f)))))
 

@@ -1,3 +1,4 @@
 pub mod Recent
 pub mod Found
 pub mod Clean
+pub mod Snapshots

@@ -2,6 +2,7 @@
 ghost use Rattle.world_laws.specs.Recent.{CommitsAreRecent, QueriesAreRecent};
 ghost use Rattle.world_laws.specs.Found.{FindsConsistent, FindsExact, FindsEmpty};
 ghost use Rattle.world_laws.specs.Clean.{ChecksAreClean};
+ghost use Rattle.world_laws.specs.Snapshots.{SnapshotsAnswerTheirLog, SnapshotsAnswerAsQueries, SnapshotsAreRecent};
 
 /// A transaction that is accepted, whether it is committed or its rows refuse it, and a query that is answered run on the
 /// newest version or on the one before it, never on an older one.
@@ -33,4 +34,16 @@ pub fn publications_find_exact()
 /// `World::newest` gives (a sound version).
 pub fn checks_are_clean()
     ensures { ChecksAreClean }
+{}
+
+/// Whenever a snapshot is asked, the rows that it finds are the plain answer over the rows of the log at which it was taken,
+/// and all that it answers, refusals too, is what `World::query` may answer there under the same lease at the same moment. No
+/// accepted snapshot is under a version older than the one before the newest.
+///
+/// `World::snapshot` tells the premise of the snapshot, `Snapshot::query` that of its answer, and `World::timeline` those of
+/// the last clause, as with `commits_are_recent`.
+pub fn snapshots_answer_their_log()
+    ensures found { SnapshotsAnswerTheirLog }
+    ensures answers { SnapshotsAnswerAsQueries }
+    ensures recent { SnapshotsAreRecent }
 {}

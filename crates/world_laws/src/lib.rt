@@ -1,5 +1,5 @@
 //! Laws of the core that its calls' contracts do not say by name: what runs on which version, what a publication finds,
-//! and what an audit counts. Each is a call without a body, so that a contract names it.
+//! what an audit counts, and what a snapshot answers. Each is a call without a body, so that a contract names it.
 //!
 //! Each premise is one that every World meets, and a call of World tells it. The protocol is that of F1 ("Online,
 //! Asynchronous Schema Change in F1", Rae et al., PVLDB 6(11), 2013).
@@ -7,4 +7,6 @@
 
 mod laws;
 
-pub use laws::{checks_are_clean, commits_are_recent, publications_find_exact};
+pub use laws::{
+    checks_are_clean, commits_are_recent, publications_find_exact, snapshots_answer_their_log,
+};

@@ -1,0 +1,11 @@
+use Rattle.world_laws.proofs.Snapshots.{answer_their_log, answer_as_queries, snapshots_recent}
+use Rattle.world_laws.proofs.laws.snapshots_answer_their_log.Goals as goal
+
+pub returns-clause-found : goal.returns-clause-found
+returns-clause-found c = answer_their_log
+
+pub returns-clause-answers : goal.returns-clause-answers
+returns-clause-answers c = answer_as_queries
+
+pub returns-clause-recent : goal.returns-clause-recent
+returns-clause-recent c = snapshots_recent
