@@ -8,6 +8,7 @@ ghost use Rattle.world.specs.Calls.{LeaseStep, CommitStep, IsReadView, IsCheck};
 ghost use Rattle.world.specs.Piecework.{PieceStep, ReadStep, standing_at};
 ghost use Rattle.world.specs.Publishing.{PublishStep};
 ghost use Rattle.world.specs.Querying.{QueryStep};
+ghost use Rattle.world.specs.Snapshots.{SnapshotStep};
 ghost use Rattle.world.specs.State.{facts_of, recent};
 
 use crate::fault::{SharedFault, WentBack};
@@ -25,7 +26,7 @@ use std::alloc::{AllocError, Global};
 use std::sync::Wait;
 use world::{
     BeginFault, CheckReport, CommitFault, Committed, Grant, GrantFault, PieceDone, PieceFault,
-    PublishFault, QueryRefusal, ReadFault, Receipt,
+    PublishFault, QueryRefusal, ReadFault, Receipt, Snapshot, SnapshotFault,
 };
 
 // What the world answered.
@@ -159,6 +160,29 @@ impl<L: Room> Shared<L> {
             return Err(SharedFault::WentBack { seen });
         }
         through(locked.query(alloc, me, moment, lease, query))
+    }
+
+    /// A snapshot of what is committed, as `World::snapshot` gives it. It is an owner of its own: it outlives the critical
+    /// section, and its queries take no lock.
+    ///
+    /// Refused in this order: `WentBack` where the log is shorter than the handle's front; `World` with what
+    /// `World::snapshot` refuses.
+    #[tactic(auto, using(crate::proofs::Through::answers))]
+    pub fn snapshot(
+        &self,
+        rt: &impl Wait,
+        me: &mut Handle<L>,
+        moment: u64,
+        lease: &Lease,
+    ) -> Result<Snapshot, SharedFault<SnapshotFault>>
+        ensures { Answers L.opening me.old result me.new (λ c r d. SnapshotStep c moment lease.now r × (d ≡ c)) no_place }
+    {
+        let locked = self.locked.lock(rt);
+        let seen = locked.len();
+        if seen < me.front {
+            return Err(SharedFault::WentBack { seen });
+        }
+        through(locked.snapshot(me, moment, lease))
     }
 
     /// Publishes the version that a step gives, as `World::publish` does.

@@ -7,6 +7,7 @@ ghost use Rattle.world.specs.Calls.{LeaseStep, CommitStep, IsReadView, IsCheck};
 ghost use Rattle.world.specs.Piecework.{PieceStep, ReadStep, standing_at};
 ghost use Rattle.world.specs.Publishing.{PublishStep};
 ghost use Rattle.world.specs.Querying.{QueryStep};
+ghost use Rattle.world.specs.Snapshots.{SnapshotStep};
 ghost use Rattle.world.specs.State.{facts_of, recent};
 
 use crate::handle::Handle;
@@ -23,7 +24,7 @@ use std::marker::Model;
 use std::sync::ledger::Book;
 use world::{
     BeginFault, CheckReport, CommitFault, Committed, Grant, GrantFault, PieceDone, PieceFault,
-    PublishFault, QueryRefusal, ReadFault, Receipt, World,
+    PublishFault, QueryRefusal, ReadFault, Receipt, Snapshot, SnapshotFault, World,
 };
 
 /// The world, and how many entries its calls added since it was shared. Contracts see it as the state of the world.
@@ -176,6 +177,19 @@ impl<L: Room> Locked<L> {
     {
         self.look(me);
         self.world.query(alloc, moment, lease, query)
+    }
+
+    pub(crate) fn snapshot(
+        &self,
+        me: &mut Handle<L>,
+        moment: u64,
+        lease: &Lease,
+    ) -> Result<Snapshot, SnapshotFault>
+        requires { me.old.front ≤ length self.now.log }
+        ensures { Takes L.opening me.old self.now result self.now me.new (λ c r d. SnapshotStep c moment lease.now r × (d ≡ c)) no_place }
+    {
+        self.look(me);
+        self.world.snapshot(moment, lease)
     }
 
     pub(crate) fn publish(
