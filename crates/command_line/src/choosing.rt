@@ -1,7 +1,7 @@
 //! What the words of a command line choose.
 ghost use Rattle.std.specs.Prelude.{◌≡◌, ◌≤◌, IfOk};
 ghost use Rattle.clap.specs.Words.{kind_of};
-ghost use Rattle.command_line.specs.Choice.{IsChoice};
+ghost use Rattle.command_line.specs.Choice.{IsChoiceOf, is_named};
 ghost use Rattle.command_line.specs.LoadSize.{IsLoadSize};
 ghost use Rattle.command_line.specs.Status.{status_after};
 
@@ -82,10 +82,21 @@ fn refusal(alloc: Global, matches: &ArgMatches<'_>, name: &str) -> Result<Error,
     load.error(ErrorKind::ValueValidation, message.as_str())
 }
 
+// Whether the word behind the program's own name is this one.
+fn names(words: &[String], name: &str) -> bool
+    ensures { result ≡ is_named words.now name.now }
+{
+    match words {
+        [_, word, ..] => word.as_str() == name,
+        _ => false,
+    }
+}
+
 /// What the words of a command line choose, the program's own name first. An `Err` is what to print: the help that was asked
-/// for, or why the words are refused. Which words clap refuses is said by no contract: it is shown by tests.
+/// for, or why the words are refused. What clap makes of words is said by no contract, and shown by tests: hence the words
+/// themselves are asked for what they choose.
 pub fn options(alloc: Global, words: &[String]) -> Result<Chosen, Error>
-    ensures { IfOk result IsChoice }
+    ensures { IfOk result (IsChoiceOf words.now) }
 {
     let run = Command::new(alloc, "run")
         .about(help::ABOUT_RUN)
@@ -97,12 +108,15 @@ pub fn options(alloc: Global, words: &[String]) -> Result<Chosen, Error>
         .subcommand(run)?
         .subcommand(load_command(alloc)?)?;
     let matches = command.try_get_matches_from_mut(words)?;
-    let Some(load) = matches.subcommand_matches("load") else {
+    if names(words, "run") {
         return Ok(Chosen::Run);
-    };
-    match load_size(load) {
-        Ok(size) => Ok(Chosen::Load(size)),
-        Err(name) => Err(refusal(alloc, load, name)?),
+    }
+    match matches.subcommand_matches("load") {
+        Some(load) if names(words, "load") => match load_size(load) {
+            Ok(size) => Ok(Chosen::Load(size)),
+            Err(name) => Err(refusal(alloc, load, name)?),
+        },
+        _ => Err(command.error(ErrorKind::InvalidSubcommand, "neither 'run' nor 'load'")?),
     }
 }
 
