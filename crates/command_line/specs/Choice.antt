@@ -1,0 +1,18 @@
+-- What a command line may choose.
+use Rattle.std.specs.Prelude.{ℕ, List, [], ◌∷◌, Bool, false, IsTrue, String, string_bytes, codes}
+use Rattle.std.specs.Str.{bytes_eq}
+use Rattle.std.specs.declared.alloc.Global.{Global}
+use Rattle.command_line.specs.declared.choosing.Chosen.{Chosen}
+use Rattle.command_line.specs.declared.choosing.Chosen.TheVariants.{Run, Load}
+use Rattle.command_line.specs.LoadSize.{IsLoadSize}
+
+-- whether the word behind the program's own name is this one
+abbrev pub is_named : List (String Global) → List ℕ → Bool
+is_named (program ∷ word ∷ rest) name = bytes_eq (string_bytes word) name
+is_named (program ∷ []) name = false
+is_named [] name = false
+
+-- A run is chosen only by the word `run`, a load only by the word `load`, and each number of its size is in its range.
+abbrev pub IsChoiceOf : List (String Global) → Chosen → Type 0
+IsChoiceOf words Run = IsTrue (is_named words (codes "run"))
+IsChoiceOf words (Load size) = IsTrue (is_named words (codes "load")) × IsLoadSize size

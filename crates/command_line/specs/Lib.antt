@@ -1,0 +1,3 @@
+pub mod LoadSize
+pub mod Choice
+pub mod Status

@@ -1,0 +1,100 @@
+//! The texts of the help.
+
+pub(crate) const ABOUT: &str = "A database in memory whose schema changes while servers write";
+
+pub(crate) const ABOUT_RUN: &str =
+    "Runs the script on standard input and writes a reply to each line to standard output";
+
+pub(crate) const ABOUT_LOAD: &str =
+    "Inserts rows on many threads while an index is added, and checks what came of it";
+
+/// The exit statuses of the program as a whole.
+pub(crate) const STATUSES: &str = "\
+`shell run --help` explains the script language, `shell load --help` what a load does and prints.
+
+Exit status:
+  0  done (help, too)
+  1  `run`: a line was bad
+  2  a wrong command line
+  3  `run`: the script could not be read, is longer than 16 MiB, or is not UTF-8
+  4  a reply, or a line of `load`, could not be written
+  5  want of memory
+  6  `load`: a difference was found, a step was refused, or a thread came to another end than a
+     committed row or a finished piece";
+
+/// The script language in short, and the exit statuses of `run`.
+pub(crate) const SCRIPTS: &str = "\
+A script has a command a line; empty lines and lines that begin with # are passed over.
+
+Before open:
+  length N                                     moments that a lease lasts (10)
+  table T (ID int key, A int, B text, C bool)  1 to 4 key columns, then columns that may be null
+  index I on T (A, B)
+  open
+
+Servers and their leases (M is a moment, a number; S is the server's name):
+  lease S at M
+  txn S at M: insert T (1) set A = 5, B = 'x'; update T (2) set A = null; delete T (3)
+  prepare W by S: OPERATIONS                   read and prepared now under the name W,
+  commit W at M                                and committed here
+  query S at M: select A, B from T where key = (1)
+  query S at M: select * from T where A = 5 and B between 'a' and 'b' and A >= 0
+  forge S version V granted M until M          a lease by hand, to see what becomes of it
+
+The schema (states: absent, delete_only, write_only, public):
+  plan: add index J on T (A); add column D int on T; drop index I on T; drop column C on T
+  next at M                                    publishes the next step of the plan
+  publish at M: add index J on T (A); move T.I to write_only
+  reorganise T.I at M pieces N                 begins the fill or the clear that I wants
+  work T.I at M limit K                        works it off, K rows or pairs at a time
+  piece W of T.I N limit K                     or one piece at a time: prepared here,
+  commit W at M                                and committed here
+
+What stands:
+  check    audits the store       pairs   prints it
+  status   a line of JSON         log     how many calls were accepted
+
+For example, `shell run < examples/add_an_index.script` adds an index to a table while two servers write.
+
+Exit status:
+  0  every line was good (refusals are replies too)
+  1  a line was bad
+  2  a wrong command line
+  3  the script could not be read, is longer than 16 MiB, or is not UTF-8
+  4  a reply could not be written
+  5  want of memory";
+
+pub(crate) const SERVERS: &str = "Threads that insert rows, 1 to 16";
+
+pub(crate) const ROWS: &str = "Rows to insert, 1 to 100000";
+
+pub(crate) const PIECES: &str = "Pieces in which the index is filled, 1 to 64";
+
+pub(crate) const WORKERS: &str = "Threads that fill the index, 1 to 16";
+
+pub(crate) const LIMIT: &str = "Rows of a piece that are filled at a time, 1 to 1000";
+
+/// What a load does and prints, and the exit statuses of `load`.
+pub(crate) const LOADS: &str = "\
+It opens a store with the table t (id int key, a int) and no rows. The threads of --servers insert the
+rows: key i, a = i mod 7. Meanwhile another thread adds the index i on (a) step by step, and the threads of
+--workers fill it in --pieces pieces, --limit rows at a time. When all are done the store is audited, and
+the receipts that the threads were given are compared with the log of accepted calls.
+
+It prints five lines:
+  rows N                            rows in the store
+  missing N                         pairs that the rows want and the store lacks
+  extra N                           pairs in the store that no row wants
+  counts equal, or counts differ    whether there are as many receipts as entries of the log
+  receipts ok, or receipts NAME     whether each receipt stands in the log at a place of its own, or else
+                                    why one does not: NoPlace, OtherEntry, Twice
+
+Numbers are written in digits alone. For example, `shell load --servers 8 --rows 20000`.
+
+Exit status (of several the first of 5, 4, 6):
+  0  nothing is missing or extra, the counts are equal and the receipts ok
+  2  a wrong command line
+  4  a line could not be written
+  5  want of memory, of any call or thread; none of the five lines is printed
+  6  a difference was found, a step was refused, or a thread came to another end than a committed row or
+     a finished piece";
