@@ -1,5 +1,5 @@
 -- One more outcome.
-use Rattle.std.proofs.Common.{◌≡◌, ℕ, ◌+◌, ◌<◌, ◌≤◌, List, [], ◌∷◌, ◌++◌, Bool, true, false, refl, sym, ap, ◌∙◌, subst, arith, rules, append-nil}
+use Rattle.std.proofs.Common.{◌≡◌, ℕ, ◌+◌, ◌<◌, ◌≤◌, List, [], ◌∷◌, ◌++◌, Bool, true, false, refl, sym, ap, ◌∙◌, arith, rules, append-nil}
 use Rattle.std.specs.Prelude.{nat_lt, if◌then◌else◌, Some, None}
 use Rattle.std.proofs.lemmas.List.Elements.{All-same, All-push}
 use Rattle.claims.specs.Seats.{Drawer, Claimed}

@@ -1,5 +1,5 @@
 -- What each station's run keeps, all keep.
-use Rattle.std.proofs.Common.{◌≡◌, ℕ, ◌+◌, ◌<◌, List, [], ◌∷◌, length, map, All, suc, refl, ap, ◌∙◌, sum_by, sym, subst, arith}
+use Rattle.std.proofs.Common.{◌≡◌, ℕ, ◌+◌, ◌<◌, List, [], ◌∷◌, length, map, All, suc, refl, ◌∙◌, sum_by, sym, subst, arith}
 use Rattle.std.proofs.lemmas.List.Sums.{sum_by-cons}
 use Rattle.std.specs.Prelude.{slice_index_or}
 use Rattle.tasks.specs.Outcomes.{held_in, held_all, AreFit, IsOnPlan, StaysOnPlan}

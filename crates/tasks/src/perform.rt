@@ -116,14 +116,7 @@ fn run<W: Worker + Send, T: Drawing + Send + Sync, G: Gate + Sync, R: Threads + 
     let mut seats = seats;
     let mut outcomes = outcomes;
     let mut stations = seated(alloc, room, &mut workers, &mut seats);
-    work_all(
-        rt,
-        alloc,
-        gate,
-        &claims,
-        total,
-        stations.as_mut_slice(),
-    );
+    work_all(rt, alloc, gate, &claims, total, &mut stations);
     collect(stations, &mut workers, &mut seats, &mut outcomes);
     let _next = claims.finish(seats);
     Performed { outcomes, workers }

@@ -21,6 +21,7 @@ pub(crate) struct Station<W: Worker, T: Drawing> {
 }
 
 /// Gives each worker a seat. The last worker comes first, and the lists that become empty keep their room.
+#[tactic(auto, using(crate::proofs::Seating::idle_init, crate::proofs::Seating::idle_last))]
 pub(crate) fn seated<W: Worker, T: Drawing>(
     alloc: Global,
     room: Vec<Station<W, T>>,
@@ -31,6 +32,7 @@ pub(crate) fn seated<W: Worker, T: Drawing>(
     requires seats { AreIdle (vec_len workers.old) seats.old.items }
     requires planned { All (λ w. W.total (W.plan w) ≡ T.total) workers.old.items }
     ensures rooms { (vec_capacity workers.new ≡ vec_capacity workers.old) × (vec_capacity seats.new ≡ vec_capacity seats.old) × (workers.new.items ≡ []) × (seats.new.items ≡ []) }
+    ensures len { vec_len result ≡ vec_len workers.old }
     ensures workers { reverse (map (λ s. s.worker) result.items) ≡ workers.old.items }
     ensures idle { All (λ s. s.done.items ≡ []) result.items }
 {
@@ -116,13 +118,8 @@ fn work<W: Worker, T: Drawing, G: Gate>(
     perform_drawn(alloc, gate, claims, total, worker, seat, done);
 }
 
-/// Each station's run, on a thread of its own where one can be started.
-pub(crate) fn work_all<
-    W: Worker + Send,
-    T: Drawing + Send + Sync,
-    G: Gate + Sync,
-    R: Threads + Sync,
->(
+// Each station's run, on a thread of its own where one can be started.
+fn work_each<W: Worker + Send, T: Drawing + Send + Sync, G: Gate + Sync, R: Threads + Sync>(
     rt: &R,
     alloc: Global,
     gate: &G,
@@ -137,7 +134,36 @@ pub(crate) fn work_all<
     ensures counted { sum_by W.count (map (λ s. s.worker) stations.new) + sum_by W.kept (map (λ s. s.worker) stations.old) + held_all W.held (map (λ s. s.done.items) stations.old) ≡ sum_by W.count (map (λ s. s.worker) stations.old) + sum_by W.kept (map (λ s. s.worker) stations.new) + held_all W.held (map (λ s. s.done.items) stations.new) }
 {
     let threads = stations.len();
-    thread::for_each_mut(rt, stations, threads, &|_, station|
-        requires { (T.total ≡ total) × (total ≤ 1000000) }
-    { work(alloc, gate, claims, total, station) });
+    thread::for_each_mut(
+        rt,
+        stations,
+        threads,
+        &|_, station|
+            requires { (T.total ≡ total) × (total ≤ 1000000) }
+        { work(alloc, gate, claims, total, station) },
+    );
+}
+
+/// All stations' runs.
+pub(crate) fn work_all<
+    W: Worker + Send,
+    T: Drawing + Send + Sync,
+    G: Gate + Sync,
+    R: Threads + Sync,
+>(
+    rt: &R,
+    alloc: Global,
+    gate: &G,
+    claims: &Claims<T>,
+    total: usize,
+    stations: &mut Vec<Station<W, T>>,
+)
+    requires total { (T.total ≡ total) × (total ≤ 1000000) }
+    requires some { 0 < vec_len stations.old }
+    ensures len { vec_len stations.new ≡ vec_len stations.old }
+    ensures ids { map (λ s. W.id s.worker) stations.new.items ≡ map (λ s. W.id s.worker) stations.old.items }
+    ensures fits { (plan : W.Plan) → All (λ s. IsOnPlan W.plan W.fits plan s.worker s.done.items) stations.old.items → All (λ s. IsOnPlan W.plan W.fits plan s.worker s.done.items) stations.new.items }
+    ensures counted { sum_by W.count (map (λ s. s.worker) stations.new.items) + sum_by W.kept (map (λ s. s.worker) stations.old.items) + held_all W.held (map (λ s. s.done.items) stations.old.items) ≡ sum_by W.count (map (λ s. s.worker) stations.old.items) + sum_by W.kept (map (λ s. s.worker) stations.new.items) + held_all W.held (map (λ s. s.done.items) stations.new.items) }
+{
+    work_each(rt, alloc, gate, claims, total, stations.as_mut_slice());
 }

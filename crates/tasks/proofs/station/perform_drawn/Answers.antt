@@ -1,4 +1,4 @@
-use Rattle.std.proofs.Common.{◌++◌, ◌∷◌, [], ◌∙◌, ap, arith, sym, subst}
+use Rattle.std.proofs.Common.{◌++◌, ◌∷◌, [], ◌∙◌, ap, arith, subst}
 use Rattle.tasks.specs.Outcomes.{numbers_of}
 use Rattle.tasks.proofs.Done.{one_more, none_more, fit_more, held_more}
 use Rattle.tasks.proofs.station.perform_drawn.Goals as goal
