@@ -1,0 +1,4 @@
+pub mod Done
+pub mod Runs
+pub mod Placing
+pub mod Seating
