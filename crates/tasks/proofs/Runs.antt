@@ -1,0 +1,44 @@
+-- What each station's run keeps, all keep.
+use Rattle.std.proofs.Common.{◌≡◌, ℕ, ◌+◌, ◌<◌, List, [], ◌∷◌, length, map, All, suc, refl, ◌∙◌, sum_by, sym, subst, arith}
+use Rattle.std.proofs.lemmas.List.Sums.{sum_by-cons}
+use Rattle.std.specs.Prelude.{slice_index_or}
+use Rattle.tasks.specs.Outcomes.{held_in, held_all, AreFit, IsOnPlan, StaysOnPlan}
+
+stays : {W P O : Type 0} (plan_of : W → P) (fits : P → ℕ → O → Type 0) (plan : P) (v : W) (os : List (ℕ × O)) (w : W) (ps : List (ℕ × O))
+    → StaysOnPlan plan_of fits v os w ps → IsOnPlan plan_of fits plan v os → IsOnPlan plan_of fits plan w ps
+unfolding StaysOnPlan
+stays plan_of fits plan v os w ps kept on = (kept.0 ∙ on.0, subst (λ p. AreFit (fits p) ps) on.0 (kept.1 (subst (λ p. AreFit (fits p) os) (sym on.0) on.1)))
+
+pub all_stay : {S W P O : Type 0} (worker : S → W) (done : S → List (ℕ × O)) (plan_of : W → P) (fits : P → ℕ → O → Type 0) (plan : P) (vs ws : List S) → length ws ≡ length vs
+    → ((i : ℕ) (d : S) → i < length vs
+    → StaysOnPlan plan_of fits (worker (slice_index_or vs i d)) (done (slice_index_or vs i d)) (worker (slice_index_or ws i d)) (done (slice_index_or ws i d)))
+    → All (λ s. IsOnPlan plan_of fits plan (worker s) (done s)) vs → All (λ s. IsOnPlan plan_of fits plan (worker s) (done s)) ws
+all_stay worker done plan_of fits plan vs ws len each all i d lt = stays plan_of fits plan _ _ _ _ (each i d (omega arith)) (all i d (omega arith))
+
+pub all_same : {S A : Type 0} (f : S → A) (vs ws : List S) → length ws ≡ length vs
+    → ((i : ℕ) (d : S) → i < length vs → f (slice_index_or ws i d) ≡ f (slice_index_or vs i d)) → map f ws ≡ map f vs
+all_same f [] [] e each = refl
+all_same f [] (w ∷ ws) e each = absurd (omega arith)
+all_same f (v ∷ vs) [] e each = absurd (omega arith)
+all_same f (v ∷ vs) (w ∷ ws) e each =
+    let head : f w ≡ f v = each 0 v (omega arith) in
+    let tail : map f ws ≡ map f vs = all_same f vs ws (omega arith) (λ i d lt. each (suc i) d (omega arith)) in cc
+
+-- the counts rise by the receipts
+pub all_count : {S W O : Type 0} (worker : S → W) (done : S → List (ℕ × O)) (count kept : W → ℕ) (held : O → ℕ) (vs ws : List S) → length ws ≡ length vs
+    → ((i : ℕ) (d : S) → i < length vs
+    → count (worker (slice_index_or ws i d)) + kept (worker (slice_index_or vs i d)) + held_in held (done (slice_index_or vs i d)) ≡ count (worker (slice_index_or vs i d)) + kept (worker (slice_index_or ws i d)) + held_in held (done (slice_index_or ws i d)))
+    → sum_by count (map worker ws) + sum_by kept (map worker vs) + held_all held (map done vs) ≡ sum_by count (map worker vs) + sum_by kept (map worker ws) + held_all held (map done ws)
+all_count worker done count kept held [] [] e each = refl
+all_count worker done count kept held [] (w ∷ ws) e each = absurd (omega arith)
+all_count worker done count kept held (v ∷ vs) [] e each = absurd (omega arith)
+all_count worker done count kept held (v ∷ vs) (w ∷ ws) e each =
+    omega (
+      arith,
+      each 0 v (omega arith),
+      all_count worker done count kept held vs ws (omega arith) (λ i d lt. each (suc i) d (omega arith)),
+      sum_by-cons count (worker v) (map worker vs),
+      sum_by-cons count (worker w) (map worker ws),
+      sum_by-cons kept (worker v) (map worker vs),
+      sum_by-cons kept (worker w) (map worker ws),
+    )

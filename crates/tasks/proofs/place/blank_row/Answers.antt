@@ -1,0 +1,17 @@
+use Rattle.std.proofs.Common.{rules}
+use Rattle.tasks.proofs.Done.{fit_more}
+use Rattle.tasks.proofs.Placing.{row_more, none_more}
+use Rattle.tasks.proofs.place.blank_row.Goals as goal
+
+pub loop-number-preserved : goal.loop-number-preserved
+loop-number-preserved g c =
+    let n = c.loop-number.number in
+    let o = c.undrawn.result in
+    let os = c.loop-number.outcomes.items in
+    let is = c.push_reserved.ensures.items in
+    record {
+      row = row_more n os _ o is c.loop-number.invariant.row;
+      none = none_more g.W.Worker.held os _ n o is c.loop-number.invariant.none c.undrawn.ensures.none;
+      fits = λ plan. fit_more (g.W.Worker.fits plan) os _ n o is (c.loop-number.invariant.fits plan) (c.undrawn.ensures.fits plan n);
+      room = search rules;
+    }

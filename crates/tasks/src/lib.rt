@@ -1,0 +1,14 @@
+//! Numbered tasks that workers, on threads of their own, draw from one counter: each number once, with one outcome for each.
+#![tactic(auto)]
+
+mod fault;
+mod gate;
+mod perform;
+mod place;
+mod station;
+mod worker;
+
+pub use fault::TaskFault;
+pub use gate::{FreeGate, Gate};
+pub use perform::{Performed, perform_all};
+pub use worker::Worker;
