@@ -1,5 +1,5 @@
 -- What many servers answer, from what their tasks came to.
-use Rattle.std.proofs.Common.{◌≡◌, ℕ, ◌+◌, ◌≤◌, List, length, map, reverse, sum_by, All, refl, sym, ap, ◌∙◌, arith, rules}
+use Rattle.std.proofs.Common.{◌≡◌, ℕ, ◌+◌, List, length, map, reverse, sum_by, All, sym, ap, ◌∙◌, arith}
 use Rattle.std.proofs.lemmas.List.{reverse-reverse}
 use Rattle.std.proofs.lemmas.List.Sums.{sum_by-le}
 use Rattle.tasks.proofs.Handing.{map_reverse, map_map, sum_reverse, sum_map}
@@ -7,7 +7,7 @@ use Rattle.tasks.specs.Outcomes.{IsRow, held_in}
 use Rattle.world.specs.declared.entry.Receipt.{Receipt}
 use Rattle.locked_store.specs.Known.{Known, total_count}
 use Rattle.server.specs.Outcomes.{receipts_of}
-use Rattle.server.specs.Works.{Serving, AreIdle, AreOwn, IsOwnOf}
+use Rattle.server.specs.Works.{Serving, AreIdle, IsOwnOf}
 use Rattle.server.specs.Served.{Serves}
 use Rattle.server.specs.declared.request.Request.{Request}
 use Rattle.server.specs.declared.request.Outcome.{Outcome}

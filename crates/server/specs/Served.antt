@@ -9,8 +9,8 @@ use Rattle.server.specs.Outcomes.{receipts_of}
 use Rattle.server.specs.Works.{AreOwn}
 use Rattle.server.specs.declared.request.Request.{Request}
 use Rattle.server.specs.declared.request.Outcome.{Outcome}
-use Rattle.server.specs.declared.serve.ServeFault.{ServeFault}
-use Rattle.server.specs.declared.serve.ServeFault.TheVariants as serve_fault
+use Rattle.server.specs.declared.staff.ServeFault.{ServeFault}
+use Rattle.server.specs.declared.staff.ServeFault.TheVariants as serve_fault
 
 abbrev pub IsCount : ℕ → ℕ → ℕ → Type 0
 IsCount handles requests tries = (1 ≤ handles) × (handles ≤ 64) × (1 ≤ tries) × (tries ≤ 1000) × (requests ≤ 1000000)

@@ -7,14 +7,14 @@
 mod desk;
 mod port;
 mod request;
-mod serve;
 mod serving;
+mod staff;
 mod tally;
 mod worker;
 
 pub use port::Port;
 pub use request::{Outcome, Request};
-pub use serve::{ServeFault, Served, serve};
 pub use serving::serve_one;
+pub use staff::{ServeFault, Served, serve};
 pub use tally::{Last, Tally, last_of_commit, last_of_grant, last_of_read};
 pub use tasks::{FreeGate, Gate};

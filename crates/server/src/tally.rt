@@ -77,9 +77,7 @@ impl Tally {
 }
 
 /// The name of what a lease was answered with.
-pub fn last_of_grant(
-    answer: &Result<(Lease, Counted<Schema>), SharedFault<GrantFault>>,
-) -> Last
+pub fn last_of_grant(answer: &Result<(Lease, Counted<Schema>), SharedFault<GrantFault>>) -> Last
     ensures { result ≡ last_of_grant answer.now }
 {
     match answer {
@@ -118,9 +116,7 @@ fn last_of_fault(fault: &CommitFault) -> Last
 }
 
 /// The name of what a commit was answered with.
-pub fn last_of_commit(
-    answer: &Result<Committed, (SharedFault<CommitFault>, Prepared)>,
-) -> Last
+pub fn last_of_commit(answer: &Result<Committed, (SharedFault<CommitFault>, Prepared)>) -> Last
     ensures { result ≡ last_of_commit answer.now }
 {
     match answer {

@@ -1,7 +1,7 @@
 use Rattle.std.proofs.Common.{◌≡◌, ◌+◌, ◌≤◌, ◌++◌, length, map, reverse, sum_by}
 use Rattle.std.specs.Prelude.{vec_len, vec_capacity}
 use Rattle.server.specs.Works.{Serving}
-use Rattle.server.proofs.serve.disbanded.Given as goal
+use Rattle.server.proofs.staff.disbanded.Given as goal
 
 abbrev pub invariant-loop-worker : goal.invariant-loop-worker
 invariant-loop-worker g l =

@@ -1,7 +1,5 @@
 //! Many requests, by as many servers as there are handles.
 ghost use Rattle.std.specs.Prelude.{◌≡◌, ◌≤◌, length, map, reverse, sum_by, vec_len, vec_capacity, [], IfOk, IfErr};
-
-
 ghost use Rattle.server.specs.Works.{AreIdle};
 ghost use Rattle.server.specs.Served.{IsRefused, IsCount, Serves, told};
 
@@ -93,8 +91,8 @@ fn disbanded<L: Room, R: Wait>(
 )
     requires handles { (handles.old.items ≡ []) × (vec_len workers ≤ vec_capacity handles.old) }
     requires receipts { (receipts.old.items ≡ []) × (vec_len workers ≤ vec_capacity receipts.old) }
-    ensures back { handles.new.items ≡ reverse (map (λ w. w.handle) workers.items) }
-    ensures kept { sum_by length receipts.new.items ≡ sum_by (λ w. w.kept) workers.items }
+    ensures back { handles.new.items ≡ reverse (map (λ w. w.handle) workers.entry.items) }
+    ensures kept { sum_by length receipts.new.items ≡ sum_by (λ w. w.kept) workers.entry.items }
 {
     let mut workers = workers;
     while let Some(worker) = workers.pop() {
@@ -108,7 +106,7 @@ fn disbanded<L: Room, R: Wait>(
 }
 
 // Serves the requests, once all room is made.
-#[tactic(auto, using(crate::proofs::Serves::serves, crate::proofs::Serves::given_back, crate::proofs::Serves::planned))]
+#[tactic(auto, using(crate::proofs::Serves::given_back, crate::proofs::Serves::planned))]
 fn run<'a, L: Room + Send + Sync, G: Gate + Sync, R: Threads + Wait + Sync>(
     rt: &'a R,
     alloc: Global,
