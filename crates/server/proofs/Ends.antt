@@ -2,7 +2,7 @@
 use Rattle.std.proofs.Common.{◌≡◌, ℕ, List, ⊎_elim, refl, subst, sym, ap, ◌∙◌}
 use Rattle.std.specs.Prelude.{◌↔◌, Some}
 use Rattle.std.specs.FinMap as map
-use Rattle.listed.specs.Refusal.{IsRefusal, IsFirst}
+use Rattle.listed.specs.Refusal.{IsRefusal}
 use Rattle.row_map.specs.Expect.{View}
 use Rattle.row_map.specs.Rows.{Bytes}
 use Rattle.row_write.specs.declared.op.RowOp.{RowOp}
@@ -16,7 +16,7 @@ use Rattle.server.specs.declared.request.Outcome.{Outcome}
 use Rattle.server.specs.declared.request.Outcome.TheVariants as outcome
 use Rattle.server.specs.declared.tally.Tally.{Tally}
 use Rattle.server.specs.declared.tally.Last.{Last}
-use Rattle.server.specs.Outcomes.{Keys, IsUnprepared, IsEnd, IsServed, unprepared_by, receipts_of}
+use Rattle.server.specs.Outcomes.{Keys, IsEnd, IsServed, unprepared_by, receipts_of}
 
 -- a refusal of the preparation, as the request ends
 pub unprepared : (grants : Lease → Version → Type 0) (reads : Keys → View → Type 0) (ops : List RowOp) (fault : PrepareFault) (lease : Lease) (schema : Version) (keys : Keys) (view : View) (answer : Last)

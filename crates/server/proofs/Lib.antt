@@ -1,3 +1,3 @@
 pub mod Ends
 pub mod Desks
-pub mod Done
+pub mod Serves

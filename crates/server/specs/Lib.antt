@@ -2,3 +2,4 @@ pub mod Tallies
 pub mod Outcomes
 pub mod Desks
 pub mod Works
+pub mod Served

@@ -1,5 +1,5 @@
 -- What a port keeps of its answers.
-use Rattle.std.specs.Prelude.{ℕ, ◌+◌, Result, Ok, Err}
+use Rattle.std.specs.Prelude.{ℕ, Result, Ok, Err}
 use Rattle.std.specs.declared.alloc.AllocError.{AllocError}
 use Rattle.row_map.specs.Expect.{View}
 use Rattle.row_write.specs.Made.{PreparedTxn}

@@ -46,6 +46,8 @@ impl<'a, L: Room, R: Wait> Port for Desk<'a, L, R> {
     ghost use Rattle.std.specs.Prelude.{length};
     ghost use Rattle.server.specs.Desks.{IsGranted, IsReadOfCore};
 
+    ghost id = { λ d. d.handle.id };
+
     ghost tally = { λ d. d.tally };
 
     ghost count = { λ d. d.handle.count };
@@ -56,7 +58,7 @@ impl<'a, L: Room, R: Wait> Port for Desk<'a, L, R> {
 
     ghost reads = { IsReadOfCore L.opening };
 
-    #[tactic(auto, using(crate::proofs::Desks::granted, crate::proofs::Desks::granted_count))]
+    #[tactic(auto, using(crate::proofs::Desks::granted, crate::proofs::Desks::granted_count, crate::proofs::Desks::same_id))]
     fn lease(
         &mut self,
         alloc: Global,
@@ -72,14 +74,14 @@ impl<'a, L: Room, R: Wait> Port for Desk<'a, L, R> {
         answer
     }
 
-    #[tactic(auto, using(crate::proofs::Desks::viewed))]
+    #[tactic(auto, using(crate::proofs::Desks::viewed, crate::proofs::Desks::same_id))]
     fn read(&mut self, alloc: Global, keys: &ReadSet) -> Result<ReadView, SharedFault<AllocError>> {
         let answer = self.shared.read(self.rt, alloc, &mut self.handle, keys);
         self.tally.note(last_of_read(&answer));
         answer
     }
 
-    #[tactic(auto, using(crate::proofs::Desks::own))]
+    #[tactic(auto, using(crate::proofs::Desks::own, crate::proofs::Desks::same_id_back))]
     fn commit(
         &mut self,
         alloc: Global,

@@ -5,15 +5,16 @@
 #![tactic(auto)]
 
 mod desk;
-mod gate;
 mod port;
 mod request;
 mod serving;
+mod staff;
 mod tally;
 mod worker;
 
-pub use gate::{FreeGate, Gate};
 pub use port::Port;
 pub use request::{Outcome, Request};
 pub use serving::serve_one;
-pub use tally::{Last, Tally};
+pub use staff::{ServeFault, Served, serve};
+pub use tally::{Last, Tally, last_of_commit, last_of_grant, last_of_read};
+pub use tasks::{FreeGate, Gate};

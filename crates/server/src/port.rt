@@ -23,6 +23,9 @@ pub trait Port {
     ghost use Rattle.server.specs.Outcomes.{Keys};
     ghost use Rattle.server.specs.declared.tally.Tally.{Tally};
 
+    // through which handle it calls
+    ghost id: { Self → ℕ };
+
     // its tally
     ghost tally: { Self → Tally };
 
@@ -49,6 +52,7 @@ pub trait Port {
     ) -> Result<(Lease, Counted<Schema>), SharedFault<GrantFault>>
         requires { (tally self.old).retries < 2 ^ 63 }
         ensures tallied { tally self.new ≡ tally_of (tally self.old).retries (last_of_grant result) }
+        ensures own_handle { id self.new ≡ id self.old }
         ensures counted { count self.new + kept self.old ≡ count self.old + kept self.new }
         ensures granted { IfOk result (λ given. grants given.0 given.1) };
 
@@ -56,6 +60,7 @@ pub trait Port {
     fn read(&mut self, alloc: Global, keys: &ReadSet) -> Result<ReadView, SharedFault<AllocError>>
         requires { (tally self.old).retries < 2 ^ 63 }
         ensures tallied { tally self.new ≡ tally_of (tally self.old).retries (last_of_read result) }
+        ensures own_handle { id self.new ≡ id self.old }
         ensures same { (count self.new ≡ count self.old) × (kept self.new ≡ kept self.old) }
         ensures viewed { IfOk result (λ view. reads keys.now view) };
 
@@ -68,6 +73,7 @@ pub trait Port {
     ) -> Result<Committed, (SharedFault<CommitFault>, Prepared)>
         requires { (tally self.old).retries < 2 ^ 63 }
         ensures tallied { tally self.new ≡ tally_of ((tally self.old).retries + retried (last_of_commit result)) (last_of_commit result) }
+        ensures own_handle { id self.new ≡ id self.old }
         ensures counted { (count self.new ≡ count self.old + given_by result) × (kept self.new ≡ kept self.old) }
         ensures own { IfOk result (λ done. IsCommitOf prepared.ops done) };
 

@@ -24,6 +24,7 @@ fn held_or_new<P: Port>(
     ensures granted { IfOk result (λ h. P.grants h.0 h.1) }
     ensures over { IfErr result (λ o. IsEnd P.grants P.reads request.now.ops o (P.tally port.new).last) }
     ensures retries { (P.tally port.new).retries ≡ (P.tally port.old).retries }
+    ensures own_handle { P.id port.new ≡ P.id port.old }
     ensures counted { P.count port.new + P.kept port.old ≡ P.count port.old + P.kept port.new + receipts_by result }
 {
     if let Some(held) = held {
@@ -69,6 +70,7 @@ fn prepared_by<P: Port>(
     ensures own { IfOk result (λ p. p.ops ≡ request.now.ops) }
     ensures over { IfErr result (λ o. IsEnd P.grants P.reads request.now.ops o (P.tally port.new).last) }
     ensures retries { (P.tally port.new).retries ≡ (P.tally port.old).retries }
+    ensures own_handle { P.id port.new ≡ P.id port.old }
     ensures counted { P.count port.new + P.kept port.old ≡ P.count port.old + P.kept port.new + receipts_by result }
 {
     let Ok(keys) = reads_of(alloc, schema.get(), request.ops.as_slice()) else {
@@ -103,6 +105,7 @@ fn committed_by<P: Port>(
     ensures over { IfErr result (λ o. IsEnd P.grants P.reads request.now.ops o (P.tally port.new).last) }
     ensures again { IfOk result (λ _. (P.tally port.new).retries ≡ (P.tally port.old).retries + 1) }
     ensures once { IfErr result (λ _. (P.tally port.new).retries ≡ (P.tally port.old).retries) }
+    ensures own_handle { P.id port.new ≡ P.id port.old }
     ensures counted { P.count port.new + P.kept port.old ≡ P.count port.old + P.kept port.new + receipts_by result }
 {
     match port.commit(alloc, request.moment, prepared) {
@@ -137,6 +140,7 @@ fn tried<P: Port>(
     ensures over { IfErr result (λ o. IsEnd P.grants P.reads request.now.ops o (P.tally port.new).last) }
     ensures again { IfOk result (λ _. (P.tally port.new).retries ≡ (P.tally port.old).retries + 1) }
     ensures once { IfErr result (λ _. (P.tally port.new).retries ≡ (P.tally port.old).retries) }
+    ensures own_handle { P.id port.new ≡ P.id port.old }
     ensures counted { P.count port.new + P.kept port.old ≡ P.count port.old + P.kept port.new + receipts_by result }
 {
     let (lease, schema) = held_or_new(alloc, port, request, held)?;
@@ -161,6 +165,7 @@ pub fn serve_one<P: Port>(alloc: Global, port: &mut P, request: &Request, tries:
     requires room { (P.tally port.old).retries ≤ 2 ^ 62 }
     ensures served { IsServed P.grants P.reads request.now.ops tries (P.tally port.old) result (P.tally port.new) }
     ensures few { (P.tally port.new).retries ≤ (P.tally port.old).retries + tries }
+    ensures own_handle { P.id port.new ≡ P.id port.old }
     ensures counted { P.count port.new + P.kept port.old ≡ P.count port.old + P.kept port.new + receipts_of result }
 {
     let mut held = None;

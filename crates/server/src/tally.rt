@@ -64,7 +64,7 @@ pub struct Tally {
 
 impl Tally {
     /// Counts an answer.
-    pub(crate) fn note(&mut self, last: Last)
+    pub fn note(&mut self, last: Last)
         requires { self.old.retries < 2 ^ 63 }
         ensures { self.new ≡ tally (self.old.retries + retried last) last }
     {
@@ -77,9 +77,7 @@ impl Tally {
 }
 
 /// The name of what a lease was answered with.
-pub(crate) fn last_of_grant(
-    answer: &Result<(Lease, Counted<Schema>), SharedFault<GrantFault>>,
-) -> Last
+pub fn last_of_grant(answer: &Result<(Lease, Counted<Schema>), SharedFault<GrantFault>>) -> Last
     ensures { result ≡ last_of_grant answer.now }
 {
     match answer {
@@ -91,7 +89,7 @@ pub(crate) fn last_of_grant(
 }
 
 /// The name of what a read was answered with.
-pub(crate) fn last_of_read(answer: &Result<ReadView, SharedFault<AllocError>>) -> Last
+pub fn last_of_read(answer: &Result<ReadView, SharedFault<AllocError>>) -> Last
     ensures { result ≡ last_of_read answer.now }
 {
     match answer {
@@ -118,9 +116,7 @@ fn last_of_fault(fault: &CommitFault) -> Last
 }
 
 /// The name of what a commit was answered with.
-pub(crate) fn last_of_commit(
-    answer: &Result<Committed, (SharedFault<CommitFault>, Prepared)>,
-) -> Last
+pub fn last_of_commit(answer: &Result<Committed, (SharedFault<CommitFault>, Prepared)>) -> Last
     ensures { result ≡ last_of_commit answer.now }
 {
     match answer {

@@ -1,110 +1,94 @@
-//! A worker: a server that draws the numbers of requests, and keeps their outcomes.
-ghost use Rattle.std.specs.Prelude.{◌≡◌, ◌+◌, ◌*◌, ◌≤◌, length};
+//! One worker: a server that commits the requests whose numbers it draws.
+ghost use Rattle.std.specs.Prelude.{◌≡◌, ◌+◌, ◌≤◌, length};
 ghost use Rattle.server.specs.Outcomes.{receipts_of};
-ghost use Rattle.server.specs.Works.{Works, AreOwn, IsOwn, receipts_in, numbers_of, early};
+ghost use Rattle.server.specs.Works.{IsOwn};
 
 use crate::desk::Desk;
-use crate::gate::{Gate, has_passed};
 use crate::request::{Outcome, Request};
 use crate::serving::serve_one;
 use crate::tally::{Last, Tally};
-use claims::{ClaimSeat, Claims, Drawing};
 use locked_store::Room;
 use std::alloc::Global;
 use std::marker::Model;
 use std::sync::Wait;
+use tasks::Worker;
 
-/// One worker, with the outcomes of the requests that it drew.
+/// A server at its desk, and the requests that all servers share.
 #[derive(Drop)]
-pub(crate) struct Worker<'a, L: Room, T: Drawing, R: Wait> {
+pub(crate) struct RequestWorker<'a, L: Room, R: Wait> {
     pub(crate) desk: Desk<'a, L, R>,
-    pub(crate) seat: ClaimSeat<T>,
-    pub(crate) done: Vec<(usize, Outcome)>,
+    pub(crate) requests: &'a [Request],
+    pub(crate) tries: u32,
 }
 
-impl<'a, L: Room, T: Drawing, R: Wait> Model for Worker<'a, L, T, R> {
-    ghost use Rattle.std.specs.Prelude.{◌≡◌, length};
-    ghost use Rattle.server.specs.Works.{Worked, numbers_of, early};
+impl<'a, L: Room, R: Wait> Model for RequestWorker<'a, L, R> {
+    ghost use Rattle.std.specs.Prelude.{◌≤◌, length};
+    ghost use Rattle.server.specs.Works.{Serving};
 
-    ghost Value = { Worked };
+    ghost Value = { Serving };
 
-    ghost view = { λ w. record { count = w.desk.handle.count; kept = length w.desk.kept.items; drawn = w.seat.drawn; done = w.done.items } };
+    ghost view = { λ w. record { handle = w.desk.handle; kept = length w.desk.kept.items; requests = w.requests.now } };
 
-    ghost invariant = { λ w. numbers_of w.done.items ≡ early T.total w.seat.drawn };
+    ghost invariant = { λ w. (1 ≤ w.tries) × (w.tries ≤ 1000) };
 }
 
-// The outcome of a request, once the gate lets it start.
-fn outcome_of<L: Room, R: Wait, G: Gate>(
+// The outcome of one request, by a tally of its own.
+fn outcome_of<L: Room, R: Wait>(
     alloc: Global,
-    gate: &G,
     desk: &mut Desk<L, R>,
-    number: usize,
     request: &Request,
     tries: u32,
 ) -> Outcome
     requires tries { (1 ≤ tries) × (tries ≤ 1000) }
-    requires room { desk.old.tally.retries ≤ 2000000000 }
     ensures own { IsOwn request.now.ops result }
-    ensures few { desk.new.tally.retries ≤ desk.old.tally.retries + 1000 }
+    ensures same { desk.new.handle.id ≡ desk.old.handle.id }
     ensures counted { desk.new.handle.count + length desk.old.kept.items ≡ desk.old.handle.count + length desk.new.kept.items + receipts_of result }
 {
-    let outcome = if has_passed(gate, number) {
-        serve_one(alloc, desk, request, tries)
-    } else {
-        Outcome::Held
-    };
-    gate.answered(number);
-    outcome
-}
-
-// Answers requests until there is none left, or no room for one more outcome.
-fn answer_all<L: Room, T: Drawing, R: Wait, G: Gate>(
-    alloc: Global,
-    gate: &G,
-    claims: &Claims<T>,
-    requests: &[Request],
-    tries: u32,
-    desk: &mut Desk<L, R>,
-    seat: &mut ClaimSeat<T>,
-    done: &mut Vec<(usize, Outcome)>,
-)
-    requires total { (T.total ≡ length requests.now) × (T.total ≤ 1000000) }
-    requires tries { (1 ≤ tries) × (tries ≤ 1000) }
-    requires fresh { desk.old.tally.retries ≡ 0 }
-    requires kept { numbers_of done.old.items ≡ early T.total seat.old.drawn }
-    ensures numbers { numbers_of done.new.items ≡ early T.total seat.new.drawn }
-    ensures own { AreOwn requests.now done.old.items → AreOwn requests.now done.new.items }
-    ensures counted { desk.new.handle.count + length desk.old.kept.items + receipts_in done.old.items ≡ desk.old.handle.count + length desk.new.kept.items + receipts_in done.new.items }
-{
-    for _i in 0..requests.len() + 1 {
-        if done.reserve(1).is_err() {
-            return;
-        }
-        let Some(number) = claims.claim(seat) else {
-            return;
-        };
-        let outcome = outcome_of(alloc, gate, desk, number, &requests[number], tries);
-        done.push_reserved((number, outcome));
-    }
-}
-
-/// A worker's run: it draws requests and answers them, until there is none left.
-pub(crate) fn work<L: Room, T: Drawing, R: Wait, G: Gate>(
-    alloc: Global,
-    gate: &G,
-    claims: &Claims<T>,
-    requests: &[Request],
-    tries: u32,
-    worker: &mut Worker<L, T, R>,
-)
-    requires total { (T.total ≡ length requests.now) × (T.total ≤ 1000000) }
-    requires tries { (1 ≤ tries) × (tries ≤ 1000) }
-    ensures { Works requests.now worker.old worker.new }
-{
-    let Worker { desk, seat, done } = worker;
     desk.tally = Tally {
         retries: 0,
         last: Last::Nothing,
     };
-    answer_all(alloc, gate, claims, requests, tries, desk, seat, done);
+    serve_one(alloc, desk, request, tries)
+}
+
+impl<'a, L: Room, R: Wait> Worker for RequestWorker<'a, L, R> {
+    ghost use Rattle.std.specs.Prelude.{List, length};
+    ghost use Rattle.server.specs.Outcomes.{receipts_of};
+    ghost use Rattle.server.specs.Works.{IsOwnOf};
+    ghost use Rattle.server.specs.declared.request.Request.{Request};
+
+    type Outcome = Outcome;
+
+    ghost Plan = { List Request };
+
+    ghost plan = { λ w. w.requests };
+
+    ghost total = { length };
+
+    ghost id = { λ w. w.handle.id };
+
+    ghost count = { λ w. w.handle.count };
+
+    ghost kept = { λ w. w.kept };
+
+    ghost held = { receipts_of };
+
+    ghost fits = { IsOwnOf };
+
+    fn perform(&mut self, alloc: Global, number: usize) -> Outcome {
+        let RequestWorker {
+            desk,
+            requests,
+            tries,
+        } = self;
+        outcome_of(alloc, desk, &requests[number], *tries)
+    }
+
+    fn held_back() -> Outcome {
+        Outcome::Held
+    }
+
+    fn undrawn() -> Outcome {
+        Outcome::Memory
+    }
 }

@@ -13,5 +13,6 @@ returns g c =
       own = tt;
       over = end.0;
       retries = ap (λ (t : Tally). t.retries) c.read.ensures.tallied;
+      own_handle = c.read.ensures.own_handle;
       counted = omega (arith, c.read.ensures.same.0, c.read.ensures.same.1, end.1);
     }

@@ -1,0 +1,17 @@
+//! Why a load is cut short.
+use std::alloc::AllocError;
+
+/// Why a load, or a step of it, came to no end.
+#[derive(Clone, Copy, Debug, PartialEq, Eq)]
+pub(crate) enum LoadFault {
+    /// Want of memory, of any call or outcome.
+    Memory,
+    /// A call was refused for another reason.
+    Refused,
+}
+
+impl From<AllocError> for LoadFault {
+    fn from(_: AllocError) -> LoadFault {
+        LoadFault::Memory
+    }
+}

@@ -1,0 +1,91 @@
+-- What a call for all pieces answers, from what its tasks came to.
+use Rattle.std.proofs.Common.{◌≡◌, ℕ, ◌+◌, ◌≤◌, List, [], ◌∷◌, ◌++◌, length, map, reverse, sum_by, All, Some, refl, sym, ap, ◌∙◌, arith, rules}
+use Rattle.std.specs.Prelude.{Bool, Option, None}
+use Rattle.std.specs.Option.{option_map}
+use Rattle.std.proofs.lemmas.List.{reverse-reverse}
+use Rattle.std.proofs.lemmas.List.Sums.{sum_by-le}
+use Rattle.tasks.proofs.Handing.{map_reverse, map_map, map_push, sum_reverse, sum_map}
+use Rattle.tasks.specs.Outcomes.{IsRow, held_in}
+use Rattle.reorganise.specs.declared.work.Work.{Work}
+use Rattle.reorganise.specs.declared.work.Progress.{Progress}
+use Rattle.replay.specs.Replay.{Opening, progress_of}
+use Rattle.world.specs.Piecework.{standing, standing_at}
+use Rattle.world.specs.State.{State, facts_of}
+use Rattle.world.specs.declared.entry.Receipt.{Receipt}
+use Rattle.locked_store.specs.Cores.{IsCore}
+use Rattle.locked_store.specs.Known.{Known, total_count}
+use Rattle.reorganiser.specs.Crews.{Filling, AreIdle}
+use Rattle.reorganiser.specs.Ends.{IsEndOf}
+use Rattle.reorganiser.specs.Reorganised.{Reorganises, Stays, right}
+use Rattle.reorganiser.specs.declared.end.PieceEnd.{PieceEnd}
+use Rattle.reorganiser.specs.declared.job.Job.{Job}
+
+-- the handles of all workers, the last one first, are the handles that were handed in
+pub given_back : (handles : List Known) (ws : List Filling) → map (λ w. w.handle) ws ≡ reverse handles → reverse (map (λ w. w.handle) ws) ≡ handles
+given_back handles ws staff = ap reverse staff ∙ reverse-reverse handles
+
+-- idle workers keep nothing
+idle_none : (job : Job) (ws : List Filling) → AreIdle job ws → sum_by (λ w. w.kept) ws ≡ 0
+idle_none job ws idle = omega (arith, sum_by-le (λ (w : Filling). w.kept) 0 ws (λ i d lt. omega (arith, (idle i d lt).0)))
+
+-- each worker has the whole job before it
+pub planned : (job : Job) (ws : List Filling) → AreIdle job ws → All (λ w. w.job.pieces ≡ job.pieces) ws
+planned job ws idle i d lt = ap (λ (j : Job). j.pieces) (idle i d lt).1
+
+shares : (handles : List Known) (ws : List Filling) → map (λ w. w.handle) ws ≡ reverse handles → total_count handles ≡ sum_by (λ w. w.handle.count) ws
+shares handles ws staff = sym (sum_reverse (λ (h : Known). h.count) handles) ∙ ap (sum_by (λ (h : Known). h.count)) (sym staff) ∙ sum_map (λ (h : Known). h.count) (λ (w : Filling). w.handle) ws
+
+numbers : (handles : List Known) (ws : List Filling) → handles ≡ reverse (map (λ w. w.handle) ws) → map (λ h. h.id) handles ≡ reverse (map (λ w. w.handle.id) ws)
+numbers handles ws is =
+    ap (map (λ (h : Known). h.id)) is ∙ map_reverse (λ (h : Known). h.id) (map (λ (w : Filling). w.handle) ws) ∙ ap reverse (map_map (λ (h : Known). h.id) (λ (w : Filling). w.handle) ws)
+
+-- ends hold no receipt
+none_held : (ends : List (ℕ × PieceEnd)) → held_in (λ (e : PieceEnd). 0) ends ≡ 0
+none_held [] = refl
+none_held (e ∷ ends) = none_held ends
+
+pub reorganises : (opening : Opening) (job : Job) (handles : List Known) (ws ps : List Filling) (ends : List (ℕ × PieceEnd)) (back : List Known) (receipts : List (List Receipt))
+    → map (λ w. w.handle) ws ≡ reverse handles → AreIdle job ws → IsRow job.pieces ends
+    → ((plan : Job) → All (λ w. w.job ≡ plan) ws → All (λ e. IsEndOf opening plan e.0 e.1) ends)
+    → map (λ w. w.handle.id) ps ≡ map (λ w. w.handle.id) ws
+    → sum_by (λ w. w.handle.count) ps + sum_by (λ w. w.kept) ws ≡ sum_by (λ w. w.handle.count) ws + sum_by (λ w. w.kept) ps + held_in (λ (e : PieceEnd). 0) ends
+    → back ≡ reverse (map (λ w. w.handle) ps) → sum_by length receipts ≡ sum_by (λ w. w.kept) ps
+    → Reorganises opening job handles ends back receipts
+reorganises opening job handles ws ps ends back receipts staff idle row fits ids counted back_is kept =
+    let first : handles ≡ reverse (map (λ (w : Filling). w.handle) ws) = sym (given_back handles ws staff) in
+    let staff_back : map (λ (w : Filling). w.handle) ps ≡ reverse back = sym (ap reverse back_is ∙ reverse-reverse (map (λ (w : Filling). w.handle) ps)) in
+    record {
+      each = row;
+      own = fits job (λ i d lt. (idle i d lt).1);
+      same = numbers back ps back_is ∙ ap reverse ids ∙ sym (numbers handles ws first);
+      counted = omega (arith, counted, idle_none job ws idle, shares handles ws staff, shares back ps staff_back, kept, none_held ends);
+    }
+
+-- ---- the look at the progress, which moves one front
+
+pub stays_ids : (old new : List Known) → Stays old new → map (λ h. h.id) new ≡ map (λ h. h.id) old
+stays_ids old new s = sym (map_map (λ (p : ℕ × ℕ). p.0) right new) ∙ ap (map (λ (p : ℕ × ℕ). p.0)) s ∙ map_map (λ (p : ℕ × ℕ). p.0) right old
+
+pub stays_count : (old new : List Known) → Stays old new → total_count new ≡ total_count old
+stays_count old new s = sym (sum_map (λ (p : ℕ × ℕ). p.1) right new) ∙ ap (sum_by (λ (p : ℕ × ℕ). p.1)) s ∙ sum_map (λ (p : ℕ × ℕ). p.1) right old
+
+pair_same : (a b c d : ℕ) → a ≡ c → b ≡ d → (let p : ℕ × ℕ = (a, b) in p) ≡ (c, d)
+pair_same a b c d e f = cc
+
+-- the last handle looked, and is the last again
+pub looked : (old popped new : List Known) (before after : Known) → old ≡ popped ++ before ∷ [] → new ≡ popped ++ after ∷ [] → after.id ≡ before.id → after.count ≡ before.count → Stays old new
+looked old popped new before after old_is new_is id count =
+    ap (map right) new_is ∙ map_push right popped after ∙ ap (λ (p : ℕ × ℕ). map right popped ++ p ∷ []) (pair_same _ _ _ _ id count)
+    ∙ sym (map_push right popped before) ∙ sym (ap (map right) old_is)
+
+-- what is begun in a core has at most 64 pieces
+count_of : Option (Work × ℕ × Bool) → ℕ
+count_of None = 0
+count_of (Some told) = told.1
+
+pub few : (opening : Opening) (core : State) (element pieces : ℕ) (work : Work) (ended : Bool) → IsCore opening core → standing_at (facts_of core) element ≡ Some (work, pieces, ended) → pieces ≤ 64
+few opening core element pieces work ended c is = go (progress_of (facts_of core).progress element) refl is
+  where
+    go : (o : Option Progress) → progress_of (facts_of core).progress element ≡ o → option_map standing o ≡ Some (work, pieces, ended) → pieces ≤ 64
+    go None e h = absurd (cc)
+    go (Some p) e h = let m : length p.pieces ≡ pieces = ap count_of h in omega (arith, m, (c.in_pieces element p e).few)

@@ -1,0 +1,61 @@
+-- How a piece ends.
+use Rattle.std.specs.Prelude.{◌≡◌, ℕ, ◌⊎◌, Ok, Err, true}
+use Rattle.reorganise.specs.declared.reading.Reading.{Reading}
+use Rattle.replay.specs.Replay.{Opening}
+use Rattle.world.specs.Piecework.{PieceStep, ReadStep}
+use Rattle.world.specs.State.{State}
+use Rattle.world.specs.declared.entry.PieceDone.{PieceDone}
+use Rattle.world.specs.declared.fault.PieceFault.{PieceFault}
+use Rattle.world.specs.declared.fault.PieceFault.TheVariants.{NotWanted}
+use Rattle.world.specs.declared.fault.ReadFault.{ReadFault}
+use Rattle.world.specs.declared.fault.ReadFault.TheVariants as read_fault
+use Rattle.reorganise.specs.declared.fault.ViewFault.TheVariants.{BadPiece, Spent}
+use Rattle.locked_store.specs.Cores.{IsCore}
+use Rattle.reorganiser.specs.declared.end.PieceEnd.{PieceEnd}
+use Rattle.reorganiser.specs.declared.end.PieceEnd.TheVariants as piece_end
+use Rattle.reorganiser.specs.declared.job.Job.{Job}
+use Rattle.reorganiser.specs.declared.turns.Turn.{Turn}
+use Rattle.reorganiser.specs.declared.turns.Turn.TheVariants as turn
+
+-- a core behind the lock refused to read the piece, for this reason
+pub record WasUnread (opening : Opening) (job : Job) (piece : ℕ) (fault : ReadFault) : Type 0 where
+  pub core : State
+  pub is_core : IsCore opening core
+  pub unread : ReadStep core job.element piece job.limit (Err fault)
+
+-- a core behind the lock refused to commit what was read of a piece, for this reason
+pub record WasUncommitted (opening : Opening) (job : Job) (piece : ℕ) (fault : PieceFault) : Type 0 where
+  pub core : State
+  pub is_core : IsCore opening core
+  pub read : Reading
+  pub own : read.piece ≡ piece
+  pub refused : PieceStep core job.moment read (Err (fault, read)) core
+
+-- its last items were committed in a core behind the lock
+pub record WasEnded (opening : Opening) (job : Job) (piece : ℕ) : Type 0 where
+  pub core : State
+  pub is_core : IsCore opening core
+  pub left : State
+  pub read : Reading
+  pub own : read.piece ≡ piece
+  pub done : PieceDone
+  pub committed : PieceStep core job.moment read (Ok done) left
+  pub ended : done.ended ≡ true
+
+-- Finished comes only where the piece was found at its end, or was brought there; Busy only after so many failed tries; a refusal is that of the read or of
+-- the commit
+abbrev pub IsEndOf : Opening → Job → ℕ → PieceEnd → Type 0
+IsEndOf opening job piece piece_end.Finished = WasUnread opening job piece (read_fault.View Spent) ⊎ WasEnded opening job piece
+IsEndOf opening job piece (piece_end.Busy tries) = tries ≡ job.tries
+IsEndOf opening job piece (piece_end.Refused fault) =
+    ((fault ≡ NotWanted) × (WasUnread opening job piece read_fault.NotWanted ⊎ WasUnread opening job piece (read_fault.View BadPiece)))
+    ⊎ WasUncommitted opening job piece fault
+IsEndOf opening job piece piece_end.Held = Unit {0}
+IsEndOf opening job piece (piece_end.WentBack seen) = Unit {0}
+IsEndOf opening job piece piece_end.Memory = Unit {0}
+
+-- a turn that ends the piece tells its end
+abbrev pub IsTurn : Opening → Job → ℕ → Turn → Type 0
+IsTurn opening job piece turn.More = Unit {0}
+IsTurn opening job piece turn.Again = Unit {0}
+IsTurn opening job piece (turn.Ended end) = IsEndOf opening job piece end

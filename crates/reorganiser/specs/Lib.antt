@@ -1,0 +1,4 @@
+pub mod Jobs
+pub mod Ends
+pub mod Crews
+pub mod Reorganised

@@ -1,0 +1,71 @@
+-- What a call for all pieces answers.
+use Rattle.std.specs.Prelude.{◌≡◌, ℕ, ◌+◌, ◌<◌, ◌≤◌, ◌⊎◌, List, [], ◌∷◌, ◌++◌, length, All, map, sum_by, Bool, Some, None}
+use Rattle.reorganise.specs.declared.work.Work.{Work}
+use Rattle.replay.specs.Replay.{Opening}
+use Rattle.world.specs.Piecework.{standing_at}
+use Rattle.world.specs.State.{State, facts_of}
+use Rattle.world.specs.declared.entry.Receipt.{Receipt}
+use Rattle.locked_store.specs.Cores.{IsCore}
+use Rattle.locked_store.specs.Known.{Known, total_count}
+use Rattle.tasks.specs.Outcomes.{IsRow}
+use Rattle.tasks.specs.declared.fault.TaskFault.{TaskFault}
+use Rattle.tasks.specs.declared.fault.TaskFault.TheVariants as task_fault
+use Rattle.reorganiser.specs.Ends.{IsEndOf}
+use Rattle.reorganiser.specs.declared.end.PieceEnd.{PieceEnd}
+use Rattle.reorganiser.specs.declared.job.Job.{Job}
+use Rattle.reorganiser.specs.declared.reorganising.ReorganiseFault.{ReorganiseFault}
+use Rattle.reorganiser.specs.declared.reorganising.ReorganiseFault.TheVariants as fault
+
+-- how many handles, items of a piece and tries there may be
+abbrev pub IsCount : ℕ → ℕ → ℕ → Type 0
+IsCount handles limit tries = (1 ≤ handles) × (handles ≤ 64) × (1 ≤ limit) × (limit ≤ 1000) × (1 ≤ tries) × (tries ≤ 1000000)
+
+-- a reorganisation of the element, of so many pieces, had begun in a core behind the lock
+abbrev pub WasBegun : Opening → ℕ → ℕ → Type 0
+WasBegun opening element pieces = (core : State) × IsCore opening core × (work : Work) × (ended : Bool) × (standing_at (facts_of core) element ≡ Some (work, pieces, ended))
+
+abbrev pub WasNotBegun : Opening → ℕ → Type 0
+WasNotBegun opening element = (core : State) × IsCore opening core × (standing_at (facts_of core) element ≡ None)
+
+-- why nothing is begun, by what a handle found whose front was here
+abbrev pub WasRefused : Opening → ℕ → ℕ → ReorganiseFault → Type 0
+WasRefused opening element front fault.BadCount = ⊥
+WasRefused opening element front (fault.WentBack seen) = seen < front
+WasRefused opening element front fault.NotBegun = WasNotBegun opening element
+WasRefused opening element front fault.Memory = ⊥
+
+-- the last handle's front is past this
+abbrev pub LastSaw : List Known → ℕ → Type 0
+LastSaw handles seen = (others : List Known) × (last : Known) × (handles ≡ others ++ last ∷ []) × (seen < last.front)
+
+-- bad numbers are refused first, then what the last handle found, and want of memory comes after both
+abbrev pub IsRefused : Opening → ℕ → ℕ → ℕ → List Known → ReorganiseFault → Type 0
+IsRefused opening element limit tries handles fault.BadCount = ¬ (IsCount (length handles) limit tries)
+IsRefused opening element limit tries handles (fault.WentBack seen) = IsCount (length handles) limit tries × LastSaw handles seen
+IsRefused opening element limit tries handles fault.NotBegun = IsCount (length handles) limit tries × WasNotBegun opening element
+IsRefused opening element limit tries handles fault.Memory = IsCount (length handles) limit tries × ((pieces : ℕ) × WasBegun opening element pieces)
+
+-- a handle by its number and its share
+abbrev pub right : Known → ℕ × ℕ
+right handle = (handle.id, handle.count)
+
+-- the handles are the same, and so are their shares; a front may have moved
+abbrev pub Stays : List Known → List Known → Type 0
+Stays old new = map right new ≡ map right old
+
+-- one end for each piece, by rising number, as its calls answered; all handles are back, in their order, and their shares rose together by the receipts
+pub record Reorganises (opening : Opening) (job : Job) (handles : List Known) (ends : List (ℕ × PieceEnd)) (back : List Known) (receipts : List (List Receipt)) : Type 0 where
+  pub each : IsRow job.pieces ends
+  pub own : All (λ e. IsEndOf opening job e.0 e.1) ends
+  pub same : map (λ h. h.id) back ≡ map (λ h. h.id) handles
+  pub counted : total_count back ≡ total_count handles + sum_by length receipts
+
+-- so it is with the pieces of the reorganisation that had begun
+pub record IsWorkedOff (opening : Opening) (moment element limit tries : ℕ) (handles : List Known) (ends : List (ℕ × PieceEnd)) (back : List Known) (receipts : List (List Receipt)) : Type 0 where
+  pub pieces : ℕ
+  pub begun : WasBegun opening element pieces
+  pub done : Reorganises opening (record { moment = moment; element = element; pieces = pieces; limit = limit; tries = tries }) handles ends back receipts
+
+abbrev pub told : TaskFault → ReorganiseFault
+told task_fault.BadCount = fault.BadCount
+told task_fault.Memory = fault.Memory

@@ -1,0 +1,16 @@
+//! What all workers of one call share.
+
+/// Which reorganisation is to be worked off, and how.
+#[derive(Clone, Copy, Debug)]
+pub(crate) struct Job {
+    /// The moment of each commit.
+    pub(crate) moment: u64,
+    /// The number of the element.
+    pub(crate) element: u32,
+    /// How many pieces the reorganisation has.
+    pub(crate) pieces: usize,
+    /// How many items are read at a time.
+    pub(crate) limit: u32,
+    /// After how many failed tries a piece is given up.
+    pub(crate) tries: u32,
+}

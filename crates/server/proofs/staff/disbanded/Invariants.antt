@@ -1,0 +1,14 @@
+use Rattle.std.proofs.Common.{◌≡◌, ◌+◌, ◌≤◌, ◌++◌, length, map, reverse, sum_by}
+use Rattle.std.specs.Prelude.{vec_len, vec_capacity}
+use Rattle.server.specs.Works.{Serving}
+use Rattle.server.proofs.staff.disbanded.Given as goal
+
+abbrev pub invariant-loop-worker : goal.invariant-loop-worker
+invariant-loop-worker g l =
+    (vec_len l.handles + vec_len l.workers ≡ vec_len l.fn.workers) × (vec_len l.receipts ≡ vec_len l.handles)
+    × (vec_len l.fn.workers ≤ vec_capacity l.handles) × (vec_len l.fn.workers ≤ vec_capacity l.receipts)
+    × (l.handles.items ++ reverse (map (λ (w : Serving). w.handle) l.workers.items) ≡ reverse (map (λ (w : Serving). w.handle) l.fn.workers.items))
+    × (sum_by length l.receipts.items + sum_by (λ (w : Serving). w.kept) l.workers.items ≡ sum_by (λ (w : Serving). w.kept) l.fn.workers.items)
+
+abbrev pub decreases-loop-worker : goal.decreases-loop-worker
+decreases-loop-worker g l = vec_len l.workers

@@ -1,0 +1,8 @@
+use Rattle.std.specs.Prelude.{length}
+use Rattle.server_tests.proofs.gates.two_requests_run_at_once.Given as goal
+
+abbrev pub ghosts-serves-L-Ledger : goal.ghosts-serves-L-Ledger
+ghosts-serves-L-Ledger g a = record { name = a.blank.name; parts = a.blank.parts }
+
+abbrev pub ghosts-serves-L-Room : goal.ghosts-serves-L-Room
+ghosts-serves-L-Room g a = record { handles = a.blank.parts; opening = a.world.opening; since = length a.world.log }

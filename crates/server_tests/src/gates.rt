@@ -1,0 +1,124 @@
+//! Two requests by two servers, with gates that only servers on threads of their own can pass.
+ghost use Rattle.std.specs.Prelude.{◌≡◌, length};
+
+use crate::table::{insert, opened};
+use locked_store::{Room, Shared};
+use server::{Gate, Outcome, Request, Served, serve};
+use std::alloc::Global;
+use std::marker::Brand;
+use std::sync::Wait;
+use std::sync::atomic::{AtomicU64, Ordering};
+use std::sync::ledger::Blank;
+use std::thread::{Threads, yield_now};
+use world::World;
+
+// Holds request 0 until request 1 is answered.
+struct Behind {
+    answered: AtomicU64,
+}
+
+impl Gate for Behind {
+    fn may_start(&self, number: usize, _turn: u64) -> bool {
+        number != 0 || self.answered.load(Ordering::SeqCst) != 0
+    }
+
+    fn answered(&self, number: usize) {
+        if number == 1 {
+            self.answered.store(1, Ordering::SeqCst);
+        }
+    }
+}
+
+// Each request waits inside the call until the other's was entered, so only two threads pass.
+struct Together {
+    entered: AtomicU64,
+}
+
+impl Gate for Together {
+    fn may_start(&self, _number: usize, turn: u64) -> bool {
+        if turn != 0 {
+            return false;
+        }
+        self.entered.fetch_add(1, Ordering::SeqCst);
+        for _ in 0..10_000_000u64 {
+            if self.entered.load(Ordering::SeqCst) == 2 {
+                return true;
+            }
+            yield_now();
+        }
+        false
+    }
+
+    fn answered(&self, _number: usize) {}
+}
+
+// How many of the outcomes are committed, each with the receipt of a transaction, and what came back beside them: handles, receipts of
+// leases, entries of the log, rows of the store.
+fn counted(alloc: Global, served: &[(usize, Outcome)], world: &World) -> Option<[u64; 3]> {
+    let mut done = 0u64;
+    for (_, outcome) in served {
+        if let Outcome::Done(_) = outcome {
+            done = done.checked_add(1)?;
+        }
+    }
+    let rows = world.check(alloc).ok()?.rows;
+    Some([done, rows, world.log().len() as u64])
+}
+
+// Two inserts by two servers through a gate: committed outcomes, rows, entries of the log.
+fn serves<L: Room + Send + Sync, G: Gate + Sync, R: Threads + Wait + Sync>(
+    rt: &R,
+    alloc: Global,
+    blank: Blank,
+    world: World,
+    requests: &[Request],
+    gate: &G,
+) -> Option<[u64; 3]>
+    requires name { blank.name ≡ L.name }
+    requires parts { blank.parts ≡ L.parts }
+    requires picked { (L.handles ≡ 2) × (L.handles ≡ L.parts) × (L.opening ≡ world.opening) × (L.since ≡ length world.log) }
+{
+    let (shared, handles) = Shared::<L>::new(alloc, blank, world, 2).ok()?;
+    let Served {
+        outcomes,
+        handles,
+        receipts: _,
+    } = serve(rt, alloc, &shared, handles, requests, 1_000, gate).ok()?;
+    let world = shared.close(handles).ok()?;
+    counted(alloc, outcomes.as_slice(), &world)
+}
+
+fn two_inserts(alloc: Global) -> Option<(World, Vec<Request>)> {
+    let world = opened(alloc).ok()?;
+    let first = insert(alloc, 1).ok()?;
+    let second = insert(alloc, 2).ok()?;
+    let requests = vec![in alloc; first, second].ok()?;
+    Some((world, requests))
+}
+
+// Both are committed, and each server took a lease: two rows, four entries.
+#[test]
+fn one_request_waits_for_the_other(rt: HostRuntime) {
+    let alloc = rt.alloc();
+    let Some((world, requests)) = two_inserts(alloc) else {
+        panic!(rt; "no world");
+    };
+    let gate = Behind {
+        answered: AtomicU64::new(0),
+    };
+    let found = serves::<Brand, _, _>(&rt, alloc, Blank::new(2), world, requests.as_slice(), &gate);
+    assert!(rt; found == Some([2, 2, 4]));
+}
+
+#[test]
+fn two_requests_run_at_once(rt: HostRuntime) {
+    let alloc = rt.alloc();
+    let Some((world, requests)) = two_inserts(alloc) else {
+        panic!(rt; "no world");
+    };
+    let gate = Together {
+        entered: AtomicU64::new(0),
+    };
+    let found = serves::<Brand, _, _>(&rt, alloc, Blank::new(2), world, requests.as_slice(), &gate);
+    assert!(rt; found == Some([2, 2, 4]));
+}

@@ -1,0 +1,43 @@
+//! The worked table, a request on it, and a world that has it.
+
+use keycode::{Text, Value};
+use listed::Listed;
+use row_map::ColumnType;
+use row_write::RowOp;
+use schema_version::TableDef;
+use server::Request;
+use std::alloc::{AllocError, Global};
+use world::{Config, OpenFault, World};
+
+/// The text of a name.
+pub(crate) fn named(alloc: Global, name: &str) -> Result<Text, AllocError> {
+    Ok(Text::new(String::from_str(alloc, name)?))
+}
+
+// table t (id int key, a int)
+fn config(alloc: Global) -> Result<Config, AllocError> {
+    let table = TableDef {
+        name: named(alloc, "t")?,
+        key: Listed::new(vec![in alloc; (named(alloc, "id")?, ColumnType::Int)]?),
+        columns: Listed::new(vec![in alloc; (named(alloc, "a")?, ColumnType::Int)]?),
+        indexes: Listed::new(Vec::new(alloc)),
+    };
+    let tables = Listed::new(vec![in alloc; table]?);
+    Ok(Config { length: 10, tables })
+}
+
+/// A world of that table, with leases of ten moments.
+pub(crate) fn opened(alloc: Global) -> Result<World, OpenFault> {
+    World::open(alloc, &config(alloc)?)
+}
+
+/// insert t (ID) set a = 7, at moment 0
+pub(crate) fn insert(alloc: Global, id: i64) -> Result<Request, AllocError> {
+    let insert = RowOp::Insert {
+        table: 1,
+        key: Listed::new(vec![in alloc; Value::Int(id)]?),
+        cells: Listed::new(vec![in alloc; (1, Value::Int(7))]?),
+    };
+    let ops = Listed::new(vec![in alloc; insert]?);
+    Ok(Request { moment: 0, ops })
+}
