@@ -3,3 +3,9 @@
 
 #[cfg(test)]
 mod counter;
+#[cfg(test)]
+mod gates;
+#[cfg(test)]
+mod one_request;
+#[cfg(test)]
+mod table;
