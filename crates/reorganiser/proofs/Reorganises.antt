@@ -1,6 +1,6 @@
 -- What a call for all pieces answers, from what its tasks came to.
-use Rattle.std.proofs.Common.{◌≡◌, ℕ, ◌+◌, ◌≤◌, List, [], ◌∷◌, ◌++◌, length, map, reverse, sum_by, All, Some, refl, sym, ap, ◌∙◌, arith, rules}
-use Rattle.std.specs.Prelude.{Bool, Option, None}
+use Rattle.std.proofs.Common.{◌≡◌, ℕ, ◌+◌, ◌≤◌, subst, List, [], ◌∷◌, ◌++◌, length, map, reverse, sum_by, All, Some, refl, sym, ap, ◌∙◌, arith}
+use Rattle.std.specs.Prelude.{Bool, Option, None, Result, Ok, Err, IfOk, IfErr}
 use Rattle.std.specs.Option.{option_map}
 use Rattle.std.proofs.lemmas.List.{reverse-reverse}
 use Rattle.std.proofs.lemmas.List.Sums.{sum_by-le}
@@ -16,7 +16,7 @@ use Rattle.locked_store.specs.Cores.{IsCore}
 use Rattle.locked_store.specs.Known.{Known, total_count}
 use Rattle.reorganiser.specs.Crews.{Filling, AreIdle}
 use Rattle.reorganiser.specs.Ends.{IsEndOf}
-use Rattle.reorganiser.specs.Reorganised.{Reorganises, Stays, right}
+use Rattle.reorganiser.specs.Reorganised.{Reorganises, IsWorkedOff, WasBegun, Stays, right, asked}
 use Rattle.reorganiser.specs.declared.end.PieceEnd.{PieceEnd}
 use Rattle.reorganiser.specs.declared.job.Job.{Job}
 
@@ -42,7 +42,7 @@ numbers handles ws is =
 -- ends hold no receipt
 none_held : (ends : List (ℕ × PieceEnd)) → held_in (λ (e : PieceEnd). 0) ends ≡ 0
 none_held [] = refl
-none_held (e ∷ ends) = none_held ends
+none_held (e ∷ ends) = omega (arith, none_held ends)
 
 pub reorganises : (opening : Opening) (job : Job) (handles : List Known) (ws ps : List Filling) (ends : List (ℕ × PieceEnd)) (back : List Known) (receipts : List (List Receipt))
     → map (λ w. w.handle) ws ≡ reverse handles → AreIdle job ws → IsRow job.pieces ends
@@ -79,7 +79,7 @@ looked old popped new before after old_is new_is id count =
     ∙ sym (map_push right popped before) ∙ sym (ap (map right) old_is)
 
 -- what is begun in a core has at most 64 pieces
-count_of : Option (Work × ℕ × Bool) → ℕ
+abbrev count_of : Option (Work × ℕ × Bool) → ℕ
 count_of None = 0
 count_of (Some told) = told.1
 
@@ -89,3 +89,32 @@ few opening core element pieces work ended c is = go (progress_of (facts_of core
     go : (o : Option Progress) → progress_of (facts_of core).progress element ≡ o → option_map standing o ≡ Some (work, pieces, ended) → pieces ≤ 64
     go None e h = absurd (cc)
     go (Some p) e h = let m : length p.pieces ≡ pieces = ap count_of h in omega (arith, m, (c.in_pieces element p e).few)
+
+-- all that was asked for, by handles of which one has looked
+pub worked_off : (opening : Opening) (moment element limit tries : ℕ) (job : Job) (handles mid : List Known) (ends : List (ℕ × PieceEnd)) (back : List Known) (receipts : List (List Receipt))
+    → Stays handles mid → job ≡ asked moment element job.pieces limit tries → WasBegun opening element job.pieces → Reorganises opening job mid ends back receipts
+    → IsWorkedOff opening moment element limit tries handles ends back receipts
+worked_off opening moment element limit tries job handles mid ends back receipts s is begun r =
+    record {
+      pieces = job.pieces;
+      begun = begun;
+      done = record {
+        each = r.each;
+        own = subst (λ (j : Job). All (λ e. IsEndOf opening j e.0 e.1) ends) is r.own;
+        same = r.same ∙ stays_ids handles mid s;
+        counted = omega (arith, r.counted, stays_count handles mid s);
+      };
+    }
+
+pub same_stays : (old mid new : List Known) → Stays old mid → new ≡ mid → Stays old new
+same_stays old mid new s is = ap (map right) is ∙ s
+
+-- ---- what holds of a result
+
+pub ok_map : {A E : Type 0} {P Q : A → Type 0} (r : Result A E) → IfOk r P → ((x : A) → P x → Q x) → IfOk r Q
+ok_map (Ok x) p f = f x p
+ok_map (Err e) p f = tt
+
+pub err_map : {A E : Type 0} {P Q : E → Type 0} (r : Result A E) → IfErr r P → ((x : E) → P x → Q x) → IfErr r Q
+err_map (Ok x) p f = tt
+err_map (Err e) p f = f e p

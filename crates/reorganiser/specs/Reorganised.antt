@@ -1,5 +1,5 @@
 -- What a call for all pieces answers.
-use Rattle.std.specs.Prelude.{◌≡◌, ℕ, ◌+◌, ◌<◌, ◌≤◌, ◌⊎◌, List, [], ◌∷◌, ◌++◌, length, All, map, sum_by, Bool, Some, None}
+use Rattle.std.specs.Prelude.{◌≡◌, ℕ, ◌+◌, ◌<◌, ◌≤◌, List, [], ◌∷◌, ◌++◌, length, All, map, sum_by, Bool, Some, None}
 use Rattle.reorganise.specs.declared.work.Work.{Work}
 use Rattle.replay.specs.Replay.{Opening}
 use Rattle.world.specs.Piecework.{standing_at}
@@ -53,6 +53,9 @@ right handle = (handle.id, handle.count)
 abbrev pub Stays : List Known → List Known → Type 0
 Stays old new = map right new ≡ map right old
 
+abbrev pub asked : ℕ → ℕ → ℕ → ℕ → ℕ → Job
+asked moment element pieces limit tries = record { moment = moment; element = element; pieces = pieces; limit = limit; tries = tries }
+
 -- one end for each piece, by rising number, as its calls answered; all handles are back, in their order, and their shares rose together by the receipts
 pub record Reorganises (opening : Opening) (job : Job) (handles : List Known) (ends : List (ℕ × PieceEnd)) (back : List Known) (receipts : List (List Receipt)) : Type 0 where
   pub each : IsRow job.pieces ends
@@ -64,7 +67,7 @@ pub record Reorganises (opening : Opening) (job : Job) (handles : List Known) (e
 pub record IsWorkedOff (opening : Opening) (moment element limit tries : ℕ) (handles : List Known) (ends : List (ℕ × PieceEnd)) (back : List Known) (receipts : List (List Receipt)) : Type 0 where
   pub pieces : ℕ
   pub begun : WasBegun opening element pieces
-  pub done : Reorganises opening (record { moment = moment; element = element; pieces = pieces; limit = limit; tries = tries }) handles ends back receipts
+  pub done : Reorganises opening (asked moment element pieces limit tries) handles ends back receipts
 
 abbrev pub told : TaskFault → ReorganiseFault
 told task_fault.BadCount = fault.BadCount

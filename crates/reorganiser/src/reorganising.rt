@@ -2,7 +2,7 @@
 ghost use Rattle.std.specs.Prelude.{◌≡◌, ◌≤◌, length, map, reverse, sum_by, vec_len, vec_capacity, [], Decides, IfOk, IfErr};
 ghost use Rattle.reorganiser.specs.Jobs.{IsJob};
 ghost use Rattle.reorganiser.specs.Crews.{AreIdle};
-ghost use Rattle.reorganiser.specs.Reorganised.{IsCount, IsRefused, Reorganises, IsWorkedOff, WasBegun, WasRefused, told, Stays};
+ghost use Rattle.reorganiser.specs.Reorganised.{asked, IsCount, IsRefused, Reorganises, IsWorkedOff, WasBegun, WasRefused, told, Stays};
 
 use crate::end::PieceEnd;
 use crate::job::Job;
@@ -56,7 +56,8 @@ pub enum ReorganiseFault {
     Memory,
 }
 
-// What the workers are to do, by how the reorganisation stands; through the first handle, which is the last of the list.
+// What the workers are to do, by how the reorganisation stands.
+#[tactic(auto, using(crate::proofs::Reorganises::few))]
 fn job_of<L: Room, R: Wait>(
     rt: &R,
     shared: &Shared<L>,
@@ -66,9 +67,9 @@ fn job_of<L: Room, R: Wait>(
     limit: u32,
     tries: u32,
 ) -> Result<Job, ReorganiseFault>
-    requires counts { (1 ≤ limit) × (limit ≤ 1000) × (1 ≤ tries) }
+    requires counts { (1 ≤ limit) × (limit ≤ 1000) × (1 ≤ tries) × (tries ≤ 1000000) }
     ensures same { (me.new.id ≡ me.old.id) × (me.new.count ≡ me.old.count) }
-    ensures job { IfOk result (λ job. IsJob job × (job.moment ≡ moment) × (job.element ≡ element) × (job.limit ≡ limit) × (job.tries ≡ tries)) }
+    ensures job { IfOk result (λ job. IsJob job × (job ≡ asked moment element job.pieces limit tries)) }
     ensures begun { IfOk result (λ job. WasBegun L.opening element job.pieces) }
     ensures refused { IfErr result (λ fault. WasRefused L.opening element me.old.front fault) }
 {
@@ -121,8 +122,8 @@ fn disbanded<L: Room, R: Wait>(
 )
     requires handles { (handles.old.items ≡ []) × (vec_len workers ≤ vec_capacity handles.old) }
     requires receipts { (receipts.old.items ≡ []) × (vec_len workers ≤ vec_capacity receipts.old) }
-    ensures back { handles.new.items ≡ reverse (map (λ w. w.handle) workers.items) }
-    ensures kept { sum_by length receipts.new.items ≡ sum_by (λ w. w.kept) workers.items }
+    ensures back { handles.new.items ≡ reverse (map (λ w. w.handle) workers.entry.items) }
+    ensures kept { sum_by length receipts.new.items ≡ sum_by (λ w. w.kept) workers.entry.items }
 {
     let mut workers = workers;
     while let Some(worker) = workers.pop() {
@@ -149,7 +150,7 @@ fn told(fault: TaskFault) -> ReorganiseFault
 }
 
 // Works the pieces off, once all room is made.
-#[tactic(auto, using(crate::proofs::Reorganises::reorganises, crate::proofs::Reorganises::given_back, crate::proofs::Reorganises::planned))]
+#[tactic(auto, using(crate::proofs::Reorganises::given_back, crate::proofs::Reorganises::planned))]
 fn run<'a, L: Room + Send + Sync, G: Gate + Sync, R: Threads + Wait + Sync>(
     rt: &'a R,
     alloc: Global,
@@ -199,6 +200,32 @@ fn is_count(handles: usize, limit: u32, tries: u32) -> bool
         && tries <= MAX_TRIES
 }
 
+// The same, through the last handle.
+#[tactic(auto, using(crate::proofs::Reorganises::looked))]
+fn looked<L: Room, R: Wait>(
+    rt: &R,
+    shared: &Shared<L>,
+    handles: &mut Vec<Handle<L>>,
+    moment: u64,
+    element: u32,
+    limit: u32,
+    tries: u32,
+) -> Result<Job, ReorganiseFault>
+    requires counts { IsCount (vec_len handles.old) limit tries }
+    ensures counts { IfOk result (λ _. IsCount (length handles.old.items) limit tries) }
+    ensures stays { Stays handles.old.items handles.new.items × (vec_len handles.new ≡ vec_len handles.old) }
+    ensures job { IfOk result (λ job. IsJob job × (job ≡ asked moment element job.pieces limit tries)) }
+    ensures begun { IfOk result (λ job. WasBegun L.opening element job.pieces) }
+    ensures refused { IfErr result (λ fault. IsRefused L.opening element limit tries handles.old.items fault) }
+{
+    let Some(mut me) = handles.pop() else {
+        unreachable!()
+    };
+    let found = job_of(rt, shared, &mut me, moment, element, limit, tries);
+    handles.push_reserved(me);
+    found
+}
+
 /// Works off all pieces of a begun reorganisation, in as many threads as there are handles, the caller's thread being one of them; a
 /// thread that cannot be started leaves its share to the others. Each draws a piece, and reads, prepares and commits its next items until
 /// it has ended; what is read is prepared outside of the lock.
@@ -234,12 +261,7 @@ pub fn reorganise_all<L: Room + Send + Sync, G: Gate + Sync, R: Threads + Wait +
     if !is_count(count, limit, tries) {
         return Err((ReorganiseFault::BadCount, handles));
     }
-    let Some(mut me) = handles.pop() else {
-        return Err((ReorganiseFault::BadCount, handles));
-    };
-    let asked = job_of(rt, shared, &mut me, moment, element, limit, tries);
-    handles.push_reserved(me);
-    let job = match asked {
+    let job = match looked(rt, shared, &mut handles, moment, element, limit, tries) {
         Ok(job) => job,
         Err(fault) => return Err((fault, handles)),
     };

@@ -1,6 +1,6 @@
 //! The turns of one piece: its next items are read, prepared and committed.
 ghost use Rattle.std.specs.Prelude.{◌≡◌, ◌+◌, ◌<◌, ◌≤◌, length, IfOk, IfErr};
-ghost use Rattle.reorganiser.specs.Ends.{IsEndOf, IsTurn};
+ghost use Rattle.reorganiser.specs.Ends.{IsEndOf, IsTurn, unread_end, turn_of};
 ghost use Rattle.reorganiser.specs.Jobs.{IsJob};
 
 use crate::end::PieceEnd;
@@ -38,23 +38,43 @@ fn next_items<L: Room, R: Wait>(
 {
     match shared.read_piece(rt, alloc, me, job.element, piece, job.limit) {
         Ok(view) => Ok(view),
-        Err(SharedFault::WentBack { seen }) => Err(PieceEnd::WentBack { seen }),
-        Err(SharedFault::World(ReadFault::NotWanted | ReadFault::View(ViewFault::BadPiece))) => {
-            Err(PieceEnd::Refused(PieceFault::NotWanted))
+        Err(fault) => Err(unread_end(fault)),
+    }
+}
+
+// How a piece ends that is not read. Its limit was tested before.
+fn unread_end(fault: SharedFault<ReadFault>) -> PieceEnd
+    ensures { result ≡ unread_end fault }
+{
+    match fault {
+        SharedFault::WentBack { seen } => PieceEnd::WentBack { seen },
+        SharedFault::World(ReadFault::NotWanted | ReadFault::View(ViewFault::BadPiece)) => {
+            PieceEnd::Refused(PieceFault::NotWanted)
         }
-        Err(SharedFault::World(ReadFault::View(ViewFault::Spent))) => Err(PieceEnd::Finished),
-        Err(SharedFault::World(ReadFault::View(ViewFault::BadLimit))) => unreachable!(),
-        Err(SharedFault::World(ReadFault::View(ViewFault::Memory))) => Err(PieceEnd::Memory),
+        SharedFault::World(ReadFault::View(ViewFault::Spent)) => PieceEnd::Finished,
+        SharedFault::World(ReadFault::View(ViewFault::BadLimit | ViewFault::Memory)) => {
+            PieceEnd::Memory
+        }
     }
 }
 
 // What a commit came to, by its refusal.
-fn refused(fault: SharedFault<PieceFault>) -> Turn {
+fn refused(fault: SharedFault<PieceFault>) -> Turn
+    ensures { result ≡ turn_of fault }
+{
     match fault {
         SharedFault::WentBack { seen } => Turn::Ended(PieceEnd::WentBack { seen }),
         SharedFault::World(PieceFault::Conflict { .. } | PieceFault::Moved { .. }) => Turn::Again,
         SharedFault::World(PieceFault::Memory) => Turn::Ended(PieceEnd::Memory),
-        SharedFault::World(fault) => Turn::Ended(PieceEnd::Refused(fault)),
+        SharedFault::World(PieceFault::MomentTooLarge) => {
+            Turn::Ended(PieceEnd::Refused(PieceFault::MomentTooLarge))
+        }
+        SharedFault::World(PieceFault::NotWanted) => {
+            Turn::Ended(PieceEnd::Refused(PieceFault::NotWanted))
+        }
+        SharedFault::World(PieceFault::WrongElement) => {
+            Turn::Ended(PieceEnd::Refused(PieceFault::WrongElement))
+        }
     }
 }
 
@@ -92,7 +112,7 @@ fn commit_items<L: Room, R: Wait>(
 }
 
 // One turn.
-fn turn<L: Room, R: Wait>(
+fn take_turn<L: Room, R: Wait>(
     rt: &R,
     alloc: Global,
     shared: &Shared<L>,
@@ -129,7 +149,7 @@ pub(crate) fn work_piece<L: Room, R: Wait>(
 {
     let mut failed = 0u32;
     for _i in rt.forever() {
-        match turn(rt, alloc, shared, me, kept, job, piece) {
+        match take_turn(rt, alloc, shared, me, kept, job, piece) {
             Turn::More => {}
             Turn::Again => {
                 failed += 1;

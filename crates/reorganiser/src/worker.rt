@@ -1,6 +1,4 @@
 //! One worker: a handle that works pieces off.
-ghost use Rattle.std.specs.Prelude.{◌≡◌, length};
-ghost use Rattle.reorganiser.specs.Ends.{IsEndOf, IsJob};
 
 use crate::end::PieceEnd;
 use crate::job::Job;
