@@ -13,6 +13,7 @@ use std::thread::{Threads, yield_now};
 use world::World;
 
 // Holds request 0 until request 1 is answered.
+#[derive(Drop)]
 struct Behind {
     answered: AtomicU64,
 }
@@ -30,6 +31,7 @@ impl Gate for Behind {
 }
 
 // Each request waits inside the call until the other's was entered, so only two threads pass.
+#[derive(Drop)]
 struct Together {
     entered: AtomicU64,
 }
