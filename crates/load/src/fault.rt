@@ -1,5 +1,5 @@
 //! Why a load is cut short.
-use std::alloc::AllocError;
+use std::alloc::{AllocError, AllocFailed};
 
 /// Why a load, or a step of it, came to no end.
 #[derive(Clone, Copy, Debug, PartialEq, Eq)]
@@ -12,6 +12,12 @@ pub(crate) enum LoadFault {
 
 impl From<AllocError> for LoadFault {
     fn from(_: AllocError) -> LoadFault {
+        LoadFault::Memory
+    }
+}
+
+impl<T: Drop> From<AllocFailed<T>> for LoadFault {
+    fn from(_: AllocFailed<T>) -> LoadFault {
         LoadFault::Memory
     }
 }

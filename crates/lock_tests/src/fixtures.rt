@@ -1,10 +1,10 @@
-//! The worked table, its inserts, the query of all of it, and work through a handle.
+//! The worked table, its operations, the query of all of it, and work through a handle.
 
 use keycode::{Text, Value};
 use lease::Lease;
 use listed::{Counted, Listed};
 use locked_store::{Handle, Room, Shared};
-use row_map::{ColumnType, ReadView};
+use row_map::{ColumnType, ReadView, Row};
 use row_query::Query;
 use row_write::{Prepared, RowOp, RowOps, prepare, reads_of};
 use schema_version::{Schema, TableDef};
@@ -34,14 +34,23 @@ pub(crate) fn opened(alloc: Global) -> Result<World, OpenFault> {
     World::open(alloc, &config(alloc)?)
 }
 
-// insert t (ID) set a = 7
-fn insert(alloc: Global, id: i64) -> Result<RowOps, AllocError> {
+/// insert t (ID) set a = VALUE
+pub(crate) fn insert(alloc: Global, id: i64, value: i64) -> Result<RowOps, AllocError> {
     let insert = RowOp::Insert {
         table: 1,
         key: Listed::new(vec![in alloc; Value::Int(id)]?),
-        cells: Listed::new(vec![in alloc; (1, Value::Int(7))]?),
+        cells: Listed::new(vec![in alloc; (1, Value::Int(value))]?),
     };
     Ok(Listed::new(vec![in alloc; insert]?))
+}
+
+/// delete t (ID)
+pub(crate) fn delete(alloc: Global, id: i64) -> Result<RowOps, AllocError> {
+    let delete = RowOp::Delete {
+        table: 1,
+        key: Listed::new(vec![in alloc; Value::Int(id)]?),
+    };
+    Ok(Listed::new(vec![in alloc; delete]?))
 }
 
 /// select a from t
@@ -64,22 +73,37 @@ pub(crate) fn work_of(
     prepare(alloc, schema.clone().ok()?, lease, ops, view).ok()
 }
 
-// What is prepared of an insert by what the shared world has now.
+// What is prepared of operations by what the shared world has now.
 fn prepared<L: Room, R: Wait>(
     rt: &R,
     alloc: Global,
     shared: &Shared<L>,
     me: &mut Handle<L>,
     grant: &Grant,
-    id: i64,
+    ops: RowOps,
 ) -> Option<Prepared> {
-    let ops = insert(alloc, id).ok()?;
     let keys = reads_of(alloc, grant.schema.get(), ops.as_slice()).ok()?;
     let view = shared.read(rt, alloc, me, &keys).ok()?;
     work_of(alloc, &grant.schema, grant.lease, ops, view)
 }
 
-/// The receipt of an insert at moment 0.
+/// The receipt of operations at moment 0.
+pub(crate) fn committed<L: Room, R: Wait>(
+    rt: &R,
+    alloc: Global,
+    shared: &Shared<L>,
+    me: &mut Handle<L>,
+    grant: &Grant,
+    ops: RowOps,
+) -> Option<Receipt> {
+    let work = prepared(rt, alloc, shared, me, grant, ops)?;
+    match shared.commit(rt, alloc, me, 0, work) {
+        Ok(Committed::Done(receipt)) => Some(receipt),
+        _ => None,
+    }
+}
+
+/// The receipt of an insert with a = 7.
 pub(crate) fn inserted<L: Room, R: Wait>(
     rt: &R,
     alloc: Global,
@@ -88,9 +112,17 @@ pub(crate) fn inserted<L: Room, R: Wait>(
     grant: &Grant,
     id: i64,
 ) -> Option<Receipt> {
-    let work = prepared(rt, alloc, shared, me, grant, id)?;
-    match shared.commit(rt, alloc, me, 0, work) {
-        Ok(Committed::Done(receipt)) => Some(receipt),
-        _ => None,
+    let ops = insert(alloc, id, 7).ok()?;
+    committed(rt, alloc, shared, me, grant, ops)
+}
+
+/// Whether there is the row of this key with this value of a, and no other.
+pub(crate) fn is_row(rows: &[Row], id: i64, value: i64) -> bool {
+    match rows {
+        [row] => match (row.key.as_slice(), row.cells.as_slice()) {
+            ([Value::Int(key)], [(column, Value::Int(a))]) => (*key, *column, *a) == (id, 1, value),
+            _ => false,
+        },
+        _ => false,
     }
 }

@@ -10,4 +10,6 @@ mod fixtures;
 #[cfg(test)]
 mod one_handle;
 #[cfg(test)]
+mod snapshots;
+#[cfg(test)]
 mod two_threads;

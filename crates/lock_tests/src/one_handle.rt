@@ -1,26 +1,13 @@
 //! One handle: a row that it inserts is found through it, and receipts that were altered are refused.
 ghost use Rattle.std.specs.Prelude.{◌≡◌, length};
 
-use crate::fixtures::{inserted, opened, whole_table};
-use keycode::Value;
+use crate::fixtures::{inserted, is_row, opened, whole_table};
 use locked_store::{Handle, ReceiptFault, Room, Shared, reconcile};
-use row_map::Row;
 use std::alloc::Global;
 use std::marker::Brand;
 use std::sync::Wait;
 use std::sync::ledger::Blank;
 use world::{Entry, Receipt, World};
-
-// The row of key 5 with a = 7, and no other.
-fn is_the_row(rows: &[Row]) -> bool {
-    match rows {
-        [row] => match (row.key.as_slice(), row.cells.as_slice()) {
-            ([Value::Int(key)], [(column, Value::Int(a))]) => (*key, *column, *a) == (5, 1, 7),
-            _ => false,
-        },
-        _ => false,
-    }
-}
 
 // A lease, an insert, and the query of the table: two entries.
 fn finds<L: Room, R: Wait>(
@@ -33,7 +20,7 @@ fn finds<L: Room, R: Wait>(
     let receipt = inserted(rt, alloc, shared, me, &grant, 5)?;
     let query = whole_table(alloc).ok()?;
     let rows = shared.query(rt, alloc, me, 0, &grant.lease, &query).ok()?;
-    Some((receipt.place, me.front()) == (2, 2) && is_the_row(rows.as_slice()))
+    Some((receipt.place, me.front()) == (2, 2) && is_row(rows.as_slice(), 5, 7))
 }
 
 fn one_insert<L: Room, R: Wait>(

@@ -1,34 +1,32 @@
-//! Two threads over one world, whose log a second world then repeats.
+//! Two threads over one world, which keep snapshots of it; a second world then repeats its log.
 ghost use Rattle.std.specs.Prelude.{◌≡◌, length};
 
 use crate::fixtures::{inserted, opened, whole_table, work_of};
 use lease::Lease;
-use listed::Listed;
 use locked_store::{Handle, Missing, Room, Shared, reconcile};
-use row_map::Row;
 use row_write::{RowOps, reads_of};
 use std::alloc::Global;
 use std::marker::Brand;
 use std::sync::Wait;
 use std::sync::ledger::Blank;
 use std::thread::{Threads, join};
-use world::{Committed, Entry, Grant, Receipt, What, World};
+use world::{Committed, Entry, Grant, Receipt, Snapshot, What, World};
 
-// What a thread saw of the table, and how long the log then was.
+// A snapshot that a thread took, and how long the log then was.
 #[derive(Drop)]
 struct Seen {
     front: u64,
-    rows: Listed<Row>,
+    snapshot: Snapshot,
 }
 
-// What threads were given and what they saw.
+// What threads were given and what they kept.
 #[derive(Drop)]
 struct Found {
     receipts: Vec<Receipt>,
     seen: Vec<Seen>,
 }
 
-// One insert, and what the table then has.
+// One insert, and a snapshot of what there then is.
 fn insert_and_look<L: Room, R: Wait>(
     rt: &R,
     alloc: Global,
@@ -40,10 +38,9 @@ fn insert_and_look<L: Room, R: Wait>(
 ) -> Option<()> {
     let receipt = inserted(rt, alloc, shared, me, grant, id)?;
     found.receipts.push(receipt).ok()?;
-    let query = whole_table(alloc).ok()?;
-    let rows = shared.query(rt, alloc, me, 0, &grant.lease, &query).ok()?;
+    let snapshot = shared.snapshot(rt, me, 0, &grant.lease).ok()?;
     let front = me.front();
-    found.seen.push(Seen { front, rows }).ok()
+    found.seen.push(Seen { front, snapshot }).ok()
 }
 
 // A lease, and a hundred inserts from this key on.
@@ -155,7 +152,7 @@ fn repeat(alloc: Global, world: &mut World, entry: &Entry) -> Option<()> {
     }
 }
 
-// Whether what was seen at the log's length is what the world answers now.
+// Whether what a snapshot at the log's length has is what the world answers now.
 fn is_seen_again(alloc: Global, world: &World, one: &Seen) -> Option<bool> {
     if one.front != world.log().len() as u64 {
         return Some(true);
@@ -167,7 +164,8 @@ fn is_seen_again(alloc: Global, world: &World, one: &Seen) -> Option<bool> {
     };
     let query = whole_table(alloc).ok()?;
     let rows = world.query(alloc, 0, &lease, &query).ok()?;
-    Some(rows == one.rows)
+    let kept = one.snapshot.query(alloc, &query).ok()?;
+    Some(rows == kept)
 }
 
 fn are_seen_again(alloc: Global, world: &World, seen: &[Seen]) -> bool {
@@ -179,7 +177,8 @@ fn are_seen_again(alloc: Global, world: &World, seen: &[Seen]) -> bool {
     true
 }
 
-// A second world repeats the log entry by entry, and answers at each front what a thread saw there.
+// A second world repeats the log entry by entry, and answers at each front what the snapshot that was taken there does, after
+// all commits of both threads.
 fn repeats(alloc: Global, again: &mut World, log: &[Entry], seen: &[Seen]) -> Option<bool> {
     for entry in log {
         repeat(alloc, again, entry)?;

@@ -1,8 +1,8 @@
-//! The program: it runs the script on standard input and writes the replies to standard output.
+//! The program: it runs the script on standard input, or a load, as the command line chooses.
 #![tactic(auto)]
 
-mod options;
-
+use command_line::{Chosen, options, status_of};
+use load::run_load;
 use script::{run_script, script_status};
 use std::io;
 use std::process::ExitCode;
@@ -19,6 +19,16 @@ fn run_input(rt: &HostRuntime) -> u8 {
     script_status(&outcome)
 }
 
+/// Tells on standard error why a load of this status was not reported.
+fn tell_fault(rt: &HostRuntime, status: u8) {
+    let fault = match status {
+        4 => "write",
+        5 => "memory",
+        _ => return,
+    };
+    let _ = eprintln!(rt; "fault: {fault}");
+}
+
 fn main(rt: HostRuntime) -> ExitCode {
     let alloc = rt.alloc();
     let Ok(words) = std::env::args(&rt) else {
@@ -28,11 +38,17 @@ fn main(rt: HostRuntime) -> ExitCode {
         return ExitCode::from(5);
     };
     let words: Vec<String> = words;
-    match options::options(alloc, words.as_slice()) {
-        Ok(()) => ExitCode::from(run_input(&rt)),
+    match options(alloc, words.as_slice()) {
+        Ok(Chosen::Run) => ExitCode::from(run_input(&rt)),
+        Ok(Chosen::Load(size)) => {
+            let mut output = io::writer(&rt);
+            let status = run_load(&rt, alloc, size, &mut output);
+            tell_fault(&rt, status);
+            ExitCode::from(status)
+        }
         Err(error) => {
             let _ = error.print(&rt);
-            ExitCode::from(options::status_of(&error))
+            ExitCode::from(status_of(&error))
         }
     }
 }
