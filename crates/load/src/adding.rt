@@ -126,20 +126,16 @@ fn fill<L: Room + Send + Sync, R: Threads + Wait + Sync>(
     shared: &Shared<L>,
     crew: Vec<Handle<L>>,
     size: LoadSize,
-) -> (
-    Vec<Handle<L>>,
-    Vec<Listed<Receipt>>,
-    Result<(), LoadFault>,
-) {
+) -> (Vec<Handle<L>>, Vec<Listed<Receipt>>, Result<(), LoadFault>) {
     let (limit, tries) = (size.limit, size.rows.saturating_add(1));
-    match reorganise_all(
-        rt, alloc, shared, crew, 30, INDEX, limit, tries, &FreeGate,
-    ) {
-        Ok(Reorganised {
-            ends,
-            handles,
-            receipts,
-        }) => {
+    match reorganise_all(rt, alloc, shared, crew, 30, INDEX, limit, tries, &FreeGate) {
+        Ok(
+            Reorganised {
+                ends,
+                handles,
+                receipts,
+            },
+        ) => {
             let outcome = are_finished(ends.as_slice());
             (handles, receipts, outcome)
         }

@@ -106,11 +106,13 @@ fn united<L: Room>(
     } = added;
     gather(pieces, &mut receipts)?;
     let (mut handles, settled) = match served {
-        Ok(Served {
-            outcomes,
-            handles,
-            receipts: leases,
-        }) => {
+        Ok(
+            Served {
+                outcomes,
+                handles,
+                receipts: leases,
+            },
+        ) => {
             gather(leases, &mut receipts)?;
             (handles, settle_all(outcomes, &mut receipts))
         }

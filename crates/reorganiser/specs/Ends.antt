@@ -46,8 +46,8 @@ pub record WasEnded (opening : Opening) (job : Job) (piece : ℕ) : Type 0 where
   pub committed : PieceStep core job.moment read (Ok done) left
   pub ended : done.ended ≡ true
 
--- Finished comes only where the piece was found at its end, or was brought there; Busy only after so many failed tries; a refusal is that of the read or of
--- the commit
+-- Finished comes only where the piece was found at its end, or was brought there; Busy tells how many tries were allowed; a refusal is
+-- that of the read or of the commit
 abbrev pub IsEndOf : Opening → Job → ℕ → PieceEnd → Type 0
 IsEndOf opening job piece piece_end.Finished = WasUnread opening job piece (read_fault.View view_fault.Spent) ⊎ WasEnded opening job piece
 IsEndOf opening job piece (piece_end.Busy tries) = tries ≡ job.tries

@@ -10,9 +10,7 @@ use locked_store::SharedFault;
 use row_map::{ReadSet, ReadView};
 use row_write::Prepared;
 use schema_version::Schema;
-use server::{
-    Last, Outcome, Port, Tally, last_of_commit, last_of_grant, last_of_read, serve_one,
-};
+use server::{Last, Outcome, Port, Tally, last_of_commit, last_of_grant, last_of_read, serve_one};
 use std::alloc::{AllocError, Global};
 use world::{CommitFault, Committed, GrantFault, World};
 
@@ -104,7 +102,13 @@ impl Port for Stubborn {
             self.conflicts -= 1;
             Err((SharedFault::World(conflict(alloc)), prepared))
         } else {
-            commits(alloc, &mut self.world, &mut self.committed, moment, prepared)
+            commits(
+                alloc,
+                &mut self.world,
+                &mut self.committed,
+                moment,
+                prepared,
+            )
         };
         self.tally.note(last_of_commit(&answer));
         answer
