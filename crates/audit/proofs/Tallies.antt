@@ -6,9 +6,7 @@ use Rattle.std.proofs.lemmas.List.Recursion.{is_sum_by}
 use Rattle.row_map.specs.Rows.{Bytes, Pairs}
 use Rattle.schema_version.specs.Version.{Version}
 use Rattle.audit.specs.declared.report.CheckReport.{CheckReport}
-use Rattle.row_map.specs.Walk.{rest, after}
 use Rattle.audit.specs.Audit.{Pair, IsAudit, is_exists_pair, missing_beside, has_reason, judged, added, tally}
-use Rattle.row_map.proofs.Walks.{rest_all}
 
 abbrev none : CheckReport
 none = record { rows = 0; missing = 0; extra = 0 }
@@ -23,26 +21,24 @@ added_assoc : (a b c : CheckReport) → added (added a b) c ≡ added a (added b
 added_assoc a b c = λ i. record { rows = add_assoc a.rows b.rows c.rows i; missing = add_assoc a.missing b.missing c.missing i; extra = add_assoc a.extra b.extra c.extra i }
 
 module _ (version : Version) (pairs : Pairs) where
-  pub tally_begun : (report : CheckReport) (from : Bytes) → report ≡ none → from ≡ [] → added report (tally version pairs (rest pairs from)) ≡ tally version pairs (map.entries pairs)
-  tally_begun report from none_is from_is =
-      ap (λ (r : CheckReport). added r (tally version pairs (rest pairs from))) none_is
-      ∙ none_added (tally version pairs (rest pairs from))
-      ∙ ap (λ (k : Bytes). tally version pairs (rest pairs k)) from_is
-      ∙ ap (tally version pairs) (rest_all pairs)
+  pub tally_begun : (report : CheckReport) (ahead : List Pair) → report ≡ none → ahead ≡ map.entries pairs → added report (tally version pairs ahead) ≡ tally version pairs (map.entries pairs)
+  tally_begun report ahead none_is ahead_is =
+      ap (λ (r : CheckReport). added r (tally version pairs ahead)) none_is
+      ∙ none_added (tally version pairs ahead)
+      ∙ ap (tally version pairs) ahead_is
 
-  pub tally_more : (total report more sum : CheckReport) (at from next : Bytes) (p : Pair) → rest pairs from ≡ p ∷ rest pairs (after p.0) → from ≡ at → next ≡ after p.0
-      → more ≡ judged version pairs p → sum ≡ added report more → added report (tally version pairs (rest pairs at)) ≡ total → added sum (tally version pairs (rest pairs next)) ≡ total
-  tally_more total report more sum at from next p found at_is next_is more_is sum_is so_far =
-      ap (λ (r : CheckReport). added r (tally version pairs (rest pairs next))) (sum_is ∙ ap (added report) more_is)
-      ∙ ap (λ (k : Bytes). added (added report (judged version pairs p)) (tally version pairs (rest pairs k))) next_is
-      ∙ added_assoc report (judged version pairs p) (tally version pairs (rest pairs (after p.0)))
-      ∙ ap (λ (l : List Pair). added report (tally version pairs l)) (sym (ap (rest pairs) (sym at_is) ∙ found))
+  pub tally_more : (total report more sum : CheckReport) (here next : List Pair) (p : Pair) → here ≡ p ∷ next
+      → more ≡ judged version pairs p → sum ≡ added report more → added report (tally version pairs here) ≡ total → added sum (tally version pairs next) ≡ total
+  tally_more total report more sum here next p found more_is sum_is so_far =
+      ap (λ (r : CheckReport). added r (tally version pairs next)) (sum_is ∙ ap (added report) more_is)
+      ∙ added_assoc report (judged version pairs p) (tally version pairs next)
+      ∙ ap (λ (l : List Pair). added report (tally version pairs l)) (sym found)
       ∙ so_far
 
-  pub tally_done : (total report : CheckReport) (at from : Bytes) → rest pairs from ≡ [] → from ≡ at → added report (tally version pairs (rest pairs at)) ≡ total → report ≡ total
-  tally_done total report at from none_left at_is so_far =
+  pub tally_done : (total report : CheckReport) (here : List Pair) → here ≡ [] → added report (tally version pairs here) ≡ total → report ≡ total
+  tally_done total report here none_left so_far =
       sym (added_none report)
-      ∙ ap (λ (l : List Pair). added report (tally version pairs l)) (sym (ap (rest pairs) (sym at_is) ∙ none_left))
+      ∙ ap (λ (l : List Pair). added report (tally version pairs l)) (sym none_left)
       ∙ so_far
 
   -- the counts of a tally are those of its parts

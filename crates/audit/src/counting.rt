@@ -7,7 +7,7 @@ use crate::reason::has_reason;
 use crate::report::CheckReport;
 use crate::spelled::{key_of, row_at};
 use crate::wanted::lacking;
-use row_map::{KeyOf, PairView, key_after, next_pair};
+use row_map::{KeyOf, PairView};
 use schema_version::Schema;
 use std::alloc::{AllocError, Global};
 
@@ -58,11 +58,10 @@ fn tallied<V: PairView>(alloc: Global, schema: &Schema, view: &V) -> Result<Chec
         missing: 0,
         extra: 0,
     };
-    let mut from = Vec::new(alloc);
-    while let Some((key, value)) = next_pair(view, from.as_slice()) {
+    let mut walk = view.walk();
+    while let Some((key, value)) = walk.next() {
         let more = judged(alloc, schema, view, key, value)?;
         report = report.and(more)?;
-        from = key_after(alloc, key)?;
     }
     Ok(report)
 }

@@ -1,5 +1,5 @@
 -- The order of keys as a test, and the pairs between two keys.
-use Rattle.std.proofs.Common.{◌≡◌, ◌≢◌, Bool, true, false, not, ◌&&◌, cond, T, List, [], ◌∷◌, ◌++◌, true≢false, append-nil, Option, Some, None, refl, sym, ap, ◌∙◌}
+use Rattle.std.proofs.Common.{◌≡◌, ◌≢◌, Bool, true, false, not, ◌&&◌, cond, T, List, [], ◌∷◌, ◌++◌, true≢false, append-nil, Option, Some, None, refl, sym, ap, subst, ◌∙◌}
 use Rattle.std.specs.declared.cmp.Ordering.{Ordering}
 use Rattle.std.specs.declared.cmp.Ordering.TheVariants.{Less, Equal, Greater}
 use Rattle.std.specs.Ordering.{is_lt, is_le, is_gt, is_eq, ordering_reverse, eq_by_cmp}
@@ -7,6 +7,7 @@ use Rattle.std.specs.Cmp.{upto, tied_itself}
 use Rattle.std.specs.FinMap as map
 use Rattle.std.specs.FinMap.Entries.{find, is_sorted, below_all, where_key, same_entries, find-append}
 use Rattle.byte_map.proofs.Order.{bytes_cmp_total, bytes_cmp-IsAntisymmetric}
+use Rattle.byte_map.proofs.Entries.{find_none, below_from}
 use Rattle.keycode.specs.Order.{bytes_cmp}
 use Rattle.row_map.specs.Rows.{Bytes, Pairs}
 use Rattle.row_map.specs.Ranges.{is_within}
@@ -211,37 +212,54 @@ below_outside q x high e =
     within_is (after x) high q
     ∙ ap (λ t. t && not (le high q)) (not_true (le (after x) q) (sym (lt_is q (after x)) ∙ below_after q x ∙ ap is_le e))
 
-module _ (pairs : Pairs) (low high : Bytes) (p : Pair) (f : Begins pairs low high p) where
+-- a stretch that begins with a pair
+module _ (pairs : Pairs) (low high : Bytes) (p : Pair) (behind : List Pair) (f : stretch pairs low high ≡ p ∷ behind) where
   found : cond (is_within low high p.0) (map.get pairs p.0) None ≡ Some p.1
   found =
       sym (find_stretch pairs low high p.0) ∙ ap (find bytes_cmp p.0) f
-      ∙ ap (λ r. cond (is_eq r) (Some p.1) (find bytes_cmp p.0 (stretch pairs (after p.0) high))) (tied_itself bytes_cmp_total p.0)
+      ∙ ap (λ r. cond (is_eq r) (Some p.1) (find bytes_cmp p.0 behind)) (tied_itself bytes_cmp_total p.0)
 
-  pub first_here : map.get pairs p.0 ≡ Some p.1
-  first_here = (some_in (is_within low high p.0) (map.get pairs p.0) p.1 found).1
+  here : map.get pairs p.0 ≡ Some p.1
+  here = (some_in (is_within low high p.0) (map.get pairs p.0) p.1 found).1
 
-  pub first_reached : le low p.0 ≡ true
-  first_reached = (within_parts low high p.0 (some_in (is_within low high p.0) (map.get pairs p.0) p.1 found).0).0
+  at_low : le low p.0 ≡ true
+  at_low = (within_parts low high p.0 (some_in (is_within low high p.0) (map.get pairs p.0) p.1 found).0).0
 
-  pub first_below : bytes_cmp p.0 high ≡ Less
-  first_below = (within_parts low high p.0 (some_in (is_within low high p.0) (map.get pairs p.0) p.1 found).0).1
+  below : bytes_cmp p.0 high ≡ Less
+  below = (within_parts low high p.0 (some_in (is_within low high p.0) (map.get pairs p.0) p.1 found).0).1
 
   none_before : (q : Bytes) → bytes_cmp q low ≢ Less → bytes_cmp q p.0 ≡ Less → map.get pairs q ≡ None
   none_before q from less =
-      let inside : is_within low high q ≡ true = ap (λ t. t && is_lt (bytes_cmp q high)) (reached (bytes_cmp q low) from) ∙ ap is_lt (bytes_cmp_total.trans q p.0 high less first_below) in
+      let inside : is_within low high q ≡ true = ap (λ t. t && is_lt (bytes_cmp q high)) (reached (bytes_cmp q low) from) ∙ ap is_lt (bytes_cmp_total.trans q p.0 high less below) in
+      let sorted : T (is_sorted bytes_cmp (p ∷ behind)) = subst (λ (l : List Pair). T (is_sorted bytes_cmp l)) f (stretch_sorted pairs low high) in
       sym (ap (λ t. cond t (map.get pairs q) None) inside)
       ∙ sym (find_stretch pairs low high q) ∙ ap (find bytes_cmp q) f
-      ∙ ap (λ t. cond t (Some p.1) (find bytes_cmp q (stretch pairs (after p.0) high))) (below_apart q p.0 less)
-      ∙ find_stretch pairs (after p.0) high q
-      ∙ none_out (is_within (after p.0) high q) (map.get pairs q) (below_outside q p.0 high less)
+      ∙ ap (λ t. cond t (Some p.1) (find bytes_cmp q behind)) (below_apart q p.0 less)
+      ∙ find_none behind q (below_from q p.0 behind less (both_first _ _ sorted))
     where
       reached : (o : Ordering) → o ≢ Less → not (is_lt o) ≡ true
       reached Less n = absurd (n refl)
       reached Equal n = refl
       reached Greater n = refl
 
+  first_next : IsNext pairs low p
+  first_next = record { here = here; reached = not_less p.0 low at_low; first = none_before }
+
+  pub begins : Begins pairs low high p
+  begins = stretch_next pairs low high p first_next below
+
+module _ (pairs : Pairs) (low high : Bytes) (p : Pair) (f : Begins pairs low high p) where
+  pub first_here : map.get pairs p.0 ≡ Some p.1
+  first_here = here pairs low high p (stretch pairs (after p.0) high) f
+
+  pub first_reached : le low p.0 ≡ true
+  first_reached = at_low pairs low high p (stretch pairs (after p.0) high) f
+
+  pub first_below : bytes_cmp p.0 high ≡ Less
+  first_below = below pairs low high p (stretch pairs (after p.0) high) f
+
   next : IsNext pairs low p
-  next = record { here = first_here; reached = not_less p.0 low first_reached; first = none_before }
+  next = first_next pairs low high p (stretch pairs (after p.0) high) f
 
   -- no pair from another start than those before low
   pub first_before : (start : Bytes) → le start low ≡ true → stretch pairs start p.0 ≡ stretch pairs start low

@@ -1,5 +1,5 @@
 -- Reading the pairs of so many items.
-use Rattle.std.proofs.Common.{◌≡◌, ℕ, ◌+◌, Bool, true, [], ◌∷◌, ◌++◌, length, Some, None, refl, sym, ap, subst, ◌∙◌, append-nil, arith, length-append, slice_get, unwrap_or, inl, inr}
+use Rattle.std.proofs.Common.{◌≡◌, ℕ, ◌+◌, Bool, true, [], ◌∷◌, ◌++◌, length, Some, None, refl, sym, ap, subst, ◌∙◌, append-nil, arith, length-append, slice_get, unwrap_or, drop, List, inl, inr}
 use Rattle.std.specs.FinMap as map
 use Rattle.std.specs.declared.cmp.Ordering.TheVariants.{Less}
 use Rattle.std.proofs.lemmas.Option.{slice_get_past, slice_get-get_or}
@@ -16,7 +16,7 @@ use Rattle.reorganise.specs.declared.work.Work.{Work}
 use Rattle.reorganise.specs.Regions.{region_of, is_item, item_key, item_keys, IsItemKey}
 use Rattle.reorganise.specs.Pieces.{part, next_cursor, stretch_read, ComesTo, IsReading}
 use Rattle.reorganise.proofs.Items.{Pair, Begins, one_item, item_keys-cons}
-use Rattle.reorganise.proofs.Order.{le, le_trans, le_itself, less_le, le_after, after_le, join, stretch_itself, first_before, first_more, first_reached, first_below, part_more, same_part, entries-part, get-part, some_in}
+use Rattle.reorganise.proofs.Order.{le, le_trans, le_itself, less_le, le_after, after_le, join, stretch_itself, begins, first_before, first_more, first_reached, first_below, part_more, same_part, entries-part, get-part, some_in}
 
 -- what has been read before `at`, when `left` more items may come
 pub record IsRead (region : Region) (pairs : Pairs) (cursor high : Bytes) (limit : ℕ) (at : Bytes) (left : ℕ) (so_far : Pairs) : Type 0 where
@@ -27,6 +27,12 @@ pub record IsRead (region : Region) (pairs : Pairs) (cursor high : Bytes) (limit
 
 no_part : (pairs : Pairs) (a : Bytes) → map.empty ≡ part pairs a a
 no_part pairs a = sym (map.empty_of_len (part pairs a a) (map.len-entries (part pairs a a) ∙ ap length (entries-part pairs a a ∙ stretch_itself pairs a)))
+
+-- what has been read, and the pairs that are left to read
+pub record IsUnderway (region : Region) (pairs : Pairs) (cursor high : Bytes) (limit : ℕ) (left : ℕ) (so_far : Pairs) (behind : List Pair) : Type 0 where
+  pub at : Bytes
+  pub ahead : stretch pairs at high ≡ behind
+  pub read : IsRead region pairs cursor high limit at left so_far
 
 -- nothing is read at first
 pub none_read : (region : Region) (pairs : Pairs) (cursor high : Bytes) (limit : ℕ) (at : Bytes) (so_far : Pairs) → bytes_cmp cursor high ≡ Less → at ≡ cursor → so_far ≡ map.empty → IsRead region pairs cursor high limit at limit so_far
@@ -88,6 +94,30 @@ module _ (region : Region) (pairs : Pairs) (cursor high : Bytes) (limit : ℕ) (
         all = more_is ∙ ap (λ (m : Pairs). map.insert m p.0 p.1) so_far.all ∙ part_more pairs cursor at high p f so_far.begun;
         counted = omega (arith, so_far.counted, rest_is, ap length keys, length-append (item_keys region (stretch pairs cursor at)) (one_item b p ++ []), length-append (one_item b p) []);
       })
+
+-- ---- on the way, with the pairs that are left
+
+pub underway_first : (region : Region) (pairs : Pairs) (cursor high : Bytes) (limit : ℕ) (so_far : Pairs) (behind : List Pair) → bytes_cmp cursor high ≡ Less → so_far ≡ map.empty → behind ≡ stretch pairs cursor high
+    → IsUnderway region pairs cursor high limit limit so_far behind
+underway_first region pairs cursor high limit so_far behind below none is =
+    record { at = cursor; ahead = sym is; read = none_read region pairs cursor high limit cursor so_far below refl none }
+
+module _ (region : Region) (pairs : Pairs) (cursor high : Bytes) (limit left : ℕ) (some : Pairs) (ahead : List Pair) (so_far : IsUnderway region pairs cursor high limit left some ahead) where
+  pub underway_next : (p : Pair) (behind : List Pair) → ahead ≡ p ∷ behind → Begins pairs so_far.at high p
+  underway_next p behind is = begins pairs so_far.at high p behind (so_far.ahead ∙ is)
+
+  pub underway_none : ahead ≡ [] → stretch pairs so_far.at high ≡ []
+  underway_none is = so_far.ahead ∙ is
+
+  pub underway_more : (p : Pair) (behind : List Pair) → ahead ≡ p ∷ behind → (b : Bool) → is_item region p.0 ≡ b → (more : Pairs) → more ≡ map.insert some p.0 p.1
+      → (rest : ℕ) → length (one_item b p) + rest ≡ left → IsUnderway region pairs cursor high limit rest more behind
+  underway_more p behind is b item more more_is rest rest_is =
+      let begun = underway_next p behind is in
+      record {
+        at = after p.0;
+        ahead = ap (drop 1) (sym begun ∙ so_far.ahead ∙ is);
+        read = read_more region pairs cursor high limit so_far.at left some so_far.read p begun b item more more_is (after p.0) refl rest rest_is;
+      }
 
 -- what was read is a reading
 pub reading_made : (region : Region) (pairs : Pairs) (cursor high : Bytes) (limit : ℕ) (element : ElementDef) (kind : Work) (piece : ℕ) (low end : Bytes) (read : Stretch)

@@ -8,7 +8,7 @@ use crate::region::{Region, back, front, is_item, region_of};
 use crate::work::{Progress, Span, Work};
 use byte_map::Bytes;
 use listed::Listed;
-use row_map::{PairView, key_after, next_within};
+use row_map::PairView;
 use schema_version::ElementDef;
 use std::alloc::{AllocError, Global};
 
@@ -32,15 +32,14 @@ pub(crate) fn shared(bytes: &Bytes) -> Result<Bytes, AllocError>
 fn item_keys<V: PairView>(alloc: Global, region: Region, view: &V) -> Result<Vec<Bytes>, AllocError>
     ensures { IfOk result (λ keys. keys.items ≡ items region (V.pairs view.now)) }
 {
+    let low = front(alloc, region)?;
     let high = back(alloc, region)?;
     let mut keys = Vec::new(alloc);
-    let mut at = Vec::new(alloc);
-    at.extend_from_slice(front(alloc, region)?.as_slice())?;
-    while let Some((key, _)) = next_within(view, at.as_slice(), high.as_slice()) {
+    let mut walk = view.walk_within(low.as_slice(), high.as_slice());
+    while let Some((key, _)) = walk.next() {
         if is_item(alloc, region, key)? {
             keys.push(copied(alloc, key)?)?;
         }
-        at = key_after(alloc, key)?;
     }
     Ok(keys)
 }

@@ -13,7 +13,7 @@ use crate::region::{Region, is_item, region_of};
 use crate::view::PieceView;
 use crate::work::{Progress, Span, Work};
 use byte_map::{Bytes, KeyMap};
-use row_map::{PairView, Stretch, key_after, next_within};
+use row_map::{PairView, Stretch};
 use schema_version::ElementDef;
 use std::alloc::{AllocError, Global};
 
@@ -52,9 +52,8 @@ fn read_stretch<V: PairView>(
 {
     let mut pairs = KeyMap::new(alloc);
     let mut left = limit;
-    let mut at = Vec::new(alloc);
-    at.extend_from_slice(cursor)?;
-    while let Some((key, value)) = next_within(view, at.as_slice(), high) {
+    let mut walk = view.walk_within(cursor, high);
+    while let Some((key, value)) = walk.next() {
         if is_item(alloc, region, key)? {
             if left == 0 {
                 let low = copied(alloc, cursor)?;
@@ -65,7 +64,6 @@ fn read_stretch<V: PairView>(
         }
         let name = copied(alloc, key)?;
         pairs.insert(name, copied(alloc, value)?)?;
-        at = key_after(alloc, key)?;
     }
     let low = copied(alloc, cursor)?;
     let high = copied(alloc, high)?;

@@ -11,7 +11,7 @@ use crate::query::{Cond, Query};
 use crate::scan::row_by_key;
 use keycode::{KeyFault, Value, Values};
 use listed::Listed;
-use row_map::{KeyOf, PairView, Row, key_after, next_within, read_key};
+use row_map::{KeyOf, PairView, Row, read_key};
 use std::alloc::{AllocError, Global};
 use std::collections::BTreeSet;
 
@@ -69,13 +69,13 @@ fn gather<V: PairView>(
     ensures { IfOk result (λ keys. keys.keys ≡ gathered number width [] (stretch (V.pairs view.now) (low_bound number condition.now) (high_bound number condition.now))) }
 {
     let mut keys = BTreeSet::new(alloc);
-    let mut low = low_of(alloc, number, condition)?;
+    let low = low_of(alloc, number, condition)?;
     let high = high_of(alloc, number, condition)?;
-    while let Some((bytes, _)) = next_within(view, low.as_slice(), high.as_slice()) {
+    let mut walk = view.walk_within(low.as_slice(), high.as_slice());
+    while let Some((bytes, _)) = walk.next() {
         if let Some(key) = key_in_pair(alloc, number, width, bytes)? {
             add_key(&mut keys, key)?;
         }
-        low = key_after(alloc, bytes)?;
     }
     Ok(keys)
 }

@@ -11,7 +11,7 @@ use crate::query::Query;
 use crate::reading::{cells, cut_to};
 use keycode::{KeyFault, Value, Values};
 use listed::Listed;
-use row_map::{KeyOf, PairView, Row, exists_key, key_after, next_within, read_key};
+use row_map::{KeyOf, PairView, Row, exists_key, read_key};
 use std::alloc::{AllocError, Global};
 
 /// The row, if it meets every condition.
@@ -95,13 +95,13 @@ pub(crate) fn scan<V: PairView>(
     ensures { IfOk result (λ rows. rows.items ≡ rows_at (V.pairs view.now) columns.now query.now (stretch (V.pairs view.now) (table_prefix query.now.table) (table_end query.now.table))) }
 {
     let mut rows = Vec::new(alloc);
-    let mut low = prefix_of(alloc, b'R', query.table)?;
+    let low = prefix_of(alloc, b'R', query.table)?;
     let high = end_of(alloc, query.table)?;
-    while let Some((key, _)) = next_within(view, low.as_slice(), high.as_slice()) {
+    let mut walk = view.walk_within(low.as_slice(), high.as_slice());
+    while let Some((key, _)) = walk.next() {
         if let Some(row) = row_by_pair(alloc, view, columns, query, key)? {
             rows.push(row)?;
         }
-        low = key_after(alloc, key)?;
     }
     Ok(rows)
 }

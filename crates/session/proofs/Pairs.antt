@@ -4,8 +4,6 @@ use Rattle.std.proofs.lemmas.List.{append-nil}
 use Rattle.std.specs.List.{flat_map}
 use Rattle.std.specs.FinMap as map
 use Rattle.row_map.specs.Rows.{Bytes, Pairs}
-use Rattle.row_map.specs.Walk.{rest}
-use Rattle.row_map.proofs.Walks.{rest_all}
 use Rattle.replies.specs.Texts.{pair_line}
 
 pub told_more : (text more : List ℕ) (pair : Bytes × Bytes) (here next : List (Bytes × Bytes)) (all : List ℕ) → here ≡ pair ∷ next → text ++ flat_map pair_line here ≡ all → more ≡ text ++ pair_line pair → more ++ flat_map pair_line next ≡ all
@@ -27,8 +25,6 @@ fewer pair here next cut = omega (arith, ap length cut)
 pub counted_all : (n all : ℕ) (here : List (Bytes × Bytes)) → here ≡ [] → n + length here ≡ all → n ≡ all
 counted_all n all here none counted = omega (arith, counted, ap length none)
 
-pub from_start : (pairs : Pairs) (text from : List ℕ) → text ≡ [] → from ≡ [] →
-    (text ++ flat_map pair_line (rest pairs from) ≡ flat_map pair_line (map.entries pairs)) × (0 + length (rest pairs from) ≡ length (map.entries pairs))
-from_start pairs text from none start =
-    let all : rest pairs from ≡ map.entries pairs = ap (rest pairs) start ∙ rest_all pairs in
-    (ap (λ (t : List ℕ). t ++ flat_map pair_line (rest pairs from)) none ∙ ap (flat_map pair_line) all, omega (arith, ap length all))
+pub from_start : (pairs : Pairs) (text : List ℕ) (ahead : List (Bytes × Bytes)) → text ≡ [] → ahead ≡ map.entries pairs →
+    (text ++ flat_map pair_line ahead ≡ flat_map pair_line (map.entries pairs)) × (0 + length ahead ≡ length (map.entries pairs))
+from_start pairs text ahead none all = (ap (λ (t : List ℕ). t ++ flat_map pair_line ahead) none ∙ ap (flat_map pair_line) all, omega (arith, ap length all))

@@ -22,7 +22,7 @@ use grammar::{Command, Operation};
 use keycode::Text;
 use lease::Lease;
 use replies::{check_line, grant_refusal, lease_line, push_number, push_pair};
-use row_map::{key_after, next_pair};
+use row_map::PairView;
 use status_line::status_line;
 use std::alloc::{AllocError, Global};
 use world::World;
@@ -88,14 +88,13 @@ fn all_pairs(alloc: Global, world: &World) -> Result<(String, u64), AllocError>
 {
     let mut text = String::new(alloc);
     let mut number = 0u64;
-    let mut from = Vec::new(alloc);
-    while let Some((key, value)) = next_pair(world, from.as_slice()) {
+    let mut walk = world.walk();
+    while let Some((key, value)) = walk.next() {
         push_pair(&mut text, key, value)?;
         if number == u64::MAX {
             return Err(AllocError);
         }
         number += 1;
-        from = key_after(alloc, key)?;
     }
     Ok((text, number))
 }

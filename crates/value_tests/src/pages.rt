@@ -1,7 +1,7 @@
 //! Stores of many pages: beside a plain sorted list, and beside what a snapshot keeps.
 use crate::fixtures::{byte, bytes};
 use byte_map::{Bytes, KeyMap};
-use row_map::{Batch, Expect, PairView, key_after};
+use row_map::{Batch, Expect, PairView};
 use std::alloc::{AllocError, Global};
 use std::test::*;
 use txn_store::{SetFault, Store};
@@ -117,7 +117,9 @@ fn walked<P: PairView>(alloc: Global, view: &P) -> Result<usize, AllocError> {
         let Some((key, _)) = view.next_at(from.as_slice()) else {
             return Ok(count);
         };
-        from = key_after(alloc, key)?;
+        from = Vec::new(alloc);
+        from.extend_from_slice(key)?;
+        from.push(0)?;
     }
     Ok(200)
 }

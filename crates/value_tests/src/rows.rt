@@ -7,7 +7,7 @@ use keycode::{KeyFault, Value};
 use listed::Listed;
 use row_map::{
     Batch, ColumnType, KeyOf, Row, ShapeFault, TableShape, Write, check_row, column_key,
-    exists_key, fits, index_key, key_after, read_key, row_from_pairs,
+    exists_key, fits, index_key, read_key, row_from_pairs,
 };
 use std::alloc::{AllocError, Global};
 
@@ -271,17 +271,3 @@ fn batches_note_their_writes(rt: HostRuntime) {
     assert!(rt; noted(rt.alloc()) == Ok((3, true, true, true)));
 }
 
-fn is_after(alloc: Global, key: &[u8], after: &[u8]) -> Result<bool, AllocError> {
-    Ok(key_after(alloc, key)?.as_slice() == after)
-}
-
-#[test]
-fn a_zero_makes_the_key_after(rt: HostRuntime) {
-    let first = is_after(rt.alloc(), [].as_slice(), [0].as_slice());
-    let other = is_after(
-        rt.alloc(),
-        [0x52, 0xff].as_slice(),
-        [0x52, 0xff, 0].as_slice(),
-    );
-    assert!(rt; (first, other) == (Ok(true), Ok(true)));
-}

@@ -1,7 +1,7 @@
 //! What a store writes, and what it refuses.
 use crate::fixtures::{are, byte, byte_or_none, writes, written};
 use byte_map::{KeyMap, sorted};
-use row_map::{Batch, Expect, PairView, ReadView, Stretch, next_pair, next_within};
+use row_map::{Batch, Expect, PairView, ReadView, Stretch};
 use std::alloc::{AllocError, Global};
 use txn_store::{Range, SetFault, Store};
 
@@ -206,8 +206,8 @@ fn found<P: PairView>(view: &P, key: &[u8], high: &[u8]) -> Found {
     };
     (
         value,
-        plain(next_pair(view, key)),
-        plain(next_within(view, key, high)),
+        plain(view.next_at(key)),
+        plain(view.walk_within(key, high).next()),
     )
 }
 

@@ -21,7 +21,7 @@ use lease::{Lease, Timeline};
 use listed::{Counted, Listed};
 use reorganise::Progress;
 use replay::{Entry, What, kept_agrees, leases_keep, openings_keep, transactions_keep};
-use row_map::{PairView, ReadSet, ReadView, Row};
+use row_map::{PairView, ReadSet, ReadView, Row, Walk};
 use row_query::{Query, answer, one_refusal};
 use row_write::{Prepared, RowOutcome};
 use schema_version::Schema;
@@ -326,5 +326,13 @@ impl PairView for World {
 
     fn next_at(&self, key: &[u8]) -> Option<(&[u8], &[u8])> {
         self.store.next_at(key)
+    }
+
+    fn walk(&self) -> Walk<'_> {
+        self.store.walk()
+    }
+
+    fn walk_within<'a>(&'a self, low: &[u8], high: &'a [u8]) -> Walk<'a> {
+        self.store.walk_within(low, high)
     }
 }
