@@ -59,22 +59,22 @@ below (suc n) at a b less =
     let p = bytes_cmp (bytes_at n (suc at) a) (bytes_at n (suc at) b) in
     elim (place at a) [
       | inl ea ↦ elim (place at b) [
-          | inl eb ↦
-              (λ i. bytes_cmp ((ea.done ∙ sym ea.behind) i) ((eb.done ∙ sym eb.behind) i))
-              ∙ below n (suc at) a b (behind_less (nat_cmp (get_or a at 0) (get_or b at 0)) p (λ i. nat_cmp (ea.none i) (eb.none i)) less)
-          | inr mb ↦ λ i. bytes_cmp (ea.done i) (mb.here i)
-        ]
+        | inl eb ↦
+            (λ i. bytes_cmp ((ea.done ∙ sym ea.behind) i) ((eb.done ∙ sym eb.behind) i))
+            ∙ below n (suc at) a b (behind_less (nat_cmp (get_or a at 0) (get_or b at 0)) p (λ i. nat_cmp (ea.none i) (eb.none i)) less)
+        | inr mb ↦ λ i. bytes_cmp (ea.done i) (mb.here i)
+      ]
       | inr ma ↦ elim (place at b) [
-          | inl eb ↦
-              absurd (past_end (nat_cmp ma.byte 0) p ma.others (not_below_zero ma.byte)
-              (sym (λ i. ordering_then (nat_cmp (ma.first i) (eb.none i)) p) ∙ less)
-              (λ e. sym (λ i. bytes_cmp (ma.behind i) (eb.behind i)) ∙ below n (suc at) a b e))
-          | inr mb ↦
-              (λ i. bytes_cmp (ma.here i) (mb.here i))
-              ∙ then_less (nat_cmp ma.byte mb.byte) p (bytes_cmp ma.others mb.others)
-              (sym (λ i. ordering_then (nat_cmp (ma.first i) (mb.first i)) p) ∙ less)
-              (λ e. sym (λ i. bytes_cmp (ma.behind i) (mb.behind i)) ∙ below n (suc at) a b e)
-        ]
+        | inl eb ↦
+            absurd (past_end (nat_cmp ma.byte 0) p ma.others (not_below_zero ma.byte)
+            (sym (λ i. ordering_then (nat_cmp (ma.first i) (eb.none i)) p) ∙ less)
+            (λ e. sym (λ i. bytes_cmp (ma.behind i) (eb.behind i)) ∙ below n (suc at) a b e))
+        | inr mb ↦
+            (λ i. bytes_cmp (ma.here i) (mb.here i))
+            ∙ then_less (nat_cmp ma.byte mb.byte) p (bytes_cmp ma.others mb.others)
+            (sym (λ i. ordering_then (nat_cmp (ma.first i) (mb.first i)) p) ∙ less)
+            (λ e. sym (λ i. bytes_cmp (ma.behind i) (mb.behind i)) ∙ below n (suc at) a b e)
+      ]
     ]
 
 pub front_less : (a b : List ℕ) → bytes_cmp (front_of a) (front_of b) ≡ Less → bytes_cmp a b ≡ Less

@@ -270,4 +270,3 @@ fn noted(alloc: Global) -> Result<(usize, bool, bool, bool), AllocError> {
 fn batches_note_their_writes(rt: HostRuntime) {
     assert!(rt; noted(rt.alloc()) == Ok((3, true, true, true)));
 }
-
