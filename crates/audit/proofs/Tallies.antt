@@ -1,9 +1,9 @@
 -- Sums of what pairs count for.
-use Rattle.std.proofs.Common.{◌≡◌, ℕ, ◌+◌, Bool, true, false, not, cond, List, [], ◌∷◌, refl, sym, ap, subst, ◌∙◌, add_assoc, zero-add, add-zero, arith}
+use Rattle.std.proofs.Common.{◌≡◌, not, cond, List, [], ◌∷◌, refl, sym, ap, ◌∙◌, add_assoc, zero-add, add-zero}
 use Rattle.std.specs.Prelude.{count_by, sum_by}
 use Rattle.std.specs.FinMap as map
 use Rattle.std.proofs.lemmas.List.Recursion.{is_sum_by}
-use Rattle.row_map.specs.Rows.{Bytes, Pairs}
+use Rattle.row_map.specs.Rows.{Pairs}
 use Rattle.schema_version.specs.Version.{Version}
 use Rattle.audit.specs.declared.report.CheckReport.{CheckReport}
 use Rattle.audit.specs.Audit.{Pair, IsAudit, is_exists_pair, missing_beside, has_reason, judged, added, tally}

@@ -5,7 +5,7 @@ use Rattle.keycode.specs.declared.fault.KeyFault.{KeyFault}
 use Rattle.keycode.specs.declared.value.Value.{Value}
 use Rattle.keycode.specs.Reading.{value_at}
 use Rattle.row_map.specs.declared.key.KeyOf.{KeyOf}
-use Rattle.row_map.specs.declared.key.KeyOf.TheVariants.{Exists, Column, Index}
+use Rattle.row_map.specs.declared.key.KeyOf.TheVariants.{Exists}
 use Rattle.row_map.specs.declared.shape.ColumnType.{ColumnType}
 use Rattle.row_map.specs.declared.shape.Row.{Row}
 use Rattle.row_map.specs.Keys.{row_code}

@@ -1,12 +1,11 @@
 //! The rows that a store's pairs spell.
 ghost use Rattle.std.specs.Prelude.{◌≡◌, IfOk, option_map, filter_map};
-ghost use Rattle.schema_version.specs.Version.{is_public as is_public_of};
 ghost use Rattle.audit.specs.Spelled.{key_read, spelled as spelled_of, public_type as public_type_of, stored_cell as stored_cell_of, row_at as row_at_of, is_row as is_row_of};
 
 use keycode::{KeyFault, Value, Values, read_value};
 use listed::Listed;
 use row_map::{ColumnType, KeyOf, PairView, Row, column_key, exists_key, fits, read_key};
-use schema_version::{ElementDef, ElementState, Kind, Schema};
+use schema_version::{ElementDef, Schema};
 use std::alloc::{AllocError, Global};
 
 // What a key is the key of, if it is one.
@@ -60,23 +59,14 @@ fn spelled(
     }
 }
 
-pub(crate) fn is_public(state: ElementState) -> bool
-    ensures { result ≡ is_public_of state }
-{
-    matches!(state, ElementState::Public)
-}
-
 // The type of a public column of the table.
 fn public_type(element: &ElementDef, table: u32) -> Option<ColumnType>
     ensures { result ≡ public_type_of table element.now }
 {
-    if element.table != table || !is_public(element.state) {
+    if element.table != table || !element.state.is_public() {
         return None;
     }
-    match element.kind {
-        Kind::Index(_) => None,
-        Kind::Optional(kind) => Some(kind),
-    }
+    element.kind.column_type()
 }
 
 // The cell that a row has for an element.

@@ -3,7 +3,6 @@ ghost use Rattle.std.specs.Prelude.{◌≡◌, IfOk, option_map, count_by};
 ghost use Rattle.audit.specs.Audit.{given as given_of, is_absent as is_absent_of, lacks as lacks_of};
 ghost use Rattle.schema_version.specs.Version.{live};
 
-use crate::spelled::is_public;
 use byte_map::Bytes;
 use element_state::{AnyElement, Element};
 use row_map::{PairView, Row};
@@ -44,7 +43,7 @@ fn lacks<V: PairView>(
 ) -> Result<bool, AllocError>
     ensures { IfOk result (λ b. b ≡ lacks_of (V.pairs view.now) table row.now element.now) }
 {
-    if element.table != table || !is_public(element.state) {
+    if element.table != table || !element.state.is_public() {
         return Ok(false);
     }
     let pair = given(alloc, element, row)?;

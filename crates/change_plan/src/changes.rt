@@ -7,7 +7,7 @@ ghost use Rattle.change_plan.specs.Deciding.{adds_index_on as adds_index_on_of};
 ghost use Rattle.change_plan.specs.Schedule.{is_early as is_early_of, is_late as is_late_of};
 
 use crate::change::Change;
-use crate::finding::{is_like, lists, named_index};
+use crate::finding::{lists, named_index};
 use keycode::Text;
 use schema_version::Schema;
 
@@ -108,7 +108,7 @@ pub(crate) fn adds_like(change: &Change, table: u32, index: bool) -> bool
             table: other,
             kind,
             ..
-        } => *other == table && is_like(index, kind),
+        } => *other == table && kind.is_like(index),
         Change::DropIndex { .. } | Change::DropColumn { .. } => false,
     }
 }

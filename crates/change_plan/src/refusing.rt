@@ -2,7 +2,6 @@
 ghost use Rattle.std.specs.Prelude.{◌≡◌, ◌+◌, ◌==◌, ◌&&◌, count_by, nat_lt};
 ghost use Rattle.std.specs.List.{list_any};
 ghost use Rattle.schema_version.specs.declared.element.ElementDef.{ElementDef as ElementDefinition};
-ghost use Rattle.schema_version.specs.Version.{is_like as is_like_of};
 ghost use Rattle.change_plan.specs.Batches.{named_index as named_index_of, named_column as named_column_of, drops_column as drops_column_of};
 ghost use Rattle.change_plan.specs.Refusals.{adds_like as adds_like_of, is_addition as is_addition_of};
 ghost use Rattle.change_plan.specs.Deciding.{lacks_column as lacks_column_of, is_taken as is_taken_of, is_in_change as is_in_change_of, still_lists as still_lists_of, is_listed as is_listed_of, is_over as is_over_of, add_index_check, drop_index_check, add_column_check, drop_column_check, change_check, batch_check};
@@ -13,17 +12,12 @@ use crate::changes::{
     is_addition,
 };
 use crate::fault::PlanFault;
-use crate::finding::{
-    has_key_column, is_index, is_like, is_public, lists, named_column, named_index,
-};
+use crate::finding::{lists, named_column, named_index};
 use keycode::Text;
-use schema_version::{ElementDef, Kind, Schema, is_name, is_name_list};
-
-const MAX_COLUMNS: usize = 32;
-
-const MAX_INDEXES: usize = 16;
-
-const MAX_ELEMENTS: usize = 1_000_000;
+use schema_version::{
+    ElementDef, Kind, MAX_COLUMNS, MAX_ELEMENTS, MAX_INDEXES, Schema, elements_like, is_name,
+    is_name_list,
+};
 
 // Whether the table has no live column of this name, and the batch adds none.
 fn lacks_column(schema: &Schema, all: &[Change], table: u32, name: &Text) -> bool
@@ -50,7 +44,7 @@ fn any_dropped(all: &[Change], table: u32, columns: &[Text]) -> bool
 fn is_taken(schema: &Schema, earlier: &[Change], table: u32, name: &Text) -> bool
     ensures { result ≡ is_taken_of schema.now earlier.now table name.now }
 {
-    has_key_column(schema, table, name)
+    schema.has_key_column(table, name.as_bytes())
         || schema.by_name(table, name.as_str()).is_some()
         || any_adds(earlier, table, name)
 }
@@ -59,7 +53,7 @@ fn is_index_in_change(schema: &Schema, table: u32, name: &Text) -> bool
     ensures { result ≡ is_in_change_of (named_index_of schema.now table name.now) }
 {
     match named_index(schema, table, name) {
-        Some(index) => !is_public(index.state),
+        Some(index) => !index.state.is_public(),
         None => false,
     }
 }
@@ -68,7 +62,7 @@ fn is_column_in_change(schema: &Schema, table: u32, name: &Text) -> bool
     ensures { result ≡ is_in_change_of (named_column_of schema.now table name.now) }
 {
     match named_column(schema, table, name) {
-        Some(column) => !is_public(column.state),
+        Some(column) => !column.state.is_public(),
         None => false,
     }
 }
@@ -106,16 +100,6 @@ fn any_still_lists(elements: &[ElementDef], all: &[Change], column: u32) -> bool
     ensures { result ≡ list_any (still_lists_of all.now column) elements.now }
 {
     elements.iter().any(|e| still_lists(all, column, e))
-}
-
-// How many of the elements are indexes of the table, or else how many are its columns.
-fn elements_like(elements: &[ElementDef], table: u32, index: bool) -> usize
-    ensures { result ≡ count_by (λ (element : ElementDefinition). (element.table == table) && is_like_of index element.kind) elements.now }
-{
-    elements
-        .iter()
-        .filter(|e| e.table == table && is_like(index, &e.kind))
-        .count()
 }
 
 // How many indexes of the table the changes add, or else how many columns.
@@ -206,7 +190,7 @@ fn check_added_column(
     requires { next ≡ schema.now.next }
     ensures { result ≡ add_column_check schema.now all.now earlier.now table name.now kind.now }
 {
-    if schema.table_name(table).is_none() || is_index(kind) {
+    if schema.table_name(table).is_none() || kind.is_index() {
         return Err(PlanFault::Unknown);
     }
     if is_taken(schema, earlier, table, name) {

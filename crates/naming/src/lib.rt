@@ -8,4 +8,4 @@ mod rows;
 
 pub use changes::changes_of;
 pub use moves::step_of;
-pub use rows::{asked, element_number, element_of, is_public_column, resolved_all, table_number};
+pub use rows::{asked, element_number, element_of, resolved_all, table_number};

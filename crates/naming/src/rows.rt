@@ -1,7 +1,7 @@
 //! The names of operations and queries, looked up in a version of the schema.
 ghost use Rattle.std.specs.Prelude.{◌≡◌, IfOk};
 ghost use mathlib.Core.List.{map};
-ghost use Rattle.schema_version.specs.Version.{is_public_column, public_columns};
+ghost use Rattle.schema_version.specs.Version.{public_columns};
 ghost use Rattle.naming.specs.Names.{table_number, element_number, numbered, named_cells, resolved, resolved_all, column_numbers, looked_up, asked};
 
 use grammar::{Condition, ElementName, Operation, Selection};
@@ -9,7 +9,7 @@ use keycode::{Text, Value, Values};
 use listed::Listed;
 use row_query::{Cond, Query};
 use row_write::{RowOp, RowOps};
-use schema_version::{ElementDef, ElementState, Kind, Schema};
+use schema_version::Schema;
 use std::alloc::{AllocError, Global};
 
 /// The number of a table, or 0.
@@ -102,22 +102,13 @@ pub fn resolved_all(
     Ok(Listed::new(ops))
 }
 
-/// Whether the element is a public column of the table.
-pub fn is_public_column(element: &ElementDef, table: u32) -> bool
-    ensures { result ≡ is_public_column table element.now }
-{
-    element.table == table
-        && matches!(element.state, ElementState::Public)
-        && matches!(element.kind, Kind::Optional(_))
-}
-
 fn all_columns(alloc: Global, schema: &Schema, table: u32) -> Result<Vec<u32>, AllocError>
     ensures { IfOk result (λ columns. columns.items ≡ map (λ e. e.number) (public_columns schema.now table)) }
 {
     schema
         .elements()
         .iter()
-        .filter(|e| is_public_column(*e, table))
+        .filter(|e| e.is_public_column(table))
         .map(|e| e.number)
         .collect(alloc)
 }

@@ -10,7 +10,6 @@ ghost use Rattle.replies.specs.Rows.{is_shown, shown, joined, value_or_null, cel
 use crate::numbers::push_number;
 use grammar::push_value;
 use keycode::{Text, Value};
-use naming::is_public_column;
 use row_map::Row;
 use row_query::Query;
 use schema_version::{ElementDef, Schema};
@@ -25,7 +24,7 @@ fn is_named(columns: &[u32], number: u32) -> bool
 fn is_shown(query: &Query, element: &ElementDef) -> bool
     ensures { result ≡ is_shown query.now element.now }
 {
-    is_public_column(element, query.table) && is_named(query.columns.as_slice(), element.number)
+    element.is_public_column(query.table) && is_named(query.columns.as_slice(), element.number)
 }
 
 // The columns that a query shows, by rising number, each with its name.

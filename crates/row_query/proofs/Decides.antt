@@ -19,7 +19,8 @@ use Rattle.row_query.specs.declared.fault.QueryFault.TheVariants.{NoTable, NotPu
 use Rattle.row_query.specs.declared.query.Cond.{Cond}
 use Rattle.row_query.specs.declared.query.Cond.TheVariants.{Key, Equal, Between}
 use Rattle.row_query.specs.declared.query.Query.{Query}
-use Rattle.row_query.specs.Checked.{column_type, is_key_for, may_equal, is_bound, tested, condition_check, conditions_check, columns_check, check_in, query_check}
+use Rattle.schema_version.specs.Columns.{column_type}
+use Rattle.row_query.specs.Checked.{is_key_for, may_equal, is_bound, tested, condition_check, conditions_check, columns_check, check_in, query_check}
 use Rattle.row_query.specs.Kinds.{has_kind}
 use Rattle.row_query.specs.Refused.{IsColumn, IsHidden, Part, Named, Where, parts, IsBadBound, PartFault, rank, IsFirstPartFault, IsRefused, IsSound}
 use Rattle.row_query.proofs.Columns.{column_says, column_from}

@@ -30,7 +30,8 @@ use Rattle.row_query.specs.declared.query.Cond.TheVariants.{Key, Equal as Same, 
 use Rattle.row_query.specs.declared.query.Query.{Query}
 use Rattle.row_query.specs.Answer.{meets, is_named, plain_answer}
 use Rattle.row_query.specs.Bounds.{first_key}
-use Rattle.row_query.specs.Checked.{column_type, public_numbers, may_equal, is_bound, tested, condition_check, conditions_check, columns_check, check_in, query_check, AreKnown}
+use Rattle.schema_version.specs.Columns.{column_type}
+use Rattle.row_query.specs.Checked.{public_numbers, may_equal, is_bound, tested, condition_check, conditions_check, columns_check, check_in, query_check, AreKnown}
 use Rattle.row_query.specs.Found.{cells_in, row_of, row_in, one_row}
 use Rattle.element_state.specs.Elements.{HasForm}
 use Rattle.row_query.proofs.Columns.{type_named, both_true}

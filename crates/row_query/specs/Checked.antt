@@ -1,6 +1,6 @@
 -- The tests by which a query's fault is found, in the order in which they are made.
-use Rattle.std.specs.Prelude.{ℕ, List, [], ◌∷◌, Option, Some, None, Bool, true, ◌&&◌, ◌||◌, ◌==◌, Result, Ok, Err, option_map, is_some, if◌then◌else◌, filter}
-use Rattle.std.specs.List.{AllByRecursion, find}
+use Rattle.std.specs.Prelude.{ℕ, List, [], ◌∷◌, Option, Some, None, Bool, true, ◌&&◌, ◌||◌, Result, Ok, Err, option_map, is_some, if◌then◌else◌, filter}
+use Rattle.std.specs.List.{AllByRecursion}
 use Rattle.std.specs.Cmp.Lexicographic.{pointwise}
 use mathlib.Core.List.{map as each}
 use Rattle.listed.specs.Answers.{◌>>>=◌}
@@ -9,25 +9,14 @@ use Rattle.keycode.specs.Valid.{IsValue, AreValues}
 use Rattle.row_map.specs.declared.shape.ColumnType.{ColumnType}
 use Rattle.row_map.specs.Shape.{is_null}
 use Rattle.schema_version.specs.declared.element.ElementDef.{ElementDef}
-use Rattle.schema_version.specs.Version.{Version, Table, table_at, live, is_public, type_of_kind, is_public_column}
+use Rattle.schema_version.specs.Columns.{column_type}
+use Rattle.schema_version.specs.Version.{Version, Table, table_at, live, is_public_column}
 use Rattle.row_query.specs.declared.fault.QueryFault.{QueryFault}
 use Rattle.row_query.specs.declared.fault.QueryFault.TheVariants.{NoTable, NotPublic, WrongType}
 use Rattle.row_query.specs.declared.query.Cond.{Cond}
 use Rattle.row_query.specs.declared.query.Cond.TheVariants.{Key, Equal, Between}
 use Rattle.row_query.specs.declared.query.Query.{Query}
 use Rattle.row_query.specs.Kinds.{has_kind}
-
--- whether this is the public element of the table under the number
-abbrev pub is_shown : ℕ → ℕ → ElementDef → Bool
-is_shown table number element = (element.number == number) && ((element.table == table) && is_public element.state)
-
-abbrev pub type_in : Option ElementDef → Option ColumnType
-type_in None = None
-type_in (Some element) = type_of_kind element.kind
-
--- the type of the public column of the table under the number
-abbrev pub column_type : List ElementDef → ℕ → ℕ → Option ColumnType
-column_type elements table number = type_in (find (is_shown table number) elements)
 
 -- the numbers of the public columns of a table, rising
 abbrev pub public_numbers : List ElementDef → ℕ → List ℕ

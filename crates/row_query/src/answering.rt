@@ -11,7 +11,7 @@ ghost use Rattle.row_query.specs.Refused.{IsRefused, IsSound};
 use crate::checking::{check_query, public_numbers};
 use crate::fault::QueryFault;
 use crate::gathering::walk_index;
-use crate::path::{leading_condition, listed_columns, serving_index, wanted_key};
+use crate::path::{leading_condition, serving_index, wanted_key};
 use crate::query::Query;
 use crate::scan::{row_by_key, scan};
 use keycode::Values;
@@ -61,7 +61,7 @@ fn find<V: PairView>(
         return by_key(alloc, view, columns, query, key);
     }
     if let Some(element) = serving_index(elements, query) {
-        let listed = listed_columns(&element.kind);
+        let listed = element.kind.listed();
         if let Some(condition) = leading_condition(conditions, listed) {
             let (number, width) = (element.number, listed.len());
             return walk_index(alloc, view, columns, query, number, width, condition);

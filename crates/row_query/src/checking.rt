@@ -1,10 +1,7 @@
 //! Whether a query is of a known table, public columns and values of their kinds.
 ghost use Rattle.std.specs.Prelude.{◌≡◌, true, OnOk, IfOk, IfErr, Ok};
-ghost use Rattle.std.specs.List.{find};
-ghost use Rattle.std.specs.Option.{option_copied};
 ghost use Rattle.keycode.specs.Valid.{IsValue, AreValues};
-ghost use Rattle.schema_version.specs.Version.{is_public as is_public_of, is_public_column as is_public_column_of};
-ghost use Rattle.row_query.specs.Checked.{is_shown as is_shown_of, column_type as column_type_of, public_numbers as public_numbers_of, is_key_for as is_key_for_of, may_equal as may_equal_of, is_bound as is_bound_of, condition_check, conditions_check, columns_check, query_check, IsKnownBound, IsKnown, AreKnown};
+ghost use Rattle.row_query.specs.Checked.{public_numbers as public_numbers_of, is_key_for as is_key_for_of, may_equal as may_equal_of, is_bound as is_bound_of, condition_check, conditions_check, columns_check, query_check, IsKnownBound, IsKnown, AreKnown};
 ghost use Rattle.row_query.specs.Kinds.{has_kind as has_kind_of};
 ghost use Rattle.row_query.specs.Refused.{IsRefused, IsSound};
 
@@ -12,43 +9,8 @@ use crate::fault::QueryFault;
 use crate::query::{Cond, Query};
 use keycode::{Text, Value};
 use row_map::ColumnType;
-use schema_version::{ElementDef, ElementState, Kind, Schema};
+use schema_version::{ElementDef, Schema, public_column_type};
 use std::alloc::{AllocError, Global};
-
-/// Whether queries may read an element in this state.
-pub(crate) fn is_public(state: ElementState) -> bool
-    ensures { result ≡ is_public_of state }
-{
-    matches!(state, ElementState::Public)
-}
-
-fn is_shown(element: &ElementDef, table: u32, number: u32) -> bool
-    ensures { result ≡ is_shown_of table number element.now }
-{
-    element.number == number && (element.table == table && is_public(element.state))
-}
-
-fn found(elements: &[ElementDef], table: u32, number: u32) -> Option<&ElementDef>
-    ensures { option_copied result ≡ find (is_shown_of table number) elements.now }
-{
-    elements.iter().find(|e| is_shown(*e, table, number))
-}
-
-/// The type of a public column of the table.
-fn column_type(elements: &[ElementDef], table: u32, number: u32) -> Option<ColumnType>
-    ensures { result ≡ column_type_of elements.now table number }
-{
-    match &found(elements, table, number)?.kind {
-        Kind::Index(_) => None,
-        Kind::Optional(kind) => Some(*kind),
-    }
-}
-
-fn is_public_column(element: &ElementDef, table: u32) -> bool
-    ensures { result ≡ is_public_column_of table element.now }
-{
-    element.table == table && is_public(element.state) && matches!(element.kind, Kind::Optional(_))
-}
 
 /// The numbers of the public columns of a table, rising.
 pub(crate) fn public_numbers(
@@ -60,7 +22,7 @@ pub(crate) fn public_numbers(
 {
     elements
         .iter()
-        .filter(|e| is_public_column(*e, table))
+        .filter(|e| e.is_public_column(table))
         .map(|e| e.number)
         .collect(alloc)
 }
@@ -129,11 +91,11 @@ fn check_condition(
 {
     let fitting = match condition {
         Cond::Key(wanted) => is_key_for(key, wanted.as_slice()),
-        Cond::Equal { column, value } => match column_type(elements, table, *column) {
+        Cond::Equal { column, value } => match public_column_type(elements, table, *column) {
             None => return Err(QueryFault::NotPublic { column: *column }),
             Some(kind) => may_equal(kind, value),
         },
-        Cond::Between { column, low, high } => match column_type(elements, table, *column) {
+        Cond::Between { column, low, high } => match public_column_type(elements, table, *column) {
             None => return Err(QueryFault::NotPublic { column: *column }),
             Some(kind) => {
                 let fits_low = is_bound(kind, low);
@@ -168,7 +130,7 @@ fn check_columns(elements: &[ElementDef], table: u32, columns: &[u32]) -> Result
     ensures { result ≡ columns_check elements.now table columns.now }
 {
     for column in columns {
-        if column_type(elements, table, *column).is_none() {
+        if public_column_type(elements, table, *column).is_none() {
             return Err(QueryFault::NotPublic { column: *column });
         }
     }

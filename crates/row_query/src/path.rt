@@ -2,11 +2,9 @@
 ghost use Rattle.std.specs.Prelude.{◌≡◌, option_map};
 ghost use Rattle.std.specs.List.{list_any, find};
 ghost use Rattle.std.specs.Option.{option_copied};
-ghost use Rattle.schema_version.specs.Version.{listed};
 ghost use Rattle.row_query.specs.Bounds.{first_key, leading};
 ghost use Rattle.row_query.specs.Path.{is_on_key as is_on_key_of, is_on as is_on_of, leads as leads_of, serves as serves_of, plain_path};
 
-use crate::checking::is_public;
 use crate::query::{Cond, Path, Query};
 use keycode::Values;
 use schema_version::{ElementDef, Kind, Schema};
@@ -36,16 +34,6 @@ fn is_on(number: u32, condition: &Cond) -> bool
         Cond::Key(_) => false,
         Cond::Equal { column, .. } => *column == number,
         Cond::Between { column, .. } => *column == number,
-    }
-}
-
-/// The columns that an index lists.
-pub(crate) fn listed_columns(kind: &Kind) -> &[u32]
-    ensures { result.now ≡ listed kind.now }
-{
-    match kind {
-        Kind::Index(columns) => columns.as_slice(),
-        Kind::Optional(_) => &[],
     }
 }
 
@@ -84,8 +72,8 @@ fn serves(query: &Query, element: &ElementDef) -> bool
     ensures { result ≡ serves_of query.now element.now }
 {
     element.table == query.table
-        && is_public(element.state)
-        && leads(query.conditions.as_slice(), listed_columns(&element.kind))
+        && element.state.is_public()
+        && leads(query.conditions.as_slice(), element.kind.listed())
 }
 
 /// The least public index of the table whose first column has a condition.

@@ -23,7 +23,8 @@ use Rattle.row_write.specs.Reads.{IsPublicColumn}
 use Rattle.row_write.specs.Prepare.{Suits, IsTyped, HasColumn, IsFirstHidden, rank, OpFault, IsFirstOpFault, Condition}
 use Rattle.row_write.specs.Made.{IsSound}
 use Rattle.row_write.specs.Served.{IsServed}
-use Rattle.row_write.specs.Deciding.{column_type, first_hidden, suits, suits_all, are_distinct, is_key_for, is_typed, check_named, check_table, op_check, or_else, ops_check, AreKnown, AreKnownUntil}
+use Rattle.schema_version.specs.Columns.{column_type}
+use Rattle.row_write.specs.Deciding.{first_hidden, suits, suits_all, are_distinct, is_key_for, is_typed, check_named, check_table, op_check, or_else, ops_check, AreKnown, AreKnownUntil}
 use Rattle.row_write.proofs.Columns.{column_says, column_from}
 
 pub both_true : (a b : Bool) → (a && b) ≡ true → (a ≡ true) × (b ≡ true)

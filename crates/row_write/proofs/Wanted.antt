@@ -32,7 +32,7 @@ use Rattle.element_state.specs.Tables.{within}
 use Rattle.element_state.specs.Versions.{ElementKind, meaning_of, the_kinds, entry_of, row_entry, schema_of}
 use Rattle.row_write.specs.Prepare.{HasColumn}
 use Rattle.row_write.specs.Served.{IsServed}
-use Rattle.row_write.specs.Deciding.{column_type}
+use Rattle.schema_version.specs.Columns.{column_type}
 use Rattle.row_write.specs.Running.{element_writes, live_writes}
 use Rattle.row_write.proofs.Columns.{column_says, column_from}
 

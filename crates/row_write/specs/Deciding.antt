@@ -1,29 +1,18 @@
 -- The tests by which an operation's fault is found.
 use Rattle.std.specs.Prelude.{◌≡◌, ℕ, ◌==◌, Bool, true, false, ◌&&◌, List, [], ◌∷◌, Option, Some, None, option_map, is_some, not, if◌then◌else◌}
-use Rattle.std.specs.List.{find, list_any, AllByRecursion}
+use Rattle.std.specs.List.{list_any, AllByRecursion}
 use Rattle.std.specs.Cmp.Lexicographic.{pointwise}
 use Rattle.keycode.specs.declared.value.Value.{Value}
 use Rattle.keycode.specs.Valid.{IsValue, AreValues}
 use Rattle.row_map.specs.declared.shape.ColumnType.{ColumnType}
 use Rattle.row_map.specs.Shape.{has_type, is_key_value}
 use Rattle.schema_version.specs.declared.element.ElementDef.{ElementDef}
-use Rattle.schema_version.specs.Version.{Version, Table, table_at, live, is_public, type_of_kind}
+use Rattle.schema_version.specs.Columns.{column_type}
+use Rattle.schema_version.specs.Version.{Version, Table, table_at, live}
 use Rattle.row_write.specs.declared.op.RowOp.{RowOp}
 use Rattle.row_write.specs.declared.fault.PrepareFault.{PrepareFault}
 use Rattle.row_write.specs.declared.fault.PrepareFault.TheVariants.{NoTable, NotPublic, WrongType}
 use Rattle.row_write.specs.Plain.{table_of, key_of, named_of}
-
--- whether this is the public element of the table under the number
-abbrev pub is_shown : ℕ → ℕ → ElementDef → Bool
-is_shown table number element = (element.number == number) && ((element.table == table) && is_public element.state)
-
-abbrev pub type_in : Option ElementDef → Option ColumnType
-type_in None = None
-type_in (Some element) = type_of_kind element.kind
-
--- the type of the public column of the table under the number
-abbrev pub column_type : List ElementDef → ℕ → ℕ → Option ColumnType
-column_type elements table number = type_in (find (is_shown table number) elements)
 
 -- the first named number that is no public column of the table
 abbrev pub first_hidden : List ElementDef → ℕ → List (ℕ × Value) → Option ℕ

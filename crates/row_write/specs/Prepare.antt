@@ -1,7 +1,6 @@
 -- When a transaction can be prepared, and what it then writes.
 use Rattle.std.specs.Prelude.{◌≡◌, ℕ, ◌<◌, List, [], ◌∷◌, ◌++◌, length, Option, Some, None, option_map, Result, Ok, Err, IsTrue, IsNone, ◌⊎◌, ◌↔◌}
 use Rattle.std.specs.List.{AllByRecursion}
-use Rattle.std.specs.Cmp.Lexicographic.{pointwise}
 use mathlib.Core.List.{map as each}
 use Rattle.std.specs.FinMap as map
 use Rattle.listed.specs.Refusal.{IsFirst}

@@ -1,51 +1,21 @@
 //! Whether operations are of known tables, public columns and their types.
 ghost use Rattle.std.specs.Prelude.{◌≡◌, ◌==◌, true, None};
-ghost use Rattle.std.specs.List.{find, list_any, AllByRecursion};
-ghost use Rattle.std.specs.Option.{option_copied};
+ghost use Rattle.std.specs.List.{list_any, AllByRecursion};
 ghost use Rattle.keycode.specs.Valid.{IsValue, AreValues};
-ghost use Rattle.row_write.specs.Deciding.{is_shown as is_shown_of, column_type as column_type_of, first_hidden as first_hidden_of, suits as suits_of, suits_all as suits_all_of, is_key_for as is_key_for_of, are_distinct, is_typed as is_typed_of, op_check, ops_check, AreKnown, AreKnownUntil};
-ghost use Rattle.schema_version.specs.Version.{is_public as is_public_of};
+ghost use Rattle.row_write.specs.Deciding.{first_hidden as first_hidden_of, suits as suits_of, suits_all as suits_all_of, is_key_for as is_key_for_of, are_distinct, is_typed as is_typed_of, op_check, ops_check, AreKnown, AreKnownUntil};
 
 use crate::fault::PrepareFault;
 use crate::op::RowOp;
 use keycode::{Text, Value};
 use row_map::{ColumnType, fits};
-use schema_version::{ElementDef, ElementState, Kind, Schema};
-
-fn is_public(state: ElementState) -> bool
-    ensures { result ≡ is_public_of state }
-{
-    matches!(state, ElementState::Public)
-}
-
-fn is_shown(element: &ElementDef, table: u32, number: u32) -> bool
-    ensures { result ≡ is_shown_of table number element.now }
-{
-    element.number == number && (element.table == table && is_public(element.state))
-}
-
-fn found(elements: &[ElementDef], table: u32, number: u32) -> Option<&ElementDef>
-    ensures { option_copied result ≡ find (is_shown_of table number) elements.now }
-{
-    elements.iter().find(|e| is_shown(*e, table, number))
-}
-
-/// The type of a public column of the table.
-fn column_type(elements: &[ElementDef], table: u32, number: u32) -> Option<ColumnType>
-    ensures { result ≡ column_type_of elements.now table number }
-{
-    match &found(elements, table, number)?.kind {
-        Kind::Index(_) => None,
-        Kind::Optional(kind) => Some(*kind),
-    }
-}
+use schema_version::{ElementDef, Schema, public_column_type};
 
 /// The first named number that is no public column of the table.
 fn first_hidden(elements: &[ElementDef], table: u32, cells: &[(u32, Value)]) -> Option<u32>
     ensures { result ≡ first_hidden_of elements.now table cells.now }
 {
     for (number, _value) in cells {
-        if column_type(elements, table, *number).is_none() {
+        if public_column_type(elements, table, *number).is_none() {
             return Some(*number);
         }
     }
@@ -68,7 +38,7 @@ fn suits_all(elements: &[ElementDef], table: u32, cells: &[(u32, Value)]) -> boo
     ensures known { result ≡ true → AllByRecursion (λ c. IsValue c.1) cells.now }
 {
     for (number, value) in cells {
-        if !suits(column_type(elements, table, *number), value) {
+        if !suits(public_column_type(elements, table, *number), value) {
             return false;
         }
     }

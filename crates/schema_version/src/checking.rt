@@ -7,26 +7,21 @@ ghost use Rattle.schema_version.specs.Names.{max_elements};
 ghost use Rattle.schema_version.specs.Deciding.{stands_against as stands_against_of, go_check, enter_check, move_check, step_check, is_column_of as is_column_at, are_columns_of as are_columns_at, is_taken as is_taken_in, is_within_limits as is_within, has_key_column as has_key_column_in};
 
 use crate::element::{ElementDef, ElementState, Kind, NewElement};
+use crate::limits::{MAX_COLUMNS, MAX_ELEMENTS, MAX_INDEXES};
 use crate::moves::{
     any_column_named, any_named, elements_like, enters_named, entries, entries_like, first_listing,
-    has_no_edge, is_column, is_column_list, is_edge, is_index, is_public, listed, moves_element,
+    has_no_edge, is_column_list, is_edge, moves_element,
 };
 use crate::names::is_name;
 use crate::schema::Schema;
 use crate::step::{Move, StepFault};
-
-const MAX_COLUMNS: usize = 32;
-
-const MAX_INDEXES: usize = 16;
-
-const MAX_ELEMENTS: usize = 1_000_000;
 
 impl Schema {
     // Whether the column can't carry an index: it isn't public, or it moves in this step.
     fn is_unready(&self, step: &[Move], column: u32) -> bool
         ensures { result ≡ is_unready_of self.now step.now column }
     {
-        !is_public(self.state(column)) || moves_element(step, column)
+        !self.state(column).is_public() || moves_element(step, column)
     }
 
     fn first_unready(&self, step: &[Move], columns: &[u32]) -> Option<u32>
@@ -59,7 +54,7 @@ impl Schema {
         if has_no_edge(&element.kind, element.state, to) || moves_element(earlier, number) {
             return Err(StepFault::NotAdjacent);
         }
-        if !is_edge(&element.kind, element.way, element.state, to) && !is_public(element.state) {
+        if !is_edge(&element.kind, element.way, element.state, to) && !element.state.is_public() {
             return Err(StepFault::WrongWay);
         }
         match self.stands_against(step, number, &element.kind) {
@@ -72,7 +67,7 @@ impl Schema {
         ensures { result ≡ is_column_at table (element_at self.now column) }
     {
         match self.element(column) {
-            Some(element) => element.table == table && is_column(&element.kind),
+            Some(element) => element.table == table && element.kind.is_column(),
             None => false,
         }
     }
@@ -83,7 +78,8 @@ impl Schema {
         columns.iter().all(|c| self.is_column_of(table, *c))
     }
 
-    fn has_key_column(&self, table: u32, name: &[u8]) -> bool
+    /// Whether a column of the key of the table of this number has the name.
+    pub fn has_key_column(&self, table: u32, name: &[u8]) -> bool
         ensures { result ≡ has_key_column_in (table_at self.now table) name.now }
     {
         match self.key_of(table) {
@@ -120,7 +116,7 @@ impl Schema {
     {
         is_name(fresh.name.as_bytes())
             && is_column_list(&fresh.kind)
-            && self.has_room(earlier, fresh.table, is_index(&fresh.kind))
+            && self.has_room(earlier, fresh.table, fresh.kind.is_index())
             && self.has_number(earlier)
     }
 
@@ -134,7 +130,7 @@ impl Schema {
     ) -> Result<(), StepFault>
         ensures { result ≡ enter_check self.now step.now earlier.now fresh.now to }
     {
-        let columns = listed(&fresh.kind);
+        let columns = fresh.kind.listed();
         if self.table_name(fresh.table).is_none() || !self.are_columns_of(fresh.table, columns) {
             return Err(StepFault::Unknown);
         }

@@ -5,17 +5,10 @@ ghost use Rattle.schema_version.specs.declared.table.TableDef.{TableDef as Decla
 ghost use Rattle.schema_version.specs.Names.{is_name as is_name_of, is_among, is_distinct};
 ghost use Rattle.schema_version.specs.Accepting.{names_in, table_names, are_apart as are_apart_of, has_fair_sizes as has_fair_sizes_of, has_names as has_names_of, has_own_names as has_own_names_of, has_names_apart as has_names_apart_of, is_lawful_list as is_lawful_list_of, has_lawful_lists as has_lawful_lists_of, is_lawful_table as is_lawful_table_of, are_lawful as are_lawful_of};
 
+use crate::limits::{MAX_COLUMNS, MAX_INDEXES, MAX_KEY_COLUMNS, MAX_TABLES};
 use crate::names::{is_name, is_name_list};
 use crate::table::TableDef;
 use keycode::Text;
-
-const MAX_TABLES: usize = 16;
-
-const MAX_KEY_COLUMNS: usize = 4;
-
-const MAX_COLUMNS: usize = 32;
-
-const MAX_INDEXES: usize = 16;
 
 // Whether one of these has the name.
 fn has_named<T>(items: &[(Text, T)], name: &[u8]) -> bool

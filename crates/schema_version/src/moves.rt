@@ -1,17 +1,16 @@
 //! The edges between states.
 ghost use Rattle.std.specs.Prelude.{◌≡◌, ◌==◌, ◌&&◌, count_by, bytes_eq, option_map};
 ghost use Rattle.std.specs.List.{list_any, find};
-ghost use Rattle.schema_version.specs.Version.{is_like as is_like_of, is_index as is_index_of, is_column as is_column_of, is_public as is_public_of, listed as listed_of, is_named as is_named_of};
+ghost use Rattle.schema_version.specs.Version.{is_like as is_like_of, is_named as is_named_of};
 ghost use Rattle.schema_version.specs.Moves.{is_edge as is_edge_of, moves_element as moves_element_of, is_move_of as is_move_of_number, is_entry as is_entry_of, is_entry_like as is_entry_like_of, is_distinct as is_distinct_of};
 ghost use Rattle.schema_version.specs.Deciding.{has_no_edge as has_no_edge_of, is_entry_named as is_entry_named_of, lists as lists_of, is_column_list as is_column_list_of};
 ghost use Rattle.schema_version.specs.declared.element.ElementDef.{ElementDef as ElementDefinition};
 
 use crate::element::{ElementDef, ElementState, Kind, Way};
+use crate::limits::MAX_LISTED;
 use crate::step::Move;
 use keycode::Text;
 use row_map::ColumnType;
-
-const MAX_LISTED: usize = 4;
 
 /// Whether elements of this kind go from the one state to the other on their way.
 pub(crate) fn is_edge(kind: &Kind, way: Way, from: ElementState, to: ElementState) -> bool
@@ -42,45 +41,6 @@ pub(crate) fn has_no_edge(kind: &Kind, from: ElementState, to: ElementState) -> 
     ensures { result ≡ has_no_edge_of kind.now from to }
 {
     !is_edge(kind, Way::Adding, from, to) && !is_edge(kind, Way::Dropping, from, to)
-}
-
-pub(crate) fn is_public(state: ElementState) -> bool
-    ensures { result ≡ is_public_of state }
-{
-    matches!(state, ElementState::Public)
-}
-
-pub(crate) fn is_index(kind: &Kind) -> bool
-    ensures { result ≡ is_index_of kind.now }
-{
-    matches!(kind, Kind::Index(_))
-}
-
-pub(crate) fn is_column(kind: &Kind) -> bool
-    ensures { result ≡ is_column_of kind.now }
-{
-    matches!(kind, Kind::Optional(_))
-}
-
-/// Whether this is an index, or else a column.
-pub(crate) fn is_like(index: bool, kind: &Kind) -> bool
-    ensures { result ≡ is_like_of index kind.now }
-{
-    if index {
-        is_index(kind)
-    } else {
-        is_column(kind)
-    }
-}
-
-/// The columns that an index lists.
-pub(crate) fn listed(kind: &Kind) -> &[u32]
-    ensures { result.now ≡ listed_of kind.now }
-{
-    match kind {
-        Kind::Index(columns) => columns.as_slice(),
-        Kind::Optional(_) => &[],
-    }
 }
 
 /// Whether the step takes the element of this number to another state. An entered element has no number before.
@@ -134,7 +94,7 @@ pub(crate) fn first_listing(elements: &[ElementDef], column: u32) -> Option<u32>
 pub(crate) fn lists(element: &ElementDef, column: u32) -> bool
     ensures { result ≡ lists_of column element.now }
 {
-    contains(listed(&element.kind), column)
+    contains(element.kind.listed(), column)
 }
 
 fn is_entry(a: &Move) -> bool
@@ -154,7 +114,7 @@ fn is_entry_like(a: &Move, table: u32, index: bool) -> bool
     ensures { result ≡ is_entry_like_of table index a.now }
 {
     match a {
-        Move::Enter { fresh, .. } => fresh.table == table && is_like(index, &fresh.kind),
+        Move::Enter { fresh, .. } => fresh.table == table && fresh.kind.is_like(index),
         Move::Go { .. } => false,
     }
 }
@@ -169,13 +129,13 @@ pub(crate) fn entries_like(moves: &[Move], table: u32, index: bool) -> usize
         .count()
 }
 
-/// How many of the elements are indexes of the table, or else how many are its columns.
-pub(crate) fn elements_like(elements: &[ElementDef], table: u32, index: bool) -> usize
+/// How many of the elements are indexes of the table of this number, or else, where `index` is false, how many are its columns.
+pub fn elements_like(elements: &[ElementDef], table: u32, index: bool) -> usize
     ensures { result ≡ count_by (λ (element : ElementDefinition). (element.table == table) && is_like_of index element.kind) elements.now }
 {
     elements
         .iter()
-        .filter(|e| e.table == table && is_like(index, &e.kind))
+        .filter(|e| e.table == table && e.kind.is_like(index))
         .count()
 }
 

@@ -4,7 +4,6 @@ ghost use Rattle.std.specs.List.{filter_map};
 ghost use Rattle.schema_version.specs.Shape.{public_column as public_column_of, column_types, key_types as key_types_of, shape_of};
 
 use crate::element::{ElementDef, Kind};
-use crate::moves::is_public;
 use crate::schema::Schema;
 use keycode::Text;
 use listed::Listed;
@@ -15,7 +14,7 @@ use std::alloc::{AllocError, Global};
 fn public_column(element: &ElementDef, table: u32) -> Option<(u32, ColumnType)>
     ensures { result ≡ public_column_of table element.now }
 {
-    if element.table != table || !is_public(element.state) {
+    if element.table != table || !element.state.is_public() {
         return None;
     }
     match element.kind {

@@ -1,4 +1,4 @@
-use Rattle.std.proofs.Common.{List, ◌∷◌, [], ◌++◌, ◌∙◌, ap, sym}
+use Rattle.std.proofs.Common.{◌∷◌, [], ◌++◌, ◌∙◌, ap, sym}
 use Rattle.audit.specs.Spelled.{stored_cell}
 use Rattle.audit.proofs.Cells.{filter_map_some, filter_map_none}
 use Rattle.audit.proofs.spelled.stored_cells.Goals as goal

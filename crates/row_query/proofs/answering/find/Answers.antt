@@ -24,12 +24,12 @@ returns-in-Some g c = λ rows agree passed known. ok_then c.by_key.result _ _ (�
 pub returns-in-Some-leading_condition : goal.returns-in-Some-leading_condition
 returns-in-Some-leading_condition g c = λ rows agree passed known. ok_then c.walk_index.result _ _ (λ found is.
     is
-    ∙ ap (λ (columns : List ℕ). rows_in (g.V.PairView.pairs c.args.view.now) columns c.args.query.now (gathered c.in-Some-serving_index.element.now.number (length c.listed_columns-listed.result.now) [] (stretch (g.V.PairView.pairs c.args.view.now) (low_bound c.in-Some-serving_index.element.now.number c.in-Some-leading_condition.condition.now) (high_bound c.in-Some-serving_index.element.now.number c.in-Some-leading_condition.condition.now))))
+    ∙ ap (λ (columns : List ℕ). rows_in (g.V.PairView.pairs c.args.view.now) columns c.args.query.now (gathered c.in-Some-serving_index.element.now.number (length c.listed-listed.result.now) [] (stretch (g.V.PairView.pairs c.args.view.now) (low_bound c.in-Some-serving_index.element.now.number c.in-Some-leading_condition.condition.now) (high_bound c.in-Some-serving_index.element.now.number c.in-Some-leading_condition.condition.now))))
     (c.as_slice-columns.ensures.value ∙ c.in_ok-public.ensures ∙ ap (λ elements. public_numbers elements c.args.query.now.table) c.elements-elements.ensures)
-    ∙ ap (λ (listed : List ℕ). rows_in (g.V.PairView.pairs c.args.view.now) (public_numbers (live c.args.schema.now) c.args.query.now.table) c.args.query.now (gathered c.in-Some-serving_index.element.now.number (length listed) [] (stretch (g.V.PairView.pairs c.args.view.now) (low_bound c.in-Some-serving_index.element.now.number c.in-Some-leading_condition.condition.now) (high_bound c.in-Some-serving_index.element.now.number c.in-Some-leading_condition.condition.now)))) c.listed_columns-listed.ensures
+    ∙ ap (λ (listed : List ℕ). rows_in (g.V.PairView.pairs c.args.view.now) (public_numbers (live c.args.schema.now) c.args.query.now.table) c.args.query.now (gathered c.in-Some-serving_index.element.now.number (length listed) [] (stretch (g.V.PairView.pairs c.args.view.now) (low_bound c.in-Some-serving_index.element.now.number c.in-Some-leading_condition.condition.now) (high_bound c.in-Some-serving_index.element.now.number c.in-Some-leading_condition.condition.now)))) c.listed-listed.ensures
     ∙ index_answers c.args.schema.now rows (g.V.PairView.pairs c.args.view.now) (reads_from c.args.schema.now c.known.ensures rows (g.V.PairView.pairs c.args.view.now) agree) c.args.query.now (query_open c.args.schema.now c.known.ensures c.args.query.now passed) known c.in-Some-serving_index.element.now c.in-Some-leading_condition.condition.now
     (sym (c.in-Some-serving_index.ensures ∙ ap (find (serves c.args.query.now)) c.elements-elements.ensures))
-    (sym (c.in-Some-leading_condition.ensures ∙ ap (λ conditions. leading conditions c.listed_columns-listed.result.now) c.as_slice-conditions.ensures ∙ ap (leading c.args.query.now.conditions) c.listed_columns-listed.ensures))) c.walk_index.ensures
+    (sym (c.in-Some-leading_condition.ensures ∙ ap (λ conditions. leading conditions c.listed-listed.result.now) c.as_slice-conditions.ensures ∙ ap (leading c.args.query.now.conditions) c.listed-listed.ensures))) c.walk_index.ensures
 
 pub returns : goal.returns
 returns g c = λ rows agree passed known. ok_then c.scan.result _ _ (λ found is.
