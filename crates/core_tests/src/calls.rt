@@ -1,6 +1,7 @@
-//! Commits, queries and a run of events.
+//! Commits, queries, a transaction that is let go, and a run of events.
 
-use crate::fixtures::{add_row, entering, opened};
+use crate::changes::clears_column;
+use crate::fixtures::{add_row, counts, entering, opened, prepared};
 use keycode::Value;
 use listed::Listed;
 use row_map::Row;
@@ -30,28 +31,43 @@ fn is_row(row: &Row, id: i64) -> bool {
     *key == Value::Int(id) && cell.0 == 1 && cell.1 == Value::Int(5)
 }
 
-fn finds_1_and_3(alloc: Global, world: &World, grant: &Grant) -> Result<bool, AllocError> {
-    let query = a_is_5(alloc)?;
+fn finds_1_and_3(alloc: Global, world: &World, grant: &Grant) -> bool {
+    let Ok(query) = a_is_5(alloc) else {
+        return false;
+    };
     match world.query(alloc, 9, &grant.lease, &query) {
         Ok(found) => match found.as_slice() {
-            [first, second] => Ok(is_row(first, 1) && is_row(second, 3)),
-            _ => Ok(false),
+            [first, second] => is_row(first, 1) && is_row(second, 3),
+            _ => false,
         },
-        Err(_) => Ok(false),
+        Err(_) => false,
     }
 }
 
 // Rows 1 and 3 have the value, row 2 another.
-fn queries_hold(alloc: Global, world: &mut World, grant: &Grant) -> Result<bool, AllocError> {
-    let first = add_row(alloc, world, grant, 1, 5)?;
-    let second = add_row(alloc, world, grant, 2, 9)?;
-    let third = add_row(alloc, world, grant, 3, 5)?;
-    Ok((first, second, third) == (2, 3, 4) && finds_1_and_3(alloc, world, grant)?)
+fn queries_hold(alloc: Global, world: &mut World, grant: &Grant) -> bool {
+    add_row(alloc, world, grant, 1, 5) == 2
+        && add_row(alloc, world, grant, 2, 9) == 3
+        && add_row(alloc, world, grant, 3, 5) == 4
+        && finds_1_and_3(alloc, world, grant)
+}
+
+// Of an insert of row 4 that is prepared and let go there is no trace: the rows are those from before, and row 4 can still be added.
+fn lets_go(alloc: Global, world: &mut World, grant: &Grant) -> bool {
+    prepared(alloc, world, &grant.schema, grant, 4, 5).is_some()
+        && (world.log().len(), world.moment()) == (4, 0)
+        && counts(alloc, world) == Some((3, 0, 0))
+        && finds_1_and_3(alloc, world, grant)
+        && add_row(alloc, world, grant, 4, 5) == 5
 }
 
 fn are_rows_right(alloc: Global, world: &mut World) -> bool {
     match world.lease(alloc, 0) {
-        Ok(grant) => queries_hold(alloc, world, &grant) == Ok(true),
+        Ok(grant) => {
+            queries_hold(alloc, world, &grant)
+                && lets_go(alloc, world, &grant)
+                && clears_column(alloc, world)
+        }
         Err(_) => false,
     }
 }

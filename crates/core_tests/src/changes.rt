@@ -1,7 +1,7 @@
-//! An index enters beside a row and is filled. A world is asked by reference: one that is alive across a `?` is dear to prove.
+//! An index enters beside a row and is filled, and a column of rows is cleared. A world is asked by reference: one that is alive across a `?` is dear to prove.
 
-use crate::fixtures::{entering, gives, going, has_row, opened};
-use reorganise::{PreparedPiece, Work, prepare_piece};
+use crate::fixtures::{counts, entering, gives, going, has_row, opened};
+use reorganise::{PreparedPiece, Progress, Work, prepare_piece};
 use schema_version::ElementState::{DeleteOnly, Public, WriteOnly};
 use std::alloc::Global;
 use world::{BeginFault, PieceFault, PublishFault, World};
@@ -22,7 +22,7 @@ fn begins(alloc: Global, world: &mut World) -> bool {
 fn is_filling(alloc: Global, world: &mut World, name: &str) -> bool {
     has_row(alloc, world)
         && gives(alloc, world, 10, entering(alloc, name, DeleteOnly), (2, 3))
-        && gives(alloc, world, 20, going(alloc, WriteOnly), (3, 4))
+        && gives(alloc, world, 20, going(alloc, 2, WriteOnly), (3, 4))
         && begins(alloc, world)
 }
 
@@ -54,18 +54,11 @@ fn fault_of(alloc: Global, world: &mut World, piece: Option<PreparedPiece>) -> O
 }
 
 fn is_unfinished(alloc: Global, world: &mut World) -> bool {
-    match going(alloc, Public) {
+    match going(alloc, 2, Public) {
         Ok(step) => {
             world.publish(alloc, 30, &step).err() == Some(PublishFault::Unfinished { element: 2 })
         }
         Err(_) => false,
-    }
-}
-
-fn counts(alloc: Global, world: &World) -> Option<(u64, u64, u64)> {
-    match world.check(alloc) {
-        Ok(report) => Some((report.rows, report.missing, report.extra)),
-        Err(_) => None,
     }
 }
 
@@ -86,7 +79,7 @@ fn fills_and_ends(alloc: Global, world: &mut World) -> bool {
         && world.progress(2) == Some((Work::Fill, 1, false))
         && works_once(alloc, world)
         && world.progress(2) == Some((Work::Fill, 1, true))
-        && gives(alloc, world, 30, going(alloc, Public), (4, 7))
+        && gives(alloc, world, 30, going(alloc, 2, Public), (4, 7))
         && world.progress(2).is_none()
         && is_begin_refused(alloc, world, 1, BeginFault::NotWanted)
         && counts(alloc, world) == Some((1, 0, 0))
@@ -123,4 +116,38 @@ fn is_index_filled(alloc: Global) -> bool {
 #[test]
 fn fills(rt: HostRuntime) {
     assert!(rt; is_index_filled(rt.alloc()));
+}
+
+// A piece of work on column a, made by hand from the world's own definition of it and the world's own pairs.
+fn piece_by_hand(alloc: Global, world: &World, kind: Work) -> Option<PreparedPiece> {
+    let element = world.newest().get().element(1)?.clone().ok()?;
+    let progress = Progress::begin(alloc, element, kind, world, 1).ok()?;
+    match progress.read_piece(alloc, world, 0, 10) {
+        Ok(view) => prepare_piece(alloc, view).ok(),
+        Err(_) => None,
+    }
+}
+
+fn is_fill_refused(alloc: Global, world: &mut World) -> bool {
+    let piece = piece_by_hand(alloc, world, Work::Fill);
+    matches!(
+        fault_of(alloc, world, piece),
+        Some(PieceFault::WrongElement)
+    )
+}
+
+fn is_clear_done(alloc: Global, world: &mut World) -> bool {
+    let piece = piece_by_hand(alloc, world, Work::Clear);
+    is_worked(alloc, world, piece, 8)
+}
+
+/// Behind five entries, of which four rows: the clear of column a begins. A fill of the same definition, over the same range, is not one
+/// of its pieces; a clear that is made by hand in the same way is.
+pub(crate) fn clears_column(alloc: Global, world: &mut World) -> bool {
+    gives(alloc, world, 10, going(alloc, 1, DeleteOnly), (2, 6))
+        && world.begin_reorg(alloc, 20, 1, 1).is_ok()
+        && is_fill_refused(alloc, world)
+        && world.log().len() == 7
+        && is_clear_done(alloc, world)
+        && counts(alloc, world) == Some((4, 0, 0))
 }

@@ -3,7 +3,7 @@
 use keycode::{Text, Value};
 use listed::{Counted, Listed};
 use row_map::ColumnType;
-use row_write::{Prepared, RowOp, prepare, reads_of};
+use row_write::{Prepared, RowOp, RowOps, prepare, reads_of};
 use schema_version::{ElementState, Kind, Move, NewElement, Schema, Step, TableDef};
 use std::alloc::{AllocError, Global};
 use world::{Committed, Config, Grant, OpenFault, World};
@@ -29,32 +29,34 @@ pub(crate) fn opened(alloc: Global) -> Result<World, OpenFault> {
     World::open(alloc, &config(alloc)?)
 }
 
-/// insert t (ID) set a = A
-pub(crate) fn insert(alloc: Global, id: i64, a: i64) -> Result<RowOp, AllocError> {
-    Ok(RowOp::Insert {
+// insert t (ID) set a = A
+fn insert(alloc: Global, id: i64, a: i64) -> Result<RowOps, AllocError> {
+    let insert = RowOp::Insert {
         table: 1,
         key: Listed::new(vec![in alloc; Value::Int(id)]?),
         cells: Listed::new(vec![in alloc; (1, Value::Int(a))]?),
-    })
+    };
+    Ok(Listed::new(vec![in alloc; insert]?))
 }
 
-/// What is prepared by this schema under a grant's lease, of one operation, from what the world has now.
+/// An insert that is prepared by this schema under a grant's lease, from what the world has now.
 pub(crate) fn prepared(
     alloc: Global,
     world: &World,
     schema: &Counted<Schema>,
     grant: &Grant,
-    op: RowOp,
-) -> Result<Option<Prepared>, AllocError> {
-    let ops = Listed::new(vec![in alloc; op]?);
-    let schema = schema.clone()?;
-    let keys = reads_of(alloc, schema.get(), ops.as_slice())?;
-    let view = world.read(alloc, &keys)?;
-    Ok(prepare(alloc, schema, grant.lease, ops, view).ok())
+    id: i64,
+    a: i64,
+) -> Option<Prepared> {
+    let ops = insert(alloc, id, a).ok()?;
+    let keys = reads_of(alloc, schema.get(), ops.as_slice()).ok()?;
+    let view = world.read(alloc, &keys).ok()?;
+    let schema = schema.clone().ok()?;
+    prepare(alloc, schema, grant.lease, ops, view).ok()
 }
 
-/// The place of the entry of a commit at moment 0, 0 where there is none.
-pub(crate) fn place_of(alloc: Global, world: &mut World, work: Option<Prepared>) -> u64 {
+// The place of the entry of a commit at moment 0, 0 where there is none.
+fn place_of(alloc: Global, world: &mut World, work: Option<Prepared>) -> u64 {
     match work {
         None => 0,
         Some(work) => match world.commit(alloc, 0, work) {
@@ -64,22 +66,16 @@ pub(crate) fn place_of(alloc: Global, world: &mut World, work: Option<Prepared>)
     }
 }
 
-/// The place of the entry of an insert.
-pub(crate) fn add_row(
-    alloc: Global,
-    world: &mut World,
-    grant: &Grant,
-    id: i64,
-    a: i64,
-) -> Result<u64, AllocError> {
-    let work = prepared(alloc, world, &grant.schema, grant, insert(alloc, id, a)?)?;
-    Ok(place_of(alloc, world, work))
+/// The place of the entry of an insert, 0 where there is none.
+pub(crate) fn add_row(alloc: Global, world: &mut World, grant: &Grant, id: i64, a: i64) -> u64 {
+    let work = prepared(alloc, world, &grant.schema, grant, id, a);
+    place_of(alloc, world, work)
 }
 
 /// The row of key 7 and a = 5: two entries.
 pub(crate) fn has_row(alloc: Global, world: &mut World) -> bool {
     match world.lease(alloc, 0) {
-        Ok(grant) => add_row(alloc, world, &grant, 7, 5) == Ok(2),
+        Ok(grant) => add_row(alloc, world, &grant, 7, 5) == 2,
         Err(_) => false,
     }
 }
@@ -94,9 +90,9 @@ pub(crate) fn entering(alloc: Global, name: &str, to: ElementState) -> Result<St
     Ok(Listed::new(vec![in alloc; Move::Enter { fresh, to }]?))
 }
 
-/// move t.i to STATE
-pub(crate) fn going(alloc: Global, to: ElementState) -> Result<Step, AllocError> {
-    Ok(Listed::new(vec![in alloc; Move::Go { element: 2, to }]?))
+/// move ELEMENT to STATE
+pub(crate) fn going(alloc: Global, element: u32, to: ElementState) -> Result<Step, AllocError> {
+    Ok(Listed::new(vec![in alloc; Move::Go { element, to }]?))
 }
 
 /// Whether a step gives this version, with its entry at this place.
@@ -113,5 +109,13 @@ pub(crate) fn gives(
             Err(_) => false,
         },
         Err(_) => false,
+    }
+}
+
+/// How many rows there are, how many pairs are missing, and how many have no reason.
+pub(crate) fn counts(alloc: Global, world: &World) -> Option<(u64, u64, u64)> {
+    match world.check(alloc) {
+        Ok(report) => Some((report.rows, report.missing, report.extra)),
+        Err(_) => None,
     }
 }

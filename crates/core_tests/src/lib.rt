@@ -8,4 +8,6 @@ mod changes;
 #[cfg(test)]
 mod fixtures;
 #[cfg(test)]
+mod leases;
+#[cfg(test)]
 mod versions;

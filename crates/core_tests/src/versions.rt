@@ -1,10 +1,10 @@
 //! Which versions are lent, and work that was prepared under another schema than its lease's.
 
-use crate::fixtures::{add_row, entering, gives, going, insert, opened, prepared};
+use crate::fixtures::{add_row, entering, gives, going, opened, prepared};
 use row_write::Prepared;
 use schema_version::ElementState;
 use schema_version::ElementState::{DeleteOnly, WriteOnly};
-use std::alloc::{AllocError, Global};
+use std::alloc::Global;
 use world::{CommitFault, Grant, World};
 
 // The state of element 2 in a version that is to be had.
@@ -13,24 +13,15 @@ fn state_in(world: &World, version: u64) -> Option<ElementState> {
     Some(schema.get().state(2))
 }
 
-// Work that was prepared by the newest schema.
-fn by_newest(alloc: Global, world: &World, grant: &Grant) -> Result<Option<Prepared>, AllocError> {
-    prepared(alloc, world, world.newest(), grant, insert(alloc, 9, 6)?)
-}
-
-fn is_wrong_schema(
-    alloc: Global,
-    world: &mut World,
-    work: Result<Option<Prepared>, AllocError>,
-) -> bool {
+fn is_wrong_schema(alloc: Global, world: &mut World, work: Option<Prepared>) -> bool {
     match work {
-        Ok(Some(work)) => {
+        Some(work) => {
             matches!(
                 world.commit(alloc, 10, work),
                 Err((CommitFault::WrongSchema, _))
             )
         }
-        _ => false,
+        None => false,
     }
 }
 
@@ -39,15 +30,15 @@ fn keeps_lease(alloc: Global, world: &mut World, grant: &Grant) -> bool {
     if !gives(alloc, world, 10, entering(alloc, "i", DeleteOnly), (2, 2)) {
         return false;
     }
-    let work = by_newest(alloc, world, grant);
-    is_wrong_schema(alloc, world, work) && add_row(alloc, world, grant, 8, 6) == Ok(3)
+    let by_newest = prepared(alloc, world, world.newest(), grant, 9, 6);
+    is_wrong_schema(alloc, world, by_newest) && add_row(alloc, world, grant, 8, 6) == 3
 }
 
 // The versions that are to be had: the newest and the one before it.
 fn lends_two(alloc: Global, world: &mut World) -> bool {
     state_in(world, 0).is_none()
         && state_in(world, 3).is_none()
-        && gives(alloc, world, 20, going(alloc, WriteOnly), (3, 4))
+        && gives(alloc, world, 20, going(alloc, 2, WriteOnly), (3, 4))
         && state_in(world, 1).is_none()
         && state_in(world, 2) == Some(DeleteOnly)
         && state_in(world, 3) == Some(WriteOnly)
