@@ -1,8 +1,9 @@
-//! One request through a port that answers so many commits with a conflict.
+//! One request through a port that refuses calls of chosen numbers.
 ghost use Rattle.std.specs.Prelude.{◌≡◌, ◌+◌, ◌≤◌, IfOk, vec_len};
 ghost use Rattle.server.specs.Outcomes.{IsCommitOf, given_by};
 
 use crate::table::{insert, opened};
+use Answer::{Conflict, LeaseEnded, Memory};
 use byte_map::Bytes;
 use lease::Lease;
 use listed::Counted;
@@ -14,13 +15,37 @@ use server::{Last, Outcome, Port, Tally, last_of_commit, last_of_grant, last_of_
 use std::alloc::{AllocError, Global};
 use world::{CommitFault, Committed, GrantFault, World};
 
+/// How a call is answered: as the port's world answers it, or by a refusal, where that call has it.
+#[derive(Clone, Copy)]
+enum Answer {
+    Own,
+    Conflict,
+    LeaseEnded,
+    Memory,
+}
+
+/// Calls by their numbers, counted from 1, with their answers. Every other call is answered as the port's world answers it.
+type Answers = &'static [(u32, Answer)];
+
 // A port over a world of its own. It keeps no receipt of a lease, and a mark for each transaction that it committed.
 #[derive(Drop)]
 struct Stubborn {
     world: World,
-    conflicts: u32,
+    answers: Answers,
+    calls: u32,
     committed: Vec<()>,
     tally: Tally,
+}
+
+// One call more, and its answer.
+fn next_answer(answers: Answers, calls: &mut u32) -> Answer {
+    *calls = calls.wrapping_add(1);
+    for (call, answer) in answers {
+        if *call == *calls {
+            return *answer;
+        }
+    }
+    Answer::Own
 }
 
 // A conflict at the empty key.
@@ -28,6 +53,19 @@ fn conflict(alloc: Global) -> CommitFault {
     match Bytes::new(Vec::new(alloc)) {
         Ok(key) => CommitFault::Conflict { key },
         Err(AllocError) => CommitFault::Memory,
+    }
+}
+
+// With what a commit is refused.
+fn refusal(alloc: Global, answer: Answer, moment: u64) -> Option<CommitFault> {
+    match answer {
+        Answer::Own => None,
+        Answer::Conflict => Some(conflict(alloc)),
+        Answer::LeaseEnded => Some(CommitFault::LeaseEnded {
+            until: moment,
+            now: moment,
+        }),
+        Answer::Memory => Some(CommitFault::Memory),
     }
 }
 
@@ -75,18 +113,24 @@ impl Port for Stubborn {
         alloc: Global,
         moment: u64,
     ) -> Result<(Lease, Counted<Schema>), SharedFault<GrantFault>> {
-        let answer = match self.world.lease(alloc, moment) {
-            Ok(grant) => Ok((grant.lease, grant.schema)),
-            Err(fault) => Err(SharedFault::World(fault)),
+        let answer = match next_answer(self.answers, &mut self.calls) {
+            Answer::Memory => Err(SharedFault::World(GrantFault::Memory)),
+            _ => match self.world.lease(alloc, moment) {
+                Ok(grant) => Ok((grant.lease, grant.schema)),
+                Err(fault) => Err(SharedFault::World(fault)),
+            },
         };
         self.tally.note(last_of_grant(&answer));
         answer
     }
 
     fn read(&mut self, alloc: Global, keys: &ReadSet) -> Result<ReadView, SharedFault<AllocError>> {
-        let answer = match self.world.read(alloc, keys) {
-            Ok(view) => Ok(view),
-            Err(fault) => Err(SharedFault::World(fault)),
+        let answer = match next_answer(self.answers, &mut self.calls) {
+            Answer::Memory => Err(SharedFault::World(AllocError)),
+            _ => match self.world.read(alloc, keys) {
+                Ok(view) => Ok(view),
+                Err(fault) => Err(SharedFault::World(fault)),
+            },
         };
         self.tally.note(last_of_read(&answer));
         answer
@@ -98,17 +142,16 @@ impl Port for Stubborn {
         moment: u64,
         prepared: Prepared,
     ) -> Result<Committed, (SharedFault<CommitFault>, Prepared)> {
-        let answer = if self.conflicts > 0 {
-            self.conflicts -= 1;
-            Err((SharedFault::World(conflict(alloc)), prepared))
-        } else {
-            commits(
+        let chosen = next_answer(self.answers, &mut self.calls);
+        let answer = match refusal(alloc, chosen, moment) {
+            Some(fault) => Err((SharedFault::World(fault), prepared)),
+            None => commits(
                 alloc,
                 &mut self.world,
                 &mut self.committed,
                 moment,
                 prepared,
-            )
+            ),
         };
         self.tally.note(last_of_commit(&answer));
         answer
@@ -119,16 +162,21 @@ impl Port for Stubborn {
     }
 }
 
-// What becomes of the insert of key 1 through a port that answers so many commits with a conflict, with so many tries: the place of
-// its entry, or the number of tries that Busy tells; and how many retries the port counted.
-fn served(alloc: Global, conflicts: u32, tries: u32) -> Option<(Option<u64>, Option<u32>, u64)>
-    requires { (1 ≤ tries) × (tries ≤ 1000) }
-{
+/// What became of a request: the place of its entry, or the number of tries that Busy tells, or neither where memory ran out; then how
+/// many retries the port counted, and how many entries its world has.
+type Ending = (Option<u64>, Option<u32>, u64, usize);
+
+// What becomes of the insert of key 1 through a port of these answers, with so many tries.
+fn served(alloc: Global, answers: Answers, tries: u32) -> Option<Ending> {
+    if tries < 1 || tries > 1000 {
+        return None;
+    }
     let world = opened(alloc).ok()?;
     let request = insert(alloc, 1).ok()?;
     let mut port = Stubborn {
         world,
-        conflicts,
+        answers,
+        calls: 0,
         committed: Vec::new(alloc),
         tally: Tally {
             retries: 0,
@@ -137,18 +185,61 @@ fn served(alloc: Global, conflicts: u32, tries: u32) -> Option<(Option<u64>, Opt
     };
     let outcome = serve_one(alloc, &mut port, &request, tries);
     let retries = port.tally().retries;
+    let entries = port.world.log().len();
     match outcome {
-        Outcome::Done(receipt) => Some((Some(receipt.place), None, retries)),
-        Outcome::Busy { tries } => Some((None, Some(tries), retries)),
+        Outcome::Done(receipt) => Some((Some(receipt.place), None, retries, entries)),
+        Outcome::Busy { tries } => Some((None, Some(tries), retries, entries)),
+        Outcome::Memory => Some((None, None, retries, entries)),
         _ => None,
     }
 }
 
-// Three conflicts: three tries are too few, the fourth is committed behind its lease.
+// Answers, how many tries, and what becomes of the request. A try is a lease, where none is at hand, a read and a commit: behind a
+// conflict the next try begins with its read, behind the end of a lease with a new lease, which is one entry more.
+static CASES: [(Answers, u32, Ending); 19] = [
+    (&[], 1, (Some(2), None, 0, 2)),
+    (&[(1, Memory)], 2, (None, None, 0, 0)),
+    (&[(2, Memory)], 2, (None, None, 0, 1)),
+    (&[(3, Memory)], 2, (None, None, 0, 1)),
+    (&[(3, Conflict)], 1, (None, Some(1), 1, 1)),
+    (&[(3, Conflict)], 2, (Some(2), None, 1, 2)),
+    (&[(3, LeaseEnded)], 1, (None, Some(1), 1, 1)),
+    (&[(3, LeaseEnded)], 2, (Some(3), None, 1, 3)),
+    (&[(3, Conflict), (4, Memory)], 2, (None, None, 1, 1)),
+    (&[(3, LeaseEnded), (4, Memory)], 2, (None, None, 1, 1)),
+    (&[(3, Conflict), (5, Memory)], 2, (None, None, 1, 1)),
+    (&[(3, Conflict), (5, LeaseEnded)], 2, (None, Some(2), 2, 1)),
+    (&[(3, Conflict), (5, LeaseEnded)], 3, (Some(3), None, 2, 3)),
+    (&[(3, LeaseEnded), (6, Conflict)], 2, (None, Some(2), 2, 2)),
+    (&[(3, LeaseEnded), (6, Conflict)], 3, (Some(3), None, 2, 3)),
+    (
+        &[(3, Conflict), (5, Conflict), (7, Conflict)],
+        3,
+        (None, Some(3), 3, 1),
+    ),
+    (
+        &[(3, Conflict), (5, Conflict), (7, Conflict)],
+        4,
+        (Some(2), None, 3, 2),
+    ),
+    (
+        &[(3, LeaseEnded), (6, LeaseEnded), (9, LeaseEnded)],
+        3,
+        (None, Some(3), 3, 3),
+    ),
+    (
+        &[(3, LeaseEnded), (6, LeaseEnded), (9, LeaseEnded)],
+        4,
+        (Some(5), None, 3, 5),
+    ),
+];
+
 #[test]
 fn a_request_is_tried_again(rt: HostRuntime) {
-    let alloc = rt.alloc();
-    assert!(rt; served(alloc, 3, 3) == Some((None, Some(3), 3)));
-    assert!(rt; served(alloc, 3, 4) == Some((Some(2), None, 3)));
-    assert!(rt; served(alloc, 0, 1) == Some((Some(2), None, 0)));
+    for (row, (answers, tries, ending)) in CASES.iter().enumerate() {
+        assert!(rt;
+            served(rt.alloc(), answers, *tries) == Some(*ending),
+            "row {row}"
+        );
+    }
 }
