@@ -16,7 +16,7 @@ use Rattle.locked_store.specs.declared.fault.SharedFault.{SharedFault}
 use Rattle.locked_store.specs.declared.fault.SharedFault.TheVariants as shared
 use Rattle.locked_store.specs.Answers.{Answers, AnswersBack, BackBy, Counts, grant_place, commit_place, no_place}
 use Rattle.locked_store.specs.Known.{Known}
-use Rattle.server.specs.Desks.{IsGranted, IsReadOfCore, lent, lent_count}
+use Rattle.server.specs.Desks.{IsGranted, IsReadOfCore, IsRefusedByCore, lent, lent_count}
 use Rattle.server.specs.Outcomes.{Keys, IsCommitOf}
 
 -- a call goes through the same handle
@@ -56,7 +56,7 @@ viewed opening v w keys (Ok view) a = (a.0, a.2.0, a.2.3.0)
 viewed opening v w keys (Err fault) a = tt
 
 pub own : (opening : Opening) (v w : Known) (moment : ℕ) (prepared : PreparedTxn) (answer : Result Committed (SharedFault CommitFault × PreparedTxn))
-    → AnswersBack opening v prepared answer w (λ c r d. CommitStep c moment prepared r d) commit_place → IfOk answer (λ done. IsCommitOf prepared.ops done)
+    → AnswersBack opening v prepared answer w (λ c r d. CommitStep c moment prepared r d) commit_place → IfOk answer (λ done. IsCommitOf (IsRefusedByCore opening) prepared.ops done)
 own opening v w moment prepared (Ok (committed.Done receipt)) a = (prepared.lease, ap (λ e. e.what) a.2.3.2.entry)
-own opening v w moment prepared (Ok (committed.Refused op why)) a = tt
+own opening v w moment prepared (Ok (committed.Refused op why)) a = (a.0, a.2.0, a.2.3.1)
 own opening v w moment prepared (Err refusal) a = tt

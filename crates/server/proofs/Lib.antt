@@ -1,3 +1,4 @@
 pub mod Ends
 pub mod Desks
 pub mod Serves
+pub mod Works

@@ -1,6 +1,10 @@
 -- What a handle's server may be given.
-use Rattle.std.specs.Prelude.{◌≡◌, ℕ, Result, Ok, Err}
+use Rattle.std.specs.Prelude.{◌≡◌, ℕ, List, Result, Ok, Err}
 use Rattle.row_map.specs.Expect.{View}
+use Rattle.row_write.specs.declared.op.RowOp.{RowOp}
+use Rattle.row_write.specs.declared.op.RowOutcome.TheVariants.{Refused}
+use Rattle.row_write.specs.declared.fault.RowFault.{RowFault}
+use Rattle.row_write.specs.Plain.{outcome}
 use Rattle.lease.specs.declared.lease.Lease.{Lease}
 use Rattle.lease.specs.Timeline.{granted_at}
 use Rattle.schema_version.specs.Version.{Version}
@@ -19,6 +23,10 @@ IsGranted opening lease schema =
 -- each key with its value in some core behind the lock, or with none
 abbrev pub IsReadOfCore : Opening → Keys → View → Type 0
 IsReadOfCore opening keys view = (core : State) × IsCore opening core × IsReadView core keys view
+
+-- the rows of some core behind the lock refuse the operations, this one first and for this reason
+abbrev pub IsRefusedByCore : Opening → List RowOp → ℕ → RowFault → Type 0
+IsRefusedByCore opening ops op why = (core : State) × IsCore opening core × (outcome (facts_of core).rows ops ≡ Refused op why)
 
 -- a lease and its schema, without the receipt
 abbrev pub lent : {E : Type 0} → Result Grant E → Result (Lease × Version) E

@@ -8,6 +8,7 @@ use Rattle.row_map.specs.Rows.{Bytes}
 use Rattle.row_write.specs.declared.op.RowOp.{RowOp}
 use Rattle.row_write.specs.declared.fault.PrepareFault.{PrepareFault}
 use Rattle.row_write.specs.declared.fault.PrepareFault.TheVariants as prepare_fault
+use Rattle.row_write.specs.declared.fault.RowFault.{RowFault}
 use Rattle.row_write.specs.Prepare.{rank, Condition}
 use Rattle.row_write.specs.Reads.{IsRead}
 use Rattle.lease.specs.declared.lease.Lease.{Lease}
@@ -32,10 +33,10 @@ Keys = map.FinMap bytes_cmp (Unit {0})
 abbrev pub IsReceiptOf : List RowOp → Receipt → Type 0
 IsReceiptOf ops receipt = (lease : Lease) × (receipt.entry.what ≡ Txn lease ops)
 
--- what is committed is a transaction of these operations
-abbrev pub IsCommitOf : List RowOp → Committed → Type 0
-IsCommitOf ops (committed.Done receipt) = IsReceiptOf ops receipt
-IsCommitOf ops (committed.Refused op why) = Unit {0}
+-- a transaction of these operations is committed, or the rows refuse them where they may
+abbrev pub IsCommitOf : (List RowOp → ℕ → RowFault → Type 0) → List RowOp → Committed → Type 0
+IsCommitOf refuses ops (committed.Done receipt) = IsReceiptOf ops receipt
+IsCommitOf refuses ops (committed.Refused op why) = refuses ops op why
 
 -- under a schema of a lease that was granted, and by what was read for the operations under it, preparation has this fault and none of a lower number
 pub record IsUnprepared (grants : Lease → Version → Type 0) (reads : Keys → View → Type 0) (ops : List RowOp) (fault : PrepareFault) : Type 0 where
@@ -67,26 +68,26 @@ IsRejected (commit_fault.Conflict key) answer = ⊥
 IsRejected commit_fault.Memory answer = ⊥
 
 -- the outcome with which a try ends that no other follows, and the port's last answer then
-abbrev pub IsEnd : (Lease → Version → Type 0) → (Keys → View → Type 0) → List RowOp → Outcome → Last → Type 0
-IsEnd grants reads ops (outcome.Done receipt) answer = (answer ≡ last.Done) × IsReceiptOf ops receipt
-IsEnd grants reads ops (outcome.Row op why) answer = answer ≡ last.Row op why
-IsEnd grants reads ops (outcome.Unprepared fault) answer = IsUnprepared grants reads ops fault
-IsEnd grants reads ops (outcome.Rejected fault) answer = IsRejected fault answer
-IsEnd grants reads ops (outcome.Busy tries) answer = ⊥
-IsEnd grants reads ops outcome.Held answer = ⊥
-IsEnd grants reads ops (outcome.WentBack seen) answer = answer ≡ last.WentBack seen
-IsEnd grants reads ops outcome.Memory answer = Unit {0}
+abbrev pub IsEnd : (Lease → Version → Type 0) → (Keys → View → Type 0) → (List RowOp → ℕ → RowFault → Type 0) → List RowOp → Outcome → Last → Type 0
+IsEnd grants reads refuses ops (outcome.Done receipt) answer = (answer ≡ last.Done) × IsReceiptOf ops receipt
+IsEnd grants reads refuses ops (outcome.Row op why) answer = (answer ≡ last.Row op why) × refuses ops op why
+IsEnd grants reads refuses ops (outcome.Unprepared fault) answer = IsUnprepared grants reads ops fault
+IsEnd grants reads refuses ops (outcome.Rejected fault) answer = IsRejected fault answer
+IsEnd grants reads refuses ops (outcome.Busy tries) answer = ⊥
+IsEnd grants reads refuses ops outcome.Held answer = ⊥
+IsEnd grants reads refuses ops (outcome.WentBack seen) answer = answer ≡ last.WentBack seen
+IsEnd grants reads refuses ops outcome.Memory answer = Unit {0}
 
 -- Busy comes only after that many tries which ended in a conflict or with the end of their lease; every other outcome is how one try ends
-abbrev pub IsServed : (Lease → Version → Type 0) → (Keys → View → Type 0) → List RowOp → ℕ → Tally → Outcome → Tally → Type 0
-IsServed grants reads ops tries before (outcome.Busy n) after = (n ≡ tries) × (after.retries ≡ before.retries + tries)
-IsServed grants reads ops tries before (outcome.Done receipt) after = IsEnd grants reads ops (outcome.Done receipt) after.last
-IsServed grants reads ops tries before (outcome.Row op why) after = IsEnd grants reads ops (outcome.Row op why) after.last
-IsServed grants reads ops tries before (outcome.Unprepared fault) after = IsEnd grants reads ops (outcome.Unprepared fault) after.last
-IsServed grants reads ops tries before (outcome.Rejected fault) after = IsEnd grants reads ops (outcome.Rejected fault) after.last
-IsServed grants reads ops tries before outcome.Held after = ⊥
-IsServed grants reads ops tries before (outcome.WentBack seen) after = IsEnd grants reads ops (outcome.WentBack seen) after.last
-IsServed grants reads ops tries before outcome.Memory after = Unit {0}
+abbrev pub IsServed : (Lease → Version → Type 0) → (Keys → View → Type 0) → (List RowOp → ℕ → RowFault → Type 0) → List RowOp → ℕ → Tally → Outcome → Tally → Type 0
+IsServed grants reads refuses ops tries before (outcome.Busy n) after = (n ≡ tries) × (after.retries ≡ before.retries + tries)
+IsServed grants reads refuses ops tries before (outcome.Done receipt) after = IsEnd grants reads refuses ops (outcome.Done receipt) after.last
+IsServed grants reads refuses ops tries before (outcome.Row op why) after = IsEnd grants reads refuses ops (outcome.Row op why) after.last
+IsServed grants reads refuses ops tries before (outcome.Unprepared fault) after = IsEnd grants reads refuses ops (outcome.Unprepared fault) after.last
+IsServed grants reads refuses ops tries before (outcome.Rejected fault) after = IsEnd grants reads refuses ops (outcome.Rejected fault) after.last
+IsServed grants reads refuses ops tries before outcome.Held after = ⊥
+IsServed grants reads refuses ops tries before (outcome.WentBack seen) after = IsEnd grants reads refuses ops (outcome.WentBack seen) after.last
+IsServed grants reads refuses ops tries before outcome.Memory after = Unit {0}
 
 -- how many receipts an outcome holds
 abbrev pub receipts_of : Outcome → ℕ

@@ -3,10 +3,11 @@ use Rattle.std.specs.Prelude.{◌≡◌, ℕ, ◌+◌, ◌<◌, ◌≤◌, ◌�
 use Rattle.tasks.specs.Outcomes.{IsRow, held_in}
 use Rattle.tasks.specs.declared.fault.TaskFault.{TaskFault}
 use Rattle.tasks.specs.declared.fault.TaskFault.TheVariants as task_fault
+use Rattle.replay.specs.Replay.{Opening}
 use Rattle.world.specs.declared.entry.Receipt.{Receipt}
 use Rattle.locked_store.specs.Known.{Known, total_count}
 use Rattle.server.specs.Outcomes.{receipts_of}
-use Rattle.server.specs.Works.{AreOwn}
+use Rattle.server.specs.Works.{AreOutcomes}
 use Rattle.server.specs.declared.request.Request.{Request}
 use Rattle.server.specs.declared.request.Outcome.{Outcome}
 use Rattle.server.specs.declared.staff.ServeFault.{ServeFault}
@@ -20,11 +21,11 @@ abbrev pub IsRefused : ℕ → ℕ → ℕ → ServeFault → Type 0
 IsRefused handles requests tries serve_fault.BadCount = (handles ≡ 0) ⊎ ((64 < handles) ⊎ ((tries ≡ 0) ⊎ ((1000 < tries) ⊎ (1000000 < requests))))
 IsRefused handles requests tries serve_fault.Memory = IsCount handles requests tries
 
--- one outcome for each request, by rising number, and each Done holds a receipt of its own request; all handles are back, in their order, and
--- their shares rose together by the receipts, those in outcomes and the others
-pub record Serves (requests : List Request) (handles : List Known) (outcomes : List (ℕ × Outcome)) (back : List Known) (receipts : List (List Receipt)) : Type 0 where
+-- one outcome for each request, by rising number, and each is one that may become of its own request in a world of this opening, with so
+-- many tries; all handles are back, in their order, and their shares rose together by the receipts, those in outcomes and the others
+pub record Serves (opening : Opening) (requests : List Request) (tries : ℕ) (handles : List Known) (outcomes : List (ℕ × Outcome)) (back : List Known) (receipts : List (List Receipt)) : Type 0 where
   pub each : IsRow (length requests) outcomes
-  pub own : AreOwn requests outcomes
+  pub own : AreOutcomes opening (record { requests = requests; tries = tries }) outcomes
   pub same : map (λ h. h.id) back ≡ map (λ h. h.id) handles
   pub counted : total_count back ≡ total_count handles + held_in receipts_of outcomes + sum_by length receipts
 

@@ -44,7 +44,7 @@ fn kept_apart(
 
 impl<'a, L: Room, R: Wait> Port for Desk<'a, L, R> {
     ghost use Rattle.std.specs.Prelude.{length};
-    ghost use Rattle.server.specs.Desks.{IsGranted, IsReadOfCore};
+    ghost use Rattle.server.specs.Desks.{IsGranted, IsReadOfCore, IsRefusedByCore};
 
     ghost id = { λ d. d.handle.id };
 
@@ -57,6 +57,8 @@ impl<'a, L: Room, R: Wait> Port for Desk<'a, L, R> {
     ghost grants = { IsGranted L.opening };
 
     ghost reads = { IsReadOfCore L.opening };
+
+    ghost refuses = { IsRefusedByCore L.opening };
 
     #[tactic(auto, using(crate::proofs::Desks::granted, crate::proofs::Desks::granted_count, crate::proofs::Desks::same_id))]
     fn lease(

@@ -16,10 +16,12 @@ use world::{CommitFault, Committed, GrantFault};
 /// Leases, reads and commits of one server, as `Shared` answers them through a handle. A port keeps the receipts of its leases, and
 /// a tally of its answers.
 pub trait Port {
-    ghost use Rattle.std.specs.Prelude.{ℕ};
+    ghost use Rattle.std.specs.Prelude.{ℕ, List};
     ghost use Rattle.lease.specs.declared.lease.Lease.{Lease};
     ghost use Rattle.schema_version.specs.Version.{Version};
     ghost use Rattle.row_map.specs.Expect.{View};
+    ghost use Rattle.row_write.specs.declared.op.RowOp.{RowOp};
+    ghost use Rattle.row_write.specs.declared.fault.RowFault.{RowFault};
     ghost use Rattle.server.specs.Outcomes.{Keys};
     ghost use Rattle.server.specs.declared.tally.Tally.{Tally};
 
@@ -40,6 +42,9 @@ pub trait Port {
 
     // what it may answer where these keys are to be read
     ghost reads: { Keys → View → Type 0 };
+
+    // of which operations it may say that the rows refuse them, at which one and why
+    ghost refuses: { List RowOp → ℕ → RowFault → Type 0 };
 
     /// Takes a lease on the newest version at `moment`, and gives it with the schema of that version. The port keeps the receipt,
     /// whose room is made first.
@@ -64,7 +69,8 @@ pub trait Port {
         ensures same { (count self.new ≡ count self.old) × (kept self.new ≡ kept self.old) }
         ensures viewed { IfOk result (λ view. reads keys.now view) };
 
-    /// Commits a prepared transaction at `moment`. Refused as `Shared::commit` is; what was prepared comes back with each refusal.
+    /// Commits a prepared transaction at `moment`: `Done` has the receipt for an entry of its operations, and `Refused` tells that the rows
+    /// refuse them. The call is refused as `Shared::commit` is; what was prepared comes back with each such refusal.
     fn commit(
         &mut self,
         alloc: Global,
@@ -75,7 +81,7 @@ pub trait Port {
         ensures tallied { tally self.new ≡ tally_of ((tally self.old).retries + retried (last_of_commit result)) (last_of_commit result) }
         ensures own_handle { id self.new ≡ id self.old }
         ensures counted { (count self.new ≡ count self.old + given_by result) × (kept self.new ≡ kept self.old) }
-        ensures own { IfOk result (λ done. IsCommitOf prepared.ops done) };
+        ensures own { IfOk result (λ done. IsCommitOf refuses prepared.ops done) };
 
     /// How many of its answers were a conflict or the end of a lease, and its last answer.
     fn tally(&self) -> Tally

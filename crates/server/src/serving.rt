@@ -22,7 +22,7 @@ fn held_or_new<P: Port>(
     requires room { (P.tally port.old).retries < 2 ^ 63 }
     requires held { MatchOption held (Unit {0}) (λ h. P.grants h.0 h.1) }
     ensures granted { IfOk result (λ h. P.grants h.0 h.1) }
-    ensures over { IfErr result (λ o. IsEnd P.grants P.reads request.now.ops o (P.tally port.new).last) }
+    ensures over { IfErr result (λ o. IsEnd P.grants P.reads P.refuses request.now.ops o (P.tally port.new).last) }
     ensures retries { (P.tally port.new).retries ≡ (P.tally port.old).retries }
     ensures own_handle { P.id port.new ≡ P.id port.old }
     ensures counted { P.count port.new + P.kept port.old ≡ P.count port.old + P.kept port.new + receipts_by result }
@@ -68,7 +68,7 @@ fn prepared_by<P: Port>(
     requires room { (P.tally port.old).retries < 2 ^ 63 }
     requires granted { P.grants lease schema.now }
     ensures own { IfOk result (λ p. p.ops ≡ request.now.ops) }
-    ensures over { IfErr result (λ o. IsEnd P.grants P.reads request.now.ops o (P.tally port.new).last) }
+    ensures over { IfErr result (λ o. IsEnd P.grants P.reads P.refuses request.now.ops o (P.tally port.new).last) }
     ensures retries { (P.tally port.new).retries ≡ (P.tally port.old).retries }
     ensures own_handle { P.id port.new ≡ P.id port.old }
     ensures counted { P.count port.new + P.kept port.old ≡ P.count port.old + P.kept port.new + receipts_by result }
@@ -102,7 +102,7 @@ fn committed_by<P: Port>(
 ) -> Result<bool, Outcome>
     requires room { (P.tally port.old).retries < 2 ^ 63 }
     requires own { prepared.ops ≡ request.now.ops }
-    ensures over { IfErr result (λ o. IsEnd P.grants P.reads request.now.ops o (P.tally port.new).last) }
+    ensures over { IfErr result (λ o. IsEnd P.grants P.reads P.refuses request.now.ops o (P.tally port.new).last) }
     ensures again { IfOk result (λ _. (P.tally port.new).retries ≡ (P.tally port.old).retries + 1) }
     ensures once { IfErr result (λ _. (P.tally port.new).retries ≡ (P.tally port.old).retries) }
     ensures own_handle { P.id port.new ≡ P.id port.old }
@@ -137,7 +137,7 @@ fn tried<P: Port>(
     requires room { (P.tally port.old).retries < 2 ^ 63 }
     requires held { MatchOption held (Unit {0}) (λ h. P.grants h.0 h.1) }
     ensures held { IfOk result (λ held. MatchOption held (Unit {0}) (λ h. P.grants h.0 h.1)) }
-    ensures over { IfErr result (λ o. IsEnd P.grants P.reads request.now.ops o (P.tally port.new).last) }
+    ensures over { IfErr result (λ o. IsEnd P.grants P.reads P.refuses request.now.ops o (P.tally port.new).last) }
     ensures again { IfOk result (λ _. (P.tally port.new).retries ≡ (P.tally port.old).retries + 1) }
     ensures once { IfErr result (λ _. (P.tally port.new).retries ≡ (P.tally port.old).retries) }
     ensures own_handle { P.id port.new ≡ P.id port.old }
@@ -163,7 +163,7 @@ fn tried<P: Port>(
 pub fn serve_one<P: Port>(alloc: Global, port: &mut P, request: &Request, tries: u32) -> Outcome
     requires tries { (1 ≤ tries) × (tries ≤ 1000) }
     requires room { (P.tally port.old).retries ≤ 2 ^ 62 }
-    ensures served { IsServed P.grants P.reads request.now.ops tries (P.tally port.old) result (P.tally port.new) }
+    ensures served { IsServed P.grants P.reads P.refuses request.now.ops tries (P.tally port.old) result (P.tally port.new) }
     ensures few { (P.tally port.new).retries ≤ (P.tally port.old).retries + tries }
     ensures own_handle { P.id port.new ≡ P.id port.old }
     ensures counted { P.count port.new + P.kept port.old ≡ P.count port.old + P.kept port.new + receipts_of result }

@@ -28,7 +28,7 @@ const MAX_TRIES: u32 = 1_000;
 /// What became of each request, and the handles.
 #[derive(Drop)]
 pub struct Served<L: Room> {
-    /// The outcome of each request, by rising number.
+    /// The outcome of each request, by rising number; `serve` says what is true of it.
     pub outcomes: Vec<(usize, Outcome)>,
     /// All handles, in their order.
     pub handles: Vec<Handle<L>>,
@@ -61,7 +61,7 @@ fn staffed<'a, L: Room, R: Wait>(
     requires room { (room.items ≡ []) × (vec_len handles.old ≤ vec_capacity room) }
     ensures taken { (handles.new.items ≡ []) × (vec_capacity handles.new ≡ vec_capacity handles.old) }
     ensures staff { map (λ w. w.handle) result.items ≡ reverse handles.old.items }
-    ensures idle { AreIdle requests.now result.items }
+    ensures idle { AreIdle (record { requests = requests.now; tries = tries }) result.items }
 {
     let mut workers = room;
     while let Some(handle) = handles.pop() {
@@ -121,7 +121,7 @@ fn run<'a, L: Room + Send + Sync, G: Gate + Sync, R: Threads + Wait + Sync>(
     requires counts { IsCount (vec_len handles) (length requests.now) tries }
     requires room { (room.items ≡ []) × (vec_len handles ≤ vec_capacity room) }
     requires receipts { (receipts.items ≡ []) × (vec_len handles ≤ vec_capacity receipts) }
-    ensures served { IfOk result (λ s. Serves requests.now handles.items s.outcomes.items s.handles.items s.receipts.items) }
+    ensures served { IfOk result (λ s. Serves L.opening requests.now tries handles.items s.outcomes.items s.handles.items s.receipts.items) }
     ensures refused { IfErr result (λ r. IsRefused (vec_len handles) (length requests.now) tries r.0) }
     ensures unchanged { IfErr result (λ r. r.1.items ≡ handles.items) }
 {
@@ -162,6 +162,15 @@ fn told(fault: TaskFault) -> ServeFault
 /// - `tries`: how often a request is tried at most, from 1 to 1,000.
 /// - `gate`: it is asked up to 10,000,000 times before a request; if it never lets pass, the outcome is `Held`.
 ///
+/// Each outcome is true of its own request:
+///
+/// - `Done` has the receipt for an entry of its operations.
+/// - `Row` is how the rows of a state that the world may have refuse its operations.
+/// - `Unprepared` is why its operations cannot be prepared, by the schema of a lease on the newest version of such a state and by what
+///   was read of such a state.
+/// - `Rejected` has a refusal after which no further try would help, and `Busy` the number of tries that were allowed.
+/// - `Held`, `WentBack` and `Memory` say nothing of it.
+///
 /// Refused in this order, and then nothing was served and the handles come back: `BadCount` where one of these numbers is out of its
 /// range; `Memory`. Once a request has begun, want of memory is the outcome of single requests.
 pub fn serve<L: Room + Send + Sync, G: Gate + Sync, R: Threads + Wait + Sync>(
@@ -174,7 +183,7 @@ pub fn serve<L: Room + Send + Sync, G: Gate + Sync, R: Threads + Wait + Sync>(
     gate: &G,
 ) -> Result<Served<L>, (ServeFault, Vec<Handle<L>>)>
     ensures counts { IfOk result (λ _. IsCount (vec_len handles) (length requests.now) tries) }
-    ensures served { IfOk result (λ s. Serves requests.now handles.items s.outcomes.items s.handles.items s.receipts.items) }
+    ensures served { IfOk result (λ s. Serves L.opening requests.now tries handles.items s.outcomes.items s.handles.items s.receipts.items) }
     ensures refused { IfErr result (λ r. IsRefused (vec_len handles) (length requests.now) tries r.0) }
     ensures unchanged { IfErr result (λ r. r.1.items ≡ handles.items) }
 {

@@ -1,7 +1,7 @@
 //! One worker: a server that commits the requests whose numbers it draws.
-ghost use Rattle.std.specs.Prelude.{◌≡◌, ◌+◌, ◌≤◌, length};
+ghost use Rattle.std.specs.Prelude.{◌≡◌, ℕ, ◌+◌, ◌≤◌, length};
 ghost use Rattle.server.specs.Outcomes.{receipts_of};
-ghost use Rattle.server.specs.Works.{IsOwn};
+ghost use Rattle.server.specs.Works.{Orders, IsOutcomeOf, IsOutcomeAt};
 
 use crate::desk::Desk;
 use crate::request::{Outcome, Request};
@@ -27,12 +27,13 @@ impl<'a, L: Room, R: Wait> Model for RequestWorker<'a, L, R> {
 
     ghost Value = { Serving };
 
-    ghost view = { λ w. record { handle = w.desk.handle; kept = length w.desk.kept.items; requests = w.requests.now } };
+    ghost view = { λ w. record { handle = w.desk.handle; kept = length w.desk.kept.items; orders = record { requests = w.requests.now; tries = w.tries } } };
 
     ghost invariant = { λ w. (1 ≤ w.tries) × (w.tries ≤ 1000) };
 }
 
 // The outcome of one request, by a tally of its own.
+#[tactic(auto, using(crate::proofs::Works::served_so))]
 fn outcome_of<L: Room, R: Wait>(
     alloc: Global,
     desk: &mut Desk<L, R>,
@@ -40,7 +41,7 @@ fn outcome_of<L: Room, R: Wait>(
     tries: u32,
 ) -> Outcome
     requires tries { (1 ≤ tries) × (tries ≤ 1000) }
-    ensures own { IsOwn request.now.ops result }
+    ensures own { IsOutcomeOf L.opening request.now.ops tries result }
     ensures same { desk.new.handle.id ≡ desk.old.handle.id }
     ensures counted { desk.new.handle.count + length desk.old.kept.items ≡ desk.old.handle.count + length desk.new.kept.items + receipts_of result }
 {
@@ -52,18 +53,17 @@ fn outcome_of<L: Room, R: Wait>(
 }
 
 impl<'a, L: Room, R: Wait> Worker for RequestWorker<'a, L, R> {
-    ghost use Rattle.std.specs.Prelude.{List, length};
+    ghost use Rattle.std.specs.Prelude.{length};
     ghost use Rattle.server.specs.Outcomes.{receipts_of};
-    ghost use Rattle.server.specs.Works.{IsOwnOf};
-    ghost use Rattle.server.specs.declared.request.Request.{Request};
+    ghost use Rattle.server.specs.Works.{Orders, IsOutcomeAt};
 
     type Outcome = Outcome;
 
-    ghost Plan = { List Request };
+    ghost Plan = { Orders };
 
-    ghost plan = { λ w. w.requests };
+    ghost plan = { λ w. w.orders };
 
-    ghost total = { length };
+    ghost total = { λ orders. length orders.requests };
 
     ghost id = { λ w. w.handle.id };
 
@@ -73,7 +73,7 @@ impl<'a, L: Room, R: Wait> Worker for RequestWorker<'a, L, R> {
 
     ghost held = { receipts_of };
 
-    ghost fits = { IsOwnOf };
+    ghost fits = { IsOutcomeAt L.opening };
 
     fn perform(&mut self, alloc: Global, number: usize) -> Outcome {
         let RequestWorker {
@@ -84,11 +84,19 @@ impl<'a, L: Room, R: Wait> Worker for RequestWorker<'a, L, R> {
         outcome_of(alloc, desk, &requests[number], *tries)
     }
 
-    fn held_back() -> Outcome {
+    fn held_back() -> Outcome
+        ensures is { result ≡ Outcome.Held }
+        ensures none { receipts_of result ≡ 0 }
+        ensures fits { (orders : Orders) (number : ℕ) → IsOutcomeAt L.opening orders number result }
+    {
         Outcome::Held
     }
 
-    fn undrawn() -> Outcome {
+    fn undrawn() -> Outcome
+        ensures is { result ≡ Outcome.Memory }
+        ensures none { receipts_of result ≡ 0 }
+        ensures fits { (orders : Orders) (number : ℕ) → IsOutcomeAt L.opening orders number result }
+    {
         Outcome::Memory
     }
 }
