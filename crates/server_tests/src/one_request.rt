@@ -78,7 +78,7 @@ fn commits(
     prepared: Prepared,
 ) -> Result<Committed, (SharedFault<CommitFault>, Prepared)>
     ensures counted { vec_len committed.new ≡ vec_len committed.old + given_by result }
-    ensures own { IfOk result (λ done. IsCommitOf prepared.ops done) }
+    ensures own { IfOk result (λ done. IsCommitOf (λ ops op why. Unit {0}) prepared.ops done) }
 {
     if committed.reserve(1).is_err() {
         return Err((SharedFault::World(CommitFault::Memory), prepared));
@@ -107,6 +107,8 @@ impl Port for Stubborn {
     ghost grants = { λ lease schema. Unit {0} };
 
     ghost reads = { λ keys view. Unit {0} };
+
+    ghost refuses = { λ ops op why. Unit {0} };
 
     fn lease(
         &mut self,
