@@ -13,16 +13,17 @@ use Rattle.schema_version.specs.declared.step.Move.{Move}
 use Rattle.schema_version.specs.declared.step.Move.TheVariants.{Enter, Go}
 use Rattle.schema_version.specs.declared.step.StepFault.{StepFault}
 use Rattle.schema_version.specs.declared.step.StepFault.TheVariants.{Unknown, NotAdjacent, WrongWay, Dependent, NameTaken, Limit}
+use Rattle.schema_version.specs.Edges.{edge}
 use Rattle.schema_version.specs.Names.{is_name, max_listed, max_elements}
 use Rattle.schema_version.specs.Version.{Version, Table, table_at, element_at, live, is_index, is_public, is_column, is_named, listed}
-use Rattle.schema_version.specs.Moves.{is_edge, moves_element, is_unready, is_distinct, count_like, max_like, is_entry}
+use Rattle.schema_version.specs.Moves.{moves_element, is_unready, is_distinct, count_like, max_like, is_entry}
 
 abbrev pub Answer : Type 0
 Answer = Result (Unit {0}) StepFault
 
 -- no edge of either way joins the states
 abbrev pub has_no_edge : Kind → ElementState → ElementState → Bool
-has_no_edge kind from to = not (is_edge kind Adding from to) && not (is_edge kind Dropping from to)
+has_no_edge kind from to = not (is_some (edge kind Adding from to)) && not (is_some (edge kind Dropping from to))
 
 -- whether the element is an index that lists the column
 abbrev pub lists : ℕ → ElementDef → Bool
@@ -40,7 +41,7 @@ unless (Some on) answer = Err (Dependent on)
 abbrev pub go_check : Version → List Move → List Move → ℕ → ElementDef → ElementState → Answer
 go_check version step earlier number element to =
     if has_no_edge element.kind element.state to || moves_element earlier number then Err NotAdjacent
-    else (if not (is_edge element.kind element.way element.state to) && not (is_public element.state) then Err WrongWay
+    else (if not (is_some (edge element.kind element.way element.state to)) then Err WrongWay
     else unless (stands_against version step number element.kind) (Ok tt))
 
 abbrev pub go_check_at : Version → List Move → List Move → ℕ → Option ElementDef → ElementState → Answer

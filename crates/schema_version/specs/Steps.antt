@@ -1,16 +1,16 @@
 -- What a step does to each element.
-use Rattle.std.specs.Prelude.{◌≡◌, ℕ, ◌≤◌, ◌<◌, List, Option, None, Some, Contains, ◌⊎◌, true}
+use Rattle.std.specs.Prelude.{◌≡◌, ℕ, ◌≤◌, ◌<◌, List, Option, None, Some, Contains, ◌⊎◌}
 use Rattle.schema_version.specs.declared.element.ElementState.{ElementState}
-use Rattle.schema_version.specs.declared.element.ElementState.TheVariants.{Absent, Public}
-use Rattle.schema_version.specs.declared.element.Way.TheVariants.{Adding, Dropping}
-use Rattle.schema_version.specs.declared.element.Kind.{Kind}
+use Rattle.schema_version.specs.declared.element.ElementState.TheVariants.{Absent}
+use Rattle.schema_version.specs.declared.element.Way.{Way}
 use Rattle.schema_version.specs.declared.element.ElementDef.{ElementDef}
 use Rattle.schema_version.specs.declared.element.NewElement.{NewElement}
 use Rattle.schema_version.specs.declared.step.Move.{Move}
 use Rattle.schema_version.specs.declared.step.Move.TheVariants.{Enter, Go}
+use Rattle.schema_version.specs.Edges.{edge, HasEdge}
 use Rattle.schema_version.specs.Version.{Version, element_at, listed}
 use Rattle.schema_version.specs.Sound.{IsSoundVersion}
-use Rattle.schema_version.specs.Moves.{is_edge, as_element, in_state, after_step, IsAllowed}
+use Rattle.schema_version.specs.Moves.{as_element, in_state, after_step, IsAllowed}
 
 -- the element, or none where it is absent
 abbrev pub in_state_or_none : ElementDef → ElementState → Option ElementDef
@@ -23,16 +23,12 @@ pub data Change (moves : List Move) (next number : ℕ) (old new : Option Elemen
   Enters : (fresh : NewElement) (to : ElementState) → Contains moves (Enter fresh to) → next ≤ number → old ≡ None → new ≡ Some (as_element number fresh to) → Change moves next number old new
   Goes : (element : ElementDef) (to : ElementState) → Contains moves (Go number to) → old ≡ Some element → new ≡ in_state_or_none element to → Change moves next number old new
 
--- an edge of one way or the other
-abbrev pub HasEdge : Kind → ElementState → ElementState → Type 0
-HasEdge kind from to = (is_edge kind Adding from to ≡ true) ⊎ (is_edge kind Dropping from to ≡ true)
-
 -- What an allowed step does to the element of a number: it stays, it enters by an edge from absent, or it goes by an edge that is one
 -- of its way or leaves public.
 pub data StepOf (next number : ℕ) (old new : Option ElementDef) : Type 0 where
   Same : new ≡ old → StepOf next number old new
   New : (fresh : NewElement) (to : ElementState) → next ≤ number → HasEdge fresh.kind Absent to → old ≡ None → new ≡ Some (as_element number fresh to) → StepOf next number old new
-  Next : (element : ElementDef) (to : ElementState) → HasEdge element.kind element.state to → (is_edge element.kind element.way element.state to ≡ true) ⊎ (element.state ≡ Public) → old ≡ Some element → new ≡ in_state_or_none element to → StepOf next number old new
+  Next : (element : ElementDef) (to : ElementState) (way : Way) → edge element.kind element.way element.state to ≡ Some way → old ≡ Some element → new ≡ in_state_or_none element to → StepOf next number old new
 
 -- elements stand under their own numbers, which were given
 pub record IsOrdered (version : Version) : Type 0 where

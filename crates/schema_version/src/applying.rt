@@ -4,24 +4,15 @@ ghost use Rattle.std.specs.Map.{lookup};
 ghost use Rattle.indexmap.specs.IndexMap.{insert_entry};
 ghost use Rattle.schema_version.specs.Version.{Version};
 ghost use Rattle.schema_version.specs.Names.{max_elements};
-ghost use Rattle.schema_version.specs.Moves.{way_after as way_after_of, as_element, is_entry, after_step};
+ghost use Rattle.schema_version.specs.Moves.{as_element, is_entry, after_step};
 ghost use Rattle.schema_version.specs.Held.{moved_entries, made, table_held, IsHeld, holding};
 
+use crate::edges::edge;
 use crate::element::{ElementDef, ElementState, NewElement, Way};
 use crate::step::Move;
 use crate::table::Columns;
 use indexmap::IndexMap;
 use std::alloc::AllocError;
-
-// An element that leaves public is dropped from then on.
-fn way_after(from: ElementState, way: Way) -> Way
-    ensures { result ≡ way_after_of from way }
-{
-    match from {
-        ElementState::Public => Way::Dropping,
-        _ => way,
-    }
-}
 
 // Adds a new element under its number.
 fn enter(
@@ -65,7 +56,7 @@ fn go(
         name: element.name.clone()?,
         kind: element.kind.clone()?,
         state: to,
-        way: way_after(element.state, element.way),
+        way: edge(&element.kind, element.way, element.state, to).unwrap_or(element.way),
     };
     elements.insert(number, next)?;
     Ok(())
