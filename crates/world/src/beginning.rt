@@ -10,7 +10,6 @@ ghost use Rattle.world.specs.State.{facts_of};
 
 use crate::entry::Receipt;
 use crate::fault::BeginFault;
-use crate::logging::{append, entry_pair, make_room, next_place};
 use crate::world::World;
 use lease::MAX_MOMENT;
 use reorganise::{Progress, Work};
@@ -132,12 +131,9 @@ impl World {
         ensures step { BeginAt self.old now element pieces result self.new }
     {
         begins_keep();
-        let (entry, logged) = entry_pair(alloc, now, What::Begin { element, pieces })?;
-        make_room(&mut self.log)?;
-        let place = next_place(&self.log);
+        let what = What::Begin { element, pieces };
+        let draft = self.log.make_ready(alloc, now, what)?;
         self.begun.push(progress)?;
-        append(&mut self.log, logged);
-        self.moment = now;
-        Ok(Receipt { place, entry })
+        Ok(self.log.enter(draft))
     }
 }

@@ -9,7 +9,7 @@ mod event;
 mod events;
 mod fault;
 mod finishing;
-mod logging;
+mod log;
 mod opening;
 mod piecework;
 mod publishing;

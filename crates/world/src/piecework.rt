@@ -11,9 +11,8 @@ ghost use Rattle.world.specs.declared.fault.PieceFault.TheVariants.{Memory};
 ghost use Rattle.world.specs.Piecework.{standing_at, ReadStep, PieceStep, PieceAt, PieceCondition, IsCurrent, IsSpanOf, piece_rank};
 ghost use Rattle.world.specs.State.{facts_of};
 
-use crate::entry::{PieceDone, Receipt};
+use crate::entry::PieceDone;
 use crate::fault::{PieceFault, ReadFault};
-use crate::logging::{append, entry_pair, make_room, next_place};
 use crate::world::World;
 use byte_map::Bytes;
 use lease::MAX_MOMENT;
@@ -249,15 +248,11 @@ impl World {
             piece,
             cursor,
         };
-        let (entry, logged) = entry_pair(alloc, now, what)?;
-        make_room(&mut self.log)?;
-        let place = next_place(&self.log);
+        let draft = self.log.make_ready(alloc, now, what)?;
         self.store
             .test_and_set(alloc, prepared.expect(), prepared.batch())?;
-        append(&mut self.log, logged);
         self.begun = begun;
-        self.moment = now;
-        let receipt = Receipt { place, entry };
+        let receipt = self.log.enter(draft);
         Ok(PieceDone { receipt, ended })
     }
 }

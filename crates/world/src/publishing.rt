@@ -8,7 +8,6 @@ ghost use Rattle.world.specs.State.{facts_of};
 
 use crate::entry::Receipt;
 use crate::fault::PublishFault;
-use crate::logging::{append, entry_pair, make_room, next_place};
 use crate::world::World;
 use lease::MAX_MOMENT;
 use listed::Counted;
@@ -78,15 +77,14 @@ impl World {
     {
         publications_keep();
         let next = Counted::new(alloc, next)?;
-        let (entry, logged) = entry_pair(alloc, now, What::Publish(step.clone()?))?;
-        make_room(&mut self.log)?;
-        let place = next_place(&self.log);
+        let draft = self
+            .log
+            .make_ready(alloc, now, What::Publish(step.clone()?))?;
         let version = self.line.publish(now)?;
-        append(&mut self.log, logged);
         self.before = Some(mem::replace(&mut self.newest, next));
         self.begun
             .retain(|p| !moves_element(step.as_slice(), p.element.number));
-        self.moment = now;
-        Ok((version, Receipt { place, entry }))
+        let receipt = self.log.enter(draft);
+        Ok((version, receipt))
     }
 }

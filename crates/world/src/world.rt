@@ -5,15 +5,16 @@ ghost use Rattle.lease.specs.Refusals.{Serves};
 ghost use Rattle.lease.specs.Timeline.{IsValid, last_publication};
 ghost use Rattle.replay.specs.Kept.{AreInPieces};
 ghost use Rattle.replay.specs.Replay.{version_at};
+ghost use Rattle.replay.specs.declared.entry.What.TheVariants.{Txn};
 ghost use Rattle.world.specs.Calls.{OpenStep, LeaseStep, CommitStep, CommitAt, IsReadView, IsCheck, counted};
 ghost use Rattle.world.specs.Querying.{QueryStep};
 ghost use Rattle.world.specs.State.{facts_of, recent, IsReplayed, Agrees};
 
 use crate::committed::Committed;
 use crate::config::Config;
-use crate::entry::{Grant, Receipt};
+use crate::entry::Grant;
 use crate::fault::{CommitFault, GrantFault, OpenFault, QueryRefusal};
-use crate::logging::{append, entry_pair, make_room, next_place, txn_of};
+use crate::log::Log;
 use crate::opening::{begin, declare};
 use crate::reading::read_all;
 use audit::{CheckReport, audit};
@@ -42,9 +43,7 @@ pub struct World {
     /// The reorganisations that have begun and are not over.
     pub(crate) begun: Vec<Progress>,
     pub(crate) store: Store,
-    pub(crate) log: Vec<Entry>,
-    /// The moment of the last entry.
-    pub(crate) moment: u64,
+    pub(crate) log: Log,
 }
 
 impl Model for World {
@@ -60,6 +59,14 @@ impl Model for World {
     ghost view = { state_of };
 
     ghost invariant = { IsHeld };
+}
+
+// What a committed transaction says in the log.
+fn txn_of(prepared: &Prepared) -> Result<What, AllocError>
+    ensures { IfOk result (λ what. what ≡ Txn prepared.now.lease prepared.now.ops) }
+{
+    let ops = prepared.ops_copied()?;
+    Ok(What::Txn(*prepared.lease(), ops))
 }
 
 impl World {
@@ -83,8 +90,7 @@ impl World {
             line,
             begun: Vec::new(alloc),
             store: Store::new(alloc),
-            log: Vec::new(alloc),
-            moment: 0,
+            log: Log::new(alloc),
         })
     }
 
@@ -102,15 +108,12 @@ impl World {
         };
         let schema = self.newest.clone()?;
         leases_keep();
-        let (entry, kept) = entry_pair(alloc, now, What::Lease(lease))?;
-        make_room(&mut self.log)?;
-        let place = next_place(&self.log);
-        append(&mut self.log, kept);
-        self.moment = now;
+        let draft = self.log.make_ready(alloc, now, What::Lease(lease))?;
+        let receipt = self.log.enter(draft);
         Ok(Grant {
             lease,
             schema,
-            receipt: Receipt { place, entry },
+            receipt,
         })
     }
 
@@ -271,14 +274,11 @@ impl World {
     {
         transactions_keep();
         prepared.made();
-        let (entry, logged) = entry_pair(alloc, now, txn_of(prepared)?)?;
-        make_room(&mut self.log)?;
-        let place = next_place(&self.log);
+        let draft = self.log.make_ready(alloc, now, txn_of(prepared)?)?;
         let batch = prepared.batch();
         self.store.test_and_set(alloc, prepared.expect(), batch)?;
-        append(&mut self.log, logged);
-        self.moment = now;
-        Ok(Committed::Done(Receipt { place, entry }))
+        let receipt = self.log.enter(draft);
+        Ok(Committed::Done(receipt))
     }
 
     /// The moment of the last entry, 0 before the first.
@@ -293,14 +293,14 @@ impl World {
     pub(crate) fn counted(&self, moment: u64) -> u64
         ensures { result ≡ counted self.now moment }
     {
-        moment.max(self.moment)
+        moment.max(self.log.moment())
     }
 
     /// All entries, the first one first. The place of a receipt counts them from 1.
     pub fn log(&self) -> &[Entry]
         ensures { result.now ≡ self.now.log }
     {
-        self.log.as_slice()
+        self.log.entries()
     }
 
     /// Tells that the pairs are those that the log gives, and that they agree with the rows of the log for every
