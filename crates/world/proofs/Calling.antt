@@ -25,9 +25,9 @@ use Rattle.replay.specs.Replay.{Facts, start, version_at, pairs_by, after}
 use Rattle.replay.specs.Kept.{IsKept}
 use Rattle.replay.specs.Laws.{OpeningsKeep, LeasesKeep, IsDue, OutcomesHold, TxnsKeep, RefusedWriteNothing, txn_entry}
 use Rattle.world.specs.declared.committed.Committed.TheVariants as committed
-use Rattle.world.specs.declared.fault.CommitFault.{CommitFault}
-use Rattle.world.specs.declared.fault.CommitFault.TheVariants as commit_fault
-use Rattle.world.specs.declared.fault.GrantFault.TheVariants as grant_fault
+use Rattle.world.specs.declared.committing.CommitFault.{CommitFault}
+use Rattle.world.specs.declared.committing.CommitFault.TheVariants as commit_fault
+use Rattle.world.specs.declared.leasing.GrantFault.TheVariants as grant_fault
 use Rattle.world.specs.declared.entry.Receipt.{Receipt}
 use Rattle.world.specs.declared.log.Log.{Log}
 use Rattle.world.specs.declared.world.World.TheInside.{Inside}

@@ -22,8 +22,8 @@ use Rattle.replay.specs.declared.entry.What.TheVariants.{Piece}
 use Rattle.replay.specs.Replay.{Facts, after, pairs_by, moved_to}
 use Rattle.replay.specs.Kept.{IsKept}
 use Rattle.replay.specs.Laws.{IsNextOf, PiecesKeep, piece_entry}
-use Rattle.world.specs.declared.fault.PieceFault.{PieceFault}
-use Rattle.world.specs.declared.fault.PieceFault.TheVariants as piece_fault
+use Rattle.world.specs.declared.pieces.PieceFault.{PieceFault}
+use Rattle.world.specs.declared.pieces.PieceFault.TheVariants as piece_fault
 use Rattle.world.specs.declared.entry.Receipt.{Receipt}
 use Rattle.world.specs.declared.log.Log.{Log}
 use Rattle.world.specs.declared.world.World.TheInside.{Inside}

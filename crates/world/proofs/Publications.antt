@@ -20,8 +20,8 @@ use Rattle.replay.specs.declared.entry.Entry.{Entry}
 use Rattle.replay.specs.declared.entry.What.TheVariants.{Publish}
 use Rattle.replay.specs.Replay.{stays}
 use Rattle.replay.specs.Laws.{AreFinished, PublicationsKeep}
-use Rattle.world.specs.declared.fault.PublishFault.{PublishFault}
-use Rattle.world.specs.declared.fault.PublishFault.TheVariants as publish_fault
+use Rattle.world.specs.declared.publishing.PublishFault.{PublishFault}
+use Rattle.world.specs.declared.publishing.PublishFault.TheVariants as publish_fault
 use Rattle.world.specs.declared.entry.Receipt.{Receipt}
 use Rattle.world.specs.declared.log.Log.{Log}
 use Rattle.world.specs.declared.world.World.TheInside.{Inside}

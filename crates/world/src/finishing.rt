@@ -1,16 +1,14 @@
-//! What has begun, and what a step still waits for.
+//! What a step still waits for.
 ghost use Rattle.std.specs.Bool.{Decides};
 ghost use Rattle.std.specs.Prelude.{◌≡◌, ◌<◌, IfErr, OnOk, MatchOption};
-ghost use Rattle.std.specs.Option.{option_copied};
 ghost use Rattle.lease.specs.Timeline.{newest as newest_number};
 ghost use Rattle.replay.specs.Laws.{IsDone, AreFinished};
-ghost use Rattle.replay.specs.Replay.{progress_of};
 ghost use Rattle.world.specs.Publishing.{IsReady, Lacks, IsUnfinished, IsUnready, max_versions, needed as needed_of};
 ghost use Rattle.world.specs.State.{facts_of};
 
-use crate::fault::PublishFault;
+use crate::publishing::PublishFault;
 use crate::world::World;
-use reorganise::{Progress, Work};
+use reorganise::Work;
 use schema_version::{ElementState, Kind, Move};
 
 /// The greatest number of a version.
@@ -29,13 +27,6 @@ fn needed(kind: &Kind, to: ElementState) -> Option<Work>
 }
 
 impl World {
-    // The begun reorganisation of an element.
-    pub(crate) fn begun_of(&self, element: u32) -> Option<&Progress>
-        ensures { option_copied result ≡ progress_of (facts_of self.now).progress element }
-    {
-        self.begun.iter().find(|p| p.element.number == element)
-    }
-
     // Whether this work on an element has begun and is finished.
     fn is_done(&self, element: u32, work: Work) -> bool
         ensures { Decides result (IsDone (facts_of self.now) element work) }

@@ -35,7 +35,7 @@ invariant_of-self-2 c =
     let what = ap (λ (w : What). let e : Entry = record { moment = c.args.now; what = w } in e) c.in_ok-txn_of.ensures in
     let entered : IsLogged c.self.inside.log (txn_entry c.args.now c.args.prepared.now) c.enter-receipt.result c.enter-receipt.new.self
     = logged c.self.inside.log c.make_ready.new.self c.enter-receipt.new.self c.in_ok-draft.draft (txn_entry c.args.now c.args.prepared.now) c.enter-receipt.result c.in_ok-draft.ensures.entries (c.in_ok-draft.ensures.draft ∙ what)
-        c.enter-receipt.ensures.entries c.enter-receipt.ensures.moment c.enter-receipt.ensures.receipt in
+    c.enter-receipt.ensures.entries c.enter-receipt.ensures.moment c.enter-receipt.ensures.receipt in
     done_held c.self.inside c.args.now c.args.prepared.now c.test_and_set.new.self c.enter-receipt.new.self c.enter-receipt.result (record { outcome = c.transactions_keep.ensures.outcome; done = c.transactions_keep.ensures.done; refused = c.transactions_keep.ensures.refused }) v s c.requires.done entered
 
 pub returns : goal.returns
@@ -45,7 +45,7 @@ returns c =
     let what = ap (λ (w : What). let e : Entry = record { moment = c.args.now; what = w } in e) c.in_ok-txn_of.ensures in
     let entered : IsLogged c.self.inside.log (txn_entry c.args.now c.args.prepared.now) c.enter-receipt.result c.enter-receipt.new.self
     = logged c.self.inside.log c.make_ready.new.self c.enter-receipt.new.self c.in_ok-draft.draft (txn_entry c.args.now c.args.prepared.now) c.enter-receipt.result c.in_ok-draft.ensures.entries (c.in_ok-draft.ensures.draft ∙ what)
-        c.enter-receipt.ensures.entries c.enter-receipt.ensures.moment c.enter-receipt.ensures.receipt in
+    c.enter-receipt.ensures.entries c.enter-receipt.ensures.moment c.enter-receipt.ensures.receipt in
     record {
       step = step_done c.self.inside c.args.self.now c.args.now c.args.prepared.now c.test_and_set.new.self c.enter-receipt.new.self c.enter-receipt.result (record { outcome = c.transactions_keep.ensures.outcome; done = c.transactions_keep.ensures.done; refused = c.transactions_keep.ensures.refused }) c.self.view_is v s c.requires.done entered;
     }
