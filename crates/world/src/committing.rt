@@ -159,7 +159,8 @@ impl World {
     {
         transactions_keep();
         prepared.made();
-        let draft = self.log.make_ready(alloc, now, txn_of(prepared)?)?;
+        let what = txn_of(prepared)?;
+        let draft = self.log.make_ready(alloc, now, what)?;
         let batch = prepared.batch();
         self.store.test_and_set(alloc, prepared.expect(), batch)?;
         let receipt = self.log.enter(draft);

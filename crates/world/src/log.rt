@@ -39,7 +39,7 @@ impl Model for Draft {
 }
 
 // An entry, and the same for its receipt.
-fn draft(alloc: Global, moment: u64, what: What) -> Result<Draft, AllocError>
+fn drafted(alloc: Global, moment: u64, what: What) -> Result<Draft, AllocError>
     ensures { IfOk result (λ draft. draft ≡ record { moment = moment; what = what }) }
 {
     let what = Counted::new(alloc, what)?;
@@ -91,7 +91,7 @@ impl Log {
         ensures entries { self.new.entries.items ≡ self.old.entries.items }
         ensures moment { self.new.moment ≡ self.old.moment }
     {
-        let draft = draft(alloc, moment, what)?;
+        let draft = drafted(alloc, moment, what)?;
         self.entries.reserve(1)?;
         Ok(draft)
     }
@@ -104,11 +104,9 @@ impl Log {
         ensures receipt { result ≡ record { place = length self.old.entries.items + 1; entry = draft } }
     {
         let Draft { entry, told } = draft;
+        let place = self.entries.len() as u64 + 1;
         self.moment = entry.moment;
         self.entries.push_reserved(entry);
-        Receipt {
-            place: self.entries.len() as u64,
-            entry: told,
-        }
+        Receipt { place, entry: told }
     }
 }

@@ -254,24 +254,13 @@ impl World {
         ensures step { PieceStep self.old moment prepared result self.new }
     {
         let now = self.counted(moment);
-        match self.commit_piece_at(alloc, now, &prepared) {
+        if let Err(fault) = self.is_current(now, &prepared) {
+            return Err((fault, prepared));
+        }
+        match self.move_on(alloc, now, &prepared) {
             Ok(done) => Ok(done),
             Err(fault) => Err((fault, prepared)),
         }
-    }
-
-    // The commit at the moment that counts.
-    fn commit_piece_at(
-        &mut self,
-        alloc: Global,
-        now: u64,
-        prepared: &PreparedPiece,
-    ) -> Result<PieceDone, PieceFault>
-        requires later { (facts_of self.old).moment ≤ now }
-        ensures step { PieceAt self.old now prepared.now result self.new }
-    {
-        self.is_current(now, prepared)?;
-        self.move_on(alloc, now, prepared)
     }
 
     // Whether a piece is one of its element's reorganisation as it stands.

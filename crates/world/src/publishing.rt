@@ -124,9 +124,8 @@ impl World {
     {
         publications_keep();
         let next = Counted::new(alloc, next)?;
-        let draft = self
-            .log
-            .make_ready(alloc, now, What::Publish(step.clone()?))?;
+        let what = What::Publish(step.clone()?);
+        let draft = self.log.make_ready(alloc, now, what)?;
         let version = self.line.publish(now)?;
         self.before = Some(mem::replace(&mut self.newest, next));
         self.begun

@@ -8,8 +8,8 @@ use Rattle.world.proofs.Holding.{IsLogged, logged}
 use Rattle.world.proofs.Calling.{served_by, same_state, step_short, step_failed, step_done, done_held}
 use Rattle.world.proofs.world.World.add_txn.Goals as goal
 
-pub returns-in_err-txn_of : goal.returns-in_err-txn_of
-returns-in_err-txn_of c =
+pub returns-in_err-what : goal.returns-in_err-what
+returns-in_err-what c =
     let p = err_from_is_err_and c.from_residual.result c.from_residual.ensures.1 in
     record { step = rw p.1 (step_short c.args.self.now c.args.self.now c.args.now c.args.prepared.now p.0 c.requires.later c.requires.schema c.requires.serves refl p.2) }
 
@@ -32,7 +32,7 @@ pub invariant_of-self-2 : goal.invariant_of-self-2
 invariant_of-self-2 c =
     let v = served_by c.self.inside c.args.self.now c.args.now c.args.prepared.now c.self.invariant c.self.view_is c.made.ensures c.requires.later c.requires.schema c.requires.serves in
     let s = rw (c.expect.ensures, c.batch-batch.ensures) at c.in_ok-test_and_set.ensures in
-    let what = ap (λ (w : What). let e : Entry = record { moment = c.args.now; what = w } in e) c.in_ok-txn_of.ensures in
+    let what = ap (λ (w : What). let e : Entry = record { moment = c.args.now; what = w } in e) c.in_ok-what.ensures in
     let entered : IsLogged c.self.inside.log (txn_entry c.args.now c.args.prepared.now) c.enter-receipt.result c.enter-receipt.new.self
     = logged c.self.inside.log c.make_ready.new.self c.enter-receipt.new.self c.in_ok-draft.draft (txn_entry c.args.now c.args.prepared.now) c.enter-receipt.result c.in_ok-draft.ensures.entries (c.in_ok-draft.ensures.draft ∙ what)
     c.enter-receipt.ensures.entries c.enter-receipt.ensures.moment c.enter-receipt.ensures.receipt in
@@ -42,7 +42,7 @@ pub returns : goal.returns
 returns c =
     let v = served_by c.self.inside c.args.self.now c.args.now c.args.prepared.now c.self.invariant c.self.view_is c.made.ensures c.requires.later c.requires.schema c.requires.serves in
     let s = rw (c.expect.ensures, c.batch-batch.ensures) at c.in_ok-test_and_set.ensures in
-    let what = ap (λ (w : What). let e : Entry = record { moment = c.args.now; what = w } in e) c.in_ok-txn_of.ensures in
+    let what = ap (λ (w : What). let e : Entry = record { moment = c.args.now; what = w } in e) c.in_ok-what.ensures in
     let entered : IsLogged c.self.inside.log (txn_entry c.args.now c.args.prepared.now) c.enter-receipt.result c.enter-receipt.new.self
     = logged c.self.inside.log c.make_ready.new.self c.enter-receipt.new.self c.in_ok-draft.draft (txn_entry c.args.now c.args.prepared.now) c.enter-receipt.result c.in_ok-draft.ensures.entries (c.in_ok-draft.ensures.draft ∙ what)
     c.enter-receipt.ensures.entries c.enter-receipt.ensures.moment c.enter-receipt.ensures.receipt in
