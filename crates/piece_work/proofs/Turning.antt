@@ -18,8 +18,8 @@ use Rattle.replay.specs.Kept.{IsInPiece, IsInPieces, AreInPieces}
 use Rattle.replay.specs.Replay.{progress_of, moved_to}
 use Rattle.replay.proofs.Piecework.{at_place}
 use Rattle.world.specs.declared.entry.PieceDone.{PieceDone}
-use Rattle.world.specs.declared.fault.ReadFault.{ReadFault}
-use Rattle.world.specs.declared.fault.ReadFault.TheVariants.{NotWanted, View}
+use Rattle.world.specs.declared.pieces.ReadFault.{ReadFault}
+use Rattle.world.specs.declared.pieces.ReadFault.TheVariants.{NotWanted, View}
 use Rattle.world.specs.Piecework.{standing, standing_at, ReadStep, PieceStep}
 use Rattle.world.specs.Calls.{counted}
 use Rattle.world.specs.State.{State, facts_of, effect}

@@ -6,7 +6,7 @@ use Rattle.replay.specs.Kept.{AreInPieces}
 use Rattle.replay.specs.Replay.{progress_of}
 use Rattle.world.specs.Piecework.{ReadStep, PieceStep}
 use Rattle.world.specs.State.{State, facts_of}
-use Rattle.world.specs.declared.fault.ReadFault.TheVariants.{View}
+use Rattle.world.specs.declared.pieces.ReadFault.TheVariants.{View}
 use Rattle.reorganise.specs.declared.fault.ViewFault.TheVariants.{Spent}
 use Rattle.piece_work.specs.declared.fault.WorkFault.{WorkFault}
 use Rattle.piece_work.specs.declared.fault.WorkFault.TheVariants as work_fault

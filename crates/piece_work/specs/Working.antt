@@ -9,7 +9,7 @@ use Rattle.reorganise.specs.declared.reading.Reading.{Reading}
 use Rattle.reorganise.specs.Pieces.{is_ended}
 use Rattle.replay.specs.Replay.{progress_of}
 use Rattle.world.specs.declared.entry.PieceDone.{PieceDone}
-use Rattle.world.specs.declared.fault.ReadFault.TheVariants.{NotWanted, View}
+use Rattle.world.specs.declared.pieces.ReadFault.TheVariants.{NotWanted, View}
 use Rattle.world.specs.Piecework.{standing_at, ReadStep, PieceStep}
 use Rattle.world.specs.State.{State, facts_of}
 use Rattle.piece_work.specs.declared.fault.WorkFault.{WorkFault}

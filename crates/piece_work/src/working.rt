@@ -2,7 +2,7 @@
 ghost use Rattle.std.specs.Prelude.{◌≡◌, ◌≢◌, ℕ, IfOk, IfErr, OnOk, OnErr, MatchOption, Ok, Err};
 ghost use Rattle.reorganise.specs.declared.fault.ViewFault.TheVariants.{Spent};
 ghost use Rattle.world.specs.declared.entry.PieceDone.{PieceDone as Done};
-ghost use Rattle.world.specs.declared.fault.ReadFault.TheVariants.{View};
+ghost use Rattle.world.specs.declared.pieces.ReadFault.TheVariants.{View};
 ghost use Rattle.world.specs.Piecework.{ReadStep, PieceStep};
 ghost use Rattle.piece_work.specs.Working.{Stops, WorkStep};
 ghost use Rattle.piece_work.specs.Steps.{HasPieces, WasSpent, IsUncommitted};

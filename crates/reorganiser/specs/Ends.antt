@@ -5,10 +5,10 @@ use Rattle.replay.specs.Replay.{Opening}
 use Rattle.world.specs.Piecework.{PieceStep, ReadStep}
 use Rattle.world.specs.State.{State}
 use Rattle.world.specs.declared.entry.PieceDone.{PieceDone}
-use Rattle.world.specs.declared.fault.PieceFault.{PieceFault}
-use Rattle.world.specs.declared.fault.PieceFault.TheVariants.{MomentTooLarge, NotWanted, WrongElement, Moved, Conflict, Memory}
-use Rattle.world.specs.declared.fault.ReadFault.{ReadFault}
-use Rattle.world.specs.declared.fault.ReadFault.TheVariants as read_fault
+use Rattle.world.specs.declared.pieces.PieceFault.{PieceFault}
+use Rattle.world.specs.declared.pieces.PieceFault.TheVariants.{MomentTooLarge, NotWanted, WrongElement, Moved, Conflict, Memory}
+use Rattle.world.specs.declared.pieces.ReadFault.{ReadFault}
+use Rattle.world.specs.declared.pieces.ReadFault.TheVariants as read_fault
 use Rattle.reorganise.specs.declared.fault.ViewFault.TheVariants as view_fault
 use Rattle.locked_store.specs.declared.fault.SharedFault.{SharedFault}
 use Rattle.locked_store.specs.declared.fault.SharedFault.TheVariants as shared

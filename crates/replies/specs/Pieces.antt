@@ -5,10 +5,10 @@ use Rattle.grammar.specs.Printing.{hex}
 use Rattle.reorganise.specs.declared.fault.ViewFault.{ViewFault}
 use Rattle.reorganise.specs.declared.fault.ViewFault.TheVariants as view_fault
 use Rattle.world.specs.declared.entry.PieceDone.{PieceDone}
-use Rattle.world.specs.declared.fault.PieceFault.{PieceFault}
-use Rattle.world.specs.declared.fault.PieceFault.TheVariants as piece_fault
-use Rattle.world.specs.declared.fault.ReadFault.{ReadFault}
-use Rattle.world.specs.declared.fault.ReadFault.TheVariants as read_fault
+use Rattle.world.specs.declared.pieces.PieceFault.{PieceFault}
+use Rattle.world.specs.declared.pieces.PieceFault.TheVariants as piece_fault
+use Rattle.world.specs.declared.pieces.ReadFault.{ReadFault}
+use Rattle.world.specs.declared.pieces.ReadFault.TheVariants as read_fault
 
 abbrev pub view_name : ViewFault → List ℕ
 view_name view_fault.BadPiece = codes "BadPiece"

@@ -4,8 +4,8 @@ use Rattle.std.specs.Fmt.{decimal}
 use Rattle.schema_version.specs.declared.step.StepFault.{StepFault}
 use Rattle.schema_version.specs.declared.step.StepFault.TheVariants as step_fault
 use Rattle.world.specs.declared.entry.Receipt.{Receipt}
-use Rattle.world.specs.declared.fault.PublishFault.{PublishFault}
-use Rattle.world.specs.declared.fault.PublishFault.TheVariants as publish_fault
+use Rattle.world.specs.declared.publishing.PublishFault.{PublishFault}
+use Rattle.world.specs.declared.publishing.PublishFault.TheVariants as publish_fault
 use Rattle.replies.specs.Texts.{refused}
 
 abbrev pub step_name : StepFault → List ℕ

@@ -8,8 +8,8 @@ use Rattle.schema_version.specs.declared.element.Work.TheVariants.{Fill, Clear}
 use Rattle.schema_version.specs.Edges.{wanted}
 use Rattle.schema_version.specs.Version.{Version, element_at}
 use Rattle.world.specs.declared.entry.Receipt.{Receipt}
-use Rattle.world.specs.declared.fault.BeginFault.{BeginFault}
-use Rattle.world.specs.declared.fault.BeginFault.TheVariants as begin_fault
+use Rattle.world.specs.declared.beginning.BeginFault.{BeginFault}
+use Rattle.world.specs.declared.beginning.BeginFault.TheVariants as begin_fault
 use Rattle.piece_work.specs.declared.fault.WorkFault.{WorkFault}
 use Rattle.piece_work.specs.declared.fault.WorkFault.TheVariants as work_fault
 use Rattle.replies.specs.Pieces.{read_name, piece_name}

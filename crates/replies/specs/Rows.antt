@@ -13,8 +13,8 @@ use Rattle.row_query.specs.declared.query.Query.{Query}
 use Rattle.row_query.specs.Answer.{is_named}
 use Rattle.schema_version.specs.declared.element.ElementDef.{ElementDef}
 use Rattle.schema_version.specs.Version.{Version, live, is_public_column}
-use Rattle.world.specs.declared.fault.QueryRefusal.{QueryRefusal}
-use Rattle.world.specs.declared.fault.QueryRefusal.TheVariants as refusal
+use Rattle.world.specs.declared.querying.QueryRefusal.{QueryRefusal}
+use Rattle.world.specs.declared.querying.QueryRefusal.TheVariants as refusal
 use Rattle.replies.specs.Texts.{line, refused}
 
 -- the public columns that a query names, each once, by rising number

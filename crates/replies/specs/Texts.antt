@@ -6,10 +6,10 @@ use Rattle.audit.specs.declared.report.CheckReport.{CheckReport}
 use Rattle.grammar.specs.Printing.{hex}
 use Rattle.lease.specs.declared.lease.Lease.{Lease}
 use Rattle.row_map.specs.Rows.{Bytes}
-use Rattle.world.specs.declared.fault.OpenFault.{OpenFault}
-use Rattle.world.specs.declared.fault.OpenFault.TheVariants as open_fault
-use Rattle.world.specs.declared.fault.GrantFault.{GrantFault}
-use Rattle.world.specs.declared.fault.GrantFault.TheVariants as grant_fault
+use Rattle.world.specs.declared.opening.OpenFault.{OpenFault}
+use Rattle.world.specs.declared.opening.OpenFault.TheVariants as open_fault
+use Rattle.world.specs.declared.leasing.GrantFault.{GrantFault}
+use Rattle.world.specs.declared.leasing.GrantFault.TheVariants as grant_fault
 
 -- a line of a reply
 abbrev pub line : List ℕ → List ℕ

@@ -8,8 +8,8 @@ use Rattle.row_write.specs.declared.fault.RowFault.{RowFault}
 use Rattle.row_write.specs.declared.fault.RowFault.TheVariants.{Duplicate, NoRow}
 use Rattle.world.specs.declared.committed.Committed.{Committed}
 use Rattle.world.specs.declared.committed.Committed.TheVariants as committed
-use Rattle.world.specs.declared.fault.CommitFault.{CommitFault}
-use Rattle.world.specs.declared.fault.CommitFault.TheVariants as commit
+use Rattle.world.specs.declared.committing.CommitFault.{CommitFault}
+use Rattle.world.specs.declared.committing.CommitFault.TheVariants as commit
 
 abbrev pub prepare_name : PrepareFault → List ℕ
 prepare_name prepare.NoTable = codes "NoTable"

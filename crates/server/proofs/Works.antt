@@ -4,8 +4,8 @@ use Rattle.std.specs.Prelude.{slice_index_or}
 use Rattle.std.proofs.lemmas.List.{get_or_default}
 use Rattle.row_write.specs.declared.op.RowOp.{RowOp}
 use Rattle.replay.specs.Replay.{Opening}
-use Rattle.world.specs.declared.fault.CommitFault.{CommitFault}
-use Rattle.world.specs.declared.fault.CommitFault.TheVariants as commit_fault
+use Rattle.world.specs.declared.committing.CommitFault.{CommitFault}
+use Rattle.world.specs.declared.committing.CommitFault.TheVariants as commit_fault
 use Rattle.server.specs.declared.request.Request.{Request}
 use Rattle.server.specs.declared.request.Outcome.{Outcome}
 use Rattle.server.specs.declared.request.Outcome.TheVariants as outcome

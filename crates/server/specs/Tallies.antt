@@ -7,10 +7,10 @@ use Rattle.lease.specs.declared.lease.Lease.{Lease}
 use Rattle.schema_version.specs.Version.{Version}
 use Rattle.world.specs.declared.committed.Committed.{Committed}
 use Rattle.world.specs.declared.committed.Committed.TheVariants as committed
-use Rattle.world.specs.declared.fault.CommitFault.{CommitFault}
-use Rattle.world.specs.declared.fault.CommitFault.TheVariants as commit_fault
-use Rattle.world.specs.declared.fault.GrantFault.{GrantFault}
-use Rattle.world.specs.declared.fault.GrantFault.TheVariants as grant_fault
+use Rattle.world.specs.declared.committing.CommitFault.{CommitFault}
+use Rattle.world.specs.declared.committing.CommitFault.TheVariants as commit_fault
+use Rattle.world.specs.declared.leasing.GrantFault.{GrantFault}
+use Rattle.world.specs.declared.leasing.GrantFault.TheVariants as grant_fault
 use Rattle.locked_store.specs.declared.fault.SharedFault.{SharedFault}
 use Rattle.locked_store.specs.declared.fault.SharedFault.TheVariants as shared
 use Rattle.server.specs.declared.tally.Tally.{Tally}

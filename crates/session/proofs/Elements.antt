@@ -8,7 +8,7 @@ use Rattle.schema_version.specs.Version.{Version, element_at}
 use Rattle.world.specs.Beginning.{BeginStep}
 use Rattle.world.specs.State.{State, facts_of}
 use Rattle.world.specs.declared.entry.Receipt.{Receipt}
-use Rattle.world.specs.declared.fault.BeginFault.{BeginFault}
+use Rattle.world.specs.declared.beginning.BeginFault.{BeginFault}
 use Rattle.session.specs.Pieces.{ReadsPiece, read_text}
 use Rattle.replies.specs.Reorganisations.{work_word, begun_words, begun_text, worked_text}
 use Rattle.session.specs.Running.{PieceUnder, Begun, Worked, piece_kept}

@@ -11,7 +11,7 @@ use Rattle.schema_version.specs.declared.step.Move.{Move}
 use Rattle.world.specs.Publishing.{PublishStep}
 use Rattle.world.specs.State.{State, facts_of}
 use Rattle.world.specs.declared.entry.Receipt.{Receipt}
-use Rattle.world.specs.declared.fault.PublishFault.{PublishFault}
+use Rattle.world.specs.declared.publishing.PublishFault.{PublishFault}
 use Rattle.replies.specs.Plans.{planned_text}
 use Rattle.session.specs.Planning.{IsPlanOf, kept_plan, left_of}
 use Rattle.replies.specs.Publications.{published_text}

@@ -4,7 +4,7 @@ use Rattle.grammar.specs.declared.moving.Moving.{Moving}
 use Rattle.schema_version.specs.declared.step.Move.{Move}
 use Rattle.schema_version.specs.Version.{Version}
 use Rattle.world.specs.declared.entry.Receipt.{Receipt}
-use Rattle.world.specs.declared.fault.PublishFault.{PublishFault}
+use Rattle.world.specs.declared.publishing.PublishFault.{PublishFault}
 use Rattle.world.specs.Publishing.{PublishStep}
 use Rattle.world.specs.State.{State, facts_of}
 use Rattle.session.specs.declared.session.Opened.{Opened}

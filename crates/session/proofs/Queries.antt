@@ -4,7 +4,7 @@ use Rattle.grammar.specs.declared.selection.Selection.{Selection}
 use Rattle.row_map.specs.declared.shape.Row.{Row}
 use Rattle.row_query.specs.declared.query.Query.{Query}
 use Rattle.schema_version.specs.Version.{Version}
-use Rattle.world.specs.declared.fault.QueryRefusal.{QueryRefusal}
+use Rattle.world.specs.declared.querying.QueryRefusal.{QueryRefusal}
 use Rattle.world.specs.Querying.{QueryStep}
 use Rattle.world.specs.State.{State}
 use Rattle.session.specs.declared.session.Held.{Held}

@@ -13,8 +13,8 @@ use Rattle.world.specs.Piecework.{PieceStep}
 use Rattle.world.specs.State.{State}
 use Rattle.world.specs.declared.committed.Committed.{Committed}
 use Rattle.world.specs.declared.entry.PieceDone.{PieceDone}
-use Rattle.world.specs.declared.fault.CommitFault.{CommitFault}
-use Rattle.world.specs.declared.fault.PieceFault.{PieceFault}
+use Rattle.world.specs.declared.committing.CommitFault.{CommitFault}
+use Rattle.world.specs.declared.pieces.PieceFault.{PieceFault}
 use Rattle.session.specs.declared.preparing.Preparation.{Preparation}
 use Rattle.session.specs.declared.session.Held.{Held}
 use Rattle.session.specs.declared.session.Opened.{Opened}

@@ -6,7 +6,7 @@ use Rattle.grammar.specs.declared.command.Command.TheVariants as command
 use Rattle.schema_version.specs.declared.table.TableDef.{TableDef}
 use Rattle.world.specs.Calls.{OpenStep}
 use Rattle.world.specs.State.{State}
-use Rattle.world.specs.declared.fault.OpenFault.{OpenFault}
+use Rattle.world.specs.declared.opening.OpenFault.{OpenFault}
 use Rattle.session.specs.declared.session.Declarations.{Declarations}
 use Rattle.session.specs.declared.session.Session.TheVariants.{Declaring, Running}
 use Rattle.session.specs.Session.{Session, empty}

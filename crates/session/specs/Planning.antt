@@ -11,7 +11,7 @@ use Rattle.change_plan.specs.Schedule.{schedule}
 use Rattle.schema_version.specs.declared.step.Move.{Move}
 use Rattle.schema_version.specs.Version.{Version}
 use Rattle.world.specs.declared.entry.Receipt.{Receipt}
-use Rattle.world.specs.declared.fault.PublishFault.{PublishFault}
+use Rattle.world.specs.declared.publishing.PublishFault.{PublishFault}
 
 -- the batch's schedule, which is the least plan, or why there is none
 abbrev pub IsPlanOf : Version → List Change → Result LeastPlan PlanFault → Type 0

@@ -2,7 +2,7 @@
 use Rattle.std.specs.Prelude.{◌≡◌, ℕ, List, Result}
 use Rattle.row_map.specs.declared.shape.Row.{Row}
 use Rattle.row_query.specs.declared.query.Query.{Query}
-use Rattle.world.specs.declared.fault.QueryRefusal.{QueryRefusal}
+use Rattle.world.specs.declared.querying.QueryRefusal.{QueryRefusal}
 use Rattle.world.specs.Querying.{QueryStep}
 use Rattle.world.specs.State.{State}
 use Rattle.replies.specs.Rows.{queried_text}

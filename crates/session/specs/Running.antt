@@ -25,11 +25,11 @@ use Rattle.world.specs.declared.entry.Grant.{Grant}
 use Rattle.world.specs.declared.entry.PieceDone.{PieceDone}
 use Rattle.world.specs.declared.entry.Receipt.{Receipt}
 use Rattle.world.specs.declared.committed.Committed.{Committed}
-use Rattle.world.specs.declared.fault.BeginFault.{BeginFault}
-use Rattle.world.specs.declared.fault.CommitFault.{CommitFault}
-use Rattle.world.specs.declared.fault.GrantFault.{GrantFault}
-use Rattle.world.specs.declared.fault.PieceFault.{PieceFault}
-use Rattle.world.specs.declared.fault.PublishFault.{PublishFault}
+use Rattle.world.specs.declared.beginning.BeginFault.{BeginFault}
+use Rattle.world.specs.declared.committing.CommitFault.{CommitFault}
+use Rattle.world.specs.declared.leasing.GrantFault.{GrantFault}
+use Rattle.world.specs.declared.pieces.PieceFault.{PieceFault}
+use Rattle.world.specs.declared.publishing.PublishFault.{PublishFault}
 use Rattle.session.specs.declared.pieces.PieceRead.{PieceRead}
 use Rattle.session.specs.declared.pieces.PieceRead.TheVariants as pieces
 use Rattle.session.specs.declared.session.Held.{Held}

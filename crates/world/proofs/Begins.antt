@@ -11,11 +11,13 @@ use Rattle.replay.specs.declared.entry.What.TheVariants.{Begin}
 use Rattle.replay.specs.Replay.{Facts, begun_by, begun_of}
 use Rattle.replay.specs.Kept.{used_before}
 use Rattle.replay.specs.Laws.{BeginsKeep}
+use Rattle.world.specs.declared.entry.Receipt.{Receipt}
+use Rattle.world.specs.declared.log.Log.{Log}
 use Rattle.world.specs.declared.world.World.TheInside.{Inside}
 use Rattle.world.specs.Beginning.{wanted_at, IsSettled, Begins}
 use Rattle.world.specs.Inside.{state_of as state_in, IsHeld}
 use Rattle.world.specs.State.{State, facts_of, effect}
-use Rattle.world.proofs.Holding.{held_after}
+use Rattle.world.proofs.Holding.{IsLogged, state_logged, appended, held_after}
 
 -- ---- what an element wants
 
@@ -33,11 +35,12 @@ wants_some facts number element work there wants = ap (option_and_then wanted) t
 abbrev pub begin_entry : ℕ → ℕ → ℕ → Entry
 begin_entry now number pieces = record { moment = now; what = Begin number pieces }
 
-abbrev pub after_begin : Inside → Vec Progress Global → Vec Entry Global → ℕ → Inside
-after_begin f begun log now = record f { begun = begun; log = log; moment = now }
+abbrev pub after_begin : Inside → Vec Progress Global → Log → Inside
+after_begin f begun log = record f { begun = begun; log = log }
 
-begin_state : (f : Inside) (now number pieces : ℕ) (begun : Vec Progress Global) (log : Vec Entry Global) → log.items ≡ f.log.items ++ begin_entry now number pieces ∷ [] → state_in (after_begin f begun log now) ≡ effect (state_in f) (begin_entry now number pieces)
-begin_state f now number pieces begun log items = λ i. record { opening = (state_in f).opening; log = items i; pairs = f.store }
+begin_state : (f : Inside) (now number pieces : ℕ) (begun : Vec Progress Global) (log : Log) (receipt : Receipt) → IsLogged f.log (begin_entry now number pieces) receipt log
+    → state_in (after_begin f begun log) ≡ effect (state_in f) (begin_entry now number pieces)
+begin_state f now number pieces begun log receipt e = state_logged f (after_begin f begun log) (begin_entry now number pieces) receipt refl refl e refl
 
 -- the element's state is the newest version's
 own_state : (facts : Facts) (now number : ℕ) (element : ElementDef) → element_at facts.newest number ≡ Some element → IsSettled facts now number → state_of (used_before facts now) number ≡ element.state
@@ -47,14 +50,14 @@ begun_is : (facts : Facts) (now number pieces : ℕ) (progress : Progress) (b : 
 begun_is facts now number pieces progress b =
     ap (λ (o : Option ElementDef). begun_of o facts.pairs pieces) b.there ∙ ap (λ (o : Option Work). begun_by b.element o facts.pairs pieces) b.wants ∙ ap (λ (p : Progress). p ∷ []) (sym b.begun_so)
 
-pub begin_held : (f : Inside) (s : State) (now number pieces : ℕ) (progress : Progress) (begun : Vec Progress Global) (log : Vec Entry Global) → BeginsKeep → IsHeld f → state_in f ≡ s → (facts_of s).moment ≤ now → Begins (facts_of s) now number pieces progress
-    → begun.items ≡ f.begun.items ++ progress ∷ [] → log.items ≡ f.log.items ++ begin_entry now number pieces ∷ [] → IsHeld (after_begin f begun log now)
-begin_held f s now number pieces progress begun log law h view later_s b_s grown items =
+pub begin_held : (f : Inside) (s : State) (now number pieces : ℕ) (progress : Progress) (begun : Vec Progress Global) (log : Log) (receipt : Receipt) → BeginsKeep → IsHeld f → state_in f ≡ s → (facts_of s).moment ≤ now → Begins (facts_of s) now number pieces progress
+    → begun.items ≡ f.begun.items ++ progress ∷ [] → IsLogged f.log (begin_entry now number pieces) receipt log → IsHeld (after_begin f begun log)
+begin_held f s now number pieces progress begun log receipt law h view later_s b_s grown e =
     let w = h.follow in
     let b : Begins (facts_of (state_in f)) now number pieces progress = subst (λ (x : State). Begins (facts_of x) now number pieces progress) (sym view) b_s in
-    held_after f (after_begin f begun log now) (begin_entry now number pieces) (begin_state f now number pieces begun log items)
+    held_after f (after_begin f begun log) (begin_entry now number pieces) (begin_state f now number pieces begun log receipt e)
     (record {
-      moment = refl;
+      moment = e.moment;
       line = w.line;
       newest = w.newest;
       before = w.before;

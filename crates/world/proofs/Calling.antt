@@ -1,5 +1,5 @@
 -- Each call of a World over its fields: the relation that it meets, and what is true of the fields afterwards.
-use Rattle.std.proofs.Common.{◌≡◌, ℕ, ◌+◌, ◌<◌, ◌≤◌, List, [], ◌∷◌, ◌++◌, length, Option, Some, None, Result, Ok, Err, refl, sym, ap, subst, ◌∙◌, inl, inr, Vec, Global, arith}
+use Rattle.std.proofs.Common.{◌≡◌, ℕ, ◌+◌, ◌<◌, ◌≤◌, List, [], ◌∷◌, ◌++◌, length, Option, Some, None, Result, Ok, Err, refl, sym, ap, subst, ◌∙◌, inl, inr, arith}
 use Rattle.std.specs.Prelude.{◌≢◌}
 use Rattle.std.specs.FinMap as map
 use Rattle.listed.specs.Refusal.{IsClear, IsFirst}
@@ -25,22 +25,24 @@ use Rattle.replay.specs.Replay.{Facts, start, version_at, pairs_by, after}
 use Rattle.replay.specs.Kept.{IsKept}
 use Rattle.replay.specs.Laws.{OpeningsKeep, LeasesKeep, IsDue, OutcomesHold, TxnsKeep, RefusedWriteNothing, txn_entry}
 use Rattle.world.specs.declared.committed.Committed.TheVariants as committed
-use Rattle.world.specs.declared.fault.CommitFault.{CommitFault}
-use Rattle.world.specs.declared.fault.CommitFault.TheVariants as commit_fault
-use Rattle.world.specs.declared.fault.GrantFault.TheVariants as grant_fault
+use Rattle.world.specs.declared.committing.CommitFault.{CommitFault}
+use Rattle.world.specs.declared.committing.CommitFault.TheVariants as commit_fault
+use Rattle.world.specs.declared.leasing.GrantFault.TheVariants as grant_fault
+use Rattle.world.specs.declared.entry.Receipt.{Receipt}
+use Rattle.world.specs.declared.log.Log.{Log}
 use Rattle.world.specs.declared.world.World.TheInside.{Inside}
 use Rattle.world.specs.Calls.{counted, GrantCondition, LeaseAt, LeaseStep, CommitCondition, commit_rank, CommitAt}
 use Rattle.world.specs.Inside.{state_of, Follow, IsHeld}
 use Rattle.world.specs.State.{State, facts_of, effect}
 use Rattle.world.specs.Told.{set_told, lease_told}
-use Rattle.world.proofs.Holding.{held_after, held_same, follow_of}
+use Rattle.world.proofs.Holding.{IsLogged, state_logged, appended, held_after, held_same, follow_of}
 
 some_one : {A : Type 0} {v w : A} → Some v ≡ (let o : Option A = Some w in o) → v ≡ w
 some_one e = cc
 
 -- ---- opening
 
-pub opened_held : (f : Inside) → OpeningsKeep → IsLength f.line.length → IsSoundVersion f.first → f.line ≡ line_opened f.line.length → f.newest ≡ f.first → f.before ≡ None → f.begun.items ≡ [] → f.log.items ≡ [] → f.store ≡ map.empty → f.moment ≡ 0 → IsHeld f
+pub opened_held : (f : Inside) → OpeningsKeep → IsLength f.line.length → IsSoundVersion f.first → f.line ≡ line_opened f.line.length → f.newest ≡ f.first → f.before ≡ None → f.begun.items ≡ [] → f.log.entries.items ≡ [] → f.store ≡ map.empty → f.log.moment ≡ 0 → IsHeld f
 opened_held f law length sound line newest before begun log store moment =
     let same : start (state_of f).opening ≡ facts_of (state_of f) = ap (λ (es : List Entry). facts_of (record { opening = (state_of f).opening; log = es; pairs = f.store })) (sym log) in
     record {
@@ -50,50 +52,46 @@ opened_held f law length sound line newest before begun log store moment =
 
 -- ---- lease
 
--- the fields after a lease
-abbrev pub after_lease : Inside → Vec Entry Global → ℕ → Inside
-after_lease f log now = record f { log = log; moment = now }
+-- the fields after a call that changed the log alone
+abbrev pub with_log : Inside → Log → Inside
+with_log f log = record f { log = log }
 
 abbrev pub lease_entry : ℕ → Lease → Entry
 lease_entry now lease = record { moment = now; what = Granted lease }
 
-lease_state : (f : Inside) (log : Vec Entry Global) (now : ℕ) (lease : Lease) (kept : Entry) → kept ≡ lease_entry now lease → log.items ≡ f.log.items ++ kept ∷ [] → state_of (after_lease f log now) ≡ effect (state_of f) (lease_entry now lease)
-lease_state f log now lease kept is items =
-    ap (λ (es : List Entry). let s : State = record { opening = (state_of f).opening; log = es; pairs = f.store } in s) (items ∙ ap (λ (e : Entry). f.log.items ++ e ∷ []) is)
+lease_state : (f : Inside) (log : Log) (now : ℕ) (lease : Lease) (receipt : Receipt) → IsLogged f.log (lease_entry now lease) receipt log → state_of (with_log f log) ≡ effect (state_of f) (lease_entry now lease)
+lease_state f log now lease receipt e = state_logged f (with_log f log) (lease_entry now lease) receipt refl refl e refl
 
-pub lease_held : (f : Inside) (s : State) (log : Vec Entry Global) (now : ℕ) (lease : Lease) (kept : Entry) → LeasesKeep → IsHeld f → state_of f ≡ s → (facts_of s).moment ≤ now → kept ≡ lease_entry now lease → log.items ≡ f.log.items ++ kept ∷ []
-    → IsHeld (after_lease f log now)
-lease_held f s log now lease kept law h view later is items =
+pub lease_held : (f : Inside) (s : State) (log : Log) (now : ℕ) (lease : Lease) (receipt : Receipt) → LeasesKeep → IsHeld f → state_of f ≡ s → (facts_of s).moment ≤ now → IsLogged f.log (lease_entry now lease) receipt log → IsHeld (with_log f log)
+lease_held f s log now lease receipt law h view later e =
     let w = h.follow in
-    held_after f (after_lease f log now) (lease_entry now lease) (lease_state f log now lease kept is items)
-    (record { moment = refl; line = w.line; newest = w.newest; before = w.before; begun = w.begun; pairs = w.pairs })
+    held_after f (with_log f log) (lease_entry now lease) (lease_state f log now lease receipt e)
+    (record { moment = e.moment; line = w.line; newest = w.newest; before = w.before; begun = w.begun; pairs = w.pairs })
     (law (facts_of (state_of f)) now lease (subst (λ (x : State). (facts_of x).moment ≤ now) (sym view) later) h.kept)
 
 grant_clear : (now : ℕ) → now ≤ max_moment → IsClear (GrantCondition now)
 grant_clear now le grant_fault.MomentTooLarge = λ lt. absurd (omega (arith, le, lt))
 grant_clear now le grant_fault.Memory = λ x. x
 
-lease_done : (f : Inside) (log : Vec Entry Global) (now place : ℕ) (lease : Lease) (schema : Version) (entry kept : Entry) → IsHeld f → now ≤ max_moment → lease ≡ granted_at f.line now → schema ≡ f.newest
-    → entry ≡ lease_entry now lease → kept ≡ lease_entry now lease → log.items ≡ f.log.items ++ kept ∷ [] → place ≡ length f.log.items + 1
-    → LeaseAt (state_of f) now (Ok (record { lease = lease; schema = schema; receipt = record { place = place; entry = entry } })) (state_of (after_lease f log now))
-lease_done f log now place lease schema entry kept h le granted same first second items at = (
+lease_done : (f : Inside) (log : Log) (now : ℕ) (lease : Lease) (schema : Version) (receipt : Receipt) → IsHeld f → now ≤ max_moment → lease ≡ granted_at f.line now → schema ≡ f.newest → IsLogged f.log (lease_entry now lease) receipt log
+    → LeaseAt (state_of f) now (Ok (record { lease = lease; schema = schema; receipt = receipt })) (state_of (with_log f log))
+lease_done f log now lease schema receipt h le granted same e = (
   grant_clear now le,
   granted ∙ ap (λ (l : Timeline). granted_at l now) h.follow.line,
   same ∙ h.follow.newest,
-  record { entry = first; place = at; state = lease_state f log now lease kept second items ∙ ap (effect (state_of f)) (sym first) },
+  appended f (with_log f log) now (Granted lease) receipt e (lease_state f log now lease receipt e),
 )
 
 ok_one : {A E : Type 0} (a b : A) → (Ok a ≡ (let r : Result A E = Ok b in r)) → a ≡ b
 ok_one a b e = cc
 
-pub lease_step : (f : Inside) (s : State) (log room : Vec Entry Global) (now moment place : ℕ) (lease : Lease) (schema : Version) (entry kept : Entry) → IsHeld f → state_of f ≡ s → now ≡ counted s moment
-    → Serves f.line lease now → (now ≤ max_moment → Ok lease ≡ (let r : Result Lease LeaseFault = Ok (granted_at f.line now) in r)) → schema ≡ f.newest
-    → entry ≡ lease_entry now lease → kept ≡ lease_entry now lease → log.items ≡ room.items ++ kept ∷ [] → room.items ≡ f.log.items → place ≡ length room.items + 1
-    → LeaseStep s moment (Ok (record { lease = lease; schema = schema; receipt = record { place = place; entry = entry } })) (state_of (after_lease f log now))
-lease_step f s log room now moment place lease schema entry kept h view counted_at v granted same first second items made at =
-    let done = lease_done f log now place lease schema entry kept h v.moment (ok_one lease (granted_at f.line now) (granted v.moment)) same first second (items ∙ ap (λ (es : List Entry). es ++ kept ∷ []) made) (at ∙ ap (λ (es : List Entry). length es + 1) made) in
-    subst (λ (n : ℕ). LeaseAt s n (Ok (record { lease = lease; schema = schema; receipt = record { place = place; entry = entry } })) (state_of (after_lease f log now))) counted_at
-    (subst (λ (x : State). LeaseAt x now (Ok (record { lease = lease; schema = schema; receipt = record { place = place; entry = entry } })) (state_of (after_lease f log now))) view done)
+pub lease_step : (f : Inside) (s : State) (log : Log) (now moment : ℕ) (lease : Lease) (schema : Version) (receipt : Receipt) → IsHeld f → state_of f ≡ s → now ≡ counted s moment
+    → Serves f.line lease now → (now ≤ max_moment → Ok lease ≡ (let r : Result Lease LeaseFault = Ok (granted_at f.line now) in r)) → schema ≡ f.newest → IsLogged f.log (lease_entry now lease) receipt log
+    → LeaseStep s moment (Ok (record { lease = lease; schema = schema; receipt = receipt })) (state_of (with_log f log))
+lease_step f s log now moment lease schema receipt h view counted_at v granted same e =
+    let done = lease_done f log now lease schema receipt h v.moment (ok_one lease (granted_at f.line now) (granted v.moment)) same e in
+    subst (λ (n : ℕ). LeaseAt s n (Ok (record { lease = lease; schema = schema; receipt = receipt })) (state_of (with_log f log))) counted_at
+    (subst (λ (x : State). LeaseAt x now (Ok (record { lease = lease; schema = schema; receipt = receipt })) (state_of (with_log f log))) view done)
 
 -- ---- a commit that is refused
 
@@ -163,29 +161,29 @@ differs facts p number found same at other = λ is. other (some_one (sym is ∙ 
 -- ---- the store, and the room of the log
 
 -- the fields after a test-and-set that changed nothing, also where room was made in the log
-abbrev pub with_store : Inside → Pairs → Vec Entry Global → Inside
+abbrev pub with_store : Inside → Pairs → Log → Inside
 with_store f store log = record f { store = store; log = log }
 
-pub same_state : (f : Inside) (store : Pairs) (log : Vec Entry Global) → store ≡ f.store → log.items ≡ f.log.items → state_of (with_store f store log) ≡ state_of f
+pub same_state : (f : Inside) (store : Pairs) (log : Log) → store ≡ f.store → log.entries.items ≡ f.log.entries.items → state_of (with_store f store log) ≡ state_of f
 same_state f store log pairs items = λ i. record { opening = (state_of f).opening; log = items i; pairs = pairs i }
 
-pub same_held : (f : Inside) (store : Pairs) (log : Vec Entry Global) → IsHeld f → store ≡ f.store → log.items ≡ f.log.items → IsHeld (with_store f store log)
-same_held f store log h pairs items =
+pub same_held : (f : Inside) (store : Pairs) (log : Log) → IsHeld f → store ≡ f.store → log.entries.items ≡ f.log.entries.items → log.moment ≡ f.log.moment → IsHeld (with_store f store log)
+same_held f store log h pairs items moment =
     let w = h.follow in
-    held_same f (with_store f store log) h (same_state f store log pairs items) (record { moment = w.moment; line = w.line; newest = w.newest; before = w.before; begun = w.begun; pairs = pairs ∙ w.pairs })
+    held_same f (with_store f store log) h (same_state f store log pairs items) (record { moment = moment ∙ w.moment; line = w.line; newest = w.newest; before = w.before; begun = w.begun; pairs = pairs ∙ w.pairs })
 
 -- the store refused
 set_same : (f : Inside) (p : PreparedTxn) (fault : SetFault) (store : Pairs) → Sets p.expect p.batch f.store (Err fault) store → store ≡ f.store
 set_same f p (told.Conflict key) store set = set.1
 set_same f p told.Memory store set = set
 
-commit_failed : (f : Inside) (now : ℕ) (p : PreparedTxn) (fault : SetFault) (store : Pairs) (log : Vec Entry Global) → IsFit (facts_of (state_of f)) now p → Sets p.expect p.batch f.store (Err fault) store → log.items ≡ f.log.items
+commit_failed : (f : Inside) (now : ℕ) (p : PreparedTxn) (fault : SetFault) (store : Pairs) (log : Log) → IsFit (facts_of (state_of f)) now p → Sets p.expect p.batch f.store (Err fault) store → log.entries.items ≡ f.log.entries.items
     → CommitAt (state_of f) now p (Err (set_told fault)) (state_of (with_store f store log))
 commit_failed f now p (told.Conflict key) store log v set items = ((inr set.0, commit_lower (state_of f) now p v), same_state f store log set.1 items)
 commit_failed f now p told.Memory store log v set items = ((inl refl, commit_lower (state_of f) now p v), same_state f store log set items)
 
-pub failed_held : (f : Inside) (p : PreparedTxn) (fault : SetFault) (store : Pairs) (log : Vec Entry Global) → IsHeld f → Sets p.expect p.batch f.store (Err fault) store → log.items ≡ f.log.items → IsHeld (with_store f store log)
-failed_held f p fault store log h set items = same_held f store log h (set_same f p fault store set) items
+pub failed_held : (f : Inside) (p : PreparedTxn) (fault : SetFault) (store : Pairs) (log : Log) → IsHeld f → Sets p.expect p.batch f.store (Err fault) store → log.entries.items ≡ f.log.entries.items → log.moment ≡ f.log.moment → IsHeld (with_store f store log)
+failed_held f p fault store log h set items moment = same_held f store log h (set_same f p fault store set) items moment
 
 -- ---- a commit that comes to the store
 
@@ -221,7 +219,7 @@ refused_same f now p op why store laws v set is =
     set.1 ∙ ap (laid p.batch) w.pairs ∙ laws.refused (facts_of (state_of f)) now p op why v.fit.later d refused v.held.kept ∙ sym w.pairs
 
 pub refused_held : (f : Inside) (now : ℕ) (p : PreparedTxn) (op : ℕ) (why : RowFault) (store : Pairs) → TxnLaws → IsServed f now p → Holds p.expect f.store × (store ≡ laid p.batch f.store) → p.told ≡ Refused op why → IsHeld (with_store f store f.log)
-refused_held f now p op why store laws v set is = same_held f store f.log v.held (refused_same f now p op why store laws v set is) refl
+refused_held f now p op why store laws v set is = same_held f store f.log v.held (refused_same f now p op why store laws v set is) refl refl
 
 pub step_refused : (f : Inside) (s : State) (now : ℕ) (p : PreparedTxn) (op : ℕ) (why : RowFault) (store : Pairs) → TxnLaws → state_of f ≡ s → IsServed f now p → Holds p.expect f.store × (store ≡ laid p.batch f.store) → p.told ≡ Refused op why
     → CommitAt s now p (Ok (committed.Refused op why)) (state_of (with_store f store f.log))
@@ -233,7 +231,7 @@ step_refused f s now p op why store laws view v set is =
       set.0,
     )
 
-pub step_failed : (f : Inside) (s : State) (now : ℕ) (p : PreparedTxn) (fault : SetFault) (as_told : CommitFault) (store : Pairs) (log : Vec Entry Global) → state_of f ≡ s → IsServed f now p → Sets p.expect p.batch f.store (Err fault) store → log.items ≡ f.log.items
+pub step_failed : (f : Inside) (s : State) (now : ℕ) (p : PreparedTxn) (fault : SetFault) (as_told : CommitFault) (store : Pairs) (log : Log) → state_of f ≡ s → IsServed f now p → Sets p.expect p.batch f.store (Err fault) store → log.entries.items ≡ f.log.entries.items
     → as_told ≡ set_told fault → CommitAt s now p (Err as_told) (state_of (with_store f store log))
 step_failed f s now p fault as_told store log view v set items is =
     subst (λ (r : CommitFault). CommitAt s now p (Err r) (state_of (with_store f store log))) (sym is)
@@ -247,10 +245,6 @@ step_short s g now p as_told later schema v same is =
 
 -- ---- a commit that is done
 
--- the fields after a commit
-abbrev pub after_commit : Inside → Pairs → Vec Entry Global → ℕ → Inside
-after_commit f store log now = record f { store = store; log = log; moment = now }
-
 -- its batch writes what its entry says
 written : (f : Inside) (now : ℕ) (p : PreparedTxn) (store : Pairs) → TxnLaws → IsServed f now p → Holds p.expect f.store × (store ≡ laid p.batch f.store) → p.told ≡ Done
     → (store ≡ (after (facts_of (state_of f)) (txn_entry now p)).pairs) × IsKept (after (facts_of (state_of f)) (txn_entry now p))
@@ -260,33 +254,26 @@ written f now p store laws v set is =
     let law = laws.done (facts_of (state_of f)) now p v.fit.later d done v.held.kept in
     (set.1 ∙ ap (laid p.batch) v.held.follow.pairs ∙ law.0, law.1)
 
-txn_state : (f : Inside) (now : ℕ) (p : PreparedTxn) (store : Pairs) (log : Vec Entry Global) (kept : Entry) → IsHeld f → store ≡ (after (facts_of (state_of f)) (txn_entry now p)).pairs → kept ≡ txn_entry now p → log.items ≡ f.log.items ++ kept ∷ []
-    → state_of (after_commit f store log now) ≡ effect (state_of f) (txn_entry now p)
-txn_state f now p store log kept h is_pairs is items =
-    let pairs = is_pairs ∙ ap (λ (ps : Pairs). pairs_by (facts_of (state_of f)) ps (txn_entry now p).what) (sym h.follow.pairs) in
-    let log_is = items ∙ ap (λ (e : Entry). f.log.items ++ e ∷ []) is in
-    λ i. record { opening = (state_of f).opening; log = log_is i; pairs = pairs i }
+txn_state : (f : Inside) (now : ℕ) (p : PreparedTxn) (store : Pairs) (log : Log) (receipt : Receipt) → IsHeld f → store ≡ (after (facts_of (state_of f)) (txn_entry now p)).pairs → IsLogged f.log (txn_entry now p) receipt log
+    → state_of (with_store f store log) ≡ effect (state_of f) (txn_entry now p)
+txn_state f now p store log receipt h is_pairs e =
+    state_logged f (with_store f store log) (txn_entry now p) receipt refl refl e (is_pairs ∙ ap (λ (ps : Pairs). pairs_by (facts_of (state_of f)) ps (txn_entry now p).what) (sym h.follow.pairs))
 
-pub done_held : (f : Inside) (now : ℕ) (p : PreparedTxn) (store : Pairs) (log room : Vec Entry Global) (kept : Entry) → TxnLaws → IsServed f now p → Holds p.expect f.store × (store ≡ laid p.batch f.store) → p.told ≡ Done
-    → kept ≡ txn_entry now p → log.items ≡ room.items ++ kept ∷ [] → room.items ≡ f.log.items → IsHeld (after_commit f store log now)
-done_held f now p store log room kept laws v set done is items made =
+pub done_held : (f : Inside) (now : ℕ) (p : PreparedTxn) (store : Pairs) (log : Log) (receipt : Receipt) → TxnLaws → IsServed f now p → Holds p.expect f.store × (store ≡ laid p.batch f.store) → p.told ≡ Done → IsLogged f.log (txn_entry now p) receipt log
+    → IsHeld (with_store f store log)
+done_held f now p store log receipt laws v set done e =
     let w = v.held.follow in
     let wrote = written f now p store laws v set done in
-    held_after f (after_commit f store log now) (txn_entry now p) (txn_state f now p store log kept v.held wrote.0 is (items ∙ ap (λ (es : List Entry). es ++ kept ∷ []) made))
-    (record { moment = refl; line = w.line; newest = w.newest; before = w.before; begun = w.begun; pairs = wrote.0 }) wrote.1
+    held_after f (with_store f store log) (txn_entry now p) (txn_state f now p store log receipt v.held wrote.0 e)
+    (record { moment = e.moment; line = w.line; newest = w.newest; before = w.before; begun = w.begun; pairs = wrote.0 }) wrote.1
 
-pub step_done : (f : Inside) (s : State) (now place : ℕ) (p : PreparedTxn) (store : Pairs) (log room : Vec Entry Global) (entry kept : Entry) → TxnLaws → state_of f ≡ s → IsServed f now p → Holds p.expect f.store × (store ≡ laid p.batch f.store)
-    → p.told ≡ Done → entry ≡ txn_entry now p → kept ≡ txn_entry now p → log.items ≡ room.items ++ kept ∷ [] → room.items ≡ f.log.items → place ≡ length room.items + 1
-    → CommitAt s now p (Ok (committed.Done (record { place = place; entry = entry }))) (state_of (after_commit f store log now))
-step_done f s now place p store log room entry kept laws view v set done first second items made at =
+pub step_done : (f : Inside) (s : State) (now : ℕ) (p : PreparedTxn) (store : Pairs) (log : Log) (receipt : Receipt) → TxnLaws → state_of f ≡ s → IsServed f now p → Holds p.expect f.store × (store ≡ laid p.batch f.store) → p.told ≡ Done → IsLogged f.log (txn_entry now p) receipt log
+    → CommitAt s now p (Ok (committed.Done receipt)) (state_of (with_store f store log))
+step_done f s now p store log receipt laws view v set done e =
     let wrote = written f now p store laws v set done in
-    subst (λ (x : State). CommitAt x now p (Ok (committed.Done (record { place = place; entry = entry }))) (state_of (after_commit f store log now))) view (
+    subst (λ (x : State). CommitAt x now p (Ok (committed.Done receipt)) (state_of (with_store f store log))) view (
       commit_clear (state_of f) now p v.fit set.0,
       sym (laws.outcome (facts_of (state_of f)) now p v.fit.later (due f now p v set.0) v.held.kept) ∙ done,
-      record {
-        entry = first;
-        place = at ∙ ap (λ (es : List Entry). length es + 1) made;
-        state = txn_state f now p store log kept v.held wrote.0 second (items ∙ ap (λ (es : List Entry). es ++ kept ∷ []) made) ∙ ap (effect (state_of f)) (sym first);
-      },
+      appended f (with_store f store log) now (txn_entry now p).what receipt e (txn_state f now p store log receipt v.held wrote.0 e),
       set.0,
     )

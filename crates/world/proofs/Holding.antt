@@ -9,10 +9,13 @@ use Rattle.lease.proofs.Uses.{usable_to}
 use Rattle.row_map.specs.Rows.{Pairs}
 use Rattle.schema_version.specs.Version.{Version}
 use Rattle.replay.specs.declared.entry.Entry.{Entry}
-use Rattle.replay.specs.Replay.{Facts, start, version_in, version_at, after, after_all}
+use Rattle.replay.specs.declared.entry.What.{What}
+use Rattle.replay.specs.Replay.{Facts, start, version_in, version_at, after, after_all, pairs_by}
 use Rattle.replay.specs.Kept.{IsKept, Agrees as AgreesOf}
+use Rattle.world.specs.declared.entry.Receipt.{Receipt}
+use Rattle.world.specs.declared.log.Log.{Log}
 use Rattle.world.specs.declared.world.World.TheInside.{Inside}
-use Rattle.world.specs.Calls.{counted}
+use Rattle.world.specs.Calls.{counted, Appends}
 use Rattle.world.specs.Inside.{state_of, Follow, IsHeld}
 use Rattle.world.specs.State.{State, facts_of, effect, recent, IsReplayed, Agrees}
 
@@ -43,6 +46,35 @@ held_same f g h state follow =
     let same : facts_of (state_of f) ≡ facts_of (state_of g) = ap facts_of (sym state) in
     record { follow = subst (Follow g) same follow; kept = subst IsKept same h.kept }
 
+-- ---- the log
+
+-- one entry more, and the receipt for it
+pub record IsLogged (old : Log) (entry : Entry) (receipt : Receipt) (new : Log) : Type 0 where
+  pub entries : new.entries.items ≡ old.entries.items ++ entry ∷ []
+  pub moment : new.moment ≡ entry.moment
+  pub told : receipt ≡ record { place = length old.entries.items + 1; entry = entry }
+
+-- what was made ready, where room was made before, is entered
+pub logged : (old room new : Log) (draft entry : Entry) (receipt : Receipt) → room.entries.items ≡ old.entries.items → draft ≡ entry → new.entries.items ≡ room.entries.items ++ draft ∷ [] → new.moment ≡ draft.moment
+    → receipt ≡ record { place = length room.entries.items + 1; entry = draft } → IsLogged old entry receipt new
+logged old room new draft entry receipt made is entries moment told = record {
+  entries = entries ∙ (λ i. made i ++ is i ∷ []);
+  moment = moment ∙ ap (λ (e : Entry). e.moment) is;
+  told = told ∙ (λ i. record { place = length (made i) + 1; entry = is i });
+}
+
+-- the fields g have the opening of f, an entry more, and the pairs that it gives
+pub state_logged : (f g : Inside) (entry : Entry) (receipt : Receipt) → g.line.length ≡ f.line.length → g.first ≡ f.first → IsLogged f.log entry receipt g.log → g.store ≡ pairs_by (facts_of (state_of f)) f.store entry.what
+    → state_of g ≡ effect (state_of f) entry
+state_logged f g entry receipt same first e pairs = λ i. record { opening = record { length = same i; schema = first i }; log = e.entries i; pairs = pairs i }
+
+pub appended : (f g : Inside) (now : ℕ) (what : What) (receipt : Receipt) → IsLogged f.log (record { moment = now; what = what }) receipt g.log → state_of g ≡ effect (state_of f) (record { moment = now; what = what }) → Appends (state_of f) now what receipt (state_of g)
+appended f g now what receipt e state = record {
+  entry = ap (λ (r : Receipt). r.entry) e.told;
+  place = ap (λ (r : Receipt). r.place) e.told;
+  state = state ∙ ap (λ (r : Receipt). effect (state_of f) r.entry) (sym e.told);
+}
+
 -- ---- in the words of the call
 
 pub follow_of : (f : Inside) (s : State) → IsHeld f → state_of f ≡ s → Follow f (facts_of s)
@@ -51,7 +83,7 @@ follow_of f s h view = subst (λ (x : State). Follow f (facts_of x)) view h.foll
 pub kept_of : (f : Inside) (s : State) → IsHeld f → state_of f ≡ s → IsKept (facts_of s)
 kept_of f s h view = subst (λ (x : State). IsKept (facts_of x)) view h.kept
 
-pub counted_is : (f : Inside) (s : State) → IsHeld f → state_of f ≡ s → (moment now : ℕ) → now ≡ max moment f.moment → now ≡ counted s moment
+pub counted_is : (f : Inside) (s : State) → IsHeld f → state_of f ≡ s → (moment now : ℕ) → now ≡ max moment f.log.moment → now ≡ counted s moment
 counted_is f s h view moment now is = is ∙ ap (max moment) ((follow_of f s h view).moment)
 
 -- the moment that counts is not before the last entry

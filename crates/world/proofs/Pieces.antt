@@ -22,15 +22,17 @@ use Rattle.replay.specs.declared.entry.What.TheVariants.{Piece}
 use Rattle.replay.specs.Replay.{Facts, after, pairs_by, moved_to}
 use Rattle.replay.specs.Kept.{IsKept}
 use Rattle.replay.specs.Laws.{IsNextOf, PiecesKeep, piece_entry}
-use Rattle.world.specs.declared.fault.PieceFault.{PieceFault}
-use Rattle.world.specs.declared.fault.PieceFault.TheVariants as piece_fault
+use Rattle.world.specs.declared.pieces.PieceFault.{PieceFault}
+use Rattle.world.specs.declared.pieces.PieceFault.TheVariants as piece_fault
+use Rattle.world.specs.declared.entry.Receipt.{Receipt}
+use Rattle.world.specs.declared.log.Log.{Log}
 use Rattle.world.specs.declared.world.World.TheInside.{Inside}
 use Rattle.world.specs.Inside.{state_of, IsHeld}
 use Rattle.world.specs.Piecework.{IsPieceOf, IsCurrent, piece_rank, PieceCondition, PieceAt}
 use Rattle.world.specs.State.{State, facts_of, effect}
 use Rattle.world.specs.Told.{piece_told}
 use Rattle.world.proofs.Calling.{with_store, same_state}
-use Rattle.world.proofs.Holding.{held_after}
+use Rattle.world.proofs.Holding.{IsLogged, state_logged, appended, held_after}
 
 none_some : {A B : Type 0} {v : A} → None ≡ Some v → B
 none_some e = absurd cc
@@ -81,13 +83,13 @@ piece_clear s now read current holds piece_fault.Memory = λ c. c
 pub piece_short : (s g : State) (now : ℕ) (read : Reading) (told_as : PieceFault) → IsCurrent (facts_of s) now read → g ≡ s → told_as ≡ piece_fault.Memory → PieceAt s now read (Err told_as) g
 piece_short s g now read told_as current same is = (short_of s now read current.span told_as current.moment current.own is, same)
 
-failed : (f : Inside) (now : ℕ) (read : Reading) (fault : SetFault) (store : Pairs) (log : Vec Entry Global) → IsCurrent (facts_of (state_of f)) now read → Sets (expect_of read.stretch) (batch_for read) f.store (Err fault) store → log.items ≡ f.log.items
+failed : (f : Inside) (now : ℕ) (read : Reading) (fault : SetFault) (store : Pairs) (log : Log) → IsCurrent (facts_of (state_of f)) now read → Sets (expect_of read.stretch) (batch_for read) f.store (Err fault) store → log.entries.items ≡ f.log.entries.items
     → PieceAt (state_of f) now read (Err (piece_told fault)) (state_of (with_store f store log))
 failed f now read (told.Conflict key) store log current set items = ((inr set.0, current_lower (state_of f) now read current), same_state f store log set.1 items)
 failed f now read told.Memory store log current set items = ((inl refl, λ other lt. current_lower (state_of f) now read current other (omega (arith, lt))), same_state f store log set items)
 
-pub piece_failed : (f : Inside) (s : State) (now : ℕ) (read : Reading) (fault : SetFault) (told_as : PieceFault) (store : Pairs) (log : Vec Entry Global) → state_of f ≡ s → IsCurrent (facts_of s) now read → Sets (expect_of read.stretch) (batch_for read) f.store (Err fault) store
-    → log.items ≡ f.log.items → told_as ≡ piece_told fault → PieceAt s now read (Err told_as) (state_of (with_store f store log))
+pub piece_failed : (f : Inside) (s : State) (now : ℕ) (read : Reading) (fault : SetFault) (told_as : PieceFault) (store : Pairs) (log : Log) → state_of f ≡ s → IsCurrent (facts_of s) now read → Sets (expect_of read.stretch) (batch_for read) f.store (Err fault) store
+    → log.entries.items ≡ f.log.entries.items → told_as ≡ piece_told fault → PieceAt s now read (Err told_as) (state_of (with_store f store log))
 piece_failed f s now read fault told_as store log view current set items is =
     subst (λ (r : PieceFault). PieceAt s now read (Err r) (state_of (with_store f store log))) (sym is)
     (subst (λ (x : State). PieceAt x now read (Err (piece_told fault)) (state_of (with_store f store log))) view (failed f now read fault store log (subst (λ (x : State). IsCurrent (facts_of x) now read) (sym view) current) set items))
@@ -135,32 +137,30 @@ written f s now read store law r =
     (r.set.1 ∙ ap (laid (batch_for read)) r.held.follow.pairs ∙ kept.0, kept.1)
 
 -- the fields after a piece
-abbrev pub after_piece : Inside → Pairs → Vec Progress Global → Vec Entry Global → ℕ → Inside
-after_piece f store begun log now = record f { store = store; begun = begun; log = log; moment = now }
+abbrev pub after_piece : Inside → Pairs → Vec Progress Global → Log → Inside
+after_piece f store begun log = record f { store = store; begun = begun; log = log }
 
-piece_state : (f : Inside) (now : ℕ) (read : Reading) (store : Pairs) (begun : Vec Progress Global) (log : Vec Entry Global) → IsHeld f → store ≡ (after (facts_of (state_of f)) (entry_of now read)).pairs → log.items ≡ f.log.items ++ entry_of now read ∷ []
-    → state_of (after_piece f store begun log now) ≡ effect (state_of f) (entry_of now read)
-piece_state f now read store begun log h is items =
-    let pairs = is ∙ ap (λ (ps : Pairs). pairs_by (facts_of (state_of f)) ps (entry_of now read).what) (sym h.follow.pairs) in
-    λ i. record { opening = (state_of f).opening; log = items i; pairs = pairs i }
+piece_state : (f : Inside) (now : ℕ) (read : Reading) (store : Pairs) (begun : Vec Progress Global) (log : Log) (receipt : Receipt) → IsHeld f → store ≡ (after (facts_of (state_of f)) (entry_of now read)).pairs → IsLogged f.log (entry_of now read) receipt log
+    → state_of (after_piece f store begun log) ≡ effect (state_of f) (entry_of now read)
+piece_state f now read store begun log receipt h is e =
+    state_logged f (after_piece f store begun log) (entry_of now read) receipt refl refl e (is ∙ ap (λ (ps : Pairs). pairs_by (facts_of (state_of f)) ps (entry_of now read).what) (sym h.follow.pairs))
 
-pub piece_held : (f : Inside) (s : State) (now : ℕ) (read : Reading) (store : Pairs) (begun : Vec Progress Global) (log : Vec Entry Global) → PiecesKeep → IsReady f s now read store
-    → begun.items ≡ each (moved_to (number_of read) read.piece read.stretch.high) f.begun.items → log.items ≡ f.log.items ++ entry_of now read ∷ [] → IsHeld (after_piece f store begun log now)
-piece_held f s now read store begun log law r moved items =
+pub piece_held : (f : Inside) (s : State) (now : ℕ) (read : Reading) (store : Pairs) (begun : Vec Progress Global) (log : Log) (receipt : Receipt) → PiecesKeep → IsReady f s now read store
+    → begun.items ≡ each (moved_to (number_of read) read.piece read.stretch.high) f.begun.items → IsLogged f.log (entry_of now read) receipt log → IsHeld (after_piece f store begun log)
+piece_held f s now read store begun log receipt law r moved e =
     let w = r.held.follow in
     let wrote = written f s now read store law r in
-    held_after f (after_piece f store begun log now) (entry_of now read) (piece_state f now read store begun log r.held wrote.0 items)
-    (record { moment = refl; line = w.line; newest = w.newest; before = w.before; begun = moved ∙ ap (each (moved_to (number_of read) read.piece read.stretch.high)) w.begun; pairs = wrote.0 }) wrote.1
+    held_after f (after_piece f store begun log) (entry_of now read) (piece_state f now read store begun log receipt r.held wrote.0 e)
+    (record { moment = e.moment; line = w.line; newest = w.newest; before = w.before; begun = moved ∙ ap (each (moved_to (number_of read) read.piece read.stretch.high)) w.begun; pairs = wrote.0 }) wrote.1
 
-pub piece_done : (f : Inside) (s : State) (now place : ℕ) (ended : Bool) (read : Reading) (store : Pairs) (begun : Vec Progress Global) (log : Vec Entry Global) (entry : Entry) → PiecesKeep → IsReady f s now read store
-    → log.items ≡ f.log.items ++ entry_of now read ∷ [] → Decides ended (read.stretch.high ≡ read.high) → entry ≡ entry_of now read → place ≡ length f.log.items + 1
-    → PieceAt s now read (Ok (record { receipt = record { place = place; entry = entry }; ended = ended })) (state_of (after_piece f store begun log now))
-piece_done f s now place ended read store begun log entry law r items ends first at =
+pub piece_done : (f : Inside) (s : State) (now : ℕ) (ended : Bool) (read : Reading) (store : Pairs) (begun : Vec Progress Global) (log : Log) (receipt : Receipt) → PiecesKeep → IsReady f s now read store → IsLogged f.log (entry_of now read) receipt log
+    → Decides ended (read.stretch.high ≡ read.high) → PieceAt s now read (Ok (record { receipt = receipt; ended = ended })) (state_of (after_piece f store begun log))
+piece_done f s now ended read store begun log receipt law r e ends =
     let wrote = written f s now read store law r in
     let current : IsCurrent (facts_of (state_of f)) now read = subst (λ (x : State). IsCurrent (facts_of x) now read) (sym r.view) r.current in
-    subst (λ (x : State). PieceAt x now read (Ok (record { receipt = record { place = place; entry = entry }; ended = ended })) (state_of (after_piece f store begun log now))) r.view (
+    subst (λ (x : State). PieceAt x now read (Ok (record { receipt = receipt; ended = ended })) (state_of (after_piece f store begun log))) r.view (
       piece_clear (state_of f) now read current r.set.0,
       ends,
-      record { entry = first; place = at; state = piece_state f now read store begun log r.held wrote.0 items ∙ ap (effect (state_of f)) (sym first) },
+      appended f (after_piece f store begun log) now (entry_of now read).what receipt e (piece_state f now read store begun log receipt r.held wrote.0 e),
       r.set.0,
     )

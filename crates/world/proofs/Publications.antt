@@ -20,15 +20,17 @@ use Rattle.replay.specs.declared.entry.Entry.{Entry}
 use Rattle.replay.specs.declared.entry.What.TheVariants.{Publish}
 use Rattle.replay.specs.Replay.{stays}
 use Rattle.replay.specs.Laws.{AreFinished, PublicationsKeep}
-use Rattle.world.specs.declared.fault.PublishFault.{PublishFault}
-use Rattle.world.specs.declared.fault.PublishFault.TheVariants as publish_fault
+use Rattle.world.specs.declared.publishing.PublishFault.{PublishFault}
+use Rattle.world.specs.declared.publishing.PublishFault.TheVariants as publish_fault
+use Rattle.world.specs.declared.entry.Receipt.{Receipt}
+use Rattle.world.specs.declared.log.Log.{Log}
 use Rattle.world.specs.declared.world.World.TheInside.{Inside}
 use Rattle.world.specs.Calls.{Appends}
 use Rattle.world.specs.Inside.{state_of, Follow, IsHeld}
 use Rattle.world.specs.Publishing.{max_versions, publish_rank, PublishCondition, PublishAt, MayPublish, IsUnready}
 use Rattle.world.specs.State.{State, facts_of, effect}
 use Rattle.world.proofs.Awaited.{not_unfinished}
-use Rattle.world.proofs.Holding.{held_after, held_same, follow_of}
+use Rattle.world.proofs.Holding.{IsLogged, state_logged, appended, held_after, held_same, follow_of}
 
 -- ---- the refusals
 
@@ -170,30 +172,30 @@ abbrev pub publish_entry : ℕ → List Move → Entry
 publish_entry now step = record { moment = now; what = Publish step }
 
 -- the fields after a publication
-abbrev pub after_publish : Inside → Option Version → Version → Timeline → Vec Progress Global → Vec Entry Global → ℕ → Inside
-after_publish f before newest line begun log now = record f { before = before; newest = newest; line = line; begun = begun; log = log; moment = now }
+abbrev pub after_publish : Inside → Option Version → Version → Timeline → Vec Progress Global → Log → Inside
+after_publish f before newest line begun log = record f { before = before; newest = newest; line = line; begun = begun; log = log }
 
 -- what the parts of the change are
-pub record IsEntered (f : Inside) (now : ℕ) (step : List Move) (before : Option Version) (newest : Version) (line : Timeline) (begun : Vec Progress Global) (log : Vec Entry Global) : Type 0 where
+pub record IsEntered (f : Inside) (now : ℕ) (step : List Move) (before : Option Version) (newest : Version) (line : Timeline) (begun : Vec Progress Global) (log : Log) (receipt : Receipt) : Type 0 where
   pub before_is : before ≡ Some f.newest
   pub newest_is : newest ≡ after_step f.newest step
   pub line_is : line ≡ after_publication f.line now
   pub begun_is : begun.items ≡ filter (stays step) f.begun.items
-  pub log_is : log.items ≡ f.log.items ++ publish_entry now step ∷ []
+  pub log_is : IsLogged f.log (publish_entry now step) receipt log
 
 -- the state that they stand for
-entered_state : (f : Inside) (now : ℕ) (step : List Move) (before : Option Version) (newest : Version) (line : Timeline) (begun : Vec Progress Global) (log : Vec Entry Global) → IsEntered f now step before newest line begun log
-    → state_of (after_publish f before newest line begun log now) ≡ effect (state_of f) (publish_entry now step)
-entered_state f now step before newest line begun log is = λ i. record { opening = record { length = (is.line_is i).length; schema = f.first }; log = is.log_is i; pairs = f.store }
+entered_state : (f : Inside) (now : ℕ) (step : List Move) (before : Option Version) (newest : Version) (line : Timeline) (begun : Vec Progress Global) (log : Log) (receipt : Receipt) → IsEntered f now step before newest line begun log receipt
+    → state_of (after_publish f before newest line begun log) ≡ effect (state_of f) (publish_entry now step)
+entered_state f now step before newest line begun log receipt is = state_logged f (after_publish f before newest line begun log) (publish_entry now step) receipt (ap (λ (l : Timeline). l.length) is.line_is) refl is.log_is refl
 
-pub entered_held : (f : Inside) (s : State) (now : ℕ) (step : List Move) (before : Option Version) (newest : Version) (line : Timeline) (begun : Vec Progress Global) (log : Vec Entry Global) → PublicationsKeep → IsHeld f → state_of f ≡ s → (facts_of s).moment ≤ now
-    → MayPublish (facts_of s) now step → IsEntered f now step before newest line begun log → IsHeld (after_publish f before newest line begun log now)
-entered_held f s now step before newest line begun log law h view later may_s is =
+pub entered_held : (f : Inside) (s : State) (now : ℕ) (step : List Move) (before : Option Version) (newest : Version) (line : Timeline) (begun : Vec Progress Global) (log : Log) (receipt : Receipt) → PublicationsKeep → IsHeld f → state_of f ≡ s → (facts_of s).moment ≤ now
+    → MayPublish (facts_of s) now step → IsEntered f now step before newest line begun log receipt → IsHeld (after_publish f before newest line begun log)
+entered_held f s now step before newest line begun log receipt law h view later may_s is =
     let w = h.follow in
     let may : MayPublish (facts_of (state_of f)) now step = subst (λ (x : State). MayPublish (facts_of x) now step) (sym view) may_s in
-    held_after f (after_publish f before newest line begun log now) (publish_entry now step) (entered_state f now step before newest line begun log is)
+    held_after f (after_publish f before newest line begun log) (publish_entry now step) (entered_state f now step before newest line begun log receipt is)
     (record {
-      moment = refl;
+      moment = is.log_is.moment;
       line = is.line_is ∙ ap (λ (l : Timeline). after_publication l now) w.line;
       newest = is.newest_is ∙ ap (λ (v : Version). after_step v step) w.newest;
       before = is.before_is ∙ ap Some w.newest;
@@ -202,23 +204,21 @@ entered_held f s now step before newest line begun log law h view later may_s is
     })
     (law (facts_of (state_of f)) now step (subst (λ (x : State). (facts_of x).moment ≤ now) (sym view) later) may.moment may.in_turn may.allowed may.finished h.kept)
 
-pub entered_step : (f : Inside) (s : State) (now version place : ℕ) (step : List Move) (before : Option Version) (newest : Version) (line : Timeline) (begun : Vec Progress Global) (log : Vec Entry Global) (entry : Entry) → IsHeld f → state_of f ≡ s
-    → MayPublish (facts_of s) now step → IsEntered f now step before newest line begun log → version ≡ newest_number line → entry ≡ publish_entry now step → place ≡ length f.log.items + 1
-    → PublishAt s now step (Ok (version, record { place = place; entry = entry })) (state_of (after_publish f before newest line begun log now))
-entered_step f s now version place step before newest line begun log entry h view may is number first at =
+pub entered_step : (f : Inside) (s : State) (now version : ℕ) (step : List Move) (before : Option Version) (newest : Version) (line : Timeline) (begun : Vec Progress Global) (log : Log) (receipt : Receipt) → IsHeld f → state_of f ≡ s
+    → MayPublish (facts_of s) now step → IsEntered f now step before newest line begun log receipt → version ≡ newest_number line → PublishAt s now step (Ok (version, receipt)) (state_of (after_publish f before newest line begun log))
+entered_step f s now version step before newest line begun log receipt h view may is number =
     let next : newest_number line ≡ newest_number (facts_of s).line + 1 = ap newest_number is.line_is ∙ one_up f.line.published now ∙ ap (λ (l : Timeline). newest_number l + 1) (follow_of f s h view).line in
-    let added : Appends (state_of f) now (Publish step) (record { place = place; entry = entry }) (state_of (after_publish f before newest line begun log now))
-    = record { entry = first; place = at; state = entered_state f now step before newest line begun log is ∙ ap (effect (state_of f)) (sym first) } in
-    (may_clear s now step may, number ∙ next, subst (λ (x : State). Appends x now (Publish step) (record { place = place; entry = entry }) (state_of (after_publish f before newest line begun log now))) view added)
+    let added = appended f (after_publish f before newest line begun log) now (Publish step) receipt is.log_is (entered_state f now step before newest line begun log receipt is) in
+    (may_clear s now step may, number ∙ next, subst (λ (x : State). Appends x now (Publish step) receipt (state_of (after_publish f before newest line begun log))) view added)
   where
     one_up : (published : List ℕ) (moment : ℕ) → length (moment ∷ published) ≡ length published + 1
     one_up published moment = omega arith
 
 -- the fields where the log alone had room made, and memory ran out then
-pub same_room : (f : Inside) (log : Vec Entry Global) (line : Timeline) → log.items ≡ f.log.items → line ≡ f.line → state_of (record f { log = log; line = line }) ≡ state_of f
+pub same_room : (f : Inside) (log : Log) (line : Timeline) → log.entries.items ≡ f.log.entries.items → line ≡ f.line → state_of (record f { log = log; line = line }) ≡ state_of f
 same_room f log line items same = λ i. record { opening = record { length = (same i).length; schema = f.first }; log = items i; pairs = f.store }
 
-pub room_held : (f : Inside) (log : Vec Entry Global) (line : Timeline) → IsHeld f → log.items ≡ f.log.items → line ≡ f.line → IsHeld (record f { log = log; line = line })
-room_held f log line h items same =
+pub room_held : (f : Inside) (log : Log) (line : Timeline) → IsHeld f → log.entries.items ≡ f.log.entries.items → log.moment ≡ f.log.moment → line ≡ f.line → IsHeld (record f { log = log; line = line })
+room_held f log line h items moment same =
     let w = h.follow in
-    held_same f (record f { log = log; line = line }) h (same_room f log line items same) (record { moment = w.moment; line = same ∙ w.line; newest = w.newest; before = w.before; begun = w.begun; pairs = w.pairs })
+    held_same f (record f { log = log; line = line }) h (same_room f log line items same) (record { moment = moment ∙ w.moment; line = same ∙ w.line; newest = w.newest; before = w.before; begun = w.begun; pairs = w.pairs })

@@ -21,8 +21,8 @@ use Rattle.replay.specs.declared.entry.What.TheVariants.{Lease as Granted}
 use Rattle.replay.specs.Replay.{Facts, version_at, after}
 use Rattle.replay.specs.Kept.{IsKept}
 use Rattle.replay.specs.Laws.{LeasesKeep, KeptAgrees}
-use Rattle.world.specs.declared.fault.QueryRefusal.{QueryRefusal}
-use Rattle.world.specs.declared.fault.QueryRefusal.TheVariants as refusal
+use Rattle.world.specs.declared.querying.QueryRefusal.{QueryRefusal}
+use Rattle.world.specs.declared.querying.QueryRefusal.TheVariants as refusal
 use Rattle.world.specs.declared.world.World.TheInside.{Inside}
 use Rattle.world.specs.Calls.{counted}
 use Rattle.world.specs.Querying.{query_rank, QueryCondition, QueryAt, QueryStep}

@@ -10,8 +10,8 @@ use Rattle.row_map.specs.Rows.{Pairs}
 use Rattle.element_state.specs.Consistent.{IsConsistent}
 use Rattle.schema_version.specs.Version.{Version}
 use Rattle.replay.specs.Laws.{LeasesKeep, KeptAgrees}
-use Rattle.world.specs.declared.fault.SnapshotFault.{SnapshotFault}
-use Rattle.world.specs.declared.fault.SnapshotFault.TheVariants as snapshot_fault
+use Rattle.world.specs.declared.snapshot.SnapshotFault.{SnapshotFault}
+use Rattle.world.specs.declared.snapshot.SnapshotFault.TheVariants as snapshot_fault
 use Rattle.world.specs.declared.world.World.TheInside.{Inside}
 use Rattle.world.specs.Calls.{counted}
 use Rattle.world.specs.Inside.{state_of, IsHeld}

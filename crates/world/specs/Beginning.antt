@@ -14,8 +14,8 @@ use Rattle.replay.specs.Replay.{Facts, progress_of}
 use Rattle.replay.specs.Kept.{used_before}
 use Rattle.replay.specs.Laws.{IsPieceCount}
 use Rattle.world.specs.declared.entry.Receipt.{Receipt}
-use Rattle.world.specs.declared.fault.BeginFault.{BeginFault}
-use Rattle.world.specs.declared.fault.BeginFault.TheVariants as begin_fault
+use Rattle.world.specs.declared.beginning.BeginFault.{BeginFault}
+use Rattle.world.specs.declared.beginning.BeginFault.TheVariants as begin_fault
 use Rattle.world.specs.Calls.{counted, Appends}
 use Rattle.world.specs.State.{State, facts_of}
 

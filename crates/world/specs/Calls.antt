@@ -20,12 +20,12 @@ use Rattle.world.specs.declared.committed.Committed.{Committed}
 use Rattle.world.specs.declared.committed.Committed.TheVariants as committed
 use Rattle.world.specs.declared.entry.Receipt.{Receipt}
 use Rattle.world.specs.declared.entry.Grant.{Grant}
-use Rattle.world.specs.declared.fault.OpenFault.{OpenFault}
-use Rattle.world.specs.declared.fault.OpenFault.TheVariants as open_fault
-use Rattle.world.specs.declared.fault.GrantFault.{GrantFault}
-use Rattle.world.specs.declared.fault.GrantFault.TheVariants as grant_fault
-use Rattle.world.specs.declared.fault.CommitFault.{CommitFault}
-use Rattle.world.specs.declared.fault.CommitFault.TheVariants as commit_fault
+use Rattle.world.specs.declared.opening.OpenFault.{OpenFault}
+use Rattle.world.specs.declared.opening.OpenFault.TheVariants as open_fault
+use Rattle.world.specs.declared.leasing.GrantFault.{GrantFault}
+use Rattle.world.specs.declared.leasing.GrantFault.TheVariants as grant_fault
+use Rattle.world.specs.declared.committing.CommitFault.{CommitFault}
+use Rattle.world.specs.declared.committing.CommitFault.TheVariants as commit_fault
 use Rattle.world.specs.State.{State, facts_of, effect, opened}
 
 -- the moment that counts: the greater of the one handed in and the last entry's

@@ -6,11 +6,11 @@ use Rattle.world.specs.declared.world.World.TheInside.{Inside}
 use Rattle.world.specs.State.{State, facts_of}
 
 abbrev pub state_of : Inside → State
-state_of fields = record { opening = record { length = fields.line.length; schema = fields.first }; log = fields.log.items; pairs = fields.store }
+state_of fields = record { opening = record { length = fields.line.length; schema = fields.first }; log = fields.log.entries.items; pairs = fields.store }
 
 -- the fields have what a log says
 pub record Follow (fields : Inside) (facts : Facts) : Type 0 where
-  pub moment : fields.moment ≡ facts.moment
+  pub moment : fields.log.moment ≡ facts.moment
   pub line : fields.line ≡ facts.line
   pub newest : fields.newest ≡ facts.newest
   pub before : fields.before ≡ slice_get facts.older 0

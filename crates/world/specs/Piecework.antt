@@ -16,10 +16,10 @@ use Rattle.reorganise.specs.Refusals.{rank as view_rank, Condition as ViewCondit
 use Rattle.replay.specs.declared.entry.What.TheVariants.{Piece}
 use Rattle.replay.specs.Replay.{Facts, progress_of}
 use Rattle.world.specs.declared.entry.PieceDone.{PieceDone}
-use Rattle.world.specs.declared.fault.PieceFault.{PieceFault}
-use Rattle.world.specs.declared.fault.PieceFault.TheVariants as piece_fault
-use Rattle.world.specs.declared.fault.ReadFault.{ReadFault}
-use Rattle.world.specs.declared.fault.ReadFault.TheVariants as read_fault
+use Rattle.world.specs.declared.pieces.PieceFault.{PieceFault}
+use Rattle.world.specs.declared.pieces.PieceFault.TheVariants as piece_fault
+use Rattle.world.specs.declared.pieces.ReadFault.{ReadFault}
+use Rattle.world.specs.declared.pieces.ReadFault.TheVariants as read_fault
 use Rattle.world.specs.Calls.{counted, Appends}
 use Rattle.world.specs.State.{State, facts_of}
 

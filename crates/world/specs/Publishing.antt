@@ -11,8 +11,8 @@ use Rattle.replay.specs.declared.entry.What.TheVariants.{Publish}
 use Rattle.replay.specs.Replay.{Facts}
 use Rattle.replay.specs.Laws.{Needs, AreFinished}
 use Rattle.world.specs.declared.entry.Receipt.{Receipt}
-use Rattle.world.specs.declared.fault.PublishFault.{PublishFault}
-use Rattle.world.specs.declared.fault.PublishFault.TheVariants as publish_fault
+use Rattle.world.specs.declared.publishing.PublishFault.{PublishFault}
+use Rattle.world.specs.declared.publishing.PublishFault.TheVariants as publish_fault
 use Rattle.world.specs.Calls.{counted, Appends}
 use Rattle.world.specs.State.{State, facts_of}
 

@@ -11,8 +11,8 @@ use Rattle.row_query.specs.Answer.{plain_answer}
 use Rattle.row_query.specs.Refused.{IsRefused}
 use Rattle.schema_version.specs.Version.{Version}
 use Rattle.replay.specs.Replay.{version_at}
-use Rattle.world.specs.declared.fault.QueryRefusal.{QueryRefusal}
-use Rattle.world.specs.declared.fault.QueryRefusal.TheVariants as refusal
+use Rattle.world.specs.declared.querying.QueryRefusal.{QueryRefusal}
+use Rattle.world.specs.declared.querying.QueryRefusal.TheVariants as refusal
 use Rattle.world.specs.Calls.{counted}
 use Rattle.world.specs.State.{State, facts_of}
 

@@ -7,8 +7,8 @@ use Rattle.listed.specs.Refusal.{IsRefusal, IsClear}
 use Rattle.replay.specs.Replay.{version_at}
 use Rattle.row_map.specs.Rows.{Pairs}
 use Rattle.schema_version.specs.Version.{Version}
-use Rattle.world.specs.declared.fault.SnapshotFault.{SnapshotFault}
-use Rattle.world.specs.declared.fault.SnapshotFault.TheVariants as snapshot_fault
+use Rattle.world.specs.declared.snapshot.SnapshotFault.{SnapshotFault}
+use Rattle.world.specs.declared.snapshot.SnapshotFault.TheVariants as snapshot_fault
 use Rattle.world.specs.Calls.{counted}
 use Rattle.world.specs.State.{State, facts_of}
 

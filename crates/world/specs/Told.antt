@@ -3,14 +3,14 @@ use Rattle.lease.specs.declared.fault.LeaseFault.{LeaseFault}
 use Rattle.lease.specs.declared.fault.LeaseFault.TheVariants as lease_fault
 use Rattle.txn_store.specs.declared.fault.SetFault.{SetFault}
 use Rattle.txn_store.specs.declared.fault.SetFault.TheVariants as told
-use Rattle.world.specs.declared.fault.CommitFault.{CommitFault}
-use Rattle.world.specs.declared.fault.CommitFault.TheVariants as commit
-use Rattle.world.specs.declared.fault.PieceFault.{PieceFault}
-use Rattle.world.specs.declared.fault.PieceFault.TheVariants as piece
-use Rattle.world.specs.declared.fault.QueryRefusal.{QueryRefusal}
-use Rattle.world.specs.declared.fault.QueryRefusal.TheVariants as query
-use Rattle.world.specs.declared.fault.SnapshotFault.{SnapshotFault}
-use Rattle.world.specs.declared.fault.SnapshotFault.TheVariants as snapshot_fault
+use Rattle.world.specs.declared.committing.CommitFault.{CommitFault}
+use Rattle.world.specs.declared.committing.CommitFault.TheVariants as commit
+use Rattle.world.specs.declared.pieces.PieceFault.{PieceFault}
+use Rattle.world.specs.declared.pieces.PieceFault.TheVariants as piece
+use Rattle.world.specs.declared.querying.QueryRefusal.{QueryRefusal}
+use Rattle.world.specs.declared.querying.QueryRefusal.TheVariants as query
+use Rattle.world.specs.declared.snapshot.SnapshotFault.{SnapshotFault}
+use Rattle.world.specs.declared.snapshot.SnapshotFault.TheVariants as snapshot_fault
 
 abbrev pub set_told : SetFault → CommitFault
 set_told (told.Conflict key) = commit.Conflict key

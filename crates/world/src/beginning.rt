@@ -4,19 +4,60 @@ ghost use Rattle.std.specs.Prelude.{◌≡◌, ◌≤◌, IfOk, IfErr, MatchOpti
 ghost use Rattle.listed.specs.Refusal.{IsRefusal};
 ghost use Rattle.schema_version.specs.Edges.{wanted as wanted_by};
 ghost use Rattle.schema_version.specs.Version.{element_at};
-ghost use Rattle.world.specs.declared.fault.BeginFault.TheVariants.{Memory};
+ghost use Rattle.world.specs.declared.beginning.BeginFault.TheVariants.{Memory};
 ghost use Rattle.world.specs.Beginning.{BeginStep, BeginAt, BeginCondition, Begins, IsSettled, begin_rank, wanted_at};
 ghost use Rattle.world.specs.State.{facts_of};
 
 use crate::entry::Receipt;
-use crate::fault::BeginFault;
-use crate::logging::{append, entry_pair, make_room, next_place};
 use crate::world::World;
 use lease::MAX_MOMENT;
 use reorganise::{Progress, Work};
 use replay::{What, begins_keep};
 use schema_version::ElementDef;
-use std::alloc::{AllocError, Global};
+use std::alloc::{AllocError, AllocFailed, Global};
+use thiserror::Error;
+
+/// Why no reorganisation began. Of several reasons the first in this order is told.
+#[derive(Clone, Copy, Debug, PartialEq, Eq, Error)]
+pub enum BeginFault {
+    /// The moment that counts is above 2^62.
+    #[error("the moment is above 2^62")]
+    MomentTooLarge,
+    /// No live element has the number, or it wants neither a fill nor a clear.
+    #[error("the element wants no reorganisation")]
+    NotWanted,
+    /// A lease may still be in force on the version before the newest, in which the element has another state.
+    #[error("the version before has the element in another state, and may be used until {until}")]
+    StillUsed {
+        /// The first moment at which no such lease is in force.
+        until: u64,
+    },
+    /// The element's reorganisation has begun.
+    #[error("the reorganisation has begun")]
+    Begun,
+    /// The number of pieces is not from 1 to 64.
+    #[error("the number of pieces is not from 1 to 64")]
+    BadCount,
+    /// Want of memory.
+    #[error("out of memory")]
+    Memory,
+}
+
+impl From<AllocError> for BeginFault {
+    ghost from_gives = { λ _ fault. fault ≡ Memory };
+
+    fn from(_: AllocError) -> BeginFault {
+        BeginFault::Memory
+    }
+}
+
+impl<T: Drop> From<AllocFailed<T>> for BeginFault {
+    ghost from_gives = { λ _ fault. fault ≡ Memory };
+
+    fn from(_: AllocFailed<T>) -> BeginFault {
+        BeginFault::Memory
+    }
+}
 
 /// The greatest number of pieces.
 const MAX_PIECES: u32 = 64;
@@ -120,12 +161,9 @@ impl World {
         ensures step { BeginAt self.old now element pieces result self.new }
     {
         begins_keep();
-        let (entry, logged) = entry_pair(alloc, now, What::Begin { element, pieces })?;
-        make_room(&mut self.log)?;
-        let place = next_place(&self.log);
+        let what = What::Begin { element, pieces };
+        let draft = self.log.make_ready(alloc, now, what)?;
         self.begun.push(progress)?;
-        append(&mut self.log, logged);
-        self.moment = now;
-        Ok(Receipt { place, entry })
+        Ok(self.log.enter(draft))
     }
 }

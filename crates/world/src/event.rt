@@ -1,7 +1,12 @@
 //! Calls as values: events and their replies.
+use crate::beginning::BeginFault;
 use crate::committed::Committed;
+use crate::committing::CommitFault;
 use crate::entry::{Grant, PieceDone, Receipt};
-use crate::fault::{BeginFault, CommitFault, GrantFault, PieceFault, PublishFault, QueryRefusal};
+use crate::leasing::GrantFault;
+use crate::pieces::PieceFault;
+use crate::publishing::PublishFault;
+use crate::querying::QueryRefusal;
 use lease::Lease;
 use listed::Listed;
 use reorganise::PreparedPiece;

@@ -1,29 +1,20 @@
-//! What has begun, and what a step still waits for.
+//! What a step still waits for.
 ghost use Rattle.std.specs.Bool.{Decides};
 ghost use Rattle.std.specs.Prelude.{◌≡◌, ◌<◌, IfErr, OnOk, MatchOption};
-ghost use Rattle.std.specs.Option.{option_copied};
 ghost use Rattle.lease.specs.Timeline.{newest as newest_number};
 ghost use Rattle.replay.specs.Laws.{IsDone, AreFinished};
-ghost use Rattle.replay.specs.Replay.{progress_of};
 ghost use Rattle.world.specs.Publishing.{IsReady, Lacks, IsUnfinished, IsUnready, max_versions};
 ghost use Rattle.world.specs.State.{facts_of};
 
-use crate::fault::PublishFault;
+use crate::publishing::PublishFault;
 use crate::world::World;
-use reorganise::{Progress, Work};
+use reorganise::Work;
 use schema_version::{Move, needed};
 
 /// The greatest number of a version.
 const MAX_VERSIONS: u64 = 1_000_000;
 
 impl World {
-    // The begun reorganisation of an element.
-    pub(crate) fn begun_of(&self, element: u32) -> Option<&Progress>
-        ensures { option_copied result ≡ progress_of (facts_of self.now).progress element }
-    {
-        self.begun.iter().find(|p| p.element.number == element)
-    }
-
     // Whether this work on an element has begun and is finished.
     fn is_done(&self, element: u32, work: Work) -> bool
         ensures { Decides result (IsDone (facts_of self.now) element work) }

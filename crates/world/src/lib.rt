@@ -2,30 +2,36 @@
 #![tactic(auto)]
 
 mod beginning;
+mod checking;
 mod committed;
+mod committing;
 mod config;
 mod entry;
 mod event;
 mod events;
-mod fault;
 mod finishing;
-mod logging;
+mod leasing;
+mod log;
 mod opening;
-mod piecework;
+mod pieces;
 mod publishing;
+mod querying;
 mod reading;
 mod snapshot;
 mod world;
 
 pub use audit::{CheckReport, audit};
+pub use beginning::BeginFault;
 pub use committed::Committed;
+pub use committing::CommitFault;
 pub use config::Config;
 pub use entry::{Grant, PieceDone, Receipt};
 pub use event::{Event, Reply};
-pub use fault::{
-    BeginFault, CommitFault, GrantFault, OpenFault, PieceFault, PublishFault, QueryRefusal,
-    ReadFault, SnapshotFault,
-};
+pub use leasing::GrantFault;
+pub use opening::OpenFault;
+pub use pieces::{PieceFault, ReadFault};
+pub use publishing::PublishFault;
+pub use querying::QueryRefusal;
 pub use replay::{Entry, What};
-pub use snapshot::Snapshot;
+pub use snapshot::{Snapshot, SnapshotFault};
 pub use world::World;

@@ -2,20 +2,66 @@
 ghost use Rattle.std.specs.Prelude.{◌≡◌, ◌≤◌, IfOk, IfErr, OnOk};
 ghost use Rattle.listed.specs.Refusal.{IsRefusal};
 ghost use Rattle.schema_version.specs.Moves.{after_step};
-ghost use Rattle.world.specs.declared.fault.PublishFault.TheVariants.{Memory};
+ghost use Rattle.world.specs.declared.publishing.PublishFault.TheVariants.{Memory, TooEarly as EarlyFault};
 ghost use Rattle.world.specs.Publishing.{PublishStep, PublishAt, MayPublish, PublishCondition, publish_rank};
 ghost use Rattle.world.specs.State.{facts_of};
 
 use crate::entry::Receipt;
-use crate::fault::PublishFault;
-use crate::logging::{append, entry_pair, make_room, next_place};
 use crate::world::World;
-use lease::MAX_MOMENT;
+use lease::{MAX_MOMENT, TooEarly};
 use listed::Counted;
 use replay::{What, publications_keep};
 use schema_version::{Schema, Step, StepFault, moves_element};
-use std::alloc::Global;
+use std::alloc::{AllocError, Global};
 use std::mem;
+use thiserror::Error;
+
+/// Why no version was published. Of several reasons the first in this order is told.
+#[derive(Clone, Copy, Debug, PartialEq, Eq, Error)]
+pub enum PublishFault {
+    /// The moment that counts is above 2^62.
+    #[error("the moment is above 2^62")]
+    MomentTooLarge,
+    /// The newest version has not stood for the lease length yet.
+    #[error("no version may be published before {earliest}")]
+    TooEarly {
+        /// The first moment at which one may be.
+        earliest: u64,
+    },
+    /// The step isn't allowed.
+    #[error("{0}")]
+    Step(StepFault),
+    /// A move needs a fill or a clear that is not finished.
+    #[error("the reorganisation of the element {element} is not finished")]
+    Unfinished {
+        /// The first such element in the step's order.
+        element: u32,
+    },
+    /// There are 1,000,000 versions.
+    #[error("no version is left")]
+    VersionsSpent,
+    /// Want of memory.
+    #[error("out of memory")]
+    Memory,
+}
+
+impl From<AllocError> for PublishFault {
+    ghost from_gives = { λ _ fault. fault ≡ Memory };
+
+    fn from(_: AllocError) -> PublishFault {
+        PublishFault::Memory
+    }
+}
+
+impl From<TooEarly> for PublishFault {
+    ghost from_gives = { λ early fault. fault ≡ EarlyFault early.earliest };
+
+    fn from(early: TooEarly) -> PublishFault {
+        PublishFault::TooEarly {
+            earliest: early.earliest,
+        }
+    }
+}
 
 impl World {
     /// Publishes the version that a step gives, and answers its number. From then on leases are granted on it, and a
@@ -78,15 +124,13 @@ impl World {
     {
         publications_keep();
         let next = Counted::new(alloc, next)?;
-        let (entry, logged) = entry_pair(alloc, now, What::Publish(step.clone()?))?;
-        make_room(&mut self.log)?;
-        let place = next_place(&self.log);
+        let what = What::Publish(step.clone()?);
+        let draft = self.log.make_ready(alloc, now, what)?;
         let version = self.line.publish(now)?;
-        append(&mut self.log, logged);
         self.before = Some(mem::replace(&mut self.newest, next));
         self.begun
             .retain(|p| !moves_element(step.as_slice(), p.element.number));
-        self.moment = now;
-        Ok((version, Receipt { place, entry }))
+        let receipt = self.log.enter(draft);
+        Ok((version, receipt))
     }
 }

@@ -1,10 +1,12 @@
-//! Reading the pairs of given keys.
+//! What a transaction reads: the pairs of given keys.
 ghost use Rattle.std.specs.Prelude.{◌≡◌, IfOk, option_map};
 ghost use Rattle.std.specs.FinMap as map;
+ghost use Rattle.world.specs.Calls.{IsReadView};
 ghost use Rattle.world.specs.Reading.{noted_reads};
 
+use crate::world::World;
 use byte_map::{Bytes, KeyMap};
-use row_map::{PairView, ReadView};
+use row_map::{PairView, ReadSet, ReadView};
 use std::alloc::{AllocError, Global};
 use txn_store::Store;
 
@@ -19,11 +21,7 @@ fn value_of(alloc: Global, store: &Store, key: &Bytes) -> Result<Option<Bytes>, 
 }
 
 /// The pairs of these keys.
-pub(crate) fn read_all(
-    alloc: Global,
-    store: &Store,
-    keys: &[(Bytes, ())],
-) -> Result<ReadView, AllocError>
+fn read_all(alloc: Global, store: &Store, keys: &[(Bytes, ())]) -> Result<ReadView, AllocError>
     ensures { IfOk result (λ view. view ≡ noted_reads store.now map.empty keys.now) }
 {
     let mut view = KeyMap::new(alloc);
@@ -32,4 +30,14 @@ pub(crate) fn read_all(
         view.insert(key.clone()?, value)?;
     }
     Ok(view)
+}
+
+impl World {
+    /// The pairs of these keys: each key with its value, or with none where there is no pair. Refused for want of
+    /// memory alone.
+    pub fn read(&self, alloc: Global, keys: &ReadSet) -> Result<ReadView, AllocError>
+        ensures { IfOk result (λ view. IsReadView self.now keys.now view) }
+    {
+        read_all(alloc, &self.store, keys.entries())
+    }
 }

@@ -6,18 +6,62 @@ ghost use Rattle.row_query.specs.declared.fault.QueryFault.TheVariants.{Memory};
 ghost use Rattle.row_query.specs.Answer.{plain_answer};
 ghost use Rattle.row_query.specs.Refused.{IsRefused, IsSound};
 ghost use Rattle.world.specs.Snapshots.{SnapshotStep};
+ghost use Rattle.world.specs.Told.{snapshot_told};
+ghost use Rattle.world.specs.declared.snapshot.SnapshotFault.TheVariants as snapshot_fault;
 
-use crate::fault::SnapshotFault;
 use crate::world::World;
-use lease::Lease;
+use lease::{Lease, LeaseFault};
 use listed::{Counted, Listed};
 use replay::{kept_agrees, leases_keep};
 use row_map::Row;
 use row_query::{Query, QueryFault, answer};
 use schema_version::Schema;
-use std::alloc::Global;
+use std::alloc::{AllocError, Global};
 use std::marker::Model;
+use thiserror::Error;
 use txn_store::PairSnapshot;
+
+/// Why no snapshot was taken. Of several reasons the first in this order is told.
+#[derive(Clone, Copy, Debug, PartialEq, Eq, Error)]
+pub enum SnapshotFault {
+    /// The moment that counts is above 2^62.
+    #[error("the moment is above 2^62")]
+    MomentTooLarge,
+    /// No grant could have given the lease.
+    #[error("no grant could have given the lease")]
+    BadLease,
+    /// The lease ended before the moment that counts.
+    #[error("the lease ended at {until}, and now is {now}")]
+    LeaseEnded {
+        /// The end of the lease.
+        until: u64,
+        /// The moment that counts.
+        now: u64,
+    },
+    /// Want of memory.
+    #[error("out of memory")]
+    Memory,
+}
+
+impl From<LeaseFault> for SnapshotFault {
+    ghost from_gives = { λ told fault. fault ≡ snapshot_told told };
+
+    fn from(told: LeaseFault) -> SnapshotFault {
+        match told {
+            LeaseFault::MomentTooLarge => SnapshotFault::MomentTooLarge,
+            LeaseFault::BadLease => SnapshotFault::BadLease,
+            LeaseFault::LeaseEnded { until, now } => SnapshotFault::LeaseEnded { until, now },
+        }
+    }
+}
+
+impl From<AllocError> for SnapshotFault {
+    ghost from_gives = { λ _ fault. fault ≡ snapshot_fault.Memory };
+
+    fn from(_: AllocError) -> SnapshotFault {
+        SnapshotFault::Memory
+    }
+}
 
 /// What a World held when the snapshot was taken, and the schema of the lease's version. It stays that, whatever is
 /// committed to the World later, also when the lease has ended or the World is gone: it takes no lock and knows no World.

@@ -1,31 +1,20 @@
-//! The core: what it keeps, how it is opened, and the calls that lend, lease, read and commit.
-ghost use Rattle.std.specs.Prelude.{◌≡◌, ◌≤◌, max, IfOk, IfErr, OnOk, OnErr, option_map, Result, Some};
-ghost use Rattle.std.specs.FinMap as map;
+//! The core: what it keeps, and what it tells of itself.
+ghost use Rattle.std.specs.Option.{option_copied};
+ghost use Rattle.std.specs.Prelude.{◌≡◌, ◌≤◌, max, option_map, Some};
 ghost use Rattle.lease.specs.Refusals.{Serves};
 ghost use Rattle.lease.specs.Timeline.{IsValid, last_publication};
 ghost use Rattle.replay.specs.Kept.{AreInPieces};
-ghost use Rattle.replay.specs.Replay.{version_at};
-ghost use Rattle.world.specs.Calls.{OpenStep, LeaseStep, CommitStep, CommitAt, IsReadView, IsCheck, counted};
-ghost use Rattle.world.specs.Querying.{QueryStep};
+ghost use Rattle.replay.specs.Replay.{progress_of, version_at};
+ghost use Rattle.world.specs.Calls.{counted};
 ghost use Rattle.world.specs.State.{facts_of, recent, IsReplayed, Agrees};
 
-use crate::committed::Committed;
-use crate::config::Config;
-use crate::entry::{Grant, Receipt};
-use crate::fault::{CommitFault, GrantFault, OpenFault, QueryRefusal};
-use crate::logging::{append, entry_pair, make_room, next_place, txn_of};
-use crate::opening::{begin, declare};
-use crate::reading::read_all;
-use audit::{CheckReport, audit};
+use crate::log::Log;
 use lease::{Lease, Timeline};
-use listed::{Counted, Listed};
+use listed::Counted;
 use reorganise::Progress;
-use replay::{Entry, What, kept_agrees, leases_keep, openings_keep, transactions_keep};
-use row_map::{PairView, ReadSet, ReadView, Row, Walk};
-use row_query::{Query, answer, one_refusal};
-use row_write::{Prepared, RowOutcome};
+use replay::{Entry, kept_agrees};
+use row_map::{PairView, Walk};
 use schema_version::Schema;
-use std::alloc::{AllocError, Global};
 use std::marker::Model;
 use txn_store::Store;
 
@@ -42,9 +31,7 @@ pub struct World {
     /// The reorganisations that have begun and are not over.
     pub(crate) begun: Vec<Progress>,
     pub(crate) store: Store,
-    pub(crate) log: Vec<Entry>,
-    /// The moment of the last entry.
-    pub(crate) moment: u64,
+    pub(crate) log: Log,
 }
 
 impl Model for World {
@@ -63,57 +50,6 @@ impl Model for World {
 }
 
 impl World {
-    /// Opens a world with these tables as version 1, no rows, and a lease length.
-    ///
-    /// Refused in this order: `BadTable` where the declaration breaks a limit or uses a name twice; `BadLength` where
-    /// the lease length is not from 1 to 2^32; `Memory`.
-    pub fn open(alloc: Global, config: &Config) -> Result<World, OpenFault>
-        ensures { OpenStep config.now result }
-    {
-        let schema = declare(alloc, config)?;
-        let line = begin(alloc, config)?;
-        schema.known();
-        openings_keep();
-        let first = Counted::new(alloc, schema)?;
-        let newest = first.clone()?;
-        Ok(World {
-            first,
-            before: None,
-            newest,
-            line,
-            begun: Vec::new(alloc),
-            store: Store::new(alloc),
-            log: Vec::new(alloc),
-            moment: 0,
-        })
-    }
-
-    /// Grants a lease on the newest version, from the moment that counts on: the greater of `moment` and the moment
-    /// of the last entry.
-    ///
-    /// Refused in this order: `MomentTooLarge` where the moment that counts is above 2^62; `Memory`. A refusal
-    /// changes nothing.
-    pub fn lease(&mut self, alloc: Global, moment: u64) -> Result<Grant, GrantFault>
-        ensures step { LeaseStep self.old moment result self.new }
-    {
-        let now = self.counted(moment);
-        let Ok(lease) = self.line.grant(now) else {
-            return Err(GrantFault::MomentTooLarge);
-        };
-        let schema = self.newest.clone()?;
-        leases_keep();
-        let (entry, kept) = entry_pair(alloc, now, What::Lease(lease))?;
-        make_room(&mut self.log)?;
-        let place = next_place(&self.log);
-        append(&mut self.log, kept);
-        self.moment = now;
-        Ok(Grant {
-            lease,
-            schema,
-            receipt: Receipt { place, entry },
-        })
-    }
-
     /// The schema of the newest version or of the one before, by its number; None for any other number.
     pub fn schema(&self, version: u64) -> Option<&Counted<Schema>>
         ensures { option_map (λ s. s.now) result ≡ recent (facts_of self.now) version }
@@ -143,14 +79,6 @@ impl World {
         }
     }
 
-    /// The pairs of these keys: each key with its value, or with none where there is no pair. Refused for want of
-    /// memory alone.
-    pub fn read(&self, alloc: Global, keys: &ReadSet) -> Result<ReadView, AllocError>
-        ensures { IfOk result (λ view. IsReadView self.now keys.now view) }
-    {
-        read_all(alloc, &self.store, keys.entries())
-    }
-
     /// The schema of the newest version.
     pub fn newest(&self) -> &Counted<Schema>
         ensures { result.now ≡ (facts_of self.now).newest }
@@ -168,119 +96,6 @@ impl World {
         &self.line
     }
 
-    /// Audits the pairs of the store by the newest version: how many rows there are, how many pairs are missing, and
-    /// how many are there without a reason. Refused for want of memory alone.
-    pub fn check(&self, alloc: Global) -> Result<CheckReport, AllocError>
-        ensures { IfOk result (λ report. IsCheck self.now report) }
-    {
-        audit(alloc, self.newest.get(), &self.store)
-    }
-
-    /// The rows that a query asks for, as the log gives them: in the order of their primary keys, each with its values in
-    /// the named columns.
-    ///
-    /// The query runs under the schema of the lease's version, whichever of its paths finds the rows. The moment that
-    /// counts is the greater of `moment` and the moment of the last entry. Refused in this order: `MomentTooLarge` where
-    /// the moment that counts is above 2^62; `BadLease` where no grant could have given it; `LeaseEnded` where it is not
-    /// in force any more; `Query` with what `row_query::answer` refuses, want of memory last.
-    pub fn query(
-        &self,
-        alloc: Global,
-        moment: u64,
-        lease: &Lease,
-        query: &Query,
-    ) -> Result<Listed<Row>, QueryRefusal>
-        ensures { QueryStep self.now moment lease.now query.now result }
-    {
-        one_refusal();
-        kept_agrees();
-        leases_keep();
-        let now = self.counted(moment);
-        self.line.standing(lease, now)?;
-        let schema = self.under(lease, now);
-        Ok(answer(alloc, schema.get(), &self.store, query)?)
-    }
-
-    /// Commits a prepared transaction: it is logged and its batch is written, or the rows refuse it.
-    ///
-    /// The moment that counts is the greater of `moment` and the moment of the last entry. Refused in this order, and
-    /// then nothing changes and the prepared transaction comes back: `MomentTooLarge` where the moment that counts is
-    /// above 2^62; `BadLease` where no grant could have given its lease; `LeaseEnded` where its lease is not in force any
-    /// more; `WrongSchema` where the schema that it was prepared under does not equal that of its lease's version;
-    /// `Conflict` with the least key whose pair is not what was read; `Memory`, which may come in place of
-    /// Conflict. A write carries its lease's end and isn't committed after it, as in the F1 paper.
-    pub fn commit(
-        &mut self,
-        alloc: Global,
-        moment: u64,
-        prepared: Prepared,
-    ) -> Result<Committed, (CommitFault, Prepared)>
-        ensures step { CommitStep self.old moment prepared result self.new }
-    {
-        let now = self.counted(moment);
-        match self.line.standing(prepared.lease(), now) {
-            Ok(()) => (),
-            Err(fault) => return Err((CommitFault::from(fault), prepared)),
-        }
-        let schema = self.under(prepared.lease(), now);
-        if !prepared.schema().get().is_same(schema.get()) {
-            return Err((CommitFault::WrongSchema, prepared));
-        }
-        match self.commit_at(alloc, now, &prepared) {
-            Ok(done) => Ok(done),
-            Err(fault) => Err((fault, prepared)),
-        }
-    }
-
-    // The commit of a transaction whose lease serves at the moment that counts.
-    fn commit_at(
-        &mut self,
-        alloc: Global,
-        now: u64,
-        prepared: &Prepared,
-    ) -> Result<Committed, CommitFault>
-        requires schema { version_at (facts_of self.old) prepared.now.lease.version ≡ Some prepared.now.schema }
-        requires later { (facts_of self.old).moment ≤ now }
-        requires serves { Serves (facts_of self.old).line prepared.now.lease now }
-        ensures step { CommitAt self.old now prepared.now result self.new }
-    {
-        transactions_keep();
-        match prepared.outcome() {
-            RowOutcome::Done => self.add_txn(alloc, now, prepared),
-            RowOutcome::Refused { op, why } => {
-                prepared.made();
-                self.store
-                    .test_and_set(alloc, prepared.expect(), prepared.batch())?;
-                Ok(Committed::Refused { op, why })
-            }
-        }
-    }
-
-    // The same, where what was read accepts all operations.
-    fn add_txn(
-        &mut self,
-        alloc: Global,
-        now: u64,
-        prepared: &Prepared,
-    ) -> Result<Committed, CommitFault>
-        requires schema { version_at (facts_of self.old) prepared.now.lease.version ≡ Some prepared.now.schema }
-        requires later { (facts_of self.old).moment ≤ now }
-        requires serves { Serves (facts_of self.old).line prepared.now.lease now }
-        requires done { prepared.now.told ≡ RowOutcome.Done }
-        ensures step { CommitAt self.old now prepared.now result self.new }
-    {
-        transactions_keep();
-        prepared.made();
-        let (entry, logged) = entry_pair(alloc, now, txn_of(prepared)?)?;
-        make_room(&mut self.log)?;
-        let place = next_place(&self.log);
-        let batch = prepared.batch();
-        self.store.test_and_set(alloc, prepared.expect(), batch)?;
-        append(&mut self.log, logged);
-        self.moment = now;
-        Ok(Committed::Done(Receipt { place, entry }))
-    }
-
     /// The moment of the last entry, 0 before the first.
     pub fn moment(&self) -> u64
         ensures { result ≡ (facts_of self.now).moment }
@@ -293,14 +108,21 @@ impl World {
     pub(crate) fn counted(&self, moment: u64) -> u64
         ensures { result ≡ counted self.now moment }
     {
-        moment.max(self.moment)
+        moment.max(self.log.moment())
     }
 
     /// All entries, the first one first. The place of a receipt counts them from 1.
     pub fn log(&self) -> &[Entry]
         ensures { result.now ≡ self.now.log }
     {
-        self.log.as_slice()
+        self.log.entries()
+    }
+
+    // The begun reorganisation of an element.
+    pub(crate) fn begun_of(&self, element: u32) -> Option<&Progress>
+        ensures { option_copied result ≡ progress_of (facts_of self.now).progress element }
+    {
+        self.begun.iter().find(|p| p.element.number == element)
     }
 
     /// Tells that the pairs are those that the log gives, and that they agree with the rows of the log for every

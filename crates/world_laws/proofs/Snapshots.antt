@@ -4,8 +4,8 @@ use Rattle.lease.specs.declared.lease.Lease.{Lease}
 use Rattle.listed.specs.Refusal.{IsClear}
 use Rattle.row_query.specs.declared.query.Query.{Query}
 use Rattle.row_query.proofs.Unique.{sound_clear}
-use Rattle.world.specs.declared.fault.QueryRefusal.TheVariants as refusal
-use Rattle.world.specs.declared.fault.SnapshotFault.TheVariants as snapshot_fault
+use Rattle.world.specs.declared.querying.QueryRefusal.TheVariants as refusal
+use Rattle.world.specs.declared.snapshot.SnapshotFault.TheVariants as snapshot_fault
 use Rattle.world.specs.Snapshots.{SnapshotCondition}
 use Rattle.world.specs.State.{State, facts_of}
 use Rattle.world.proofs.Querying.{NoneBelow, last, clear, faulty_at}

@@ -9,8 +9,8 @@ use Rattle.row_query.specs.declared.fault.QueryFault.TheVariants.{Memory}
 use Rattle.row_query.specs.declared.query.Query.{Query}
 use Rattle.row_query.specs.Answer.{plain_answer}
 use Rattle.row_query.specs.Refused.{IsRefused, IsSound}
-use Rattle.world.specs.declared.fault.QueryRefusal.{QueryRefusal}
-use Rattle.world.specs.declared.fault.QueryRefusal.TheVariants as refusal
+use Rattle.world.specs.declared.querying.QueryRefusal.{QueryRefusal}
+use Rattle.world.specs.declared.querying.QueryRefusal.TheVariants as refusal
 use Rattle.world.specs.Querying.{QueryAt}
 use Rattle.world.specs.Snapshots.{Taken, SnapshotAt}
 use Rattle.world.specs.State.{State, facts_of}

@@ -2,7 +2,7 @@ use Rattle.std.proofs.Common.{subst, sym}
 use Rattle.std.specs.Prelude.{Result, IfOk}
 use Rattle.lease.specs.declared.lease.Lease.{Lease}
 use Rattle.schema_version.specs.Version.{Version}
-use Rattle.world.specs.declared.fault.GrantFault.{GrantFault}
+use Rattle.world.specs.declared.leasing.GrantFault.{GrantFault}
 use Rattle.locked_store.specs.declared.fault.SharedFault.{SharedFault}
 use Rattle.server.specs.Desks.{IsGranted}
 use Rattle.server.proofs.Desks.{granted}

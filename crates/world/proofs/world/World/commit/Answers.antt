@@ -1,6 +1,6 @@
 use Rattle.std.proofs.Common.{◌≡◌, false, refl, sym, subst, ap, ◌∙◌, true≢false, rules}
 use Rattle.world.specs.Calls.{CommitAt}
-use Rattle.world.specs.declared.fault.CommitFault.TheVariants.{WrongSchema}
+use Rattle.world.specs.declared.committing.CommitFault.TheVariants.{WrongSchema}
 use Rattle.world.specs.State.{facts_of}
 use Rattle.std.proofs.Common.{Err, ℕ}
 use Rattle.world.proofs.Holding.{published, later}

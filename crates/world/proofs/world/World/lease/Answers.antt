@@ -1,6 +1,5 @@
-use Rattle.std.proofs.Common.{ap, ◌∙◌, ◌++◌, ◌∷◌, []}
-use Rattle.world.proofs.Holding.{later, published}
-use Rattle.world.proofs.Calling.{lease_held, lease_step}
+use Rattle.world.proofs.Holding.{IsLogged, logged, later, published}
+use Rattle.world.proofs.Calling.{lease_entry, lease_held, lease_step}
 use Rattle.world.proofs.world.World.lease.Goals as goal
 
 pub grant-requires : goal.grant-requires
@@ -8,13 +7,18 @@ grant-requires c = published c.self.inside c.args.self.now c.self.invariant c.se
 
 pub invariant_of-self-2 : goal.invariant_of-self-2
 invariant_of-self-2 c =
-    lease_held c.self.inside c.args.self.now c.append.new.log c.counted-now.result c.in-Ok.lease c.in_ok-entry.kept c.leases_keep.ensures c.self.invariant c.self.view_is
-    (later c.self.inside c.args.self.now c.args.moment c.counted-now.result c.counted-now.ensures) c.in_ok-entry.ensures.second
-    (c.append.ensures ∙ ap (λ es. es ++ c.in_ok-entry.kept ∷ []) c.in_ok-make_room.ensures.items)
+    let entered : IsLogged c.self.inside.log (lease_entry c.counted-now.result c.in-Ok.lease) c.enter-receipt.result c.enter-receipt.new.self
+    = logged c.self.inside.log c.make_ready.new.self c.enter-receipt.new.self c.in_ok-draft.draft (lease_entry c.counted-now.result c.in-Ok.lease) c.enter-receipt.result c.in_ok-draft.ensures.entries c.in_ok-draft.ensures.draft
+    c.enter-receipt.ensures.entries c.enter-receipt.ensures.moment c.enter-receipt.ensures.receipt in
+    lease_held c.self.inside c.args.self.now c.enter-receipt.new.self c.counted-now.result c.in-Ok.lease c.enter-receipt.result c.leases_keep.ensures c.self.invariant c.self.view_is
+    (later c.self.inside c.args.self.now c.args.moment c.counted-now.result c.counted-now.ensures) entered
 
 pub returns : goal.returns
-returns c = record {
-  step = lease_step c.self.inside c.args.self.now c.append.new.log c.make_room.new.log c.counted-now.result c.args.moment c.next_place-place.result c.in-Ok.lease c.in_ok-schema.schema c.in_ok-entry.entry c.in_ok-entry.kept
-      c.self.invariant c.self.view_is c.counted-now.ensures c.in-Ok.ensures.serves c.in-Ok.ensures.granted c.in_ok-schema.ensures.cases c.in_ok-entry.ensures.first c.in_ok-entry.ensures.second c.append.ensures c.in_ok-make_room.ensures.items
-      c.next_place-place.ensures;
-}
+returns c =
+    let entered : IsLogged c.self.inside.log (lease_entry c.counted-now.result c.in-Ok.lease) c.enter-receipt.result c.enter-receipt.new.self
+    = logged c.self.inside.log c.make_ready.new.self c.enter-receipt.new.self c.in_ok-draft.draft (lease_entry c.counted-now.result c.in-Ok.lease) c.enter-receipt.result c.in_ok-draft.ensures.entries c.in_ok-draft.ensures.draft
+    c.enter-receipt.ensures.entries c.enter-receipt.ensures.moment c.enter-receipt.ensures.receipt in
+    record {
+      step = lease_step c.self.inside c.args.self.now c.enter-receipt.new.self c.counted-now.result c.args.moment c.in-Ok.lease c.in_ok-schema.schema c.enter-receipt.result c.self.invariant c.self.view_is c.counted-now.ensures
+          c.in-Ok.ensures.serves c.in-Ok.ensures.granted c.in_ok-schema.ensures.cases entered;
+    }

@@ -1,9 +1,10 @@
-use Rattle.std.proofs.Common.{◌≡◌, ◌∙◌, ◌++◌, ◌∷◌, [], ◌+◌, Err, length, ap, refl, sym, subst}
+use Rattle.std.proofs.Common.{◌≡◌, ◌∙◌, Err, ap, refl, sym, subst}
 use mathlib.Core.List.{map as each}
 use Rattle.std.proofs.lemmas.Result.{err_from_is_err_and}
 use Rattle.txn_store.specs.Setting.{Sets}
 use Rattle.reorganise.specs.Batches.{expect_of}
 use Rattle.replay.specs.Replay.{moved_to}
+use Rattle.world.proofs.Holding.{IsLogged, logged}
 use Rattle.world.proofs.Calling.{same_state}
 use Rattle.world.proofs.Pieces.{IsReady, entry_of, entry_of_parts, piece_short, piece_failed, piece_held, piece_done}
 use Rattle.world.proofs.world.World.move_on.Goals as goal
@@ -18,15 +19,10 @@ returns-in_err-begun c =
     let p = err_from_is_err_and c.from_residual-in_err-begun.result c.from_residual-in_err-begun.ensures.1 in
     record { step = rw p.1 (piece_short c.args.self.now c.args.self.now c.args.now c.args.prepared.now p.0 c.requires.current refl p.2) }
 
-pub returns-in_err-entry : goal.returns-in_err-entry
-returns-in_err-entry c =
-    let p = err_from_is_err_and c.from_residual-in_err-entry.result c.from_residual-in_err-entry.ensures.1 in
-    record { step = rw p.1 (piece_short c.args.self.now c.args.self.now c.args.now c.args.prepared.now p.0 c.requires.current refl p.2) }
-
-pub returns-in_err-make_room : goal.returns-in_err-make_room
-returns-in_err-make_room c =
-    let p = err_from_is_err_and c.from_residual-in_err-make_room.result c.from_residual-in_err-make_room.ensures.1 in
-    let same = same_state c.self.inside c.self.inside.store c.make_room.new.log refl c.in_err-make_room.ensures.items ∙ c.self.view_is in
+pub returns-in_err-draft : goal.returns-in_err-draft
+returns-in_err-draft c =
+    let p = err_from_is_err_and c.from_residual-in_err-draft.result c.from_residual-in_err-draft.ensures.1 in
+    let same = same_state c.self.inside c.self.inside.store c.make_ready.new.self refl c.in_err-draft.ensures.entries ∙ c.self.view_is in
     record { step = rw p.1 (piece_short c.args.self.now _ c.args.now c.args.prepared.now p.0 c.requires.current same p.2) }
 
 pub returns-in_err-test_and_set : goal.returns-in_err-test_and_set
@@ -35,7 +31,7 @@ returns-in_err-test_and_set c =
     let set =
     subst (λ b. Sets (expect_of c.args.prepared.now.stretch) b c.self.inside.store (Err c.in_err-test_and_set.field-0.0) c.test_and_set.new.self) c.batch.ensures
     (subst (λ e. Sets e c.batch.result.now c.self.inside.store (Err c.in_err-test_and_set.field-0.0) c.test_and_set.new.self) c.expect.ensures c.in_err-test_and_set.ensures) in
-    record { step = rw p.1 (piece_failed c.self.inside c.args.self.now c.args.now c.args.prepared.now c.in_err-test_and_set.field-0.0 p.0 c.test_and_set.new.self c.make_room.new.log c.self.view_is c.requires.current set c.in_ok-make_room.ensures.items p.2) }
+    record { step = rw p.1 (piece_failed c.self.inside c.args.self.now c.args.now c.args.prepared.now c.in_err-test_and_set.field-0.0 p.0 c.test_and_set.new.self c.make_ready.new.self c.self.view_is c.requires.current set c.in_ok-draft.ensures.entries p.2) }
 
 pub invariant_of-self-2 : goal.invariant_of-self-2
 invariant_of-self-2 c =
@@ -44,9 +40,11 @@ invariant_of-self-2 c =
     let set = rw (c.expect.ensures, c.batch.ensures) at c.in_ok-test_and_set.ensures in
     let ready : IsReady c.self.inside c.args.self.now c.args.now c.args.prepared.now c.test_and_set.new.self
     = record { held = c.self.invariant; view = c.self.view_is; later = c.requires.later; current = c.requires.current; made = c.made.ensures; set = set } in
-    let log = c.append.ensures ∙ ap (λ es. es ++ c.in_ok-entry.logged ∷ []) c.in_ok-make_room.ensures.items ∙ ap (λ e. c.self.inside.log.items ++ e ∷ []) (c.in_ok-entry.ensures.second ∙ is) in
+    let entered : IsLogged c.self.inside.log (entry_of c.args.now c.args.prepared.now) c.enter-receipt.result c.enter-receipt.new.self
+    = logged c.self.inside.log c.make_ready.new.self c.enter-receipt.new.self c.in_ok-draft.draft (entry_of c.args.now c.args.prepared.now) c.enter-receipt.result c.in_ok-draft.ensures.entries (c.in_ok-draft.ensures.draft ∙ is)
+    c.enter-receipt.ensures.entries c.enter-receipt.ensures.moment c.enter-receipt.ensures.receipt in
     let begun = c.in_ok-begun.ensures ∙ ap (each (moved_to c.element.result.now.number c.piece-piece.result c.in_ok-cursor.cursor)) c.as_slice-2.ensures.value ∙ (λ i. each (moved_to ((c.element.ensures i).number) (c.piece-piece.ensures i) (cursor i)) c.self.inside.begun.items) in
-    piece_held c.self.inside c.args.self.now c.args.now c.args.prepared.now c.test_and_set.new.self c.in_ok-begun.begun c.append.new.log c.pieces_keep.ensures ready begun log
+    piece_held c.self.inside c.args.self.now c.args.now c.args.prepared.now c.test_and_set.new.self c.in_ok-begun.begun c.enter-receipt.new.self c.enter-receipt.result c.pieces_keep.ensures ready begun entered
 
 pub returns : goal.returns
 returns c =
@@ -55,8 +53,10 @@ returns c =
     let set = rw (c.expect.ensures, c.batch.ensures) at c.in_ok-test_and_set.ensures in
     let ready : IsReady c.self.inside c.args.self.now c.args.now c.args.prepared.now c.test_and_set.new.self
     = record { held = c.self.invariant; view = c.self.view_is; later = c.requires.later; current = c.requires.current; made = c.made.ensures; set = set } in
-    let log = c.append.ensures ∙ ap (λ es. es ++ c.in_ok-entry.logged ∷ []) c.in_ok-make_room.ensures.items ∙ ap (λ e. c.self.inside.log.items ++ e ∷ []) (c.in_ok-entry.ensures.second ∙ is) in
+    let entered : IsLogged c.self.inside.log (entry_of c.args.now c.args.prepared.now) c.enter-receipt.result c.enter-receipt.new.self
+    = logged c.self.inside.log c.make_ready.new.self c.enter-receipt.new.self c.in_ok-draft.draft (entry_of c.args.now c.args.prepared.now) c.enter-receipt.result c.in_ok-draft.ensures.entries (c.in_ok-draft.ensures.draft ∙ is)
+    c.enter-receipt.ensures.entries c.enter-receipt.ensures.moment c.enter-receipt.ensures.receipt in
     record {
-      step = piece_done c.self.inside c.args.self.now c.args.now c.next_place-place.result c.is_key-ended.result c.args.prepared.now c.test_and_set.new.self c.in_ok-begun.begun c.append.new.log c.in_ok-entry.entry c.pieces_keep.ensures ready log
-          (λ t. sym (c.as_slice.ensures ∙ cursor) ∙ c.is_key-ended.ensures.0 t ∙ c.bounds.ensures.high, λ e. c.is_key-ended.ensures.1 (c.as_slice.ensures ∙ cursor ∙ e ∙ sym c.bounds.ensures.high)) (c.in_ok-entry.ensures.first ∙ is) (c.next_place-place.ensures ∙ ap (λ es. length es + 1) c.in_ok-make_room.ensures.items);
+      step = piece_done c.self.inside c.args.self.now c.args.now c.is_key-ended.result c.args.prepared.now c.test_and_set.new.self c.in_ok-begun.begun c.enter-receipt.new.self c.enter-receipt.result c.pieces_keep.ensures ready entered
+          (λ t. sym (c.as_slice.ensures ∙ cursor) ∙ c.is_key-ended.ensures.0 t ∙ c.bounds.ensures.high, λ e. c.is_key-ended.ensures.1 (c.as_slice.ensures ∙ cursor ∙ e ∙ sym c.bounds.ensures.high));
     }

@@ -7,21 +7,90 @@ ghost use Rattle.reorganise.specs.declared.work.Span.{Span as SpanOf};
 ghost use Rattle.listed.specs.Refusal.{IsRefusal};
 ghost use Rattle.reorganise.specs.Laws.{with_cursor};
 ghost use Rattle.replay.specs.Replay.{come_to, moved_to};
-ghost use Rattle.world.specs.declared.fault.PieceFault.TheVariants.{Memory};
+ghost use Rattle.world.specs.declared.pieces.PieceFault.TheVariants.{Memory};
+ghost use Rattle.world.specs.declared.pieces.ReadFault.TheVariants.{View as ViewOf};
 ghost use Rattle.world.specs.Piecework.{standing_at, ReadStep, PieceStep, PieceAt, PieceCondition, IsCurrent, IsSpanOf, piece_rank};
 ghost use Rattle.world.specs.State.{facts_of};
+ghost use Rattle.world.specs.Told.{piece_told};
 
-use crate::entry::{PieceDone, Receipt};
-use crate::fault::{PieceFault, ReadFault};
-use crate::logging::{append, entry_pair, make_room, next_place};
+use crate::entry::PieceDone;
 use crate::world::World;
 use byte_map::Bytes;
 use lease::MAX_MOMENT;
 use listed::Listed;
-use reorganise::{PieceView, PreparedPiece, Progress, Span, Work};
+use reorganise::{PieceView, PreparedPiece, Progress, Span, ViewFault, Work};
 use replay::{What, pieces_keep};
 use schema_version::ElementDef;
 use std::alloc::{AllocError, Global};
+use thiserror::Error;
+use txn_store::SetFault;
+
+/// Why a piece was not read. Of several reasons the first in this order is told.
+#[derive(Clone, Copy, Debug, PartialEq, Eq, Error)]
+pub enum ReadFault {
+    /// No reorganisation of the element has begun, or it is over.
+    #[error("no reorganisation of the element has begun")]
+    NotWanted,
+    /// The piece can't be read.
+    #[error("{0}")]
+    View(ViewFault),
+}
+
+impl From<ViewFault> for ReadFault {
+    ghost from_gives = { λ told fault. fault ≡ ViewOf told };
+
+    fn from(told: ViewFault) -> ReadFault {
+        ReadFault::View(told)
+    }
+}
+
+/// Why a piece was not committed. Of several reasons the first in this order is told.
+#[derive(Debug, Drop, Error)]
+pub enum PieceFault {
+    /// The moment that counts is above 2^62.
+    #[error("the moment is above 2^62")]
+    MomentTooLarge,
+    /// No reorganisation of the element has begun, or it is over.
+    #[error("no reorganisation of the element has begun")]
+    NotWanted,
+    /// The element's definition, the work, the piece's number or its bounds are not those of the reorganisation.
+    #[error("the piece is not one of the element's reorganisation")]
+    WrongElement,
+    /// The piece's cursor is no longer where it was read.
+    #[error("the piece has moved since it was read")]
+    Moved {
+        /// Where the piece's cursor is.
+        cursor: Bytes,
+    },
+    /// A pair of the range is no longer what was read.
+    #[error("a pair changed since it was read")]
+    Conflict {
+        /// The least key whose present pair is not the expected one.
+        key: Bytes,
+    },
+    /// Want of memory, which may come in place of Moved and of Conflict.
+    #[error("out of memory")]
+    Memory,
+}
+
+impl From<AllocError> for PieceFault {
+    ghost from_gives = { λ _ fault. fault ≡ Memory };
+
+    fn from(_: AllocError) -> PieceFault {
+        PieceFault::Memory
+    }
+}
+
+impl From<SetFault> for PieceFault {
+    ghost from_gives = { λ told fault. fault ≡ piece_told told };
+
+    fn from(told: SetFault) -> PieceFault {
+        match told {
+            SetFault::Conflict { key } => PieceFault::Conflict { key },
+            SetFault::Memory => PieceFault::Memory,
+        }
+    }
+}
 
 /// The bytes, as an owner has them.
 fn copied(alloc: Global, bytes: &[u8]) -> Result<Bytes, AllocError>
@@ -185,24 +254,13 @@ impl World {
         ensures step { PieceStep self.old moment prepared result self.new }
     {
         let now = self.counted(moment);
-        match self.commit_piece_at(alloc, now, &prepared) {
+        if let Err(fault) = self.is_current(now, &prepared) {
+            return Err((fault, prepared));
+        }
+        match self.move_on(alloc, now, &prepared) {
             Ok(done) => Ok(done),
             Err(fault) => Err((fault, prepared)),
         }
-    }
-
-    // The commit at the moment that counts.
-    fn commit_piece_at(
-        &mut self,
-        alloc: Global,
-        now: u64,
-        prepared: &PreparedPiece,
-    ) -> Result<PieceDone, PieceFault>
-        requires later { (facts_of self.old).moment ≤ now }
-        ensures step { PieceAt self.old now prepared.now result self.new }
-    {
-        self.is_current(now, prepared)?;
-        self.move_on(alloc, now, prepared)
     }
 
     // Whether a piece is one of its element's reorganisation as it stands.
@@ -249,15 +307,11 @@ impl World {
             piece,
             cursor,
         };
-        let (entry, logged) = entry_pair(alloc, now, what)?;
-        make_room(&mut self.log)?;
-        let place = next_place(&self.log);
+        let draft = self.log.make_ready(alloc, now, what)?;
         self.store
             .test_and_set(alloc, prepared.expect(), prepared.batch())?;
-        append(&mut self.log, logged);
         self.begun = begun;
-        self.moment = now;
-        let receipt = Receipt { place, entry };
+        let receipt = self.log.enter(draft);
         Ok(PieceDone { receipt, ended })
     }
 }
