@@ -5,9 +5,9 @@ use Rattle.tokens.specs.declared.token.Token.{Token}
 use Rattle.tokens.specs.declared.token.Mark.{Mark}
 use Rattle.tokens.specs.declared.token.Mark.TheVariants as mark
 use Rattle.grammar.specs.declared.selection.Condition.{Condition}
-use Rattle.grammar.specs.declared.selection.Condition.TheVariants.{Key, Equal, Between}
+use Rattle.grammar.specs.declared.selection.Condition.TheVariants.{Key, Between}
 use Rattle.tokens.specs.Productions.{is_mark, is_word, first_by, after_first, name_in, value_in, cut_at, bracketed, each_between, value_of, ◌>>=◌}
-use Rattle.grammar.specs.Commands.{tuple_at, key_condition_at, equal_at, at_least_at, at_most_at, between_at, comparison_at, column_condition_at, condition_at, and_more, conditions_within, conditions_of, IsJoined}
+use Rattle.grammar.specs.Commands.{tuple_at, key_condition_at, compared, compared_at, between_at, comparison_at, column_condition_at, condition_at, and_more, conditions_within, conditions_of, IsJoined}
 
 -- what a production leaves of the tokens is shorter than n
 abbrev Leaves : {A : Type 0} → ℕ → Option (A × List Token) → Type 0
@@ -87,17 +87,11 @@ key_condition_leaves ts =
     rest_then_leaves (length ts) (after_first (is_mark mark.Equal) ts) (λ behind. tuple_at behind >>= λ key. Some (Key key.0, key.1)) (after_leaves (is_mark mark.Equal) ts)
     (λ behind lt. then_leaves (length ts) (tuple_at behind) (λ key. Some (Key key.0, key.1)) (leaves_less (length behind) (length ts) (tuple_at behind) (omega (arith, lt)) (tuple_leaves behind)) (λ key less. less))
 
-equal_leaves : (column : List ℕ) (ts : List Token) → Leaves (length ts) (equal_at column ts)
-unfolding equal_at
-equal_leaves column ts = then_leaves (length ts) (first_by value_in ts) (λ value. Some (Equal column value.0, value.1)) (first_leaves value_in ts) (λ value less. less)
-
-at_least_leaves : (column : List ℕ) (ts : List Token) → Leaves (length ts) (at_least_at column ts)
-unfolding at_least_at
-at_least_leaves column ts = then_leaves (length ts) (first_by value_in ts) (λ low. Some (Between column (Some low.0) None, low.1)) (first_leaves value_in ts) (λ value less. less)
-
-at_most_leaves : (column : List ℕ) (ts : List Token) → Leaves (length ts) (at_most_at column ts)
-unfolding at_most_at
-at_most_leaves column ts = then_leaves (length ts) (first_by value_in ts) (λ high. Some (Between column None (Some high.0), high.1)) (first_leaves value_in ts) (λ value less. less)
+compared_leaves : (t : Token) (column : List ℕ) (ts : List Token) → Leaves (length ts) (compared_at t column ts)
+unfolding compared_at
+compared_leaves t column ts =
+    then_leaves (length ts) (first_by value_in ts) (λ value. compared t column value.0 >>= λ condition. Some (condition, value.1)) (first_leaves value_in ts)
+    (λ value less. any_then_leaves (length ts) (compared t column value.0) (λ condition. Some (condition, value.1)) (λ condition. less))
 
 between_leaves : (column : List ℕ) (ts : List Token) → Leaves (length ts) (between_at column ts)
 unfolding between_at
@@ -118,10 +112,7 @@ comparison_leaves : (column : List ℕ) (ts : List Token) → Leaves (length ts)
 unfolding comparison_at
 comparison_leaves column [] = tt
 comparison_leaves column (t ∷ ts) =
-    if_leaves (length (t ∷ ts)) (is_mark mark.Equal t) (equal_at column ts) _ (one_more t ts (equal_at column ts) (equal_leaves column ts))
-    (if_leaves (length (t ∷ ts)) (is_mark mark.AtLeast t) (at_least_at column ts) _ (one_more t ts (at_least_at column ts) (at_least_leaves column ts))
-    (if_leaves (length (t ∷ ts)) (is_mark mark.AtMost t) (at_most_at column ts) _ (one_more t ts (at_most_at column ts) (at_most_leaves column ts))
-    (if_leaves (length (t ∷ ts)) (is_word (codes "between") t) (between_at column ts) None (one_more t ts (between_at column ts) (between_leaves column ts)) tt)))
+    if_leaves (length (t ∷ ts)) (is_word (codes "between") t) (between_at column ts) (compared_at t column ts) (one_more t ts (between_at column ts) (between_leaves column ts)) (one_more t ts (compared_at t column ts) (compared_leaves t column ts))
 
 column_condition_leaves : (ts : List Token) → Leaves (length ts) (column_condition_at ts)
 unfolding column_condition_at

@@ -18,7 +18,7 @@ use Rattle.grammar.specs.declared.command.Command.{Command}
 use Rattle.grammar.specs.declared.command.Command.TheVariants as command
 use Rattle.tokens.specs.Tokens.{tokens_of}
 use Rattle.tokens.specs.Productions.{◌>>=◌, first_by, after_first, at_end, is_mark, is_word, name_in, count_in, small_count_in, type_in, value_in, bracketed, each_between, name_of, value_of, set_of}
-use Rattle.grammar.specs.Changes.{element_at, move_of, change_of}
+use Rattle.grammar.specs.Changes.{element_at, index_at, move_of, change_of}
 
 -- `[key]`
 abbrev pub key_of : List Token → Option Bool
@@ -29,9 +29,9 @@ key_of (t ∷ ts) = if is_word (codes "key") t then at_end true ts else None
 unfoldable pub declared_of : List Token → Option Declared
 declared_of ts = do
   name ← first_by name_in ts
-  kind ← first_by type_in name.1
-  is_key ← key_of kind.1
-  Some (record { name = name.0; kind = kind.0; is_key = is_key })
+  type ← first_by type_in name.1
+  is_key ← key_of type.1
+  Some (record { name = name.0; column_type = type.0; is_key = is_key })
 
 -- whether no key column stands behind another column; before: whether the one before is a key column
 abbrev pub keys_lead : Bool → List Declared → Bool
@@ -45,7 +45,7 @@ keys_first (d ∷ ds) = d.is_key && keys_lead true ds
 
 -- a column without its part in the key
 abbrev pub column_of : Declared → List ℕ × ColumnType
-column_of d = (d.name, d.kind)
+column_of d = (d.name, d.column_type)
 
 abbrev pub key_columns : List Declared → List (List ℕ × ColumnType)
 key_columns ds = map column_of (filter (λ d. d.is_key) ds)
@@ -75,13 +75,8 @@ table_of ts = do
 -- `index NAME on TABLE ( COLUMN {, COLUMN} )`
 unfoldable pub index_of : List Token → Option Command
 index_of ts = do
-  name ← first_by name_in ts
-  behind ← after_first (is_word (codes "on")) name.1
-  table ← first_by name_in behind
-  inner ← bracketed table.1
-  end ← at_end (tt {0}) inner.1
-  columns ← each_between mark.Comma name_of inner.0
-  Some (command.Index name.0 table.0 columns)
+  index ← index_at ts
+  at_end (command.Index index.0.0.name index.0.0.table index.0.1) index.1
 
 -- `NAME at M`, and the tokens behind it
 unfoldable pub name_at_moment : List Token → Option ((List ℕ × ℕ) × List Token)
@@ -158,18 +153,18 @@ txn_of ts = do
 -- `prepare WORK by SERVER: OPERATION {; OPERATION}`
 unfoldable pub prepare_of : List Token → Option Command
 prepare_of ts = do
-  work ← first_by name_in ts
-  behind ← after_first (is_word (codes "by")) work.1
+  name ← first_by name_in ts
+  behind ← after_first (is_word (codes "by")) name.1
   server ← first_by name_in behind
   colon ← after_first (is_mark mark.Colon) server.1
   operations ← each_between mark.Semicolon operation_of colon
-  Some (command.Prepare work.0 server.0 operations)
+  Some (command.Prepare name.0 server.0 operations)
 
 -- `commit WORK at M`
 unfoldable pub commit_of : List Token → Option Command
 commit_of ts = do
-  work ← name_at_moment ts
-  at_end (command.Commit work.0.0 work.0.1) work.1
+  name ← name_at_moment ts
+  at_end (command.Commit name.0.0 name.0.1) name.1
 
 -- whether p is true of the first token
 abbrev pub begins_with : (Token → Bool) → List Token → Bool
@@ -198,23 +193,20 @@ key_condition_at ts = do
   key ← tuple_at behind
   Some (Key key.0, key.1)
 
--- `VALUE`, behind `COLUMN =`, and the tokens behind it
-unfoldable pub equal_at : List ℕ → List Token → Option (Condition × List Token)
-equal_at column ts = do
+-- the condition that a sign and the value behind it make of a COLUMN: `COLUMN = VALUE`, `COLUMN >= VALUE` or `COLUMN <= VALUE`
+abbrev pub compared : Token → List ℕ → Value → Option Condition
+compared t column value =
+    if is_mark mark.Equal t then Some (Equal column value)
+    else (if is_mark mark.AtLeast t then Some (Between column (Some value) None)
+    else (if is_mark mark.AtMost t then Some (Between column None (Some value))
+    else None))
+
+-- `VALUE`, behind a COLUMN and this sign, and the tokens behind it
+unfoldable pub compared_at : Token → List ℕ → List Token → Option (Condition × List Token)
+compared_at t column ts = do
   value ← first_by value_in ts
-  Some (Equal column value.0, value.1)
-
--- `VALUE`, behind `COLUMN >=`, and the tokens behind it
-unfoldable pub at_least_at : List ℕ → List Token → Option (Condition × List Token)
-at_least_at column ts = do
-  low ← first_by value_in ts
-  Some (Between column (Some low.0) None, low.1)
-
--- `VALUE`, behind `COLUMN <=`, and the tokens behind it
-unfoldable pub at_most_at : List ℕ → List Token → Option (Condition × List Token)
-at_most_at column ts = do
-  high ← first_by value_in ts
-  Some (Between column None (Some high.0), high.1)
+  condition ← compared t column value.0
+  Some (condition, value.1)
 
 -- `VALUE and VALUE`, behind `COLUMN between`, and the tokens behind it
 unfoldable pub between_at : List ℕ → List Token → Option (Condition × List Token)
@@ -227,12 +219,7 @@ between_at column ts = do
 -- what follows a COLUMN in a condition, by its first token, and the tokens behind it
 unfoldable pub comparison_at : List ℕ → List Token → Option (Condition × List Token)
 comparison_at column [] = None
-comparison_at column (t ∷ ts) =
-    if is_mark mark.Equal t then equal_at column ts
-    else (if is_mark mark.AtLeast t then at_least_at column ts
-    else (if is_mark mark.AtMost t then at_most_at column ts
-    else (if is_word (codes "between") t then between_at column ts
-    else None)))
+comparison_at column (t ∷ ts) = if is_word (codes "between") t then between_at column ts else compared_at t column ts
 
 -- a condition on a column, and the tokens behind it
 unfoldable pub column_condition_at : List Token → Option (Condition × List Token)
@@ -303,13 +290,13 @@ forge_of ts = do
 -- `piece WORK of TABLE.NAME N limit K`
 unfoldable pub piece_of : List Token → Option Command
 piece_of ts = do
-  work ← first_by name_in ts
-  behind ← after_first (is_word (codes "of")) work.1
+  name ← first_by name_in ts
+  behind ← after_first (is_word (codes "of")) name.1
   element ← element_at behind
   piece ← first_by small_count_in element.1
   limit_at ← after_first (is_word (codes "limit")) piece.1
   limit ← first_by small_count_in limit_at
-  at_end (command.Piece work.0 element.0 piece.0 limit.0) limit.1
+  at_end (command.Piece name.0 element.0 piece.0 limit.0) limit.1
 
 -- `at M`, and the tokens behind it
 unfoldable pub moment_at : List Token → Option (ℕ × List Token)

@@ -7,13 +7,13 @@ use keycode::Text;
 use listed::Listed;
 use row_map::ColumnType;
 use std::alloc::{AllocError, Global};
-use tokens::{LineFault, Production, Token, after_word, at_end, kind, name};
+use tokens::{LineFault, Production, Token, after_word, at_end, column_type, name};
 
 /// A column as a table's declaration has it, and whether it is of the primary key.
 #[derive(Drop)]
 pub struct Declared {
     pub name: Text,
-    pub kind: ColumnType,
+    pub column_type: ColumnType,
     pub is_key: bool,
 }
 
@@ -36,9 +36,13 @@ impl Production for Declared {
     #[tactic(auto, unfolding(crate::specs::Commands::declared_of))]
     fn read(alloc: Global, tokens: &[Token<'_>]) -> Result<Declared, LineFault> {
         let (name, rest) = name(alloc, tokens)?;
-        let (kind, rest) = kind(rest)?;
+        let (column_type, rest) = column_type(rest)?;
         let is_key = key(rest)?;
-        Ok(Declared { name, kind, is_key })
+        Ok(Declared {
+            name,
+            column_type,
+            is_key,
+        })
     }
 }
 
@@ -72,11 +76,15 @@ pub fn split(alloc: Global, columns: Listed<Declared>) -> Result<(Columns, Colum
     let mut keys = Vec::new(alloc);
     let mut others = Vec::new(alloc);
     for column in columns.into_vec() {
-        let Declared { name, kind, is_key } = column;
+        let Declared {
+            name,
+            column_type,
+            is_key,
+        } = column;
         if is_key {
-            keys.push((name, kind))?;
+            keys.push((name, column_type))?;
         } else {
-            others.push((name, kind))?;
+            others.push((name, column_type))?;
         }
     }
     Ok((Listed::new(keys), Listed::new(others)))

@@ -5,8 +5,8 @@ ghost use Rattle.tokens.specs.Productions.{Gives};
 ghost use Rattle.grammar.specs.Commands.{length_of, table_of, index_of, name_at_moment, lease_of, txn_of, prepare_of, commit_of, query_of, forge_of, piece_of, moment_at, publish_of, plan_of, next_of, element_at_moment, reorganise_of, work_of, schema_command_of, command_of, command_at};
 
 use crate::columns::{Columns, Declared, keys_first, split};
-use crate::element::{ElementName, element};
-use crate::moving::{Changing, Moving};
+use crate::element::{ElementName, element, index_on};
+use crate::named::{NamedChange, NamedMove};
 use crate::operation::Operation;
 use crate::selection::Selection;
 use keycode::Text;
@@ -53,15 +53,15 @@ pub enum Command {
     Check,
     /// `log`: how many entries the log has.
     Log,
-    /// `prepare WORK by SERVER: OPERATION {; OPERATION}`: a transaction under the server's lease, to be committed later.
+    /// `prepare WORK by SERVER: OPERATION {; OPERATION}`: a transaction under the server's lease, to be committed later under that name.
     Prepare {
-        work: Text,
+        name: Text,
         server: Text,
         operations: Listed<Operation>,
     },
     /// `commit WORK at M`: what was prepared under that name.
     Commit {
-        work: Text,
+        name: Text,
         moment: u64,
     },
     /// `query SERVER at M: select COLUMN {, COLUMN} from TABLE [where COND {and COND}]`, or `*` in place of the columns: the rows that are asked for, under the
@@ -78,9 +78,9 @@ pub enum Command {
         granted: u64,
         until: u64,
     },
-    /// `piece WORK of TABLE.NAME N limit K`: at most K entries of the piece N of an element's reorganisation, to be committed later.
+    /// `piece WORK of TABLE.NAME N limit K`: at most K entries of the piece N of an element's reorganisation, to be committed later under that name.
     Piece {
-        work: Text,
+        name: Text,
         element: ElementName,
         piece: u32,
         limit: u32,
@@ -88,11 +88,11 @@ pub enum Command {
     /// `publish at M: MOVE {; MOVE}`: the next schema version, by one step that makes these moves.
     Publish {
         moment: u64,
-        moves: Listed<Moving>,
+        moves: Listed<NamedMove>,
     },
     /// `plan: CHANGE {; CHANGE}`: the plan of steps that brings these changes about.
     Plan {
-        changes: Listed<Changing>,
+        changes: Listed<NamedChange>,
     },
     /// `next at M`: the next step of the plan, published.
     Next {
@@ -141,17 +141,13 @@ fn table(alloc: Global, tokens: &[Token<'_>]) -> Result<Command, LineFault>
 fn index(alloc: Global, tokens: &[Token<'_>]) -> Result<Command, LineFault>
     ensures { Gives (λ x. x) result (index_of tokens.now) }
 {
-    let (index, rest) = name(alloc, tokens)?;
-    let rest = after_word(rest, b"on")?;
-    let (table, rest) = name(alloc, rest)?;
-    let (inner, rest) = bracketed(rest)?;
-    at_end((), rest)?;
-    let columns = read_each::<Text>(alloc, inner, Mark::Comma)?;
-    Ok(Command::Index {
-        name: index,
+    let ((ElementName { table, name }, columns), rest) = index_on(alloc, tokens)?;
+    let declared = Command::Index {
+        name,
         table,
         columns,
-    })
+    };
+    at_end(declared, rest)
 }
 
 /// A name, and the moment at which it is used.
@@ -194,13 +190,13 @@ fn txn(alloc: Global, tokens: &[Token<'_>]) -> Result<Command, LineFault>
 fn prepare(alloc: Global, tokens: &[Token<'_>]) -> Result<Command, LineFault>
     ensures { Gives (λ x. x) result (prepare_of tokens.now) }
 {
-    let (work, rest) = name(alloc, tokens)?;
+    let (under, rest) = name(alloc, tokens)?;
     let rest = after_word(rest, b"by")?;
     let (server, rest) = name(alloc, rest)?;
     let rest = after_mark(rest, Mark::Colon)?;
     let operations = read_each::<Operation>(alloc, rest, Mark::Semicolon)?;
     Ok(Command::Prepare {
-        work,
+        name: under,
         server,
         operations,
     })
@@ -210,8 +206,8 @@ fn prepare(alloc: Global, tokens: &[Token<'_>]) -> Result<Command, LineFault>
 fn commit(alloc: Global, tokens: &[Token<'_>]) -> Result<Command, LineFault>
     ensures { Gives (λ x. x) result (commit_of tokens.now) }
 {
-    let ((work, moment), rest) = name_at_moment(alloc, tokens)?;
-    at_end(Command::Commit { work, moment }, rest)
+    let ((name, moment), rest) = name_at_moment(alloc, tokens)?;
+    at_end(Command::Commit { name, moment }, rest)
 }
 
 #[tactic(auto, unfolding(crate::specs::Commands::query_of))]
@@ -252,14 +248,14 @@ fn forge(alloc: Global, tokens: &[Token<'_>]) -> Result<Command, LineFault>
 fn piece(alloc: Global, tokens: &[Token<'_>]) -> Result<Command, LineFault>
     ensures { Gives (λ x. x) result (piece_of tokens.now) }
 {
-    let (work, rest) = name(alloc, tokens)?;
+    let (under, rest) = name(alloc, tokens)?;
     let rest = after_word(rest, b"of")?;
     let (element, rest) = element(alloc, rest)?;
     let (piece, rest) = small_count(rest)?;
     let rest = after_word(rest, b"limit")?;
     let (limit, rest) = small_count(rest)?;
     let read = Command::Piece {
-        work,
+        name: under,
         element,
         piece,
         limit,
@@ -282,7 +278,7 @@ fn publish(alloc: Global, tokens: &[Token<'_>]) -> Result<Command, LineFault>
 {
     let (moment, rest) = moment(tokens)?;
     let rest = after_mark(rest, Mark::Colon)?;
-    let moves = read_each::<Moving>(alloc, rest, Mark::Semicolon)?;
+    let moves = read_each::<NamedMove>(alloc, rest, Mark::Semicolon)?;
     Ok(Command::Publish { moment, moves })
 }
 
@@ -291,7 +287,7 @@ fn plan(alloc: Global, tokens: &[Token<'_>]) -> Result<Command, LineFault>
     ensures { Gives (λ x. x) result (plan_of tokens.now) }
 {
     let rest = after_mark(tokens, Mark::Colon)?;
-    let changes = read_each::<Changing>(alloc, rest, Mark::Semicolon)?;
+    let changes = read_each::<NamedChange>(alloc, rest, Mark::Semicolon)?;
     Ok(Command::Plan { changes })
 }
 

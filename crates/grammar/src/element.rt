@@ -1,6 +1,6 @@
 //! Elements by their names, and what is to enter.
 ghost use Rattle.tokens.specs.Productions.{Gives};
-ghost use Rattle.grammar.specs.Changes.{element_at, named_on, new_index_at, new_column_at, new_at, to_state_of, optional_to_state_of};
+ghost use Rattle.grammar.specs.Changes.{element_at, on_table_at, named_on_at, named_on, index_at, new_index_at, new_column_at, new_at, to_state_of, optional_to_state_of};
 
 use keycode::Text;
 use listed::Listed;
@@ -8,7 +8,7 @@ use row_map::ColumnType;
 use schema_version::ElementState;
 use std::alloc::Global;
 use tokens::{
-    LineFault, Mark, Token, after_mark, after_word, at_end, bracketed, is_word, kind, name,
+    LineFault, Mark, Token, after_mark, after_word, at_end, bracketed, column_type, is_word, name,
     read_each, state,
 };
 
@@ -31,7 +31,7 @@ pub enum New {
     /// `column NAME TYPE on TABLE`
     Column {
         name: Text,
-        kind: ColumnType,
+        column_type: ColumnType,
         table: Text,
     },
 }
@@ -50,19 +50,52 @@ pub(crate) fn element<'t, 'a>(
     Ok((ElementName { table, name }, rest))
 }
 
+/// `on TABLE` at the front.
+#[tactic(auto, unfolding(crate::specs::Changes::on_table_at))]
+fn on_table<'t, 'a>(
+    alloc: Global,
+    tokens: &'t [Token<'a>],
+) -> Result<(Text, &'t [Token<'a>]), LineFault>
+    ensures { Gives (λ x. (x.0, x.1.now)) result (on_table_at tokens.entry.now) }
+{
+    let rest = after_word(tokens, b"on")?;
+    name(alloc, rest)
+}
+
+/// `NAME on TABLE` at the front.
+#[tactic(auto, unfolding(crate::specs::Changes::named_on_at))]
+fn named_on_at<'t, 'a>(
+    alloc: Global,
+    tokens: &'t [Token<'a>],
+) -> Result<(ElementName, &'t [Token<'a>]), LineFault>
+    ensures { Gives (λ x. (x.0, x.1.now)) result (named_on_at tokens.entry.now) }
+{
+    let (name, rest) = name(alloc, tokens)?;
+    let (table, rest) = on_table(alloc, rest)?;
+    Ok((ElementName { table, name }, rest))
+}
+
 /// `NAME on TABLE`, read whole.
 #[tactic(auto, unfolding(crate::specs::Changes::named_on))]
 pub(crate) fn named_on(alloc: Global, tokens: &[Token<'_>]) -> Result<ElementName, LineFault>
     ensures { Gives (λ x. x) result (named_on tokens.now) }
 {
-    let (element, rest) = name(alloc, tokens)?;
-    let rest = after_word(rest, b"on")?;
-    let (table, rest) = name(alloc, rest)?;
-    let named = ElementName {
-        table,
-        name: element,
-    };
-    at_end(named, rest)
+    let (element, rest) = named_on_at(alloc, tokens)?;
+    at_end(element, rest)
+}
+
+/// An index by its names, and the names of its columns: `NAME on TABLE ( COLUMN {, COLUMN} )` at the front.
+#[tactic(auto, unfolding(crate::specs::Changes::index_at))]
+pub(crate) fn index_on<'t, 'a>(
+    alloc: Global,
+    tokens: &'t [Token<'a>],
+) -> Result<((ElementName, Listed<Text>), &'t [Token<'a>]), LineFault>
+    ensures { Gives (λ x. (x.0, x.1.now)) result (index_at tokens.entry.now) }
+{
+    let (index, rest) = named_on_at(alloc, tokens)?;
+    let (inner, rest) = bracketed(rest)?;
+    let columns = read_each::<Text>(alloc, inner, Mark::Comma)?;
+    Ok(((index, columns), rest))
 }
 
 #[tactic(auto, unfolding(crate::specs::Changes::new_index_at))]
@@ -72,13 +105,9 @@ fn new_index<'t, 'a>(
 ) -> Result<(New, &'t [Token<'a>]), LineFault>
     ensures { Gives (λ x. (x.0, x.1.now)) result (new_index_at tokens.entry.now) }
 {
-    let (index, rest) = name(alloc, tokens)?;
-    let rest = after_word(rest, b"on")?;
-    let (table, rest) = name(alloc, rest)?;
-    let (inner, rest) = bracketed(rest)?;
-    let columns = read_each::<Text>(alloc, inner, Mark::Comma)?;
+    let ((ElementName { table, name }, columns), rest) = index_on(alloc, tokens)?;
     let fresh = New::Index {
-        name: index,
+        name,
         table,
         columns,
     };
@@ -92,13 +121,12 @@ fn new_column<'t, 'a>(
 ) -> Result<(New, &'t [Token<'a>]), LineFault>
     ensures { Gives (λ x. (x.0, x.1.now)) result (new_column_at tokens.entry.now) }
 {
-    let (column, rest) = name(alloc, tokens)?;
-    let (kind, rest) = kind(rest)?;
-    let rest = after_word(rest, b"on")?;
-    let (table, rest) = name(alloc, rest)?;
+    let (name, rest) = name(alloc, tokens)?;
+    let (column_type, rest) = column_type(rest)?;
+    let (table, rest) = on_table(alloc, rest)?;
     let fresh = New::Column {
-        name: column,
-        kind,
+        name,
+        column_type,
         table,
     };
     Ok((fresh, rest))

@@ -4,7 +4,7 @@
 mod columns;
 mod command;
 mod element;
-mod moving;
+mod named;
 mod operation;
 mod printing;
 mod selection;
@@ -13,7 +13,7 @@ mod silent;
 pub use columns::Columns;
 pub use command::{Command, read_command};
 pub use element::{ElementName, New};
-pub use moving::{Changing, Moving};
+pub use named::{NamedChange, NamedMove};
 pub use operation::Operation;
 pub use printing::{push_hex, push_value, state_word};
 pub use selection::{Condition, Selection};

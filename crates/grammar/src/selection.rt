@@ -1,7 +1,7 @@
 //! The selection of a query: which columns of which table, under which conditions.
 ghost use Rattle.std.specs.Prelude.{◌≡◌, drop};
 ghost use Rattle.tokens.specs.Productions.{Gives, is_mark};
-ghost use Rattle.grammar.specs.Commands.{begins_with, columns_at, selected_at, key_condition_at, equal_at, at_least_at, at_most_at, between_at, comparison_at, column_condition_at, condition_at, conditions_of, IsJoined, optional_conditions_of, selection_of};
+ghost use Rattle.grammar.specs.Commands.{begins_with, columns_at, selected_at, key_condition_at, compared, between_at, comparison_at, column_condition_at, condition_at, conditions_of, IsJoined, optional_conditions_of, selection_of};
 
 use crate::operation::tuple;
 use keycode::{Text, Value, Values};
@@ -105,44 +105,23 @@ fn key_condition<'t, 'a>(
     Ok((Condition::Key(key), rest))
 }
 
-#[tactic(auto, unfolding(crate::specs::Commands::equal_at))]
-fn equal<'t, 'a>(
-    alloc: Global,
-    column: Text,
-    tokens: &'t [Token<'a>],
-) -> Result<(Condition, &'t [Token<'a>]), LineFault>
-    ensures { Gives (λ x. (x.0, x.1.now)) result (equal_at column tokens.entry.now) }
+/// The condition that a sign and the value behind it make of a column, where it is `=`, `>=` or `<=`.
+fn compared(sign: &Token<'_>, column: Text, value: Value) -> Option<Condition>
+    ensures { result ≡ compared sign.now column value }
 {
-    let (value, rest) = value(alloc, tokens)?;
-    Ok((Condition::Equal { column, value }, rest))
-}
-
-#[tactic(auto, unfolding(crate::specs::Commands::at_least_at))]
-fn at_least<'t, 'a>(
-    alloc: Global,
-    column: Text,
-    tokens: &'t [Token<'a>],
-) -> Result<(Condition, &'t [Token<'a>]), LineFault>
-    ensures { Gives (λ x. (x.0, x.1.now)) result (at_least_at column tokens.entry.now) }
-{
-    let (value, rest) = value(alloc, tokens)?;
-    let low = Some(value);
-    let high = None;
-    Ok((Condition::Between { column, low, high }, rest))
-}
-
-#[tactic(auto, unfolding(crate::specs::Commands::at_most_at))]
-fn at_most<'t, 'a>(
-    alloc: Global,
-    column: Text,
-    tokens: &'t [Token<'a>],
-) -> Result<(Condition, &'t [Token<'a>]), LineFault>
-    ensures { Gives (λ x. (x.0, x.1.now)) result (at_most_at column tokens.entry.now) }
-{
-    let (value, rest) = value(alloc, tokens)?;
-    let low = None;
-    let high = Some(value);
-    Ok((Condition::Between { column, low, high }, rest))
+    if is_mark(sign, Mark::Equal) {
+        Some(Condition::Equal { column, value })
+    } else if is_mark(sign, Mark::AtLeast) {
+        let low = Some(value);
+        let high = None;
+        Some(Condition::Between { column, low, high })
+    } else if is_mark(sign, Mark::AtMost) {
+        let low = None;
+        let high = Some(value);
+        Some(Condition::Between { column, low, high })
+    } else {
+        None
+    }
 }
 
 #[tactic(auto, unfolding(crate::specs::Commands::between_at))]
@@ -162,7 +141,7 @@ fn between<'t, 'a>(
 }
 
 /// What follows a column's name in a condition.
-#[tactic(auto, unfolding(crate::specs::Commands::comparison_at))]
+#[tactic(auto, unfolding(crate::specs::Commands::comparison_at, crate::specs::Commands::compared_at))]
 fn comparison<'t, 'a>(
     alloc: Global,
     column: Text,
@@ -173,16 +152,13 @@ fn comparison<'t, 'a>(
     let [first, rest @ ..] = tokens else {
         return Err(LineFault::Malformed);
     };
-    if is_mark(first, Mark::Equal) {
-        equal(alloc, column, rest)
-    } else if is_mark(first, Mark::AtLeast) {
-        at_least(alloc, column, rest)
-    } else if is_mark(first, Mark::AtMost) {
-        at_most(alloc, column, rest)
-    } else if is_word(first, b"between") {
-        between(alloc, column, rest)
-    } else {
-        Err(LineFault::Malformed)
+    if is_word(first, b"between") {
+        return between(alloc, column, rest);
+    }
+    let (value, rest) = value(alloc, rest)?;
+    match compared(first, column, value) {
+        Some(condition) => Ok((condition, rest)),
+        None => Err(LineFault::Malformed),
     }
 }
 

@@ -5,8 +5,8 @@ use Rattle.change_plan.specs.declared.change.Change.{Change}
 use Rattle.change_plan.specs.declared.change.Change.TheVariants.{AddIndex, DropIndex, AddColumn, DropColumn}
 use Rattle.grammar.specs.declared.element.New.{New}
 use Rattle.grammar.specs.declared.element.New.TheVariants as new
-use Rattle.grammar.specs.declared.moving.Changing.{Changing}
-use Rattle.grammar.specs.declared.moving.Changing.TheVariants as changing
+use Rattle.grammar.specs.declared.named.NamedChange.{NamedChange}
+use Rattle.grammar.specs.declared.named.NamedChange.TheVariants as named
 use Rattle.schema_version.specs.declared.element.Kind.TheVariants.{Optional}
 use Rattle.schema_version.specs.Version.{Version}
 use Rattle.naming.specs.Names.{table_number}
@@ -17,10 +17,10 @@ added version (new.Index name table columns) = AddIndex (table_number version ta
 added version (new.Column name type table) = AddColumn (table_number version table) name (Optional type)
 
 -- a change with its table looked up: elements keep their names
-abbrev pub changed : Version → Changing → Change
-changed version (changing.Add fresh) = added version fresh
-changed version (changing.DropIndex element) = DropIndex (table_number version element.table) element.name
-changed version (changing.DropColumn element) = DropColumn (table_number version element.table) element.name
+abbrev pub changed : Version → NamedChange → Change
+changed version (named.Add fresh) = added version fresh
+changed version (named.DropIndex element) = DropIndex (table_number version element.table) element.name
+changed version (named.DropColumn element) = DropColumn (table_number version element.table) element.name
 
-abbrev pub changes_of : Version → List Changing → List Change
+abbrev pub changes_of : Version → List NamedChange → List Change
 changes_of version changes = each (changed version) changes

@@ -3,8 +3,8 @@ use Rattle.std.specs.Prelude.{ℕ, List}
 use mathlib.Core.List.{map as each}
 use Rattle.grammar.specs.declared.element.New.{New}
 use Rattle.grammar.specs.declared.element.New.TheVariants as new
-use Rattle.grammar.specs.declared.moving.Moving.{Moving}
-use Rattle.grammar.specs.declared.moving.Moving.TheVariants as moving
+use Rattle.grammar.specs.declared.named.NamedMove.{NamedMove}
+use Rattle.grammar.specs.declared.named.NamedMove.TheVariants as named
 use Rattle.schema_version.specs.declared.element.Kind.TheVariants.{Index, Optional}
 use Rattle.schema_version.specs.declared.element.NewElement.{NewElement}
 use Rattle.schema_version.specs.declared.step.Move.{Move}
@@ -23,9 +23,9 @@ entered version (new.Index name table columns) =
 entered version (new.Column name type table) = record { table = table_number version table; name = name; kind = Optional type }
 
 -- a move with its names looked up
-abbrev pub moved : Version → Moving → Move
-moved version (moving.Enter fresh to) = Enter (entered version fresh) to
-moved version (moving.Go element to) = Go (numbered version element) to
+abbrev pub moved : Version → NamedMove → Move
+moved version (named.Enter fresh to) = Enter (entered version fresh) to
+moved version (named.Go element to) = Go (numbered version element) to
 
-abbrev pub step_of : Version → List Moving → List Move
+abbrev pub step_of : Version → List NamedMove → List Move
 step_of version moves = each (moved version) moves

@@ -4,24 +4,13 @@ ghost use Rattle.naming.specs.Changes.{added, changed, changes_of};
 
 use crate::rows::table_number;
 use change_plan::Change;
-use grammar::{Changing, New};
-use keycode::Text;
+use grammar::{ElementName, NamedChange, New};
 use listed::Listed;
 use schema_version::{Kind, Schema};
 use std::alloc::{AllocError, Global};
 
-fn copied(alloc: Global, names: &[Text]) -> Result<Listed<Text>, AllocError>
-    ensures { IfOk result (λ copies. copies ≡ names.now) }
-{
-    let mut copies = Vec::new(alloc);
-    for name in names {
-        copies.push(name.clone()?)?;
-    }
-    Ok(Listed::new(copies))
-}
-
-fn added(alloc: Global, schema: &Schema, fresh: &New) -> Result<Change, AllocError>
-    ensures { IfOk result (λ change. change ≡ added schema.now fresh.now) }
+fn added(schema: &Schema, fresh: New) -> Change
+    ensures { result ≡ added schema.now fresh }
 {
     match fresh {
         New::Index {
@@ -29,38 +18,37 @@ fn added(alloc: Global, schema: &Schema, fresh: &New) -> Result<Change, AllocErr
             table,
             columns,
         } => {
-            let name = name.clone()?;
-            let table = table_number(schema, table);
-            let columns = copied(alloc, columns.as_slice())?;
-            Ok(Change::AddIndex {
+            let table = table_number(schema, &table);
+            Change::AddIndex {
                 table,
                 name,
                 columns,
-            })
+            }
         }
-        New::Column { name, kind, table } => {
-            let name = name.clone()?;
-            let table = table_number(schema, table);
-            let kind = Kind::Optional(*kind);
-            Ok(Change::AddColumn { table, name, kind })
+        New::Column {
+            name,
+            column_type,
+            table,
+        } => {
+            let table = table_number(schema, &table);
+            let kind = Kind::Optional(column_type);
+            Change::AddColumn { table, name, kind }
         }
     }
 }
 
-fn changed(alloc: Global, schema: &Schema, changing: &Changing) -> Result<Change, AllocError>
-    ensures { IfOk result (λ change. change ≡ changed schema.now changing.now) }
+fn changed(schema: &Schema, change: NamedChange) -> Change
+    ensures { result ≡ changed schema.now change }
 {
-    match changing {
-        Changing::Add(fresh) => added(alloc, schema, fresh),
-        Changing::DropIndex(element) => {
-            let table = table_number(schema, &element.table);
-            let name = element.name.clone()?;
-            Ok(Change::DropIndex { table, name })
+    match change {
+        NamedChange::Add(fresh) => added(schema, fresh),
+        NamedChange::DropIndex(ElementName { table, name }) => {
+            let table = table_number(schema, &table);
+            Change::DropIndex { table, name }
         }
-        Changing::DropColumn(element) => {
-            let table = table_number(schema, &element.table);
-            let name = element.name.clone()?;
-            Ok(Change::DropColumn { table, name })
+        NamedChange::DropColumn(ElementName { table, name }) => {
+            let table = table_number(schema, &table);
+            Change::DropColumn { table, name }
         }
     }
 }
@@ -70,14 +58,13 @@ fn changed(alloc: Global, schema: &Schema, changing: &Changing) -> Result<Change
 pub fn changes_of(
     alloc: Global,
     schema: &Schema,
-    changes: &[Changing],
+    changes: Listed<NamedChange>,
 ) -> Result<Vec<Change>, AllocError>
-    ensures { IfOk result (λ named. named.items ≡ changes_of schema.now changes.now) }
+    ensures { IfOk result (λ found. found.items ≡ changes_of schema.now changes) }
 {
-    let mut named = Vec::new(alloc);
-    for changing in changes {
-        let next = changed(alloc, schema, changing)?;
-        named.push(next)?;
+    let mut found = Vec::new(alloc);
+    for change in changes.into_vec() {
+        found.push(changed(schema, change))?;
     }
-    Ok(named)
+    Ok(found)
 }

@@ -3,7 +3,7 @@ ghost use Rattle.std.specs.Prelude.{◌≡◌, IfOk};
 ghost use Rattle.naming.specs.Moves.{element_numbers, entered, moved, step_of};
 
 use crate::rows::{element_number, element_of, table_number};
-use grammar::{Moving, New};
+use grammar::{NamedMove, New};
 use keycode::Text;
 use listed::Listed;
 use schema_version::{Kind, Move, NewElement, Schema, Step};
@@ -23,8 +23,8 @@ fn element_numbers(
         .collect(alloc)
 }
 
-fn entered(alloc: Global, schema: &Schema, fresh: &New) -> Result<NewElement, AllocError>
-    ensures { IfOk result (λ element. element ≡ entered schema.now fresh.now) }
+fn entered(alloc: Global, schema: &Schema, fresh: New) -> Result<NewElement, AllocError>
+    ensures { IfOk result (λ element. element ≡ entered schema.now fresh) }
 {
     match fresh {
         New::Index {
@@ -32,44 +32,46 @@ fn entered(alloc: Global, schema: &Schema, fresh: &New) -> Result<NewElement, Al
             table,
             columns,
         } => {
-            let name = name.clone()?;
-            let table = table_number(schema, table);
+            let table = table_number(schema, &table);
             let columns = element_numbers(alloc, schema, table, columns.as_slice())?;
             let kind = Kind::Index(Listed::new(columns));
             Ok(NewElement { table, name, kind })
         }
-        New::Column { name, kind, table } => {
-            let name = name.clone()?;
-            let table = table_number(schema, table);
-            let kind = Kind::Optional(*kind);
+        New::Column {
+            name,
+            column_type,
+            table,
+        } => {
+            let table = table_number(schema, &table);
+            let kind = Kind::Optional(column_type);
             Ok(NewElement { table, name, kind })
         }
     }
 }
 
-fn moved(alloc: Global, schema: &Schema, moving: &Moving) -> Result<Move, AllocError>
-    ensures { IfOk result (λ step. step ≡ moved schema.now moving.now) }
+fn moved(alloc: Global, schema: &Schema, named: NamedMove) -> Result<Move, AllocError>
+    ensures { IfOk result (λ found. found ≡ moved schema.now named) }
 {
-    match moving {
-        Moving::Enter { fresh, to } => {
+    match named {
+        NamedMove::Enter { fresh, to } => {
             let fresh = entered(alloc, schema, fresh)?;
-            Ok(Move::Enter { fresh, to: *to })
+            Ok(Move::Enter { fresh, to })
         }
-        Moving::Go { element, to } => {
-            let element = element_of(schema, element);
-            Ok(Move::Go { element, to: *to })
+        NamedMove::Go { element, to } => {
+            let element = element_of(schema, &element);
+            Ok(Move::Go { element, to })
         }
     }
 }
 
 /// The moves of a step with their names looked up. Refused for want of memory alone.
-pub fn step_of(alloc: Global, schema: &Schema, moves: &[Moving]) -> Result<Step, AllocError>
-    ensures { IfOk result (λ step. step ≡ step_of schema.now moves.now) }
+pub fn step_of(alloc: Global, schema: &Schema, moves: Listed<NamedMove>) -> Result<Step, AllocError>
+    ensures { IfOk result (λ step. step ≡ step_of schema.now moves) }
 {
     let mut step = Vec::new(alloc);
-    for moving in moves {
-        let next = moved(alloc, schema, moving)?;
-        step.push(next)?;
+    for named in moves.into_vec() {
+        let found = moved(alloc, schema, named)?;
+        step.push(found)?;
     }
     Ok(Listed::new(step))
 }

@@ -5,7 +5,7 @@ ghost use Rattle.schema_version.specs.Version.{public_columns};
 ghost use Rattle.naming.specs.Names.{table_number, element_number, numbered, named_cells, resolved, resolved_all, column_numbers, looked_up, asked};
 
 use grammar::{Condition, ElementName, Operation, Selection};
-use keycode::{Text, Value, Values};
+use keycode::{Text, Value};
 use listed::Listed;
 use row_query::{Cond, Query};
 use row_write::{RowOp, RowOps};
@@ -44,43 +44,33 @@ fn named_cells(
     alloc: Global,
     schema: &Schema,
     table: u32,
-    sets: &[(Text, Value)],
+    sets: Listed<(Text, Value)>,
 ) -> Result<Listed<(u32, Value)>, AllocError>
-    ensures { IfOk result (λ cells. cells ≡ named_cells schema.now table sets.now) }
+    ensures { IfOk result (λ cells. cells ≡ named_cells schema.now table sets) }
 {
     let mut cells = Vec::new(alloc);
-    for (name, value) in sets {
-        let copy = value.clone()?;
-        cells.push((element_number(schema, table, name), copy))?;
+    for (name, value) in sets.into_vec() {
+        cells.push((element_number(schema, table, &name), value))?;
     }
     Ok(Listed::new(cells))
 }
 
-fn copied(key: &Values) -> Result<Values, AllocError>
-    ensures { IfOk result (λ copy. copy ≡ key.now) }
-{
-    key.clone()
-}
-
-fn resolved(alloc: Global, schema: &Schema, operation: &Operation) -> Result<RowOp, AllocError>
-    ensures { IfOk result (λ op. op ≡ resolved schema.now operation.now) }
+fn resolved(alloc: Global, schema: &Schema, operation: Operation) -> Result<RowOp, AllocError>
+    ensures { IfOk result (λ op. op ≡ resolved schema.now operation) }
 {
     match operation {
         Operation::Insert { table, key, sets } => {
-            let table = table_number(schema, table);
-            let key = copied(key)?;
-            let cells = named_cells(alloc, schema, table, sets.as_slice())?;
+            let table = table_number(schema, &table);
+            let cells = named_cells(alloc, schema, table, sets)?;
             Ok(RowOp::Insert { table, key, cells })
         }
         Operation::Update { table, key, sets } => {
-            let table = table_number(schema, table);
-            let key = copied(key)?;
-            let cells = named_cells(alloc, schema, table, sets.as_slice())?;
+            let table = table_number(schema, &table);
+            let cells = named_cells(alloc, schema, table, sets)?;
             Ok(RowOp::Update { table, key, cells })
         }
         Operation::Delete { table, key } => {
-            let table = table_number(schema, table);
-            let key = copied(key)?;
+            let table = table_number(schema, &table);
             Ok(RowOp::Delete { table, key })
         }
     }
@@ -90,12 +80,12 @@ fn resolved(alloc: Global, schema: &Schema, operation: &Operation) -> Result<Row
 pub fn resolved_all(
     alloc: Global,
     schema: &Schema,
-    operations: &[Operation],
+    operations: Listed<Operation>,
 ) -> Result<RowOps, AllocError>
-    ensures { IfOk result (λ ops. ops ≡ resolved_all schema.now operations.now) }
+    ensures { IfOk result (λ ops. ops ≡ resolved_all schema.now operations) }
 {
     let mut ops = Vec::new(alloc);
-    for operation in operations {
+    for operation in operations.into_vec() {
         let op = resolved(alloc, schema, operation)?;
         ops.push(op)?;
     }
@@ -131,30 +121,18 @@ fn column_numbers(
     }
 }
 
-fn bound_copied(bound: &Option<Value>) -> Result<Option<Value>, AllocError>
-    ensures { IfOk result (λ copy. copy ≡ bound.now) }
-{
-    match bound {
-        None => Ok(None),
-        Some(value) => Ok(Some(value.clone()?)),
-    }
-}
-
-fn looked_up(schema: &Schema, table: u32, condition: &Condition) -> Result<Cond, AllocError>
-    ensures { IfOk result (λ cond. cond ≡ looked_up schema.now table condition.now) }
+fn looked_up(schema: &Schema, table: u32, condition: Condition) -> Cond
+    ensures { result ≡ looked_up schema.now table condition }
 {
     match condition {
-        Condition::Key(key) => Ok(Cond::Key(copied(key)?)),
+        Condition::Key(key) => Cond::Key(key),
         Condition::Equal { column, value } => {
-            let value = value.clone()?;
-            let column = element_number(schema, table, column);
-            Ok(Cond::Equal { column, value })
+            let column = element_number(schema, table, &column);
+            Cond::Equal { column, value }
         }
         Condition::Between { column, low, high } => {
-            let low = bound_copied(low)?;
-            let high = bound_copied(high)?;
-            let column = element_number(schema, table, column);
-            Ok(Cond::Between { column, low, high })
+            let column = element_number(schema, table, &column);
+            Cond::Between { column, low, high }
         }
     }
 }
@@ -163,24 +141,29 @@ fn all_looked_up(
     alloc: Global,
     schema: &Schema,
     table: u32,
-    conditions: &[Condition],
+    conditions: Listed<Condition>,
 ) -> Result<Vec<Cond>, AllocError>
-    ensures { IfOk result (λ conds. conds.items ≡ map (looked_up schema.now table) conditions.now) }
+    ensures { IfOk result (λ conds. conds.items ≡ map (looked_up schema.now table) conditions) }
 {
     let mut conds = Vec::new(alloc);
-    for condition in conditions {
-        conds.push(looked_up(schema, table, condition)?)?;
+    for condition in conditions.into_vec() {
+        conds.push(looked_up(schema, table, condition))?;
     }
     Ok(conds)
 }
 
 /// A selection with its names looked up. Refused for want of memory alone.
-pub fn asked(alloc: Global, schema: &Schema, selection: &Selection) -> Result<Query, AllocError>
-    ensures { IfOk result (λ query. query ≡ asked schema.now selection.now) }
+pub fn asked(alloc: Global, schema: &Schema, selection: Selection) -> Result<Query, AllocError>
+    ensures { IfOk result (λ query. query ≡ asked schema.now selection) }
 {
-    let table = table_number(schema, &selection.table);
-    let columns = column_numbers(alloc, schema, table, &selection.columns)?;
-    let conditions = all_looked_up(alloc, schema, table, selection.conditions.as_slice())?;
+    let Selection {
+        table,
+        columns,
+        conditions,
+    } = selection;
+    let table = table_number(schema, &table);
+    let columns = column_numbers(alloc, schema, table, &columns)?;
+    let conditions = all_looked_up(alloc, schema, table, conditions)?;
     Ok(Query {
         table,
         columns: Listed::new(columns),

@@ -17,7 +17,7 @@ mod rows;
 mod transactions;
 
 pub use leases::{grant_refusal, lease_line, open_refusal};
-pub use numbers::push_number;
+pub use numbers::push_numbered;
 pub use pairs::{check_line, push_pair};
 pub use pieces::{pieced_line, unpieced_line, unread_line};
 pub use plans::{steps_text, unplanned_line};

@@ -1,6 +1,7 @@
-//! Numbers in decimal.
+//! Numbers in decimal, and lines that end in one.
 ghost use Rattle.std.specs.Prelude.{◌≡◌, ◌++◌, OnOk, codes, string_bytes};
 ghost use Rattle.std.specs.Fmt.{decimal};
+ghost use Rattle.replies.specs.Texts.{line};
 
 use std::alloc::AllocError;
 
@@ -14,6 +15,21 @@ pub fn push_number(out: &mut String, number: u64) -> Result<(), AllocError>
     ensures { OnOk result (string_bytes out.new ≡ string_bytes out.old ++ decimal number) }
 {
     write!(out, "{number}")
+}
+
+/// Adds a line of words and a number behind them: `ok log 3`.
+///
+/// - `out`: the text behind which it is put.
+/// - `words`: the words, with a space at their end.
+/// - `number`: the number.
+///
+/// The only refusal is want of memory; it may leave a part of the line behind the text.
+pub fn push_numbered(out: &mut String, words: &str, number: u64) -> Result<(), AllocError>
+    ensures { OnOk result (string_bytes out.new ≡ string_bytes out.old ++ line (words.now ++ decimal number)) }
+{
+    out.push_str(words)?;
+    push_number(out, number)?;
+    out.push_str("\n")
 }
 
 /// Adds the refusal of a lease that ended: `LeaseEnded 10 12`.

@@ -4,7 +4,7 @@ ghost use Rattle.change_plan.specs.Plans.{AreAllowed};
 ghost use Rattle.replies.specs.Plans.{plan_name, steps_text};
 ghost use Rattle.replies.specs.Texts.{line, refused};
 
-use crate::numbers::push_number;
+use crate::numbers::push_numbered;
 use crate::plan_lines::plan_text;
 use change_plan::{PlanFault, PlanStep};
 use schema_version::Schema;
@@ -45,8 +45,6 @@ pub fn steps_text(alloc: Global, schema: &Schema, steps: &[PlanStep]) -> Result<
     ensures { IfOk result (λ text. string_bytes text ≡ steps_text schema.now steps.now) }
 {
     let mut text = plan_text(alloc, schema, steps)?;
-    text.push_str("ok plan ")?;
-    push_number(&mut text, steps.len() as u64)?;
-    text.push_str("\n")?;
+    push_numbered(&mut text, "ok plan ", steps.len() as u64)?;
     Ok(text)
 }

@@ -4,7 +4,7 @@ ghost use Rattle.std.specs.Fmt.{decimal};
 ghost use Rattle.replies.specs.Publications.{step_name, publish_name, published_text};
 ghost use Rattle.replies.specs.Texts.{line, refused};
 
-use crate::numbers::push_number;
+use crate::numbers::{push_number, push_numbered};
 use schema_version::StepFault;
 use std::alloc::{AllocError, Global};
 use world::{PublishFault, Receipt};
@@ -53,9 +53,7 @@ fn version_line(alloc: Global, version: u64) -> Result<String, AllocError>
     ensures { IfOk result (λ text. string_bytes text ≡ line (codes "ok version " ++ decimal version)) }
 {
     let mut text = String::new(alloc);
-    text.push_str("ok version ")?;
-    push_number(&mut text, version)?;
-    text.push_str("\n")?;
+    push_numbered(&mut text, "ok version ", version)?;
     Ok(text)
 }
 

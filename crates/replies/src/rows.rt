@@ -7,7 +7,7 @@ ghost use Rattle.grammar.specs.Printing.{value_text};
 ghost use Rattle.row_query.specs.Answer.{is_named};
 ghost use Rattle.replies.specs.Rows.{is_shown, shown, joined, value_or_null, cell_text, cells_text, row_line, rows_text};
 
-use crate::numbers::push_number;
+use crate::numbers::push_numbered;
 use grammar::push_value;
 use keycode::{Text, Value};
 use row_map::Row;
@@ -145,8 +145,6 @@ pub fn rows_text(
     let columns = shown(alloc, schema, query)?;
     let mut text = String::new(alloc);
     push_rows(&mut text, rows, columns.as_slice())?;
-    text.push_str("ok rows ")?;
-    push_number(&mut text, rows.len() as u64)?;
-    text.push_str("\n")?;
+    push_numbered(&mut text, "ok rows ", rows.len() as u64)?;
     Ok(text)
 }

@@ -11,7 +11,7 @@ use Rattle.world.specs.declared.entry.Receipt.{Receipt}
 use Rattle.world.specs.declared.beginning.BeginFault.{BeginFault}
 use Rattle.session.specs.Pieces.{ReadsPiece, read_text}
 use Rattle.replies.specs.Reorganisations.{work_word, begun_words, begun_text, worked_text}
-use Rattle.session.specs.Running.{PieceUnder, Begun, Worked, piece_kept}
+use Rattle.session.specs.Answering.{PieceUnder, Begun, Worked, piece_kept}
 use Rattle.replies.specs.Texts.{line}
 use Rattle.session.specs.declared.pieces.PieceRead.{PieceRead}
 use Rattle.session.specs.declared.session.Opened.{Opened}

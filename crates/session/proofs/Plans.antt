@@ -4,7 +4,7 @@ use Rattle.std.specs.Prelude.{codes}
 use Rattle.change_plan.specs.declared.change.Change.{Change}
 use Rattle.change_plan.specs.declared.fault.PlanFault.{PlanFault}
 use Rattle.change_plan.specs.declared.least_plan.LeastPlan.{LeastPlan}
-use Rattle.grammar.specs.declared.moving.Changing.{Changing}
+use Rattle.grammar.specs.declared.named.NamedChange.{NamedChange}
 use Rattle.naming.specs.Changes.{changes_of}
 use Rattle.schema_version.specs.Version.{Version}
 use Rattle.schema_version.specs.declared.step.Move.{Move}
@@ -15,14 +15,14 @@ use Rattle.world.specs.declared.publishing.PublishFault.{PublishFault}
 use Rattle.replies.specs.Plans.{planned_text}
 use Rattle.session.specs.Planning.{IsPlanOf, kept_plan, left_of}
 use Rattle.replies.specs.Publications.{published_text}
-use Rattle.session.specs.Running.{Planned, NextOf}
+use Rattle.session.specs.Answering.{Planned, NextOf}
 use Rattle.session.specs.Session.{Session}
 use Rattle.replies.specs.Texts.{line, refused}
 use Rattle.session.specs.declared.session.Opened.{Opened}
 use Rattle.session.specs.declared.session.Session.TheVariants.{Running}
 
 -- a plan of changes that were looked up in the newest version
-pub planned : (old : Opened) (changing : List Changing) (schema : Version) (changes : List Change) (result : Result LeastPlan PlanFault) (text : List ℕ) (bad : Bool) (next : Opened)
+pub planned : (old : Opened) (changing : List NamedChange) (schema : Version) (changes : List Change) (result : Result LeastPlan PlanFault) (text : List ℕ) (bad : Bool) (next : Opened)
     → schema ≡ (facts_of old.world).newest → changes ≡ changes_of schema changing → IsPlanOf schema changes result → text ≡ planned_text schema result → bad ≡ false
     → next ≡ record old { plan = kept_plan old.plan result }
     → Planned old (changes_of (facts_of old.world).newest changing) text bad (Running next)

@@ -1,6 +1,6 @@
 -- A publication whose names were looked up in the newest version.
 use Rattle.std.proofs.Common.{◌≡◌, ℕ, List, Result, Bool, false, refl, subst, ap, ◌∙◌}
-use Rattle.grammar.specs.declared.moving.Moving.{Moving}
+use Rattle.grammar.specs.declared.named.NamedMove.{NamedMove}
 use Rattle.schema_version.specs.declared.step.Move.{Move}
 use Rattle.schema_version.specs.Version.{Version}
 use Rattle.world.specs.declared.entry.Receipt.{Receipt}
@@ -11,10 +11,10 @@ use Rattle.session.specs.declared.session.Opened.{Opened}
 use Rattle.session.specs.declared.session.Session.TheVariants.{Running}
 use Rattle.naming.specs.Moves.{step_of}
 use Rattle.replies.specs.Publications.{published_text}
-use Rattle.session.specs.Running.{Published}
+use Rattle.session.specs.Answering.{Published}
 use Rattle.replies.specs.Texts.{line}
 
-pub published : (old : Opened) (moment : ℕ) (moves : List Moving) (schema : Version) (step : List Move) (result : Result (ℕ × Receipt) PublishFault) (world : State) (text : List ℕ) (bad : Bool)
+pub published : (old : Opened) (moment : ℕ) (moves : List NamedMove) (schema : Version) (step : List Move) (result : Result (ℕ × Receipt) PublishFault) (world : State) (text : List ℕ) (bad : Bool)
     → schema ≡ (facts_of old.world).newest → step ≡ step_of schema moves → PublishStep old.world moment step result world → text ≡ line (published_text result) → bad ≡ false
     → Published old moment moves text bad (Running (record old { world = world }))
 published old moment moves schema step result world text bad newest named done told good =

@@ -15,10 +15,10 @@ use Rattle.row_write.specs.Prepare.{Condition, rank, IsPrepared}
 use Rattle.row_write.specs.Reads.{IsRead}
 use Rattle.world.specs.Calls.{IsReadView}
 use Rattle.world.specs.State.{State}
-use Rattle.session.specs.declared.session.Held.{Held}
+use Rattle.session.specs.declared.session.ServerLease.{ServerLease}
 use Rattle.session.specs.Preparing.{IsReadOf, IsPreparedFor}
 
-module _ (w : State) (held : Held) (s : Version) (ops given : List RowOp) (same : s ≡ held.schema) (named : ops ≡ given) where
+module _ (w : State) (held : ServerLease) (s : Version) (ops given : List RowOp) (same : s ≡ held.schema) (named : ops ≡ given) where
   pub read_of : (keys : map.FinMap bytes_cmp (Unit {0})) (view : View) → ((key : Bytes) → (map.get keys key ≡ Some tt) ↔ IsRead s ops key) → IsReadView w keys view → IsReadOf w held.schema given view
   read_of keys view keyed read =
       let keyed_so : ((key : Bytes) → (map.get keys key ≡ Some tt) ↔ IsRead held.schema given key) =

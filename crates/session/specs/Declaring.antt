@@ -33,14 +33,14 @@ IndexOn d None reply bad new = IsBad (Declaring d) reply bad new
 IndexOn d (Some tables) reply bad new = IsReply (codes "ok") reply bad × (new ≡ Declaring (record d { tables = tables }))
 
 -- a refused opening forgets what was declared
-abbrev pub Opened : Result State OpenFault → List ℕ → Bool → Session → Type 0
-Opened (Ok world) reply bad new = IsReply (codes "ok version 1") reply bad × (new ≡ Running (record { world = world; leases = map.empty; works = map.empty; plan = [] }))
-Opened (Err fault) reply bad new = IsReply (refused (open_name fault)) reply bad × (new ≡ empty)
+abbrev pub Opens : Result State OpenFault → List ℕ → Bool → Session → Type 0
+Opens (Ok world) reply bad new = IsReply (codes "ok version 1") reply bad × (new ≡ Running (record { world = world; leases = map.empty; pending = map.empty; plan = [] }))
+Opens (Err fault) reply bad new = IsReply (refused (open_name fault)) reply bad × (new ≡ empty)
 
 abbrev pub Declares : Declarations → Command → List ℕ → Bool → Session → Type 0
 Declares d (command.Length length) reply bad new = IsReply (codes "ok") reply bad × (new ≡ Declaring (record d { length = length }))
 Declares d (command.Table name key columns) reply bad new =
     IsReply (codes "ok") reply bad × (new ≡ Declaring (record d { tables = d.tables ++ (record { name = name; key = key; columns = columns; indexes = [] }) ∷ [] }))
 Declares d (command.Index name table columns) reply bad new = IndexOn d (with_index d.tables name table columns) reply bad new
-Declares d command.Open reply bad new = (result : Result State OpenFault) × OpenStep (record { length = d.length; tables = d.tables }) result × Opened result reply bad new
+Declares d command.Open reply bad new = (result : Result State OpenFault) × OpenStep (record { length = d.length; tables = d.tables }) result × Opens result reply bad new
 Declares d _ reply bad new = IsBad (Declaring d) reply bad new

@@ -6,5 +6,5 @@ pub mod Querying
 pub mod Forging
 pub mod Pieces
 pub mod Planning
-pub mod Running
+pub mod Answering
 pub mod Replies

@@ -12,7 +12,7 @@ use Rattle.row_write.specs.Prepare.{Condition, rank, IsPrepared}
 use Rattle.row_write.specs.Reads.{IsRead}
 use Rattle.world.specs.State.{State}
 use Rattle.replies.specs.Transactions.{prepare_name}
-use Rattle.session.specs.declared.session.Held.{Held}
+use Rattle.session.specs.declared.session.ServerLease.{ServerLease}
 use Rattle.session.specs.declared.preparing.Preparation.{Preparation}
 use Rattle.session.specs.declared.preparing.Preparation.TheVariants.{Ready, Unprepared, OutOfMemory}
 use Rattle.replies.specs.Texts.{refused}
@@ -23,7 +23,7 @@ IsReadOf world schema ops view = (key : Bytes) (value : Option Bytes) → (map.g
 
 -- the transaction was prepared under this lease for these operations from what the world has: nothing stood against it, and outcome and
 -- batch are those of the operations on the rows that were read
-pub record IsPreparedFor (world : State) (held : Held) (ops : List RowOp) (prepared : PreparedTxn) : Type 0 where
+pub record IsPreparedFor (world : State) (held : ServerLease) (ops : List RowOp) (prepared : PreparedTxn) : Type 0 where
   pub schema : prepared.schema ≡ held.schema
   pub lease_is : prepared.lease ≡ held.lease
   pub operations : prepared.ops ≡ ops
@@ -34,7 +34,7 @@ pub record IsPreparedFor (world : State) (held : Held) (ops : List RowOp) (prepa
   pub prepared_so : IsPrepared held.schema ops view prepared.told prepared.batch
 
 -- what reading and preparing may come to
-abbrev pub Prepares : State → Held → List RowOp → Preparation → Type 0
+abbrev pub Prepares : State → ServerLease → List RowOp → Preparation → Type 0
 Prepares world held ops (Ready prepared) = IsPreparedFor world held ops prepared
 Prepares world held ops (Unprepared fault) = (view : View) × IsReadOf world held.schema ops view × IsRefusal rank (Condition held.schema ops view) prepare.Memory fault
 Prepares world held ops OutOfMemory = Unit {0}

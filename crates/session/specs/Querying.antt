@@ -6,8 +6,8 @@ use Rattle.world.specs.declared.querying.QueryRefusal.{QueryRefusal}
 use Rattle.world.specs.Querying.{QueryStep}
 use Rattle.world.specs.State.{State}
 use Rattle.replies.specs.Rows.{queried_text}
-use Rattle.session.specs.declared.session.Held.{Held}
+use Rattle.session.specs.declared.session.ServerLease.{ServerLease}
 
 -- what the world answers under the server's lease is printed
-abbrev pub Queried : State → Held → ℕ → Query → List ℕ → Type 0
+abbrev pub Queried : State → ServerLease → ℕ → Query → List ℕ → Type 0
 Queried world held moment query text = (result : Result (List Row) QueryRefusal) × QueryStep world moment held.lease query result × (text ≡ queried_text held.schema query result)

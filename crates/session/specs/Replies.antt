@@ -8,16 +8,16 @@ use Rattle.grammar.specs.Silent.{is_silent}
 use Rattle.session.specs.declared.session.Session.TheVariants.{Declaring, Running}
 use Rattle.session.specs.Session.{Session}
 use Rattle.session.specs.Declaring.{IsBad, Declares}
-use Rattle.session.specs.Running.{Answers}
+use Rattle.session.specs.Answering.{Answers}
 
--- `Runs old command reply bad new`: the command may give this reply, which says whether the line is bad, and leave new
-abbrev pub Runs : Session → Command → List ℕ → Bool → Session → Type 0
-Runs (Declaring d) command reply bad new = Declares d command reply bad new
-Runs (Running r) command reply bad new = Answers r command reply bad new
+-- `Performs old command reply bad new`: the command may give this reply, which says whether the line is bad, and leave new
+abbrev pub Performs : Session → Command → List ℕ → Bool → Session → Type 0
+Performs (Declaring d) command reply bad new = Declares d command reply bad new
+Performs (Running r) command reply bad new = Answers r command reply bad new
 
 abbrev pub Spelled : Session → Result Command LineFault → List ℕ → Bool → Session → Type 0
 Spelled old (Err fault) reply bad new = IsBad old reply bad new
-Spelled old (Ok command) reply bad new = Runs old command reply bad new
+Spelled old (Ok command) reply bad new = Performs old command reply bad new
 
 abbrev pub max_line : ℕ
 max_line = 65536

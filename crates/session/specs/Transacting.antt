@@ -5,7 +5,7 @@ use Rattle.row_write.specs.Made.{PreparedTxn}
 use Rattle.world.specs.Calls.{counted, CommitAt}
 use Rattle.world.specs.State.{State}
 use Rattle.replies.specs.Transactions.{commit_name, committed_text, prepare_name}
-use Rattle.session.specs.declared.session.Held.{Held}
+use Rattle.session.specs.declared.session.ServerLease.{ServerLease}
 use Rattle.session.specs.declared.preparing.Preparation.TheVariants as preparation
 use Rattle.session.specs.declared.transacting.Transacted.{Transacted}
 use Rattle.session.specs.declared.transacting.Transacted.TheVariants.{Ended, Unprepared, Rejected, OutOfMemory}
@@ -13,7 +13,7 @@ use Rattle.session.specs.Preparing.{IsPreparedFor, Prepares}
 use Rattle.replies.specs.Texts.{refused}
 
 -- how a transaction may end, and the world that it leaves
-abbrev pub Transacts : State → Held → ℕ → List RowOp → Transacted → State → Type 0
+abbrev pub Transacts : State → ServerLease → ℕ → List RowOp → Transacted → State → Type 0
 Transacts old held moment ops OutOfMemory new = new ≡ old
 Transacts old held moment ops (Unprepared fault) new = Prepares old held ops (preparation.Unprepared fault) × (new ≡ old)
 Transacts old held moment ops (Rejected fault) new =

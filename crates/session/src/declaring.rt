@@ -86,7 +86,7 @@ fn open(alloc: Global, declared: Declarations) -> Result<(Session, Answer), Allo
             let opened = Opened {
                 world,
                 leases: KeyMap::new(alloc),
-                works: KeyMap::new(alloc),
+                pending: KeyMap::new(alloc),
                 plan: Listed::new(Vec::new(alloc)),
             };
             Ok((Session::Running(opened), answer))

@@ -3,8 +3,7 @@ ghost use Rattle.std.specs.Prelude.{◌≡◌, IfOk, string_bytes};
 ghost use Rattle.session.specs.Forging.{schema_or_newest, Forged};
 ghost use Rattle.session.specs.declared.session.Session.TheVariants.{Running};
 
-use crate::running::key_of;
-use crate::session::{Answer, Held, Opened, reply};
+use crate::session::{Answer, Opened, ServerLease, key_of, reply};
 use keycode::Text;
 use lease::Lease;
 use listed::Counted;
@@ -25,14 +24,14 @@ fn schema_or_newest(world: &World, version: u64) -> Result<Counted<Schema>, Allo
 pub(crate) fn forge(
     alloc: Global,
     opened: &mut Opened,
-    server: &Text,
+    server: Text,
     lease: Lease,
 ) -> Result<Answer, AllocError>
-    ensures { IfOk result (λ a. Forged opened.old server.now lease (string_bytes a.text) a.is_bad (Running opened.new)) }
+    ensures { IfOk result (λ a. Forged opened.old server lease (string_bytes a.text) a.is_bad (Running opened.new)) }
 {
-    let name = key_of(alloc, server)?;
+    let name = key_of(server)?;
     let schema = schema_or_newest(&opened.world, lease.version)?;
     let answer = reply("ok\n".to_string(alloc)?);
-    opened.leases.insert(name, Held { lease, schema })?;
+    opened.leases.insert(name, ServerLease { lease, schema })?;
     Ok(answer)
 }

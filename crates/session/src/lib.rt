@@ -1,18 +1,17 @@
 //! What a line of a script means: what it is answered, and what stands between two lines.
 #![tactic(auto)]
 
+mod answering;
 mod declaring;
 mod forging;
+mod pending;
 mod pieces;
 mod planning;
 mod preparing;
 mod publishing;
 mod querying;
 mod reorganising;
-mod running;
 mod session;
 mod transacting;
-mod working;
-mod works;
 
-pub use session::{Answer, Declarations, Held, Opened, PreparedWork, Session};
+pub use session::{Answer, Declarations, Opened, Pending, ServerLease, Session};

@@ -4,10 +4,10 @@ ghost use Rattle.grammar.specs.declared.command.Command.TheVariants as command;
 ghost use Rattle.replies.specs.Texts.{line};
 ghost use Rattle.session.specs.Pieces.{ReadsPiece, read_text};
 ghost use Rattle.session.specs.declared.session.Session.TheVariants.{Running};
-ghost use Rattle.session.specs.Running.{Answers, piece_kept};
+ghost use Rattle.session.specs.Answering.{Answers, piece_kept};
 
-use crate::running::key_of;
-use crate::session::{Answer, Opened, PreparedWork, reply};
+use crate::pending::keep;
+use crate::session::{Answer, Opened, Pending, reply};
 use grammar::ElementName;
 use keycode::Text;
 use naming::element_of;
@@ -51,15 +51,11 @@ fn read_line(alloc: Global, how: &PieceRead) -> Result<String, AllocError>
 }
 
 // What could be prepared is kept under its name.
-fn kept(alloc: Global, opened: &mut Opened, work: &Text, how: PieceRead) -> Result<(), AllocError>
-    ensures { IfOk result (λ done. opened.new ≡ piece_kept opened.old work.now how) }
+fn keep_read(opened: &mut Opened, name: Text, how: PieceRead) -> Result<(), AllocError>
+    ensures { IfOk result (λ done. opened.new ≡ piece_kept opened.old name how) }
 {
     match how {
-        PieceRead::Ready(prepared) => {
-            let name = key_of(alloc, work)?;
-            opened.works.insert(name, PreparedWork::Piece(prepared))?;
-            Ok(())
-        }
+        PieceRead::Ready(prepared) => keep(opened, name, Pending::Piece(prepared)),
         PieceRead::Unread(_) | PieceRead::OutOfMemory => Ok(()),
     }
 }
@@ -68,16 +64,16 @@ fn kept(alloc: Global, opened: &mut Opened, work: &Text, how: PieceRead) -> Resu
 pub(crate) fn piece(
     alloc: Global,
     opened: &mut Opened,
-    work: &Text,
+    name: Text,
     element: &ElementName,
     piece: u32,
     limit: u32,
 ) -> Result<Answer, AllocError>
-    ensures { IfOk result (λ a. Answers opened.old (command.Piece work.now element.now piece limit) (string_bytes a.text) a.is_bad (Running opened.new)) }
+    ensures { IfOk result (λ a. Answers opened.old (command.Piece name element.now piece limit) (string_bytes a.text) a.is_bad (Running opened.new)) }
 {
     let number = element_of(opened.world.newest().get(), element);
     let how = read_for(alloc, &opened.world, number, piece, limit);
     let answer = reply(read_line(alloc, &how)?);
-    kept(alloc, opened, work, how)?;
+    keep_read(opened, name, how)?;
     Ok(answer)
 }

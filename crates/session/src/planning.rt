@@ -1,15 +1,14 @@
 //! The plan that a script keeps, and its steps.
-ghost use Rattle.std.specs.Prelude.{◌≡◌, IfOk, codes, false, string_bytes};
+ghost use Rattle.std.specs.Prelude.{◌≡◌, IfOk, string_bytes};
 ghost use mathlib.Core.List.{map as each};
 ghost use Rattle.grammar.specs.declared.command.Command.TheVariants as command;
-ghost use Rattle.replies.specs.Texts.{line, refused};
 ghost use Rattle.session.specs.Planning.{left_of};
-ghost use Rattle.session.specs.Running.{Answers};
+ghost use Rattle.session.specs.Answering.{Answers};
 ghost use Rattle.session.specs.declared.session.Session.TheVariants.{Running};
 
-use crate::session::{Answer, Opened, reply};
+use crate::session::{Answer, Opened, refusal, reply};
 use change_plan::{PlanStep, plan as least_plan};
-use grammar::Changing;
+use grammar::NamedChange;
 use listed::Listed;
 use naming::changes_of;
 use replies::{published_line, steps_text, unplanned_line};
@@ -31,9 +30,9 @@ fn moves_of(alloc: Global, steps: Vec<PlanStep>) -> Result<Vec<Step>, AllocError
 pub(crate) fn plan(
     alloc: Global,
     opened: &mut Opened,
-    changes: &[Changing],
+    changes: Listed<NamedChange>,
 ) -> Result<Answer, AllocError>
-    ensures { IfOk result (λ a. Answers opened.old (command.Plan changes.now) (string_bytes a.text) a.is_bad (Running opened.new)) }
+    ensures { IfOk result (λ a. Answers opened.old (command.Plan changes) (string_bytes a.text) a.is_bad (Running opened.new)) }
 {
     let schema = opened.world.newest().get();
     let changes = changes_of(alloc, schema, changes)?;
@@ -49,13 +48,6 @@ pub(crate) fn plan(
             Ok(reply(text))
         }
     }
-}
-
-fn no_plan(alloc: Global) -> Result<Answer, AllocError>
-    ensures text { IfOk result (λ a. string_bytes a.text ≡ line (refused (codes "NoPlan"))) }
-    ensures good { IfOk result (λ a. a.is_bad ≡ false) }
-{
-    Ok(reply("refused NoPlan\n".to_string(alloc)?))
 }
 
 // What is left of a plan: a step that was published is taken off.
@@ -74,7 +66,7 @@ pub(crate) fn next(alloc: Global, opened: &mut Opened, moment: u64) -> Result<An
     ensures { IfOk result (λ a. Answers opened.old (command.Next moment) (string_bytes a.text) a.is_bad (Running opened.new)) }
 {
     let [step, ..] = opened.plan.as_slice() else {
-        return no_plan(alloc);
+        return refusal(alloc, "NoPlan");
     };
     let published = opened.world.publish(alloc, moment, step);
     let answer = reply(published_line(alloc, &published)?);

@@ -4,8 +4,9 @@ ghost use Rattle.naming.specs.Names.{resolved_all};
 ghost use Rattle.replies.specs.Texts.{line};
 ghost use Rattle.session.specs.Preparing.{Prepares, prepared_text};
 
-use crate::session::Held;
+use crate::session::ServerLease;
 use grammar::Operation;
+use listed::Listed;
 use naming::resolved_all;
 use replies::unprepared_line;
 use row_write::{PrepareFault, Prepared, prepare, reads_of};
@@ -27,10 +28,10 @@ pub(crate) enum Preparation {
 pub(crate) fn prepare_for(
     alloc: Global,
     world: &World,
-    held: &Held,
-    operations: &[Operation],
+    held: &ServerLease,
+    operations: Listed<Operation>,
 ) -> Preparation
-    ensures { Prepares world.now held.now (resolved_all held.now.schema operations.now) result }
+    ensures { Prepares world.now held.now (resolved_all held.now.schema operations) result }
 {
     let Ok(schema) = held.schema.clone() else {
         return Preparation::OutOfMemory;

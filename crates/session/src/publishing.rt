@@ -2,10 +2,11 @@
 ghost use Rattle.std.specs.Prelude.{◌≡◌, IfOk, string_bytes};
 ghost use Rattle.grammar.specs.declared.command.Command.TheVariants as command;
 ghost use Rattle.session.specs.declared.session.Session.TheVariants.{Running};
-ghost use Rattle.session.specs.Running.{Answers};
+ghost use Rattle.session.specs.Answering.{Answers};
 
 use crate::session::{Answer, Opened, reply};
-use grammar::Moving;
+use grammar::NamedMove;
+use listed::Listed;
 use naming::step_of;
 use replies::published_line;
 use std::alloc::{AllocError, Global};
@@ -15,9 +16,9 @@ pub(crate) fn publish(
     alloc: Global,
     opened: &mut Opened,
     moment: u64,
-    moves: &[Moving],
+    moves: Listed<NamedMove>,
 ) -> Result<Answer, AllocError>
-    ensures { IfOk result (λ a. Answers opened.old (command.Publish moment moves.now) (string_bytes a.text) a.is_bad (Running opened.new)) }
+    ensures { IfOk result (λ a. Answers opened.old (command.Publish moment moves) (string_bytes a.text) a.is_bad (Running opened.new)) }
 {
     let step = step_of(alloc, opened.world.newest().get(), moves)?;
     let published = opened.world.publish(alloc, moment, &step);

@@ -4,10 +4,9 @@ ghost use Rattle.grammar.specs.declared.command.Command.TheVariants as command;
 ghost use Rattle.naming.specs.Names.{asked};
 ghost use Rattle.session.specs.Querying.{Queried};
 ghost use Rattle.session.specs.declared.session.Session.TheVariants.{Running};
-ghost use Rattle.session.specs.Running.{Answers};
+ghost use Rattle.session.specs.Answering.{Answers};
 
-use crate::running::no_server;
-use crate::session::{Answer, Held, Opened, reply};
+use crate::session::{Answer, Opened, ServerLease, refusal, reply};
 use grammar::Selection;
 use keycode::Text;
 use naming::asked;
@@ -19,11 +18,11 @@ use world::World;
 fn queried(
     alloc: Global,
     world: &World,
-    held: &Held,
+    held: &ServerLease,
     moment: u64,
-    selection: &Selection,
+    selection: Selection,
 ) -> Result<String, AllocError>
-    ensures { IfOk result (λ text. Queried world.now held.now moment (asked held.now.schema selection.now) (string_bytes text)) }
+    ensures { IfOk result (λ text. Queried world.now held.now moment (asked held.now.schema selection) (string_bytes text)) }
 {
     let schema = held.schema.get();
     let query = asked(alloc, schema, selection)?;
@@ -39,13 +38,13 @@ pub(crate) fn query(
     opened: &Opened,
     server: &Text,
     moment: u64,
-    selection: &Selection,
+    selection: Selection,
 ) -> Result<Answer, AllocError>
-    ensures { IfOk result (λ a. Answers opened.now (command.Query server.now moment selection.now) (string_bytes a.text) a.is_bad (Running opened.now)) }
+    ensures { IfOk result (λ a. Answers opened.now (command.Query server.now moment selection) (string_bytes a.text) a.is_bad (Running opened.now)) }
 {
     let text = match opened.leases.get(server.as_bytes()) {
         Some(held) => queried(alloc, &opened.world, held, moment, selection)?,
-        None => return no_server(alloc),
+        None => return refusal(alloc, "NoServer"),
     };
     Ok(reply(text))
 }

@@ -1,13 +1,14 @@
-//! The begin of a reorganisation.
+//! The begin of a reorganisation, and its working off.
 ghost use Rattle.std.specs.Prelude.{◌≡◌, IfOk, string_bytes};
 ghost use Rattle.grammar.specs.declared.command.Command.TheVariants as command;
 ghost use Rattle.session.specs.declared.session.Session.TheVariants.{Running};
-ghost use Rattle.session.specs.Running.{Answers};
+ghost use Rattle.session.specs.Answering.{Answers};
 
 use crate::session::{Answer, Opened, reply};
 use grammar::ElementName;
 use naming::element_of;
-use replies::{begun_line, work_word};
+use piece_work::work_off;
+use replies::{begun_line, work_word, worked_line};
 use std::alloc::{AllocError, Global};
 
 /// `reorganise`: the fill or the clear that an element of the newest version wants begins, in so many pieces.
@@ -24,4 +25,20 @@ pub(crate) fn reorganise(
     let word = work_word(opened.world.newest().get(), number);
     let begun = opened.world.begin_reorg(alloc, moment, number, pieces);
     Ok(reply(begun_line(alloc, word, pieces, begun)?))
+}
+
+/// `work`: the pieces of an element of the newest version in order, each until it has ended; what was committed before a
+/// refusal stands.
+pub(crate) fn work(
+    alloc: Global,
+    opened: &mut Opened,
+    element: &ElementName,
+    moment: u64,
+    limit: u32,
+) -> Result<Answer, AllocError>
+    ensures { IfOk result (λ a. Answers opened.old (command.Work element.now moment limit) (string_bytes a.text) a.is_bad (Running opened.new)) }
+{
+    let number = element_of(opened.world.newest().get(), element);
+    let worked = work_off(alloc, &mut opened.world, number, moment, limit);
+    Ok(reply(worked_line(alloc, &worked)?))
 }

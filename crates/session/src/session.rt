@@ -1,13 +1,14 @@
 //! What stands between two lines of a script, and the reply to a line.
 ghost use Rattle.std.specs.Prelude.{◌≡◌, IfOk, string_bytes, true, false};
-ghost use Rattle.replies.specs.Texts.{bad_line};
+ghost use Rattle.replies.specs.Texts.{bad_line, line, refused};
 ghost use Rattle.session.specs.Session.{empty, nothing_declared};
-ghost use Rattle.session.specs.Replies.{Runs, Reply};
+ghost use Rattle.session.specs.Replies.{Performs, Reply};
 
+use crate::answering::answer;
 use crate::declaring::declare;
-use crate::running::answer;
-use byte_map::KeyMap;
+use byte_map::{Bytes, KeyMap};
 use grammar::{Command, is_silent, read_command};
+use keycode::Text;
 use lease::Lease;
 use listed::{Counted, Listed};
 use reorganise::PreparedPiece;
@@ -32,9 +33,9 @@ pub struct Declarations {
     pub length: u64,
 }
 
-/// A lease that a server was granted, with the schema of its version.
+/// A lease that a server holds, with the schema of its version.
 #[derive(Drop)]
-pub struct Held {
+pub struct ServerLease {
     /// The lease.
     pub lease: Lease,
     /// The schema of the lease's version, by which the server's names are looked up.
@@ -43,7 +44,7 @@ pub struct Held {
 
 /// What one line of a script prepares and another commits.
 #[derive(Drop)]
-pub enum PreparedWork {
+pub enum Pending {
     /// A transaction.
     Txn(Prepared),
     /// A piece of a reorganisation.
@@ -56,9 +57,9 @@ pub struct Opened {
     /// The world.
     pub world: World,
     /// The lease of each server, by its name.
-    pub leases: KeyMap<Held>,
-    /// What was prepared and not yet committed, by its name.
-    pub works: KeyMap<PreparedWork>,
+    pub leases: KeyMap<ServerLease>,
+    /// What was prepared and is not committed yet, by its name.
+    pub pending: KeyMap<Pending>,
     /// The steps of the last plan that were not accepted yet, the next one first.
     pub plan: Listed<Step>,
 }
@@ -103,6 +104,24 @@ pub(crate) fn reply(text: String) -> Answer
     }
 }
 
+/// The reply `refused NAME`.
+pub(crate) fn refusal(alloc: Global, name: &str) -> Result<Answer, AllocError>
+    ensures text { IfOk result (λ a. string_bytes a.text ≡ line (refused name.now)) }
+    ensures good { IfOk result (λ a. a.is_bad ≡ false) }
+{
+    let mut text = "refused ".to_string(alloc)?;
+    text.push_str(name)?;
+    text.push_str("\n")?;
+    Ok(reply(text))
+}
+
+/// A name as a key.
+pub(crate) fn key_of(name: Text) -> Result<Bytes, AllocError>
+    ensures { IfOk result (λ key. key ≡ name) }
+{
+    Bytes::new(name.into_string().into_bytes())
+}
+
 /// Where a script begins: nothing is declared.
 pub(crate) fn nothing_declared(alloc: Global) -> Declarations
     ensures { result ≡ nothing_declared }
@@ -122,8 +141,8 @@ impl Session {
     }
 
     // What a command answers, and what it leaves.
-    fn run(&mut self, alloc: Global, command: Command) -> Result<Answer, AllocError>
-        ensures { IfOk result (λ a. Runs self.old command (string_bytes a.text) a.is_bad self.new) }
+    fn perform(&mut self, alloc: Global, command: Command) -> Result<Answer, AllocError>
+        ensures { IfOk result (λ a. Performs self.old command (string_bytes a.text) a.is_bad self.new) }
     {
         match self {
             Session::Declaring(declared) => {
@@ -151,7 +170,7 @@ impl Session {
         match read_command(alloc, bytes) {
             Err(LineFault::Malformed) => bad_line(alloc),
             Err(LineFault::Memory) => Err(AllocError),
-            Ok(command) => self.run(alloc, command),
+            Ok(command) => self.perform(alloc, command),
         }
     }
 }

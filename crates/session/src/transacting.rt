@@ -5,8 +5,9 @@ ghost use Rattle.replies.specs.Texts.{line};
 ghost use Rattle.session.specs.Transacting.{Transacts, transacted_text};
 
 use crate::preparing::{Preparation, prepare_for};
-use crate::session::Held;
+use crate::session::ServerLease;
 use grammar::Operation;
+use listed::Listed;
 use replies::{committed_line, rejected_line, unprepared_line};
 use row_write::PrepareFault;
 use std::alloc::{AllocError, Global};
@@ -29,11 +30,11 @@ pub(crate) enum Transacted {
 pub(crate) fn transact(
     alloc: Global,
     world: &mut World,
-    held: &Held,
+    held: &ServerLease,
     moment: u64,
-    operations: &[Operation],
+    operations: Listed<Operation>,
 ) -> Transacted
-    ensures { Transacts world.old held.now moment (resolved_all held.now.schema operations.now) result world.new }
+    ensures { Transacts world.old held.now moment (resolved_all held.now.schema operations) result world.new }
 {
     match prepare_for(alloc, world, held, operations) {
         Preparation::Ready(prepared) => match world.commit(alloc, moment, prepared) {

@@ -5,7 +5,7 @@ use Rattle.std.specs.Str.{bytes_eq, is_utf8}
 use Rattle.keycode.specs.declared.value.Value.{Value}
 use Rattle.keycode.specs.declared.value.Value.TheVariants as value
 use Rattle.row_map.specs.declared.shape.ColumnType.{ColumnType}
-use Rattle.row_map.specs.declared.shape.ColumnType.TheVariants as kind
+use Rattle.row_map.specs.declared.shape.ColumnType.TheVariants as column
 use Rattle.schema_version.specs.declared.element.ElementState.{ElementState}
 use Rattle.schema_version.specs.declared.element.ElementState.TheVariants as state
 use Rattle.tokens.specs.declared.token.Token.{Token}
@@ -92,9 +92,9 @@ small_count_in _ = None
 -- the type that a word names
 abbrev pub type_of : List ℕ → Option ColumnType
 type_of w =
-    if bytes_eq w (codes "int") then Some kind.Int
-    else (if bytes_eq w (codes "text") then Some kind.Text
-    else (if bytes_eq w (codes "bool") then Some kind.Bool
+    if bytes_eq w (codes "int") then Some column.Int
+    else (if bytes_eq w (codes "text") then Some column.Text
+    else (if bytes_eq w (codes "bool") then Some column.Bool
     else None))
 
 abbrev pub type_in : Token → Option ColumnType

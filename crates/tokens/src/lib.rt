@@ -12,8 +12,8 @@ pub use fault::LineFault;
 pub use part::Part;
 pub use production::{Production, read_each};
 pub use reading::{
-    after_mark, after_word, at_end, bracketed, count, is_mark, is_word, kind, name, small_count,
-    state,
+    after_mark, after_word, at_end, bracketed, column_type, count, is_mark, is_word, name,
+    small_count, state,
 };
 pub use token::{Mark, Token, tokens_of};
 pub use values::value;

@@ -154,14 +154,16 @@ pub fn small_count<'t, 'a>(tokens: &'t [Token<'a>]) -> Result<(u32, &'t [Token<'
 /// The type at the front of `tokens`, by its word `int`, `text` or `bool`, and the tokens behind it.
 ///
 /// The only refusal is `Malformed`, where the first token is none of these words, or where there is no token. It leaves nothing behind.
-pub fn kind<'t, 'a>(tokens: &'t [Token<'a>]) -> Result<(ColumnType, &'t [Token<'a>]), LineFault>
+pub fn column_type<'t, 'a>(
+    tokens: &'t [Token<'a>],
+) -> Result<(ColumnType, &'t [Token<'a>]), LineFault>
     ensures { Gives (λ x. (x.0, x.1.now)) result (first_by type_in tokens.entry.now) }
 {
     let [first, rest @ ..] = tokens else {
         return Err(LineFault::Malformed);
     };
     match type_in(first) {
-        Some(kind) => Ok((kind, rest)),
+        Some(column_type) => Ok((column_type, rest)),
         None => Err(LineFault::Malformed),
     }
 }

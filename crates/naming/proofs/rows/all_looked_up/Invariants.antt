@@ -1,7 +1,7 @@
-use Rattle.std.proofs.Common.{◌≡◌, take}
+use Rattle.std.proofs.Common.{◌≡◌}
 use mathlib.Core.List.{map}
 use Rattle.naming.specs.Names.{looked_up}
 use Rattle.naming.proofs.rows.all_looked_up.Given as goal
 
 abbrev pub invariant-loop-condition : goal.invariant-loop-condition
-invariant-loop-condition l = l.conds.items ≡ map (looked_up l.schema l.table) (take l.condition-index l.conditions)
+invariant-loop-condition l = l.conds.items ≡ map (looked_up l.schema l.table) l.yielded

@@ -9,7 +9,7 @@ use tokens::{LineFault, Production, Token, at_end, is_word};
 
 /// A move of a step.
 #[derive(Drop)]
-pub enum Moving {
+pub enum NamedMove {
     /// `add NEW [to STATE]`; no `to` is `to delete_only`.
     Enter {
         fresh: New,
@@ -24,7 +24,7 @@ pub enum Moving {
 
 /// A change that a plan brings about.
 #[derive(Drop)]
-pub enum Changing {
+pub enum NamedChange {
     /// `add NEW`
     Add(New),
     /// `drop index NAME on TABLE`
@@ -34,28 +34,28 @@ pub enum Changing {
 }
 
 #[tactic(auto, unfolding(crate::specs::Changes::enter_of))]
-fn enter(alloc: Global, tokens: &[Token<'_>]) -> Result<Moving, LineFault>
+fn enter(alloc: Global, tokens: &[Token<'_>]) -> Result<NamedMove, LineFault>
     ensures { Gives (λ x. x) result (enter_of tokens.now) }
 {
     let (fresh, rest) = fresh(alloc, tokens)?;
     let to = optional_to_state(rest)?;
-    Ok(Moving::Enter { fresh, to })
+    Ok(NamedMove::Enter { fresh, to })
 }
 
 #[tactic(auto, unfolding(crate::specs::Changes::go_of))]
-fn go(alloc: Global, tokens: &[Token<'_>]) -> Result<Moving, LineFault>
+fn go(alloc: Global, tokens: &[Token<'_>]) -> Result<NamedMove, LineFault>
     ensures { Gives (λ x. x) result (go_of tokens.now) }
 {
     let (element, rest) = element(alloc, tokens)?;
     let to = to_state(rest)?;
-    Ok(Moving::Go { element, to })
+    Ok(NamedMove::Go { element, to })
 }
 
-impl Production for Moving {
+impl Production for NamedMove {
     ghost spelled = { move_of };
 
     #[tactic(auto, unfolding(crate::specs::Changes::move_of))]
-    fn read(alloc: Global, tokens: &[Token<'_>]) -> Result<Moving, LineFault> {
+    fn read(alloc: Global, tokens: &[Token<'_>]) -> Result<NamedMove, LineFault> {
         let [first, rest @ ..] = tokens else {
             return Err(LineFault::Malformed);
         };
@@ -70,16 +70,16 @@ impl Production for Moving {
 }
 
 #[tactic(auto, unfolding(crate::specs::Changes::add_of))]
-fn add(alloc: Global, tokens: &[Token<'_>]) -> Result<Changing, LineFault>
+fn add(alloc: Global, tokens: &[Token<'_>]) -> Result<NamedChange, LineFault>
     ensures { Gives (λ x. x) result (add_of tokens.now) }
 {
     let (fresh, rest) = fresh(alloc, tokens)?;
-    at_end(Changing::Add(fresh), rest)
+    at_end(NamedChange::Add(fresh), rest)
 }
 
 /// What is behind a `drop`.
 #[tactic(auto, unfolding(crate::specs::Changes::drop_of))]
-fn dropped(alloc: Global, tokens: &[Token<'_>]) -> Result<Changing, LineFault>
+fn dropped(alloc: Global, tokens: &[Token<'_>]) -> Result<NamedChange, LineFault>
     ensures { Gives (λ x. x) result (drop_of tokens.now) }
 {
     let [first, rest @ ..] = tokens else {
@@ -87,20 +87,20 @@ fn dropped(alloc: Global, tokens: &[Token<'_>]) -> Result<Changing, LineFault>
     };
     if is_word(first, b"index") {
         let element = named_on(alloc, rest)?;
-        Ok(Changing::DropIndex(element))
+        Ok(NamedChange::DropIndex(element))
     } else if is_word(first, b"column") {
         let element = named_on(alloc, rest)?;
-        Ok(Changing::DropColumn(element))
+        Ok(NamedChange::DropColumn(element))
     } else {
         Err(LineFault::Malformed)
     }
 }
 
-impl Production for Changing {
+impl Production for NamedChange {
     ghost spelled = { change_of };
 
     #[tactic(auto, unfolding(crate::specs::Changes::change_of))]
-    fn read(alloc: Global, tokens: &[Token<'_>]) -> Result<Changing, LineFault> {
+    fn read(alloc: Global, tokens: &[Token<'_>]) -> Result<NamedChange, LineFault> {
         let [first, rest @ ..] = tokens else {
             return Err(LineFault::Malformed);
         };

@@ -5,7 +5,7 @@ use Rattle.session.proofs.running.txn.Goals as goal
 
 pub returns : goal.returns
 returns c =
-    txn_under c.args.opened.now c.args.server.now c.in-Some.held.now c.args.moment c.args.operations.now _ c.transact-how.new.world _ _
+    txn_under c.args.opened.now c.args.server.now c.in-Some.held.now c.args.moment c.args.operations _ c.transact-how.new.world _ _
     (ap (map.get c.args.opened.now.leases) (sym c.as_bytes.ensures.value) ∙ sym c.in-Some.ensures)
     c.transact-how.ensures
     (c.reply.ensures.text ∙ c.in_ok-transacted_line.ensures)

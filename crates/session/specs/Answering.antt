@@ -5,7 +5,7 @@ use Rattle.std.specs.Fmt.{decimal}
 use Rattle.audit.specs.declared.report.CheckReport.{CheckReport}
 use Rattle.grammar.specs.declared.command.Command.{Command}
 use Rattle.grammar.specs.declared.command.Command.TheVariants as command
-use Rattle.grammar.specs.declared.moving.Moving.{Moving}
+use Rattle.grammar.specs.declared.named.NamedMove.{NamedMove}
 use Rattle.grammar.specs.declared.operation.Operation.{Operation}
 use Rattle.grammar.specs.declared.selection.Selection.{Selection}
 use Rattle.row_write.specs.Made.{PreparedTxn}
@@ -32,9 +32,9 @@ use Rattle.world.specs.declared.pieces.PieceFault.{PieceFault}
 use Rattle.world.specs.declared.publishing.PublishFault.{PublishFault}
 use Rattle.session.specs.declared.pieces.PieceRead.{PieceRead}
 use Rattle.session.specs.declared.pieces.PieceRead.TheVariants as pieces
-use Rattle.session.specs.declared.session.Held.{Held}
-use Rattle.session.specs.declared.session.PreparedWork.{PreparedWork}
-use Rattle.session.specs.declared.session.PreparedWork.TheVariants.{Txn, Piece}
+use Rattle.session.specs.declared.session.ServerLease.{ServerLease}
+use Rattle.session.specs.declared.session.Pending.{Pending}
+use Rattle.session.specs.declared.session.Pending.TheVariants.{Txn, Piece}
 use Rattle.session.specs.declared.session.Opened.{Opened}
 use Rattle.session.specs.declared.session.Session.TheVariants.{Running}
 use Rattle.session.specs.declared.preparing.Preparation.{Preparation}
@@ -43,7 +43,7 @@ use Rattle.session.specs.declared.transacting.Transacted.{Transacted}
 use Rattle.session.specs.Session.{Session}
 use Rattle.session.specs.Declaring.{IsReply, IsBad}
 use Rattle.naming.specs.Names.{resolved_all, asked, numbered}
-use Rattle.replies.specs.Texts.{refused, grant_name, leased, pairs_text, check_text}
+use Rattle.replies.specs.Texts.{line, refused, grant_name, leased, pairs_text, check_text}
 use Rattle.session.specs.Preparing.{Prepares, prepared_text}
 use Rattle.session.specs.Forging.{Forged}
 use Rattle.naming.specs.Changes.{changes_of}
@@ -66,66 +66,83 @@ Leased old server (Ok given) world reply bad new =
 Leased old server (Err fault) world reply bad new = IsReply (refused (grant_name fault)) reply bad × (new ≡ Running old)
 
 -- a transaction under the server's lease, where it has one
-abbrev pub TxnUnder : Opened → Option Held → ℕ → List Operation → List ℕ → Bool → Session → Type 0
+abbrev pub TxnUnder : Opened → Option ServerLease → ℕ → List Operation → List ℕ → Bool → Session → Type 0
 TxnUnder old None moment operations reply bad new = IsReply (refused (codes "NoServer")) reply bad × (new ≡ Running old)
 TxnUnder old (Some held) moment operations reply bad new =
     (how : Transacted) × (world : State) × Transacts old.world held moment (resolved_all held.schema operations) how world
     × IsReply (transacted_text how) reply bad × (new ≡ Running (record old { world = world }))
 
--- this stands under the name, in place of what stood there
-abbrev pub put_back : Opened → List ℕ → PreparedWork → Opened
-put_back old work prepared = record old { works = map.insert old.works work prepared }
+-- this is kept under the name, in place of what was kept there
+abbrev pub kept : Opened → List ℕ → Pending → Opened
+kept old name prepared = record old { pending = map.insert old.pending name prepared }
 
 -- what was prepared is kept under its name
-abbrev pub works_after : Opened → List ℕ → Preparation → Opened
-works_after old work (Ready prepared) = put_back old work (Txn prepared)
-works_after old work (Unprepared fault) = old
-works_after old work OutOfMemory = old
+abbrev pub kept_after : Opened → List ℕ → Preparation → Opened
+kept_after old name (Ready prepared) = kept old name (Txn prepared)
+kept_after old name (Unprepared fault) = old
+kept_after old name OutOfMemory = old
 
 -- a preparation under the server's lease, where it has one
-abbrev pub PrepareUnder : Opened → Option Held → List ℕ → List Operation → List ℕ → Bool → Session → Type 0
-PrepareUnder old None work operations reply bad new = IsReply (refused (codes "NoServer")) reply bad × (new ≡ Running old)
-PrepareUnder old (Some held) work operations reply bad new =
+abbrev pub PrepareUnder : Opened → Option ServerLease → List ℕ → List Operation → List ℕ → Bool → Session → Type 0
+PrepareUnder old None name operations reply bad new = IsReply (refused (codes "NoServer")) reply bad × (new ≡ Running old)
+PrepareUnder old (Some held) name operations reply bad new =
     (how : Preparation) × Prepares old.world held (resolved_all held.schema operations) how
-    × IsReply (prepared_text how) reply bad × (new ≡ Running (works_after old work how))
+    × IsReply (prepared_text how) reply bad × (new ≡ Running (kept_after old name how))
 
--- what stands behind a work that is spent
+-- what stands behind what is spent
 abbrev pub taken : Opened → List ℕ → Opened
-taken old work = record old { works = map.remove old.works work }
+taken old name = record old { pending = map.remove old.pending name }
 
 -- a transaction is spent where the world accepts it or its rows refuse it, and else stays
 abbrev pub TxnLeaves : Opened → List ℕ → Result Committed (CommitFault × PreparedTxn) → State → List ℕ → Bool → Session → Type 0
-TxnLeaves old work (Ok done) world reply bad new = IsReply (committed_text done) reply bad × (new ≡ Running (record (taken old work) { world = world }))
-TxnLeaves old work (Err refusal) world reply bad new = IsReply (refused (commit_name refusal.0)) reply bad × (new ≡ Running old)
+TxnLeaves old name (Ok done) world reply bad new = IsReply (committed_text done) reply bad × (new ≡ Running (record (taken old name) { world = world }))
+TxnLeaves old name (Err refusal) world reply bad new = IsReply (refused (commit_name refusal.0)) reply bad × (new ≡ Running old)
 
 abbrev pub TxnEnds : Opened → List ℕ → ℕ → PreparedTxn → List ℕ → Bool → Session → Type 0
-TxnEnds old work moment prepared reply bad new =
-    (result : Result Committed (CommitFault × PreparedTxn)) × (world : State) × CommitStep old.world moment prepared result world × TxnLeaves old work result world reply bad new
+TxnEnds old name moment prepared reply bad new =
+    (result : Result Committed (CommitFault × PreparedTxn)) × (world : State) × CommitStep old.world moment prepared result world × TxnLeaves old name result world reply bad new
 
 -- a piece is spent where the world accepts it, and else stays
 abbrev pub PieceLeaves : Opened → List ℕ → Result PieceDone (PieceFault × Reading) → State → List ℕ → Bool → Session → Type 0
-PieceLeaves old work (Ok done) world reply bad new = IsReply (piece_text done) reply bad × (new ≡ Running (record (taken old work) { world = world }))
-PieceLeaves old work (Err refusal) world reply bad new = IsReply (refused (piece_name refusal.0)) reply bad × (new ≡ Running old)
+PieceLeaves old name (Ok done) world reply bad new = IsReply (piece_text done) reply bad × (new ≡ Running (record (taken old name) { world = world }))
+PieceLeaves old name (Err refusal) world reply bad new = IsReply (refused (piece_name refusal.0)) reply bad × (new ≡ Running old)
 
 abbrev pub PieceEnds : Opened → List ℕ → ℕ → Reading → List ℕ → Bool → Session → Type 0
-PieceEnds old work moment read reply bad new =
-    (result : Result PieceDone (PieceFault × Reading)) × (world : State) × PieceStep old.world moment read result world × PieceLeaves old work result world reply bad new
+PieceEnds old name moment read reply bad new =
+    (result : Result PieceDone (PieceFault × Reading)) × (world : State) × PieceStep old.world moment read result world × PieceLeaves old name result world reply bad new
+
+-- the reply to the commit of a transaction, and what is left of the transaction
+abbrev pub txn_reply : Result Committed (CommitFault × PreparedTxn) → List ℕ × Option Pending
+txn_reply (Ok done) = (line (committed_text done), None)
+txn_reply (Err refusal) = (line (refused (commit_name refusal.0)), Some (Txn refusal.1))
+
+-- the reply to the commit of a piece, and what is left of the piece
+abbrev pub piece_reply : Result PieceDone (PieceFault × Reading) → List ℕ × Option Pending
+piece_reply (Ok done) = (line (piece_text done), None)
+piece_reply (Err refusal) = (line (refused (piece_name refusal.0)), Some (Piece refusal.1))
+
+-- what was prepared is committed, with this reply, and this is left of it
+abbrev pub Ends : State → ℕ → Pending → List ℕ → Option Pending → State → Type 0
+Ends old moment (Txn prepared) text left new =
+    (result : Result Committed (CommitFault × PreparedTxn)) × CommitStep old moment prepared result new × ((text, left) ≡ txn_reply result)
+Ends old moment (Piece read) text left new =
+    (result : Result PieceDone (PieceFault × Reading)) × PieceStep old moment read result new × ((text, left) ≡ piece_reply result)
 
 -- the commit of what was prepared under the name
-abbrev pub CommitOf : Opened → Option PreparedWork → List ℕ → ℕ → List ℕ → Bool → Session → Type 0
-CommitOf old None work moment reply bad new = IsReply (refused (codes "NoWork")) reply bad × (new ≡ Running old)
-CommitOf old (Some (Txn prepared)) work moment reply bad new = TxnEnds old work moment prepared reply bad new
-CommitOf old (Some (Piece read)) work moment reply bad new = PieceEnds old work moment read reply bad new
+abbrev pub CommitOf : Opened → Option Pending → List ℕ → ℕ → List ℕ → Bool → Session → Type 0
+CommitOf old None name moment reply bad new = IsReply (refused (codes "NoWork")) reply bad × (new ≡ Running old)
+CommitOf old (Some (Txn prepared)) name moment reply bad new = TxnEnds old name moment prepared reply bad new
+CommitOf old (Some (Piece read)) name moment reply bad new = PieceEnds old name moment read reply bad new
 
 -- a piece of an element of the newest version is read and prepared, and is then kept under its name
 abbrev pub piece_kept : Opened → List ℕ → PieceRead → Opened
-piece_kept old work (pieces.Ready read) = put_back old work (Piece read)
-piece_kept old work (pieces.Unread fault) = old
-piece_kept old work pieces.OutOfMemory = old
+piece_kept old name (pieces.Ready read) = kept old name (Piece read)
+piece_kept old name (pieces.Unread fault) = old
+piece_kept old name pieces.OutOfMemory = old
 
 abbrev pub PieceUnder : Opened → List ℕ → ℕ → ℕ → ℕ → List ℕ → Bool → Session → Type 0
-PieceUnder old work number piece limit reply bad new =
-    (how : PieceRead) × ReadsPiece old.world number piece limit how × IsReply (read_text how) reply bad × (new ≡ Running (piece_kept old work how))
+PieceUnder old name number piece limit reply bad new =
+    (how : PieceRead) × ReadsPiece old.world number piece limit how × IsReply (read_text how) reply bad × (new ≡ Running (piece_kept old name how))
 
 -- a reorganisation of an element of the newest version begins
 abbrev pub Begun : Opened → ℕ → ℕ → ℕ → List ℕ → Bool → Session → Type 0
@@ -156,12 +173,12 @@ abbrev pub Told : Opened → List ℕ → Bool → Type 0
 Told old reply bad = (text : List ℕ) × IsStatus old.world text × IsReply text reply bad
 
 -- a query under the server's lease, where it has one
-abbrev pub QueryUnder : Opened → Option Held → ℕ → Selection → List ℕ → Bool → Session → Type 0
+abbrev pub QueryUnder : Opened → Option ServerLease → ℕ → Selection → List ℕ → Bool → Session → Type 0
 QueryUnder old None moment selection reply bad new = IsReply (refused (codes "NoServer")) reply bad × (new ≡ Running old)
 QueryUnder old (Some held) moment selection reply bad new = Queried old.world held moment (asked held.schema selection) reply × (bad ≡ false) × (new ≡ Running old)
 
 -- a step is published, by the names of the newest version
-abbrev pub Published : Opened → ℕ → List Moving → List ℕ → Bool → Session → Type 0
+abbrev pub Published : Opened → ℕ → List NamedMove → List ℕ → Bool → Session → Type 0
 Published old moment moves reply bad new =
     (result : Result (ℕ × Receipt) PublishFault) × (world : State) × PublishStep old.world moment (step_of (facts_of old.world).newest moves) result world
     × IsReply (published_text result) reply bad × (new ≡ Running (record old { world = world }))
@@ -173,7 +190,7 @@ Checked old reply bad = ((report : CheckReport) × IsCheck old.world report × I
 abbrev pub Changes : Opened → Command → List ℕ → Bool → Session → Type 0
 Changes old (command.Forge server version granted until) reply bad new = Forged old server (record { version = version; granted = granted; until = until }) reply bad new
 Changes old (command.Publish moment moves) reply bad new = Published old moment moves reply bad new
-Changes old (command.Piece work element piece limit) reply bad new = PieceUnder old work (numbered (facts_of old.world).newest element) piece limit reply bad new
+Changes old (command.Piece name element piece limit) reply bad new = PieceUnder old name (numbered (facts_of old.world).newest element) piece limit reply bad new
 Changes old (command.Reorganise element moment pieces) reply bad new = Begun old (numbered (facts_of old.world).newest element) moment pieces reply bad new
 Changes old (command.Work element moment limit) reply bad new = Worked old (numbered (facts_of old.world).newest element) moment limit reply bad new
 Changes old (command.Plan changes) reply bad new = Planned old (changes_of (facts_of old.world).newest changes) reply bad new
@@ -188,7 +205,7 @@ Answers old (command.Txn server moment operations) reply bad new = TxnUnder old 
 Answers old command.Pairs reply bad new = (reply ≡ pairs_text (map.entries old.world.pairs)) × (bad ≡ false) × (new ≡ Running old)
 Answers old command.Check reply bad new = Checked old reply bad × (new ≡ Running old)
 Answers old command.Log reply bad new = IsReply (codes "ok log " ++ decimal (length old.world.log)) reply bad × (new ≡ Running old)
-Answers old (command.Prepare work server operations) reply bad new = PrepareUnder old (map.get old.leases server) work operations reply bad new
-Answers old (command.Commit work moment) reply bad new = CommitOf old (map.get old.works work) work moment reply bad new
+Answers old (command.Prepare name server operations) reply bad new = PrepareUnder old (map.get old.leases server) name operations reply bad new
+Answers old (command.Commit name moment) reply bad new = CommitOf old (map.get old.pending name) name moment reply bad new
 Answers old (command.Query server moment selection) reply bad new = QueryUnder old (map.get old.leases server) moment selection reply bad new
 Answers old other reply bad new = Changes old other reply bad new

@@ -1,52 +1,44 @@
 //! The lines behind `open`.
-ghost use Rattle.std.specs.Prelude.{◌≡◌, IfOk, false, codes, length, string_bytes};
+ghost use Rattle.std.specs.Prelude.{◌≡◌, IfOk, length, string_bytes};
 ghost use Rattle.std.specs.FinMap as map;
 ghost use Rattle.std.specs.List.{flat_map};
 ghost use Rattle.grammar.specs.declared.command.Command.TheVariants as command;
-ghost use Rattle.replies.specs.Texts.{line, refused, pair_line};
-ghost use Rattle.session.specs.Running.{Answers, Changes};
+ghost use Rattle.replies.specs.Texts.{pair_line};
+ghost use Rattle.session.specs.Answering.{Answers, Changes};
 ghost use Rattle.session.specs.declared.session.Session.TheVariants.{Running};
 
 use crate::forging::forge;
+use crate::pending::{commit, prepare};
 use crate::pieces::piece;
 use crate::planning::{next, plan};
 use crate::publishing::publish;
 use crate::querying::query;
-use crate::reorganising::reorganise;
-use crate::session::{Answer, Held, Opened, bad_line, reply};
+use crate::reorganising::{reorganise, work};
+use crate::session::{Answer, Opened, ServerLease, bad_line, key_of, refusal, reply};
 use crate::transacting::{transact, transacted_line};
-use crate::working::work;
-use crate::works::{commit, prepare};
-use byte_map::Bytes;
 use grammar::{Command, Operation};
 use keycode::Text;
 use lease::Lease;
-use replies::{check_line, grant_refusal, lease_line, push_number, push_pair};
+use listed::Listed;
+use replies::{check_line, grant_refusal, lease_line, push_numbered, push_pair};
 use row_map::PairView;
 use status_line::status_line;
 use std::alloc::{AllocError, Global};
 use world::World;
 
-/// A name as a key.
-pub(crate) fn key_of(alloc: Global, name: &Text) -> Result<Bytes, AllocError>
-    ensures { IfOk result (λ key. key ≡ name.now) }
-{
-    Bytes::new(Vec::from_slice(alloc, name.as_bytes())?)
-}
-
 fn lease(
     alloc: Global,
     opened: &mut Opened,
-    server: &Text,
+    server: Text,
     moment: u64,
 ) -> Result<Answer, AllocError>
-    ensures { IfOk result (λ a. Answers opened.old (command.Lease server.now moment) (string_bytes a.text) a.is_bad (Running opened.new)) }
+    ensures { IfOk result (λ a. Answers opened.old (command.Lease server moment) (string_bytes a.text) a.is_bad (Running opened.new)) }
 {
-    let name = key_of(alloc, server)?;
+    let name = key_of(server)?;
     match opened.world.lease(alloc, moment) {
         Ok(grant) => {
             let answer = reply(lease_line(alloc, &grant.lease)?);
-            let held = Held {
+            let held = ServerLease {
                 lease: grant.lease,
                 schema: grant.schema,
             };
@@ -57,26 +49,18 @@ fn lease(
     }
 }
 
-/// The reply where the server has no lease.
-pub(crate) fn no_server(alloc: Global) -> Result<Answer, AllocError>
-    ensures text { IfOk result (λ a. string_bytes a.text ≡ line (refused (codes "NoServer"))) }
-    ensures good { IfOk result (λ a. a.is_bad ≡ false) }
-{
-    Ok(reply("refused NoServer\n".to_string(alloc)?))
-}
-
 fn txn(
     alloc: Global,
     opened: &mut Opened,
     server: &Text,
     moment: u64,
-    operations: &[Operation],
+    operations: Listed<Operation>,
 ) -> Result<Answer, AllocError>
-    ensures { IfOk result (λ a. Answers opened.old (command.Txn server.now moment operations.now) (string_bytes a.text) a.is_bad (Running opened.new)) }
+    ensures { IfOk result (λ a. Answers opened.old (command.Txn server.now moment operations) (string_bytes a.text) a.is_bad (Running opened.new)) }
 {
     let how = match opened.leases.get(server.as_bytes()) {
         Some(held) => transact(alloc, &mut opened.world, held, moment, operations),
-        None => return no_server(alloc),
+        None => return refusal(alloc, "NoServer"),
     };
     Ok(reply(transacted_line(alloc, &how)?))
 }
@@ -103,9 +87,7 @@ fn pairs(alloc: Global, opened: &Opened) -> Result<Answer, AllocError>
     ensures { IfOk result (λ a. Answers opened.now command.Pairs (string_bytes a.text) a.is_bad (Running opened.now)) }
 {
     let (mut text, number) = all_pairs(alloc, &opened.world)?;
-    text.push_str("ok pairs ")?;
-    push_number(&mut text, number)?;
-    text.push_str("\n")?;
+    push_numbered(&mut text, "ok pairs ", number)?;
     Ok(reply(text))
 }
 
@@ -114,9 +96,7 @@ fn log(alloc: Global, opened: &Opened) -> Result<Answer, AllocError>
 {
     let number = opened.world.log().len() as u64;
     let mut text = String::new(alloc);
-    text.push_str("ok log ")?;
-    push_number(&mut text, number)?;
-    text.push_str("\n")?;
+    push_numbered(&mut text, "ok log ", number)?;
     Ok(reply(text))
 }
 
@@ -154,15 +134,15 @@ fn change(alloc: Global, opened: &mut Opened, command: Command) -> Result<Answer
                 granted,
                 until,
             };
-            forge(alloc, opened, &server, lease)
+            forge(alloc, opened, server, lease)
         }
-        Command::Publish { moment, moves } => publish(alloc, opened, moment, moves.as_slice()),
+        Command::Publish { moment, moves } => publish(alloc, opened, moment, moves),
         Command::Piece {
-            work,
+            name,
             element,
             piece: number,
             limit,
-        } => piece(alloc, opened, &work, &element, number, limit),
+        } => piece(alloc, opened, name, &element, number, limit),
         Command::Reorganise {
             element,
             moment,
@@ -173,7 +153,7 @@ fn change(alloc: Global, opened: &mut Opened, command: Command) -> Result<Answer
             moment,
             limit,
         } => work(alloc, opened, &element, moment, limit),
-        Command::Plan { changes } => plan(alloc, opened, changes.as_slice()),
+        Command::Plan { changes } => plan(alloc, opened, changes),
         Command::Next { moment } => next(alloc, opened, moment),
         Command::Status => status(alloc, opened),
         _ => bad_line(alloc),
@@ -189,26 +169,26 @@ pub(crate) fn answer(
     ensures { IfOk result (λ a. Answers opened.old command (string_bytes a.text) a.is_bad (Running opened.new)) }
 {
     match command {
-        Command::Lease { server, moment } => lease(alloc, opened, &server, moment),
+        Command::Lease { server, moment } => lease(alloc, opened, server, moment),
         Command::Txn {
             server,
             moment,
             operations,
-        } => txn(alloc, opened, &server, moment, operations.as_slice()),
+        } => txn(alloc, opened, &server, moment, operations),
         Command::Pairs => pairs(alloc, opened),
         Command::Check => check(alloc, opened),
         Command::Log => log(alloc, opened),
         Command::Prepare {
-            work,
+            name,
             server,
             operations,
-        } => prepare(alloc, opened, &work, &server, operations.as_slice()),
-        Command::Commit { work, moment } => commit(alloc, opened, &work, moment),
+        } => prepare(alloc, opened, name, &server, operations),
+        Command::Commit { name, moment } => commit(alloc, opened, name, moment),
         Command::Query {
             server,
             moment,
             selection,
-        } => query(alloc, opened, &server, moment, &selection),
+        } => query(alloc, opened, &server, moment, selection),
         other => change(alloc, opened, other),
     }
 }
