@@ -11,7 +11,7 @@ use Rattle.schema_version.specs.declared.element.ElementDef.{ElementDef}
 use Rattle.schema_version.specs.declared.element.NewElement.{NewElement}
 use Rattle.schema_version.specs.Names.{IsName, max_elements}
 use Rattle.schema_version.specs.Version.{Version, Table, table_at, element_at, live, is_like, is_index, listed, IsPublicColumn, IsKeyName, count_live}
-use Rattle.schema_version.specs.Moves.{as_element, in_state, entered, moved, IsColumnList, max_like}
+use Rattle.schema_version.specs.Moves.{as_element, in_state, turned_back, entered, moved, turned, IsColumnList, max_like}
 use Rattle.schema_version.specs.Sound.{IsSoundElement, HaveOwnNames, IsSoundVersion}
 use Rattle.schema_version.proofs.Entries.{tells}
 use Rattle.schema_version.proofs.Lists.{some_same}
@@ -220,24 +220,36 @@ module _ (u : Version) (after : map.FinMap nat_cmp ElementDef) (n : ℕ) (sound 
         counts = λ table index. (let few = fewer table index in let most = sound.counts table index in omega (arith, few, most));
       }
 
--- an element that goes to a state, where no live index lists it
+-- an element that goes to a state or turns back, where no live index lists it
 module _ (u : Version) (n : ℕ) (e : ElementDef) (sound : IsSoundVersion u) (at : element_at u n ≡ Some e)
     (unlisted : (m : ℕ) (index : ElementDef) → element_at u m ≡ Some index → ¬ (Contains (listed index.kind) n)) where
   own_number : e.number ≡ n
   own_number = (sound.elements n e at).own
 
-  changed_count : (to : ElementState) (table : ℕ) (index : Bool) → count_live (record u { elements = map.insert u.elements e.number (in_state e to) }) table index ≤ count_live u table index
-  changed_count to table index =
-      let same = count_change (λ (x : ElementDef). (x.table == table) && is_like index x.kind) u.elements e.number (in_state e to) e (sym (element_at-lookup u e.number) ∙ ap (element_at u) own_number ∙ at) refl in
+  -- another definition under its number, of its table and kind
+  changed_count : (x : ElementDef) → ((table : ℕ) (index : Bool) → ((x.table == table) && is_like index x.kind) ≡ ((e.table == table) && is_like index e.kind))
+      → (table : ℕ) (index : Bool) → count_live (record u { elements = map.insert u.elements e.number x }) table index ≤ count_live u table index
+  changed_count x alike table index =
+      let same = count_change (λ (y : ElementDef). (y.table == table) && is_like index y.kind) u.elements e.number x e (sym (element_at-lookup u e.number) ∙ ap (element_at u) own_number ∙ at) (alike table index) in
       omega (arith, same)
 
-  changed_sound : (to : ElementState) → to ≢ Absent → (to ≡ Public → (in_state e to).way ≡ Adding) → IsSoundVersion (record u { elements = map.insert u.elements e.number (in_state e to) })
-  changed_sound to live way =
-      kept_sound u (map.insert u.elements e.number (in_state e to)) n sound unlisted
-      (λ m apart. inserted_apart u.elements e.number m (in_state e to) (λ is. apart (is ∙ own_number)))
-      (λ x is. subst (Follows u n) (some_same (sym (inserted_here u.elements e.number n (in_state e to) (sym own_number)) ∙ is))
-      (record { old = e; at = at; own = refl; table = refl; name = refl; kind = refl; live = live; way = way }))
-      (changed_count to)
+  changed_sound : (x : ElementDef) → ((table : ℕ) (index : Bool) → ((x.table == table) && is_like index x.kind) ≡ ((e.table == table) && is_like index e.kind)) → Follows u n x → IsSoundVersion (record u { elements = map.insert u.elements e.number x })
+  changed_sound x alike follows =
+      kept_sound u (map.insert u.elements e.number x) n sound unlisted
+      (λ m apart. inserted_apart u.elements e.number m x (λ is. apart (is ∙ own_number)))
+      (λ y is. subst (Follows u n) (some_same (sym (inserted_here u.elements e.number n x (sym own_number)) ∙ is)) follows)
+      (changed_count x alike)
+
+  gone_sound : (to : ElementState) → to ≢ Absent → (to ≡ Public → (in_state e to).way ≡ Adding) → IsSoundVersion (record u { elements = map.insert u.elements e.number (in_state e to) })
+  gone_sound to live way = changed_sound (in_state e to) (λ table index. refl) (record { old = e; at = at; own = refl; table = refl; name = refl; kind = refl; live = live; way = way })
+
+  pub turned_sound : e.state ≢ Public → IsSoundVersion (turned u (Some e))
+  turned_sound private =
+      changed_sound (turned_back e) (λ table index. refl)
+      (record { old = e; at = at; own = refl; table = refl; name = refl; kind = refl; live = (sound.elements n e at).live; way = λ public. absurd (private public) })
+
+  pub turned_count : (table : ℕ) (index : Bool) → count_live (turned u (Some e)) table index ≤ count_live u table index
+  turned_count table index = changed_count (turned_back e) (λ t i. refl) table index
 
   removed_sound : IsSoundVersion (record u { elements = map.remove u.elements e.number })
   removed_sound =
@@ -248,12 +260,12 @@ module _ (u : Version) (n : ℕ) (e : ElementDef) (sound : IsSoundVersion u) (at
 
   pub moved_sound : (to : ElementState) → (to ≡ Public → (in_state e to).way ≡ Adding) → IsSoundVersion (moved u (Some e) to)
   moved_sound Absent way = removed_sound
-  moved_sound DeleteOnly way = changed_sound DeleteOnly (λ is. cc) way
-  moved_sound WriteOnly way = changed_sound WriteOnly (λ is. cc) way
-  moved_sound Public way = changed_sound Public (λ is. cc) way
+  moved_sound DeleteOnly way = gone_sound DeleteOnly (λ is. cc) way
+  moved_sound WriteOnly way = gone_sound WriteOnly (λ is. cc) way
+  moved_sound Public way = gone_sound Public (λ is. cc) way
 
   pub moved_count : (to : ElementState) (table : ℕ) (index : Bool) → count_live (moved u (Some e) to) table index ≤ count_live u table index
   moved_count Absent table index = count_remove (λ (x : ElementDef). (x.table == table) && is_like index x.kind) u.elements e.number
-  moved_count DeleteOnly table index = changed_count DeleteOnly table index
-  moved_count WriteOnly table index = changed_count WriteOnly table index
-  moved_count Public table index = changed_count Public table index
+  moved_count DeleteOnly table index = changed_count (in_state e DeleteOnly) (λ t i. refl) table index
+  moved_count WriteOnly table index = changed_count (in_state e WriteOnly) (λ t i. refl) table index
+  moved_count Public table index = changed_count (in_state e Public) (λ t i. refl) table index

@@ -5,7 +5,7 @@ ghost use Rattle.indexmap.specs.IndexMap.{insert_entry};
 ghost use Rattle.schema_version.specs.Version.{Version};
 ghost use Rattle.schema_version.specs.Names.{max_elements};
 ghost use Rattle.schema_version.specs.Moves.{as_element, is_entry, after_step};
-ghost use Rattle.schema_version.specs.Held.{moved_entries, made, table_held, IsHeld, holding};
+ghost use Rattle.schema_version.specs.Held.{moved_entries, turned_entries, made, table_held, IsHeld, holding};
 
 use crate::edges::edge;
 use crate::element::{ElementDef, ElementState, NewElement, Way};
@@ -62,6 +62,25 @@ fn go(
     Ok(())
 }
 
+// Turns an element back: it keeps its state, and is dropped from then on.
+fn turn(elements: &mut IndexMap<u32, ElementDef>, number: u32) -> Result<(), AllocError>
+    ensures turned { OnOk result (elements.new.entries ≡ turned_entries elements.old.entries number (lookup (nat_eq number) elements.old.entries)) }
+{
+    let Some(element) = elements.get(&number) else {
+        return Ok(());
+    };
+    let next = ElementDef {
+        number: element.number,
+        table: element.table,
+        name: element.name.clone()?,
+        kind: element.kind.clone()?,
+        state: element.state,
+        way: Way::Dropping,
+    };
+    elements.insert(number, next)?;
+    Ok(())
+}
+
 // Makes a move, and gives the next number after it.
 fn make(elements: &mut IndexMap<u32, ElementDef>, next: u32, a: &Move) -> Result<u32, AllocError>
     requires { next ≤ max_elements + 1 }
@@ -74,6 +93,10 @@ fn make(elements: &mut IndexMap<u32, ElementDef>, next: u32, a: &Move) -> Result
         }
         Move::Go { element, to } => {
             go(elements, *element, *to)?;
+            Ok(next)
+        }
+        Move::Turn { element } => {
+            turn(elements, *element)?;
             Ok(next)
         }
     }

@@ -12,7 +12,7 @@ use crate::step::Move;
 use keycode::Text;
 use row_map::ColumnType;
 
-/// Whether the step takes the element of this number to another state. An entered element has no number before.
+/// Whether the step takes the element of this number to another state or turns it back. An entered element has no number before.
 pub fn moves_element(step: &[Move], number: u32) -> bool
     ensures { result ≡ moves_element_of step.now number }
 {
@@ -24,7 +24,7 @@ fn is_move_of(a: &Move, number: u32) -> bool
 {
     match a {
         Move::Enter { .. } => false,
-        Move::Go { element, .. } => *element == number,
+        Move::Go { element, .. } | Move::Turn { element } => *element == number,
     }
 }
 
@@ -84,7 +84,7 @@ fn is_entry_like(a: &Move, table: u32, index: bool) -> bool
 {
     match a {
         Move::Enter { fresh, .. } => fresh.table == table && fresh.kind.is_like(index),
-        Move::Go { .. } => false,
+        Move::Go { .. } | Move::Turn { .. } => false,
     }
 }
 
@@ -113,7 +113,7 @@ fn is_entry_named(a: &Move, table: u32, name: &[u8]) -> bool
 {
     match a {
         Move::Enter { fresh, .. } => fresh.table == table && fresh.name.as_bytes() == name,
-        Move::Go { .. } => false,
+        Move::Go { .. } | Move::Turn { .. } => false,
     }
 }
 
