@@ -29,4 +29,10 @@ pub enum Change {
         table: u32,
         name: Text,
     },
+    /// The table's index or column of this name, which is being added and isn't public yet, turns back and goes. It counts as dropped
+    /// by the batch.
+    Abandon {
+        table: u32,
+        name: Text,
+    },
 }
