@@ -23,12 +23,13 @@ use Rattle.schema_version.specs.declared.element.NewElement.{NewElement}
 use Rattle.schema_version.specs.declared.step.Move.{Move}
 use Rattle.schema_version.specs.declared.step.Move.TheVariants.{Enter, Go}
 use Rattle.schema_version.specs.declared.step.StepFault.{StepFault}
-use Rattle.schema_version.specs.declared.step.StepFault.TheVariants.{Unknown, NotAdjacent, Dependent}
+use Rattle.schema_version.specs.declared.step.StepFault.TheVariants.{Unknown, NotAdjacent, WrongWay, Dependent}
 use mathlib.Core.List.{map as each}
 use Rattle.schema_version.specs.Version.{Version, element_at, listed, is_like, count_live}
 use Rattle.schema_version.proofs.Counts.{count_insert, count_change, count_remove}
 use Rattle.schema_version.proofs.Live.{element_at-lookup}
 use Rattle.schema_version.specs.Steps.{IsOrdered, in_state_or_none}
+use Rattle.change_plan.proofs.Shim.{edge, own_edge}
 use Rattle.schema_version.specs.Moves.{is_edge, as_element, entered, moved, after_move, after_step, is_move_of, moves_element, HasNoEdge, is_unready, IsFirstSuch, DependsOn, GoFaultAt, MoveFault, IsAllowed, is_entry, is_entry_like}
 
 -- ---- one number of the map of elements is written
@@ -116,7 +117,7 @@ pub record MayGo (version : Version) (step earlier : List Move) (number : ℕ) (
   pub there : element_at version number ≡ Some element
   pub first : moves_element earlier number ≡ false
   pub way : Way
-  pub edge : is_edge element.kind way element.state to ≡ true
+  pub along : edge element.kind element.way element.state to ≡ Some way
   pub free : (on : ℕ) → ¬ (DependsOn version step number element.kind on)
 
 pub may_go : (version : Version) (step earlier : List Move) (number : ℕ) (to : ElementState) → ((fault : StepFault) → ¬ (MoveFault version step earlier (Go number to) fault)) → MayGo version step earlier number to
@@ -126,7 +127,8 @@ may_go version step earlier number to h = pick (element_at version number) refl 
     pick None at h = absurd (h Unknown refl)
     pick (Some e) at h =
         let way : (way : Way) × (is_edge e.kind way e.state to ≡ true) = edge_one e.kind e.state to (λ none. h NotAdjacent (inl none)) in
-        record { element = e; there = at; first = not_true (moves_element earlier number) (λ t. h NotAdjacent (inr t)); way = way.0; edge = way.1; free = λ on d. h (Dependent on) d }
+        let own : (after : Way) × (edge e.kind e.way e.state to ≡ Some after) = own_edge e.kind e.way way.0 e.state to way.1 (λ wrong. h WrongWay wrong) in
+        record { element = e; there = at; first = not_true (moves_element earlier number) (λ t. h NotAdjacent (inr t)); way = own.0; along = own.1; free = λ on d. h (Dependent on) d }
 
 -- the list has no first such, so none of it is such
 pub none_such : (test : ℕ → Bool) (list : List ℕ) → ((found : ℕ) → ¬ (IsFirstSuch test list found)) → AllByRecursion (λ x. test x ≡ false) list
@@ -139,7 +141,7 @@ none_such test (x ∷ xs) h =
 abbrev pub AreReady : Version → List Move → Kind → Type 0
 AreReady version step kind = AllByRecursion (λ c. is_unready version step c ≡ false) (listed kind)
 
-ready_go : (version : Version) (step : List Move) (number : ℕ) (kind : Kind) → ((on : ℕ) → ¬ (DependsOn version step number kind on)) → AreReady version step kind
+pub ready_go : (version : Version) (step : List Move) (number : ℕ) (kind : Kind) → ((on : ℕ) → ¬ (DependsOn version step number kind on)) → AreReady version step kind
 ready_go version step number (Index columns) h = none_such (is_unready version step) columns h
 ready_go version step number (Optional type) h = tt
 
@@ -176,7 +178,7 @@ may_enter version step earlier fresh to h =
 pub data Becomes (old : Version) (step earlier : List Move) (next number : ℕ) (now : Option ElementDef) : Type 0 where
   Stays : now ≡ element_at old number → moves_element earlier number ≡ false → ((number < old.next) ⊎ (next ≤ number)) → Becomes old step earlier next number now
   Comes : (before after : List Move) (fresh : NewElement) → step ≡ before ++ Enter fresh DeleteOnly ∷ after → number ≡ old.next + count_by is_entry before → element_at old number ≡ None → now ≡ Some (as_element number fresh DeleteOnly) → AreReady old step fresh.kind → Becomes old step earlier next number now
-  Goes : (before after : List Move) (element : ElementDef) (way : Way) (to : ElementState) → step ≡ before ++ Go number to ∷ after → element_at old number ≡ Some element → is_edge element.kind way element.state to ≡ true → now ≡ in_state_or_none element to → AreReady old step element.kind → Becomes old step earlier next number now
+  Goes : (before after : List Move) (to : ElementState) → step ≡ before ++ Go number to ∷ after → (may : MayGo old step before number to) → now ≡ in_state_or_none may.element to → Becomes old step earlier next number now
 
 -- the version behind the first moves of a step
 pub record Midway (old : Version) (step earlier : List Move) (now : Version) : Type 0 where
@@ -291,7 +293,7 @@ module _ (old : Version) (step : List Move) (numbered : IsOrdered old) where
               strictly : now.next ≤ n → now.next + 1 ≤ n
               strictly above = elim (eq-or-lt_of_le above) [ inl is ↦ absurd (ne (sym is)) | inr more ↦ omega (arith, more) ]
           on n ne (Comes before after fresh split place at_old at_now ready) = Comes before after fresh split place at_old at_now ready
-          on n ne (Goes before after element way to split at_old edge at_now ready) = Goes before after element way to split at_old edge at_now ready
+          on n ne (Goes before after to split may at_now) = Goes before after to split may at_now
 
   mid_go : (earlier later : List Move) (now : Version) → Midway old step earlier now → (number : ℕ) (to : ElementState) → step ≡ earlier ++ Go number to ∷ later → MayGo old step earlier number to → Midway old step (earlier ++ Go number to ∷ []) (after_move now (Go number to))
   mid_go earlier later now mid number to split may = subst (λ (o : Option ElementDef). Midway old step (earlier ++ Go number to ∷ []) (moved now o to)) (sym at_now) (record {
@@ -347,14 +349,14 @@ module _ (old : Version) (step : List Move) (numbered : IsOrdered old) where
       becomes : (n : ℕ) → Becomes old step (earlier ++ Go number to ∷ []) (moved now (Some may.element) to).next n (element_at (moved now (Some may.element) to) n)
       becomes n = subst (λ next. Becomes old step (earlier ++ Go number to ∷ []) next n (element_at (moved now (Some may.element) to) n)) (sym (moved_next now may.element to)) (elim (same_or_apart n number) [
         | inl is ↦ subst (λ k. Becomes old step (earlier ++ Go number to ∷ []) now.next k (element_at (moved now (Some may.element) to) k)) (sym is)
-            (Goes earlier later may.element may.way to split may.there may.edge here (ready_go old step number may.element.kind may.free))
+            (Goes earlier later to split may here)
         | inr ne ↦ subst (Becomes old step (earlier ++ Go number to ∷ []) now.next n) (sym (apart_at n ne)) (on n ne (mid.becomes n))
       ])
         where
           on : (n : ℕ) → n ≢ number → Becomes old step earlier now.next n (element_at now n) → Becomes old step (earlier ++ Go number to ∷ []) now.next n (element_at now n)
           on n ne (Stays same unmoved outside) = Stays same (moves_both earlier (Go number to) n unmoved (not_true (number == n) (λ t. ne (sym ((Decides-eqb number n).0 t))))) outside
           on n ne (Comes before after fresh split place at_old at_now ready) = Comes before after fresh split place at_old at_now ready
-          on n ne (Goes before after element way to split at_old edge at_now ready) = Goes before after element way to split at_old edge at_now ready
+          on n ne (Goes before after to split may at_now) = Goes before after to split may at_now
 
   mid_move : (earlier later : List Move) (now : Version) → Midway old step earlier now → (move : Move) → step ≡ earlier ++ move ∷ later → ((fault : StepFault) → ¬ (MoveFault old step earlier move fault)) → Midway old step (earlier ++ move ∷ []) (after_move now move)
   mid_move earlier later now mid (Go number to) split h = mid_go earlier later now mid number to split (may_go old step earlier number to h)

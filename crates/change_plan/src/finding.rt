@@ -1,8 +1,9 @@
 //! Looking for the elements that a change names.
-ghost use Rattle.std.specs.Prelude.{◌≡◌, Some};
+ghost use Rattle.std.specs.Prelude.{◌≡◌};
 ghost use Rattle.std.specs.Option.{option_copied};
-ghost use Rattle.change_plan.specs.Batches.{named_index as named_index_of, named_column as named_column_of, lists as lists_of};
+ghost use Rattle.change_plan.specs.Batches.{named_index as named_index_of, named_column as named_column_of, leaving as leaving_of, lists as lists_of};
 
+use crate::change::Change;
 use keycode::Text;
 use schema_version::{ElementDef, Kind, Schema};
 
@@ -34,9 +35,20 @@ pub(crate) fn named_column<'a>(
     }
 }
 
+/// The live element that the change takes out, if it is there.
+pub(crate) fn leaving<'a>(schema: &'a Schema, change: &Change) -> Option<&'a ElementDef>
+    ensures { option_copied result ≡ leaving_of schema.now change.now }
+{
+    match change {
+        Change::DropIndex { table, name } => named_index(schema, *table, name),
+        Change::DropColumn { table, name } => named_column(schema, *table, name),
+        _ => None,
+    }
+}
+
 /// Whether the element is an index that lists the column of this number.
 pub(crate) fn lists(element: &ElementDef, column: u32) -> bool
-    ensures { result ≡ lists_of column (Some element.now) }
+    ensures { result ≡ lists_of column element.now }
 {
     match &element.kind {
         Kind::Index(columns) => columns.as_slice().iter().any(|c| *c == column),
