@@ -82,7 +82,7 @@ fn course_out(kind: &Kind, _state: ElementState) -> Course
 
 // The steps until an element that leaves has gone, where it is an index that lists this column.
 fn steps_on(column: u32, element: Option<&ElementDef>) -> u32
-    ensures { result ≡ steps_on_of column (option_copied element) }
+    ensures { result ≡ steps_on_of column (option_copied element.entry) }
 {
     match element {
         Some(index) if lists(index, column) => steps(course_out(&index.kind, index.state)),
@@ -125,7 +125,7 @@ fn trip_out(
     all: &[Change],
     element: Option<&ElementDef>,
 ) -> Result<Option<Trip>, AllocError>
-    ensures { IfOk result (λ trip. option_to_list trip ≡ trip_out_of schema.now all.now (option_copied element)) }
+    ensures { IfOk result (λ trip. option_to_list trip ≡ trip_out_of schema.now all.now (option_copied element.entry)) }
 {
     match element {
         Some(element) => Ok(Some(out_trip(schema, all, element)?)),
