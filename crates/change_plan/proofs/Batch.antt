@@ -10,6 +10,7 @@ use Rattle.std.proofs.lemmas.List.Sums.{sum_by-append, sum_by-cons}
 use Rattle.std.proofs.lemmas.List.Folds.{list_any-append}
 use Rattle.std.proofs.lemmas.List.Elements.{Contains-append_cases, Contains-append_left}
 use Rattle.schema_version.specs.declared.element.ElementState.{ElementState}
+use Rattle.schema_version.specs.declared.element.ElementState.TheVariants.{Absent, DeleteOnly, WriteOnly, Public}
 use Rattle.schema_version.specs.declared.element.Kind.{Kind}
 use Rattle.schema_version.specs.declared.element.Kind.TheVariants.{Index, Optional}
 use Rattle.schema_version.specs.declared.element.ElementDef.{ElementDef}
@@ -31,7 +32,7 @@ use Rattle.change_plan.specs.Schedule.{steps, course_out, act_at, move_of, out_t
 use Rattle.change_plan.proofs.Steps.{not_both}
 use Rattle.change_plan.proofs.Named.{contains_cases, contains_middle, split_at, ordered, same_name_is}
 use Rattle.change_plan.proofs.Trips.{is_in, appears, no_entry}
-use Rattle.change_plan.proofs.Leaving.{index_there, column_there, Departs, departs}
+use Rattle.change_plan.proofs.Leaving.{index_there, column_there, entering_there, Departs, departs}
 use Rattle.change_plan.proofs.Lawful.{next_at}
 
 -- ---- where a trip comes from
@@ -160,8 +161,12 @@ counts old all time test h (change ∷ changes) early late =
 
 -- none of what leaves enters
 pub out_of : (kind : Kind) (state : ElementState) → is_in (course_out kind state) ≡ false
-out_of (Index columns) state = refl
-out_of (Optional type) state = refl
+out_of kind DeleteOnly = refl
+out_of kind WriteOnly = refl
+out_of (Index columns) Absent = refl
+out_of (Index columns) Public = refl
+out_of (Optional type) Absent = refl
+out_of (Optional type) Public = refl
 
 no_out_entry : (old : Version) (all : List Change) (time : ℕ) (o : Option ElementDef) → count_by is_entry (flat_map (move_of time) (trip_out old all o)) ≡ 0
 no_out_entry old all time None = refl
@@ -268,7 +273,9 @@ module _ (old : Version) (sound : IsSoundVersion old) (all : List Change) (plann
   twice before after (DropColumn table name) e split is earlier =
       let there = column_there old (ordered sound) table name e is in
       plannable before after (DropColumn table name) Unknown split (inr (subst (λ t. list_any (drops t name) before ≡ true) there.1 (subst (λ n. list_any (drops e.table n) before ≡ true) there.2 earlier)))
-  twice before after (Abandon table name) e split is earlier = not_both e None is refl
+  twice before after (Abandon table name) e split is earlier =
+      let there = entering_there old (ordered sound) table name e is in
+      plannable before after (Abandon table name) Unknown split (inr (subst (λ t. list_any (drops t name) before ≡ true) there.1 (subst (λ n. list_any (drops e.table n) before ≡ true) there.2 earlier)))
 
   pub apart_is : (done rest : List Trip) (trip other : Trip) → trips old all ≡ done ++ trip ∷ rest → Contains done other → other.number ≢ trip.number
   apart_is done rest trip other split among same = differ (role old all p.now_early p.now_late p.change trip p.from_change) (role old all q.now_early q.now_late q.change other q.from_change)

@@ -13,10 +13,11 @@ use Rattle.schema_version.specs.declared.element.Kind.TheVariants.{Index, Option
 use Rattle.schema_version.specs.declared.element.ElementDef.{ElementDef}
 use Rattle.schema_version.specs.declared.step.Move.{Move}
 use Rattle.schema_version.specs.Version.{Version, element_at, state_of, state_or_absent, is_public, listed}
-use Rattle.schema_version.specs.Moves.{way_after, after_step, moves_element, is_unready, IsIndexOn, IsLeastIndexOn, DependsOn}
+use Rattle.std.specs.Option.{unwrap_or}
+use Rattle.schema_version.specs.Edges.{edge}
+use Rattle.schema_version.specs.Moves.{turned_back, after_step, moves_element, is_unready, IsIndexOn, IsLeastIndexOn, DependsOn}
 use Rattle.schema_version.specs.Steps.{IsOrdered, in_state_or_none}
-use Rattle.change_plan.proofs.Shim.{edge, way_then}
-use Rattle.change_plan.proofs.Steps.{Becomes, Stays, Comes, Goes, Midway, AreReady, ready_go, after_allowed, not_both}
+use Rattle.change_plan.proofs.Steps.{Becomes, Stays, Comes, Goes, Turns, Midway, AreReady, ready_go, after_allowed, not_both}
 use Rattle.change_plan.specs.declared.least_plan.PlanStep.{PlanStep}
 use Rattle.change_plan.specs.Plans.{after_plan, AreAllowed}
 
@@ -79,6 +80,14 @@ edge_falls (Optional type) way Dropping Public DeleteOnly e = omega arith
 edge_falls (Optional type) Dropping after DeleteOnly Absent e = omega arith
 edge_falls kind way after from to e = absurd cc
 
+-- and so does a turn
+turn_falls : (kind : Kind) (state : ElementState) → moves_out kind state Adding ≤ moves_out kind state Dropping + 1
+turn_falls kind Absent = omega arith
+turn_falls kind DeleteOnly = omega arith
+turn_falls kind WriteOnly = omega arith
+turn_falls (Index columns) Public = omega arith
+turn_falls (Optional type) Public = omega arith
+
 height_gone : (element : ElementDef) (to : ElementState) → height (in_state_or_none element to) ≡ height_in element.kind to
 height_gone element Absent = refl
 height_gone element DeleteOnly = refl
@@ -87,9 +96,9 @@ height_gone element Public = refl
 
 distance_gone : (element : ElementDef) (to : ElementState) (way : Way) → edge element.kind element.way element.state to ≡ Some way → distance (in_state_or_none element to) ≡ moves_out element.kind to way
 distance_gone element Absent way e = refl
-distance_gone element DeleteOnly way e = ap (moves_out element.kind DeleteOnly) (way_then element.kind element.way way element.state DeleteOnly e)
-distance_gone element WriteOnly way e = ap (moves_out element.kind WriteOnly) (way_then element.kind element.way way element.state WriteOnly e)
-distance_gone element Public way e = ap (moves_out element.kind Public) (way_then element.kind element.way way element.state Public e)
+distance_gone element DeleteOnly way e = ap (λ o. moves_out element.kind DeleteOnly (unwrap_or o element.way)) e
+distance_gone element WriteOnly way e = ap (λ o. moves_out element.kind WriteOnly (unwrap_or o element.way)) e
+distance_gone element Public way e = ap (λ o. moves_out element.kind Public (unwrap_or o element.way)) e
 
 -- a step moves a number at most one up, and one nearer to being gone
 height_rises : (old : Version) (step : List Move) (next n : ℕ) (now : Option ElementDef) → Becomes old step step next n now → height now ≤ height (element_at old n) + 1
@@ -100,6 +109,7 @@ height_rises old step next n now (Goes earlier later to split may after) =
     let end : height now ≡ height_in may.element.kind to = ap height after ∙ height_gone may.element to in
     let up = edge_rises may.element.kind may.element.way may.way may.element.state to may.along in
     omega arith
+height_rises old step next n now (Turns earlier later split may after) = let is : height now ≡ height (element_at old n) = ap height after ∙ sym (ap height may.there) in omega arith
 
 distance_falls : (old : Version) (step : List Move) (next n : ℕ) (now : Option ElementDef) → Becomes old step step next n now → distance (element_at old n) ≤ distance now + 1
 distance_falls old step next n now (Stays same unmoved outside) = let is : distance now ≡ distance (element_at old n) = ap distance same in omega arith
@@ -108,6 +118,11 @@ distance_falls old step next n now (Goes earlier later to split may after) =
     let start : distance (element_at old n) ≡ moves_out may.element.kind may.element.state may.element.way = ap distance may.there in
     let end : distance now ≡ moves_out may.element.kind to may.way = ap distance after ∙ distance_gone may.element to may.way may.along in
     let down = edge_falls may.element.kind may.element.way may.way may.element.state to may.along in
+    omega arith
+distance_falls old step next n now (Turns earlier later split may after) =
+    let start : distance (element_at old n) ≡ moves_out may.element.kind may.element.state Adding = ap distance may.there ∙ ap (moves_out may.element.kind may.element.state) may.adding in
+    let end : distance now ≡ moves_out may.element.kind may.element.state Dropping = ap distance after in
+    let down = turn_falls may.element.kind may.element.state in
     omega arith
 
 -- ---- one element over a plan
@@ -143,6 +158,9 @@ still_gone element DeleteOnly now is = (cc, cc, cc)
 still_gone element WriteOnly now is = (cc, cc, cc)
 still_gone element Public now is = (cc, cc, cc)
 
+still_turned : (element now : ElementDef) → Some (turned_back element) ≡ Some now → IsStill now element
+still_turned element now is = (cc, cc, cc)
+
 still_step : (old : Version) (step : List Move) (now : Version) → Midway old step step now → (element : ElementDef) (number : ℕ) → IfLive element number old → IfLive element number now
 still_step old step now mid element number live =
     (let a : number < old.next = live.0 in let l = mid.next in omega arith, λ f at. pick f at (mid.becomes number))
@@ -153,6 +171,7 @@ still_step old step now mid element number live =
     pick : (f : ElementDef) → element_at now number ≡ Some f → Becomes old step step now.next number (element_at now number) → IsStill f element
     pick f at (Stays same unmoved outside) = live.1 f (sym same ∙ at)
     pick f at (Comes earlier later fresh split place before after are) = let a : number < old.next = live.0 in absurd (omega arith)
+    pick f at (Turns earlier later split may after) = both f may.element (still_turned may.element f (sym after ∙ at)) (live.1 may.element may.there)
     pick f at (Goes earlier later to split may after) = both f may.element (still_gone may.element to f (sym after ∙ at)) (live.1 may.element may.there)
 
 still_over : (plan : List PlanStep) (old : Version) → IsOrdered old → AreAllowed old plan → (element : ElementDef) (number : ℕ) → IfLive element number old → IfLive element number (after_plan old plan)
@@ -214,6 +233,7 @@ heights_step old step now index column numbered mid lists_old lists_now = pick (
     pick : Becomes old step step now.next index (element_at now index) → heights index column now ≤ heights index column old + 1
     pick (Stays same unmoved outside) = level (ap height same)
     pick (Comes earlier later fresh split place before after are) = ready fresh.kind are (lists_now _ after)
+    pick (Turns earlier later split may after) = level (ap height after ∙ sym (ap height may.there))
     pick (Goes earlier later to split may after) = ready may.element.kind (ready_go old step index may.element.kind may.free) (lists_old may.element may.there)
 
 pub two_added : (plan : List PlanStep) (old : Version) → IsOrdered old → AreAllowed old plan → (index column : ℕ) (element : ElementDef) → element_at (after_plan old plan) index ≡ Some element → Contains (listed element.kind) column
@@ -242,6 +262,10 @@ column_stays old step now mid index column i c type at_index lists at_column kin
     pick : Becomes old step step now.next column (element_at now column) → element_at now column ≡ Some c
     pick (Stays same unmoved outside) = same ∙ at_column
     pick (Comes earlier later fresh split place before after are) = absurd (not_both c (element_at old column) at_column before)
+    pick (Turns earlier later split may after) =
+        let one : Some may.element ≡ Some c = sym may.there ∙ at_column in
+        let is : may.element ≡ c = cc in
+        absurd (may.private (ap (λ (e : ElementDef). e.state) is ∙ state))
     pick (Goes earlier later to split may after) =
         let one : Some may.element ≡ Some c = sym may.there ∙ at_column in
         let is : may.element ≡ c = cc in

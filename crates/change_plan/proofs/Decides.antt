@@ -19,8 +19,7 @@ use Rattle.schema_version.proofs.Live.{live_has, live_from}
 use Rattle.schema_version.proofs.Decides.{word, at_most, itself}
 use Rattle.change_plan.specs.declared.change.Change.{Change}
 use Rattle.change_plan.specs.declared.change.Change.TheVariants.{AddIndex, DropIndex, AddColumn, DropColumn, Abandon}
-use Rattle.change_plan.specs.declared.fault.PlanFault.{PlanFault}
-use Rattle.change_plan.specs.Batches.{named, named_index, named_column, adds, adds_column, drops, drops_index, drops_column, lists}
+use Rattle.change_plan.specs.Batches.{named, named_index, named_column, named_entering, adds, adds_column, drops, drops_index, drops_column, lists}
 use Rattle.change_plan.specs.Refusals.{IsInChange, IsTaken, IsStillListed, AddsIndexOn, IsListed, adds_like, is_addition, IsOver, IsColumnList, ChangeFault}
 use Rattle.change_plan.specs.Deciding.{lacks_column, is_taken, is_in_change, still_lists, adds_index_on, is_listed, is_over, change_check}
 use Rattle.change_plan.proofs.Chain.{Says, chain_says}
@@ -165,7 +164,13 @@ change_says old all earlier (DropColumn table name) =
       over = never;
       memory = λ h. h;
     })
-change_says old all earlier (Abandon table name) = none_faulty
-  where
-    none_faulty : (fault : PlanFault) → ¬ (ChangeFault old all earlier (Abandon table name) fault)
-    none_faulty fault h = h
+change_says old all earlier (Abandon table name) =
+    chain_says (ChangeFault old all earlier (Abandon table name)) (not (is_some (named_entering old table name)) || list_any (drops table name) earlier) false (is_listed old all table name (named_column old table name)) false false
+    (record {
+      unknown = Decides-or (not (is_some (named_entering old table name))) (list_any (drops table name) earlier) (is_false (is_some (named_entering old table name))) (itself (list_any (drops table name) earlier));
+      taken = never;
+      indexed = on_column old all table name (named_column old table name);
+      moving = never;
+      over = never;
+      memory = λ h. h;
+    })

@@ -29,8 +29,8 @@ use Rattle.change_plan.specs.declared.trip.Course.TheVariants.{ColumnIn}
 use Rattle.change_plan.specs.declared.trip.Trip.{Trip}
 use Rattle.change_plan.specs.Schedule.{steps, course_out, duration, steps_on, wait_out, out_trip, trip_out, trip_of, trips_from, trips, is_early, is_late, column_number, added_number, number_or}
 use Rattle.change_plan.proofs.Steps.{not_both}
-use Rattle.change_plan.proofs.Named.{contains_first, contains_later, contains_cases, contains_none, contains_middle, split_at, any_element, same_name, same_name_is, named_there, not_named, and_true, ordered}
-use Rattle.change_plan.proofs.Leaving.{index_there, column_there, public_if_not_in_change, column_type, column_if, none_if_not_some, Departs, departs, clear}
+use Rattle.change_plan.proofs.Named.{contains_first, contains_later, contains_cases, contains_none, contains_middle, split_at, any_element, same_name, same_name_is, both_true, named_there, not_named, and_true, ordered}
+use Rattle.change_plan.proofs.Leaving.{index_there, column_there, entering_there, abandoned, public_if_not_in_change, column_type, column_if, none_if_not_some, Departs, departs, clear}
 use Rattle.change_plan.proofs.Least.{adds_column_is}
 use Rattle.change_plan.proofs.Trips.{find_trip, is_in, suits, At, departure, here, element_of}
 use Rattle.change_plan.proofs.Lawful.{ColumnFits, Steady, Added, Dropped, IsAdded, AreTrips}
@@ -83,34 +83,21 @@ made_added old all (x ∷ xs) table name early late e = pick (λ t. made_added o
 
 -- ---- elements of their own names
 
-pub index_named : (old : Version) → IsSoundVersion old → (number : ℕ) (index : ElementDef) → element_at old number ≡ Some index → is_index index.kind ≡ true → named_index old index.table index.name ≡ Some index
-index_named old sound number index at is_kind = pick (named old index.table index.name) refl
+pub own_name : (old : Version) → IsSoundVersion old → (number : ℕ) (e : ElementDef) → element_at old number ≡ Some e → named old e.table e.name ≡ Some e
+own_name old sound number e at = pick (named old e.table e.name) refl
   where
-    pick : (o : Option ElementDef) → named old index.table index.name ≡ o → named_index old index.table index.name ≡ Some index
-    pick None e = absurd (not_named old index.table index.name e number index at refl refl)
-    pick (Some g) e =
-        let there = named_there old (ordered sound) index.table index.name g e in
-        let at_own : element_at old index.number ≡ Some index = subst (λ n. element_at old n ≡ Some index) (sym ((ordered sound).numbered number index at)) at in
-        let same : g ≡ index = same_element old g index there.0 at_own (sound.names g.number index.number g index there.0 at_own there.1 there.2) in
-        ap (only_if is_index) (e ∙ ap Some same) ∙ ap (λ b. if b then Some index else None) is_kind
+    pick : (o : Option ElementDef) → named old e.table e.name ≡ o → named old e.table e.name ≡ Some e
+    pick None none = absurd (not_named old e.table e.name none number e at refl refl)
+    pick (Some g) is =
+        let there = named_there old (ordered sound) e.table e.name g is in
+        let at_own : element_at old e.number ≡ Some e = subst (λ n. element_at old n ≡ Some e) (sym ((ordered sound).numbered number e at)) at in
+        is ∙ ap Some (same_element old g e there.0 at_own (sound.names g.number e.number g e there.0 at_own there.1 there.2))
+
+pub index_named : (old : Version) → IsSoundVersion old → (number : ℕ) (index : ElementDef) → element_at old number ≡ Some index → is_index index.kind ≡ true → named_index old index.table index.name ≡ Some index
+index_named old sound number index at is_kind = ap (only_if is_index) (own_name old sound number index at) ∙ ap (λ b. if b then Some index else None) is_kind
 
 pub column_named : (old : Version) → IsSoundVersion old → (number : ℕ) (column : ElementDef) → element_at old number ≡ Some column → is_index column.kind ≡ false → named_column old column.table column.name ≡ Some column
-column_named old sound number column at is_kind = pick (named old column.table column.name) refl
-  where
-    pick : (o : Option ElementDef) → named old column.table column.name ≡ o → named_column old column.table column.name ≡ Some column
-    pick None e = absurd (not_named old column.table column.name e number column at refl refl)
-    pick (Some g) e =
-        let there = named_there old (ordered sound) column.table column.name g e in
-        let at_own : element_at old column.number ≡ Some column = subst (λ n. element_at old n ≡ Some column) (sym ((ordered sound).numbered number column at)) at in
-        let same : g ≡ column = same_element old g column there.0 at_own (sound.names g.number column.number g column there.0 at_own there.1 there.2) in
-        ap (only_if is_column) (e ∙ ap Some same) ∙ ap (λ b. if b then Some column else None) (column_if column.kind is_kind)
-
--- an index that a change takes out by its name
-drops_index_is : (old : Version) (index : ElementDef) (change : Change) → named_index old index.table index.name ≡ Some index → drops_index index.table index.name change ≡ true → leaving old change ≡ Some index
-drops_index_is old index (DropIndex other own) found e =
-    let same = same_name index.table index.name other own e in
-    subst (λ t. named_index old t own ≡ Some index) same.0 (subst (λ n. named_index old index.table n ≡ Some index) same.1 found)
-drops_index_is old index change found e = absurd (true≢false (sym e))
+column_named old sound number column at is_kind = ap (only_if is_column) (own_name old sound number column at) ∙ ap (λ b. if b then Some column else None) (column_if column.kind is_kind)
 
 contains_each : {A B : Type 0} (f : A → B) (xs : List A) (y : B) → Contains (each f xs) y → (x : A) × Contains xs x × (y ≡ f x)
 contains_each f [] y h = absurd (contains_none y h)
@@ -187,7 +174,10 @@ module _ (old : Version) (sound : IsSoundVersion old) (all : List Change) (plann
       pick (DropColumn t n) has_it is =
           let gone = column_there old (ordered sound) t n e is in
           clear old sound all plannable (AddIndex table name columns) has StillIndexed (λ earlier. (own, among, any_of (drops_column old table own) all (DropColumn t n) has_it (same_name_is table t own n (sym there.1 ∙ gone.1) (sym there.2 ∙ gone.2))))
-      pick (Abandon t n) has_it is = not_both e None is refl
+      pick (Abandon t n) has_it is =
+          let gone = entering_there old (ordered sound) t n e is in
+          clear old sound all plannable (AddIndex table name columns) has StillIndexed
+          (λ earlier. (own, among, any_of (drops_column old table own) all (Abandon t n) has_it (both_true _ _ (same_name_is table t own n (sym there.1 ∙ gone.1) (sym there.2 ∙ gone.2)) (ap is_some found))))
 
   -- a column of an added index
   added_fits : (table : ℕ) (name : List ℕ) (columns : List (List ℕ)) → Contains all (AddIndex table name columns) → (trip : Trip) → trip.fresh.table ≡ table → is_in trip.course ≡ true → (lists_added all table columns ≡ true → trip.wait ≡ steps ColumnIn)
@@ -302,19 +292,34 @@ module _ (old : Version) (sound : IsSoundVersion old) (all : List Change) (plann
       pick (Leaves e found is) = leaving_fits p.place.change (has_change trip p) e found trip is column (subst (λ (t : Trip). Contains (listed t.fresh.kind) column) is among)
 
   -- every index that lists a column which leaves does so too
+  -- (an index that a change takes out by its name)
+  index_dropped : (number : ℕ) (index : ElementDef) → element_at old number ≡ Some index → is_index index.kind ≡ true → (change : Change) → Contains all change → drops_index index.table index.name change ≡ true → leaving old change ≡ Some index
+  index_dropped number index at is_kind (DropIndex other own) has e =
+      let same = same_name index.table index.name other own e in
+      subst (λ t. named_index old t own ≡ Some index) same.0 (subst (λ n. named_index old index.table n ≡ Some index) same.1 (index_named old sound number index at is_kind))
+  index_dropped number index at is_kind (Abandon other own) has e =
+      let same = same_name index.table index.name other own e in
+      abandoned old sound all plannable other own has index (subst (λ t. named old t own ≡ Some index) same.0 (subst (λ n. named old index.table n ≡ Some index) same.1 (own_name old sound number index at)))
+  index_dropped number index at is_kind change has e = absurd (true≢false (sym e))
+
   covers : (change : Change) → Contains all change → (e : ElementDef) → leaving old change ≡ Some e → is_index e.kind ≡ false → (number : ℕ) (index : ElementDef) → element_at old number ≡ Some index → Contains (listed index.kind) e.number → list_any (drops_index index.table index.name) all ≡ true
   covers (AddIndex table name columns) has e is is_column number index at among = absurd (not_both e None is refl)
   covers (AddColumn table name kind) has e is is_column number index at among = absurd (not_both e None is refl)
   covers (DropIndex table name) has e is is_column number index at among = absurd (true≢false (sym (index_there old (ordered sound) table name e is).3 ∙ is_column))
   covers (DropColumn table name) has e is is_column number index at among =
       is_true_if_not_false _ (λ f. clear old sound all plannable (DropColumn table name) has StillIndexed (λ earlier. subst (λ o. IsListed old all table name o) (sym is) (inl (number, index, at, among, f))))
-  covers (Abandon table name) has e is is_column number index at among = absurd (not_both e None is refl)
+  covers (Abandon table name) has e is is_column number index at among =
+      let there = entering_there old (ordered sound) table name e is in
+      let column = (sound.elements number index at).columns e.number among in
+      let one : Some e ≡ Some column.0 = sym there.0 ∙ column.2 in
+      let same : e ≡ column.0 = cc in
+      absurd (there.4 (ap (λ (x : ElementDef). x.state) same ∙ column.5))
 
   leaving_covered : (change : Change) → Contains all change → (e : ElementDef) → leaving old change ≡ Some e → is_index e.kind ≡ false → (number : ℕ) (index : ElementDef) → element_at old number ≡ Some index → Contains (listed index.kind) e.number → (other : Trip) × Contains (trips old all) other × (other.number ≡ number)
   leaving_covered change has e is is_column number index at among =
       let dropper = any_element (drops_index index.table index.name) all (covers change has e is is_column number index at among) in
-      let found_index = index_named old sound number index at (is_index_if_lists index.kind among) in
-      (out_trip old all index, made_leaving old all dropper.0 index dropper.1 (drops_index_is old index dropper.0 found_index dropper.2), (ordered sound).numbered number index at)
+      let is_dropped = index_dropped number index at (is_index_if_lists index.kind among) dropper.0 dropper.1 dropper.2 in
+      (out_trip old all index, made_leaving old all dropper.0 index dropper.1 is_dropped, (ordered sound).numbered number index at)
     where
       is_index_if_lists : (kind : Kind) → Contains (listed kind) e.number → is_index kind ≡ true
       is_index_if_lists (Index columns) h = refl

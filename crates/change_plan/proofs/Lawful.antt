@@ -17,26 +17,26 @@ use Rattle.schema_version.specs.declared.element.Kind.TheVariants.{Index, Option
 use Rattle.schema_version.specs.declared.element.ElementDef.{ElementDef}
 use Rattle.schema_version.specs.declared.element.NewElement.{NewElement}
 use Rattle.schema_version.specs.declared.step.Move.{Move}
-use Rattle.schema_version.specs.declared.step.Move.TheVariants.{Enter, Go}
+use Rattle.schema_version.specs.declared.step.Move.TheVariants.{Enter, Go, Turn}
 use Rattle.schema_version.specs.declared.step.StepFault.{StepFault}
 use Rattle.schema_version.specs.declared.step.StepFault.TheVariants.{Unknown, NotAdjacent, WrongWay, Dependent, NameTaken, Limit, Memory}
 use Rattle.schema_version.specs.Version.{Version, Table, table_at, element_at, state_or_absent, is_index, is_column, is_public, listed, count_live, IsLiveColumn}
 use Rattle.schema_version.specs.Names.{IsName, max_elements}
-use Rattle.schema_version.specs.Moves.{is_edge, is_move_of, moves_element, is_entry, is_unready, IsFirstSuch, DependsOn, GoFault, GoFaultAt, MoveFault, IsAllowed, IsTaken, Enters, IsColumnList, IsWithinLimits, count_like, max_like, is_entry_like, after_step, as_element}
+use Rattle.schema_version.specs.Moves.{turned_back, HasNoEdge, TurnFault, TurnFaultAt, is_move_of, moves_element, is_entry, is_unready, IsFirstSuch, DependsOn, GoFault, GoFaultAt, MoveFault, IsAllowed, IsTaken, Enters, IsColumnList, IsWithinLimits, count_like, max_like, is_entry_like, after_step, as_element}
+use Rattle.schema_version.specs.Edges.{edge}
 use Rattle.schema_version.specs.Steps.{IsOrdered, in_state_or_none}
-use Rattle.change_plan.proofs.Steps.{same_or_apart, Becomes, Stays, Comes, Goes, Midway, after_allowed, not_both, not_given}
+use Rattle.change_plan.proofs.Steps.{same_or_apart, Becomes, Stays, Comes, Goes, Turns, Midway, after_allowed, not_both, not_given}
 use Rattle.change_plan.specs.declared.least_plan.Reorg.{Reorg}
 use Rattle.change_plan.specs.Plans.{AreAllowed, IsWorkBefore, after_plan, work_before, work_of}
 use Rattle.change_plan.specs.declared.trip.Act.{Act}
-use Rattle.change_plan.specs.declared.trip.Act.TheVariants.{Wait, Appear, Reach}
+use Rattle.change_plan.specs.declared.trip.Act.TheVariants.{Wait, Appear, Reach, Return}
 use Rattle.change_plan.specs.declared.trip.Course.{Course}
-use Rattle.change_plan.specs.declared.trip.Course.TheVariants.{ColumnIn, IndexIn, IndexOut, ColumnOut}
+use Rattle.change_plan.specs.declared.trip.Course.TheVariants.{ColumnIn, IndexIn, IndexOut, ColumnOut, DeleteOnlyBack, WriteOnlyBack}
 use Rattle.change_plan.specs.declared.trip.Trip.{Trip}
 use Rattle.change_plan.specs.Schedule.{act_at, duration, steps_from, work_by, move_of, work_of_trip}
 use Rattle.std.proofs.lemmas.List.Elements.{Contains-append_left as contains_left}
-use Rattle.change_plan.proofs.Shim.{edge, some_edge, right_way}
 use Rattle.change_plan.proofs.Named.{contains_first, contains_later, contains_middle, split_at}
-use Rattle.change_plan.proofs.Trips.{is_in, suits, Stop, Away, At, departure, destination, stop_at, element_of, here, IsRun, Leg, Rests, Starts, Runs, leg, waits, waits_last, at_departure, at_destination, appears, moved_by, moving, Source, source, find_trip, quiet}
+use Rattle.change_plan.proofs.Trips.{is_in, suits, Stop, Away, At, departure, destination, stop_at, element_of, here, reached, reaches, Leg, Rests, Starts, Runs, Turns as TurnsBack, leg, waits, waits_last, at_departure, at_destination, appears, moved_by, moving, Source, source, find_trip, quiet}
 
 -- ---- what makes trips a plan
 
@@ -111,6 +111,8 @@ departs_in ColumnIn e = refl
 departs_in IndexIn e = refl
 departs_in IndexOut e = absurd (true≢false (sym e))
 departs_in ColumnOut e = absurd (true≢false (sym e))
+departs_in DeleteOnlyBack e = absurd (true≢false (sym e))
+departs_in WriteOnlyBack e = absurd (true≢false (sym e))
 
 -- who leaves is
 departs_out : (course : Course) → is_in course ≡ false → (state : ElementState) × (way : Way) × (departure course ≡ At state way)
@@ -118,6 +120,8 @@ departs_out ColumnIn e = absurd (true≢false e)
 departs_out IndexIn e = absurd (true≢false e)
 departs_out IndexOut e = (Public, Adding, refl)
 departs_out ColumnOut e = (Public, Adding, refl)
+departs_out DeleteOnlyBack e = (DeleteOnly, Adding, refl)
+departs_out WriteOnlyBack e = (WriteOnly, Adding, refl)
 
 -- who enters ends public, and who leaves is gone
 pub arrives_in : (course : Course) → is_in course ≡ true → destination course ≡ At Public Adding
@@ -125,6 +129,14 @@ arrives_in course e = ap (λ b. if b then At Public Adding else Away) e
 
 pub arrives_out : (course : Course) → is_in course ≡ false → destination course ≡ Away
 arrives_out course e = ap (λ b. if b then At Public Adding else Away) e
+
+-- who goes along an edge goes neither nowhere nor the wrong way
+no_way : {A : Type 0} (way : Way) (o : Option Way) → o ≡ Some way → o ≡ None → A
+no_way way o some none = absurd cc
+
+some_edge : (kind : Kind) (way after : Way) (from to : ElementState) → edge kind way from to ≡ Some after → HasNoEdge kind from to → ⊥
+some_edge kind Adding after from to e h = no_way after _ e h.0
+some_edge kind Dropping after from to e h = no_way after _ e h.1
 
 -- the order of the moves is one of the orders
 in_moves_order : (version : Version) (moves : List Move) (before : List Reorg) → before ≡ flat_map (work_before version) moves → IsWorkBefore version moves before
@@ -208,15 +220,12 @@ module _ (old : Version) (trips : List Trip) (are : AreTrips old trips) where
             let behind_other : duration other ≤ trip.wait = subst (λ (t : Trip). duration other ≤ t.wait) same behind in
             live (at_destination other time (omega (arith, behind_other, (moving time trip move moves_now).0)) ∙ arrives_out other.course gone)
 
-    go_allowed : (done rest : List Trip) (trip : Trip) → trips ≡ done ++ trip ∷ rest → (state : ElementState) (way : Way) (goal : ElementState) → act_at trip time ≡ Reach goal → stop_at trip time ≡ At state way → IsRun trip.course state way goal (stop_at trip (suc time))
+    go_allowed : (done rest : List Trip) (trip : Trip) → trips ≡ done ++ trip ∷ rest → (state : ElementState) (way : Way) (goal : ElementState) (after : Way) → act_at trip time ≡ Reach goal → stop_at trip time ≡ At state way → edge trip.fresh.kind way state goal ≡ Some after
         → (fault : StepFault) → MoveFault now (flat_map (move_of time) trips) (flat_map (move_of time) done) (Go trip.number goal) fault → ⊥
-    go_allowed done rest trip split state way goal act stands run fault faulty = refute fault (subst (λ o. GoFaultAt now (flat_map (move_of time) trips) (flat_map (move_of time) done) trip.number o goal fault) (at.trip trip has ∙ ap (here trip.number trip.fresh) stands) faulty)
+    go_allowed done rest trip split state way goal after act stands along fault faulty = refute fault (subst (λ o. GoFaultAt now (flat_map (move_of time) trips) (flat_map (move_of time) done) trip.number o goal fault) (at.trip trip has ∙ ap (here trip.number trip.fresh) stands) faulty)
       where
         has : Contains trips trip
         has = subst (λ ts. Contains ts trip) (sym split) (contains_middle done rest trip)
-
-        along : edge trip.fresh.kind way state goal ≡ Some run.after
-        along = run.along trip.fresh.kind (are.trip trip has).kind
 
         depends : (on : ℕ) (kind : Kind) → trip.fresh.kind ≡ kind → DependsOn now (flat_map (move_of time) trips) trip.number kind on → ⊥
         depends on (Index columns) is such = all_ready trip has _ (moved_by time trip (Reach goal) act) columns is on such
@@ -224,10 +233,26 @@ module _ (old : Version) (trips : List Trip) (are : AreTrips old trips) where
 
         refute : (fault : StepFault) → GoFault now (flat_map (move_of time) trips) (flat_map (move_of time) done) trip.number (element_of trip.number trip.fresh state way) goal fault → ⊥
         refute Unknown h = h
-        refute NotAdjacent (inl none) = some_edge trip.fresh.kind way run.after state goal along none
+        refute NotAdjacent (inl none) = some_edge trip.fresh.kind way after state goal along none
         refute NotAdjacent (inr twice) = true≢false (sym twice ∙ quiet time done trip.number (λ x among. inl (are.apart done rest trip x split among)))
-        refute WrongWay h = right_way trip.fresh.kind way run.after state goal along h
+        refute WrongWay h = no_way after _ along h
         refute (Dependent on) h = depends on trip.fresh.kind refl h
+        refute NameTaken h = h
+        refute Limit h = h
+        refute Memory h = h
+
+    turn_allowed : (done rest : List Trip) (trip : Trip) → trips ≡ done ++ trip ∷ rest → (state : ElementState) → stop_at trip time ≡ At state Adding → state ≢ Public → (fault : StepFault) → MoveFault now (flat_map (move_of time) trips) (flat_map (move_of time) done) (Turn trip.number) fault → ⊥
+    turn_allowed done rest trip split state stands private fault faulty = refute fault (subst (λ o. TurnFaultAt (flat_map (move_of time) done) trip.number o fault) (at.trip trip has ∙ ap (here trip.number trip.fresh) stands) faulty)
+      where
+        has : Contains trips trip
+        has = subst (λ ts. Contains ts trip) (sym split) (contains_middle done rest trip)
+
+        refute : (fault : StepFault) → TurnFault (flat_map (move_of time) done) trip.number (element_of trip.number trip.fresh state Adding) fault → ⊥
+        refute Unknown h = h
+        refute NotAdjacent (inl public) = private public
+        refute NotAdjacent (inr twice) = true≢false (sym twice ∙ quiet time done trip.number (λ x among. inl (are.apart done rest trip x split among)))
+        refute WrongWay h = let wrong : Adding ≡ Dropping = h in cc
+        refute (Dependent on) h = h
         refute NameTaken h = h
         refute Limit h = h
         refute Memory h = h
@@ -259,6 +284,10 @@ module _ (old : Version) (trips : List Trip) (are : AreTrips old trips) where
             let same : Enter from.trip.fresh DeleteOnly ≡ move = cc in
             let parts : Enters table name (Enter from.trip.fresh DeleteOnly) = subst (Enters table name) (sym same) enters in
             (from.trip, of, (appears from.trip time is).1, parts.0, parts.1)
+        pick Return is =
+            let one : Turn from.trip.number ∷ [] ≡ move ∷ [] = sym (moved_by time from.trip Return is) ∙ from.move_is in
+            let same : Turn from.trip.number ≡ move = cc in
+            absurd (subst (Enters table name) (sym same) enters)
         pick (Reach to) is =
             let one : Go from.trip.number to ∷ [] ≡ move ∷ [] = sym (moved_by time from.trip (Reach to) is) ∙ from.move_is in
             let same : Go from.trip.number to ≡ move = cc in
@@ -357,6 +386,9 @@ module _ (old : Version) (trips : List Trip) (are : AreTrips old trips) where
         from : Source time trips earlier move
         from = source time trips earlier later move split
 
+        has : Contains trips from.trip
+        has = subst (λ ts. Contains ts from.trip) (sym from.split) (contains_middle from.done from.rest from.trip)
+
         as_moved : (own : Move) → move_of time from.trip ≡ own ∷ [] → MoveFault now (flat_map (move_of time) trips) (flat_map (move_of time) from.done) own fault
         as_moved own is =
             let one : own ∷ [] ≡ move ∷ [] = sym is ∙ from.move_is in
@@ -366,7 +398,8 @@ module _ (old : Version) (trips : List Trip) (are : AreTrips old trips) where
         pick : Leg from.trip.course (act_at from.trip time) (stop_at from.trip time) (stop_at from.trip (suc time)) → ⊥
         pick (Rests act same) = let none : [] ≡ move ∷ [] = sym (moved_by time from.trip Wait act) ∙ from.move_is in cc
         pick (Starts act away to is) = enter_allowed room from.done from.rest from.trip from.split act away is fault (as_moved _ (moved_by time from.trip Appear act))
-        pick (Runs state way goal act stands run) = go_allowed from.done from.rest from.trip from.split state way goal act stands run fault (as_moved _ (moved_by time from.trip (Reach goal) act))
+        pick (Runs state way goal after act stands along to) = go_allowed from.done from.rest from.trip from.split state way goal after act stands (along from.trip.fresh.kind (are.trip from.trip has).kind) fault (as_moved _ (moved_by time from.trip (Reach goal) act))
+        pick (TurnsBack state act stands private to) = turn_allowed from.done from.rest from.trip from.split state stands private fault (as_moved _ (moved_by time from.trip Return act))
 
     -- ---- the version behind the step
 
@@ -395,8 +428,11 @@ module _ (old : Version) (trips : List Trip) (are : AreTrips old trips) where
             let next : now.next ≡ next_at old trips time = at.next in
             let same_count : count_by is_entry before ≡ count_by is_entry (flat_map (move_of time) from.done) = ap (count_by is_entry) from.earlier_is in
             record { trip = from.trip; has = has; is_number = omega arith; is_fresh = cc; to = to }
-        pick (Runs state way goal act stands run) =
+        pick (Runs state way goal after act stands along to) =
             let one : Go from.trip.number goal ∷ [] ≡ Enter fresh DeleteOnly ∷ [] = sym (moved_by time from.trip (Reach goal) act) ∙ from.move_is in
+            cc
+        pick (TurnsBack state act stands private to) =
+            let one : Turn from.trip.number ∷ [] ≡ Enter fresh DeleteOnly ∷ [] = sym (moved_by time from.trip Return act) ∙ from.move_is in
             cc
 
     -- the trip of a move
@@ -407,7 +443,7 @@ module _ (old : Version) (trips : List Trip) (are : AreTrips old trips) where
       state : ElementState
       way : Way
       stands : stop_at trip time ≡ At state way
-      reaches : in_state_or_none (element_of trip.number trip.fresh state way) to ≡ here trip.number trip.fresh (stop_at trip (suc time))
+      arrives : in_state_or_none (element_of trip.number trip.fresh state way) to ≡ here trip.number trip.fresh (stop_at trip (suc time))
 
     run_of : (before after : List Move) (number : ℕ) (to : ElementState) → flat_map (move_of time) trips ≡ before ++ Go number to ∷ after → RunOf number to
     run_of before after number to split = pick (leg from.trip time)
@@ -423,7 +459,7 @@ module _ (old : Version) (trips : List Trip) (are : AreTrips old trips) where
         pick (Starts act away to_stop is) =
             let one : Enter from.trip.fresh DeleteOnly ∷ [] ≡ Go number to ∷ [] = sym (moved_by time from.trip Appear act) ∙ from.move_is in
             cc
-        pick (Runs state way goal act stands run) =
+        pick (Runs state way goal after act stands along ends) =
             let one : Go from.trip.number goal ∷ [] ≡ Go number to ∷ [] = sym (moved_by time from.trip (Reach goal) act) ∙ from.move_is in
             let is : goal ≡ to = cc in
             record {
@@ -433,8 +469,42 @@ module _ (old : Version) (trips : List Trip) (are : AreTrips old trips) where
               state = state;
               way = way;
               stands = stands;
-              reaches = subst (λ s. in_state_or_none (element_of from.trip.number from.trip.fresh state way) s ≡ here from.trip.number from.trip.fresh (stop_at from.trip (suc time))) is (run.reaches from.trip.number from.trip.fresh);
+              arrives = subst (λ s. in_state_or_none (element_of from.trip.number from.trip.fresh state way) s ≡ here from.trip.number from.trip.fresh (stop_at from.trip (suc time))) is
+                  (reaches from.trip.number from.trip.fresh state way goal after (along from.trip.fresh.kind (are.trip from.trip has).kind) ∙ ap (here from.trip.number from.trip.fresh) (sym ends));
             }
+        pick (TurnsBack state act stands private ends) =
+            let one : Turn from.trip.number ∷ [] ≡ Go number to ∷ [] = sym (moved_by time from.trip Return act) ∙ from.move_is in
+            cc
+
+    -- the trip of a turn
+    record TurnOf (number : ℕ) : Type 0 where
+      trip : Trip
+      has : Contains trips trip
+      is_number : trip.number ≡ number
+      state : ElementState
+      stands : stop_at trip time ≡ At state Adding
+      ends : stop_at trip (suc time) ≡ At state Dropping
+
+    turn_of : (before after : List Move) (number : ℕ) → flat_map (move_of time) trips ≡ before ++ Turn number ∷ after → TurnOf number
+    turn_of before after number split = pick (leg from.trip time)
+      where
+        from : Source time trips before (Turn number)
+        from = source time trips before after (Turn number) split
+
+        has : Contains trips from.trip
+        has = subst (λ ts. Contains ts from.trip) (sym from.split) (contains_middle from.done from.rest from.trip)
+
+        pick : Leg from.trip.course (act_at from.trip time) (stop_at from.trip time) (stop_at from.trip (suc time)) → TurnOf number
+        pick (Rests act same) = let none : [] ≡ Turn number ∷ [] = sym (moved_by time from.trip Wait act) ∙ from.move_is in cc
+        pick (Starts act away to is) =
+            let one : Enter from.trip.fresh DeleteOnly ∷ [] ≡ Turn number ∷ [] = sym (moved_by time from.trip Appear act) ∙ from.move_is in
+            cc
+        pick (Runs state way goal after act stands along ends) =
+            let one : Go from.trip.number goal ∷ [] ≡ Turn number ∷ [] = sym (moved_by time from.trip (Reach goal) act) ∙ from.move_is in
+            cc
+        pick (TurnsBack state act stands private ends) =
+            let one : Turn from.trip.number ∷ [] ≡ Turn number ∷ [] = sym (moved_by time from.trip Return act) ∙ from.move_is in
+            record { trip = from.trip; has = has; is_number = cc; state = state; stands = stands; ends = ends }
 
     -- the moves of the others stand round a trip's
     moves_split : (done rest : List Trip) (trip : Trip) → trips ≡ done ++ trip ∷ rest → flat_map (move_of time) trips ≡ flat_map (move_of time) done ++ (move_of time trip ++ flat_map (move_of time) rest)
@@ -451,12 +521,12 @@ module _ (old : Version) (trips : List Trip) (are : AreTrips old trips) where
     or_left true b e = refl
     or_left false b e = absurd (true≢false (sym e))
 
-    is_moved : (done rest : List Trip) (trip : Trip) → trips ≡ done ++ trip ∷ rest → (to : ElementState) → move_of time trip ≡ Go trip.number to ∷ [] → moves_element (flat_map (move_of time) trips) trip.number ≡ true
-    is_moved done rest trip split to is =
+    is_moved : (done rest : List Trip) (trip : Trip) → trips ≡ done ++ trip ∷ rest → (move : Move) → move_of time trip ≡ move ∷ [] → is_move_of trip.number move ≡ (trip.number == trip.number) → moves_element (flat_map (move_of time) trips) trip.number ≡ true
+    is_moved done rest trip split move is own =
         ap (λ m. moves_element m trip.number) (moves_split done rest trip split)
         ∙ list_any-append (is_move_of trip.number) (flat_map (move_of time) done) (move_of time trip ++ flat_map (move_of time) rest)
         ∙ or_true _ _ (list_any-append (is_move_of trip.number) (move_of time trip) (flat_map (move_of time) rest)
-        ∙ or_left _ _ (ap (λ m. moves_element m trip.number) is ∙ or_left (trip.number == trip.number) false ((Decides-eqb trip.number trip.number).1 refl)))
+        ∙ or_left _ _ (ap (λ m. moves_element m trip.number) is ∙ or_left (is_move_of trip.number move) false (own ∙ (Decides-eqb trip.number trip.number).1 refl)))
 
     module _ (after : Version) (mid : Midway now (flat_map (move_of time) trips) (flat_map (move_of time) trips) after) where
       trip_after : (trip : Trip) → Contains trips trip → element_at after trip.number ≡ here trip.number trip.fresh (stop_at trip (suc time))
@@ -483,7 +553,8 @@ module _ (old : Version) (trips : List Trip) (are : AreTrips old trips) where
                   ap (count_by is_entry) (moves_split split.0 split.1 trip split.2)
                   ∙ count_both (flat_map (move_of time) split.0) (move_of time trip ++ flat_map (move_of time) split.1)
                   ∙ ap (λ c. count_by is_entry (flat_map (move_of time) split.0) + c) (count_both (move_of time trip) (flat_map (move_of time) split.1) ∙ ap (λ m. count_by is_entry m + count_by is_entry (flat_map (move_of time) split.1)) (moved_by time trip Appear act))
-          still same unmoved outside (Runs state way goal act stands run) = absurd (true≢false (sym (is_moved split.0 split.1 trip split.2 goal (moved_by time trip (Reach goal) act)) ∙ unmoved))
+          still same unmoved outside (Runs state way goal after act stands along to) = absurd (true≢false (sym (is_moved split.0 split.1 trip split.2 _ (moved_by time trip (Reach goal) act) refl) ∙ unmoved))
+          still same unmoved outside (TurnsBack state act stands private to) = absurd (true≢false (sym (is_moved split.0 split.1 trip split.2 _ (moved_by time trip Return act) refl) ∙ unmoved))
 
           some_same : (a b : ElementDef) → Some a ≡ Some b → a ≡ b
           some_same a b e = cc
@@ -500,9 +571,16 @@ module _ (old : Version) (trips : List Trip) (are : AreTrips old trips) where
               let by = run_of before later trip.number to at_split in
               let same : by.trip ≡ trip = are.one by.trip trip by.has has by.is_number in
               let stands : stop_at trip time ≡ At by.state by.way = subst (λ (t : Trip). stop_at t time ≡ At by.state by.way) same by.stands in
-              let reaches : in_state_or_none (element_of trip.number trip.fresh by.state by.way) to ≡ here trip.number trip.fresh (stop_at trip (suc time)) = subst (λ (t : Trip). in_state_or_none (element_of t.number t.fresh by.state by.way) to ≡ here t.number t.fresh (stop_at t (suc time))) same by.reaches in
+              let arrives : in_state_or_none (element_of trip.number trip.fresh by.state by.way) to ≡ here trip.number trip.fresh (stop_at trip (suc time)) = subst (λ (t : Trip). in_state_or_none (element_of t.number t.fresh by.state by.way) to ≡ here t.number t.fresh (stop_at t (suc time))) same by.arrives in
               let is : may.element ≡ element_of trip.number trip.fresh by.state by.way = some_same may.element _ (sym may.there ∙ at.trip trip has ∙ ap (here trip.number trip.fresh) stands) in
-              at_after ∙ ap (λ e. in_state_or_none e to) is ∙ reaches
+              at_after ∙ ap (λ e. in_state_or_none e to) is ∙ arrives
+          pick (Turns before later at_split may at_after) =
+              let by = turn_of before later trip.number at_split in
+              let same : by.trip ≡ trip = are.one by.trip trip by.has has by.is_number in
+              let stands : stop_at trip time ≡ At by.state Adding = subst (λ (t : Trip). stop_at t time ≡ At by.state Adding) same by.stands in
+              let ends : stop_at trip (suc time) ≡ At by.state Dropping = subst (λ (t : Trip). stop_at t (suc time) ≡ At by.state Dropping) same by.ends in
+              let is : may.element ≡ element_of trip.number trip.fresh by.state Adding = some_same may.element _ (sym may.there ∙ at.trip trip has ∙ ap (here trip.number trip.fresh) stands) in
+              at_after ∙ ap (λ e. Some (turned_back e)) is ∙ ap (here trip.number trip.fresh) (sym ends)
 
       rest_after : (number : ℕ) → ((trip : Trip) → Contains trips trip → trip.number ≢ number) → element_at after number ≡ element_at old number
       rest_after number none = pick (mid.becomes number)
@@ -510,6 +588,7 @@ module _ (old : Version) (trips : List Trip) (are : AreTrips old trips) where
           pick : Becomes now (flat_map (move_of time) trips) (flat_map (move_of time) trips) after.next number (element_at after number) → element_at after number ≡ element_at old number
           pick (Stays same unmoved outside) = same ∙ at.rest number none
           pick (Comes before later fresh at_split place at_now at_after ready) = let entry = entry_of before later fresh number at_split place in absurd (none entry.trip entry.has entry.is_number)
+          pick (Turns before later at_split may at_after) = let by = turn_of before later number at_split in absurd (none by.trip by.has by.is_number)
           pick (Goes before later to at_split may at_after) = let by = run_of before later number to at_split in absurd (none by.trip by.has by.is_number)
 
       pub is_after : IsAt old trips (suc time) after
@@ -526,7 +605,8 @@ module _ (old : Version) (trips : List Trip) (are : AreTrips old trips) where
         pick : Leg trip.course (act_at trip time) (stop_at trip time) (stop_at trip (suc time)) → work_of_trip time trip ≡ flat_map (work_before now) (move_of time trip)
         pick (Rests act same) = work_is Wait act ∙ ap (flat_map (work_before now)) (sym (moved_by time trip Wait act))
         pick (Starts act away to is) = work_is Appear act ∙ ap (flat_map (work_before now)) (sym (moved_by time trip Appear act))
-        pick (Runs state way goal act stands run) =
+        pick (TurnsBack state act stands private to) = work_is Return act ∙ ap (flat_map (work_before now)) (sym (moved_by time trip Return act))
+        pick (Runs state way goal after act stands along to) =
             work_is (Reach goal) act
             ∙ ap (λ o. work_of o goal) (sym (at.trip trip has ∙ ap (here trip.number trip.fresh) stands))
             ∙ sym (append-nil (work_of (element_at now trip.number) goal))

@@ -1,28 +1,29 @@
 -- What a change that takes an element out finds of it.
-use Rattle.std.specs.Prelude.{◌≡◌, ◌≢◌, ℕ, List, Bool, true, false, if◌then◌else◌, Option, Some, None, IsSome, Contains, refl}
-use Rattle.std.proofs.Common.{sym, ap, subst, ◌∙◌, true≢false}
+use Rattle.std.specs.Prelude.{◌≡◌, ◌≢◌, ℕ, List, Bool, true, false, ◌&&◌, not, is_some, if◌then◌else◌, Option, Some, None, IsSome, Contains, refl}
+use Rattle.std.proofs.Common.{sym, ap, subst, ◌∙◌, inl, true≢false}
 use Rattle.schema_version.specs.declared.element.ElementState.{ElementState}
 use Rattle.schema_version.specs.declared.element.ElementState.TheVariants.{Absent, DeleteOnly, WriteOnly, Public}
 use Rattle.schema_version.specs.declared.element.Way.{Way}
-use Rattle.schema_version.specs.declared.element.Way.TheVariants.{Adding}
+use Rattle.schema_version.specs.declared.element.Way.TheVariants.{Adding, Dropping}
 use Rattle.schema_version.specs.declared.element.Kind.{Kind}
 use Rattle.schema_version.specs.declared.element.Kind.TheVariants.{Index, Optional}
 use Rattle.schema_version.specs.declared.element.ElementDef.{ElementDef}
-use Rattle.schema_version.specs.Version.{Version, element_at, is_index, is_column}
+use Rattle.schema_version.specs.Version.{Version, element_at, is_index, is_column, is_public}
+use Rattle.schema_version.specs.Edges.{has_state}
 use Rattle.schema_version.specs.Sound.{IsSoundVersion}
 use Rattle.schema_version.specs.Steps.{IsOrdered}
 use Rattle.change_plan.proofs.Steps.{not_both}
 use Rattle.change_plan.specs.declared.change.Change.{Change}
 use Rattle.change_plan.specs.declared.change.Change.TheVariants.{AddIndex, DropIndex, AddColumn, DropColumn, Abandon}
 use Rattle.change_plan.specs.declared.fault.PlanFault.{PlanFault}
-use Rattle.change_plan.specs.declared.fault.PlanFault.TheVariants.{InChange}
+use Rattle.change_plan.specs.declared.fault.PlanFault.TheVariants.{Unknown, InChange}
 use Rattle.change_plan.specs.declared.trip.Course.{Course}
-use Rattle.change_plan.specs.declared.trip.Course.TheVariants.{IndexOut, ColumnOut}
+use Rattle.change_plan.specs.declared.trip.Course.TheVariants.{IndexOut, ColumnOut, DeleteOnlyBack, WriteOnlyBack}
 use Rattle.change_plan.specs.Plans.{Drops}
-use Rattle.change_plan.specs.Batches.{named, named_index, named_column, only_if, leaving, drops}
+use Rattle.change_plan.specs.Batches.{named, named_index, named_column, named_entering, is_adding, is_entering, if_entering, only_if, leaving, drops}
 use Rattle.change_plan.specs.Refusals.{ChangeFault, IsPlannable, IsInChange}
 use Rattle.change_plan.specs.Schedule.{steps, course_out, fresh_of}
-use Rattle.change_plan.proofs.Named.{named_there, split_at, ordered, same_name_is}
+use Rattle.change_plan.proofs.Named.{named_there, split_at, ordered, same_name_is, and_true}
 use Rattle.change_plan.proofs.Bounds.{distance, moves_out}
 use Rattle.change_plan.proofs.Trips.{Stop, Away, At, is_in, suits, departure, element_of, here}
 
@@ -82,6 +83,32 @@ none_if_not_some (Some x) h = absurd (h refl)
 pub column_if : (kind : Kind) → is_index kind ≡ false → is_column kind ≡ true
 column_if (Index columns) e = absurd (true≢false e)
 column_if (Optional type) e = refl
+
+-- ---- an element that is abandoned
+
+-- of the test
+pub if_entering_there : (o : Option ElementDef) (e : ElementDef) → if_entering o ≡ Some e → (o ≡ Some e) × (is_entering e ≡ true)
+if_entering_there None e is = absurd (not_both e None is refl)
+if_entering_there (Some f) e is = pick (is_entering f) refl
+  where
+    pick : (b : Bool) → is_entering f ≡ b → (Some f ≡ Some e) × (is_entering e ≡ true)
+    pick true t =
+        let found : Some f ≡ Some e = subst (λ b. (if b then Some f else None) ≡ Some e) t is in
+        let same : f ≡ e = cc in
+        (found, ap is_entering (sym same) ∙ t)
+    pick false t = absurd (not_both e None (subst (λ b. (if b then Some f else None) ≡ Some e) t is) refl)
+
+way_is : (way : Way) → is_adding way ≡ true → way ≡ Adding
+way_is Adding t = refl
+way_is Dropping t = absurd (true≢false (sym t))
+
+-- it is being added, and isn't public
+pub entering_there : (v : Version) → IsOrdered v → (table : ℕ) (name : List ℕ) (e : ElementDef) → named_entering v table name ≡ Some e → (element_at v e.number ≡ Some e) × (e.table ≡ table) × (e.name ≡ name) × (e.way ≡ Adding) × (e.state ≢ Public)
+entering_there v numbered table name e found =
+    let parts = if_entering_there (named v table name) e found in
+    let there = named_there v numbered table name e parts.0 in
+    let tests = and_true (is_adding e.way) (not (is_public e.state)) parts.1 in
+    (there.0, there.1, there.2, way_is e.way tests.0, λ public. true≢false (sym tests.1 ∙ ap (λ s. not (is_public s)) public))
 
 -- ---- an element that leaves
 
@@ -147,9 +174,42 @@ module _ (old : Version) (sound : IsSoundVersion old) (all : List Change) (plann
       course : course_out e.kind e.state ≡ ColumnOut
       course = ap (course_out e.kind) state ∙ ap (λ k. course_out k Public) type.1
 
+  abandon_departs : (table : ℕ) (name : List ℕ) → (e : ElementDef) → named_entering old table name ≡ Some e → Departs old (Abandon table name) e
+  abandon_departs table name e found = pick e.state refl
+    where
+      there : (element_at old e.number ≡ Some e) × (e.table ≡ table) × (e.name ≡ name) × (e.way ≡ Adding) × (e.state ≢ Public)
+      there = entering_there old (ordered sound) table name e found
+
+      goes : (state : ElementState) (course : Course) → e.state ≡ state → course_out e.kind e.state ≡ course → departure course ≡ At state Adding → is_in course ≡ false → suits course e.kind ≡ true → steps course ≡ moves_out e.kind state Adding → Departs old (Abandon table name) e
+      goes state course is course_is start out fits moves = record {
+        there = there.0;
+        stands = ap (λ c. here e.number (fresh_of e) (departure c)) course_is ∙ ap (here e.number (fresh_of e)) start ∙ at_stop e state Adding is there.3;
+        out = ap is_in course_is ∙ out;
+        fits = ap (λ c. suits c e.kind) course_is ∙ fits;
+        moves = ap steps course_is ∙ moves ∙ sym (ap (λ s. moves_out e.kind s e.way) is ∙ ap (moves_out e.kind state) there.3);
+        taken = (there.1, there.2);
+        is_named = same_name_is e.table table e.name name there.1 there.2;
+      }
+
+      pick : (state : ElementState) → e.state ≡ state → Departs old (Abandon table name) e
+      pick Absent is = absurd ((sound.elements e.number e there.0).live is)
+      pick DeleteOnly is = goes DeleteOnly DeleteOnlyBack is (ap (course_out e.kind) is) refl refl refl refl
+      pick WriteOnly is = goes WriteOnly WriteOnlyBack is (ap (course_out e.kind) is) refl refl (ap (has_state e.kind) (sym is) ∙ (sound.elements e.number e there.0).possible) refl
+      pick Public is = absurd (there.4 is)
+
+  -- what the batch abandons by its name
+  pub abandoned : (table : ℕ) (name : List ℕ) → Contains all (Abandon table name) → (e : ElementDef) → named old table name ≡ Some e → named_entering old table name ≡ Some e
+  abandoned table name has e found = pick (named_entering old table name) refl
+    where
+      pick : (o : Option ElementDef) → named_entering old table name ≡ o → named_entering old table name ≡ Some e
+      pick None none = absurd (clear (Abandon table name) has Unknown (λ earlier. inl (ap is_some none)))
+      pick (Some f) is =
+          let same : Some f ≡ Some e = sym (if_entering_there (named old table name) f is).0 ∙ found in
+          is ∙ same
+
   pub departs : (change : Change) → Contains all change → (e : ElementDef) → leaving old change ≡ Some e → Departs old change e
   departs (AddIndex table name columns) has e is = absurd (not_both e None is refl)
   departs (DropIndex table name) has e is = index_departs table name has e is
   departs (AddColumn table name kind) has e is = absurd (not_both e None is refl)
   departs (DropColumn table name) has e is = column_departs table name has e is
-  departs (Abandon table name) has e is = absurd (not_both e None is refl)
+  departs (Abandon table name) has e is = abandon_departs table name e is

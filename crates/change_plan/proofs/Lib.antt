@@ -1,4 +1,3 @@
-pub mod Shim
 pub mod Steps
 pub mod Bounds
 pub mod Named

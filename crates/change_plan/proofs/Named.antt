@@ -60,7 +60,7 @@ same_name table name other own e =
     let parts = and_true (table == other) (bytes_eq name own) e in
     ((Decides-eqb table other).0 parts.0, (bytes_eq-Decides name own).0 parts.1)
 
-both_true : (a b : Bool) → a ≡ true → b ≡ true → (a && b) ≡ true
+pub both_true : (a b : Bool) → a ≡ true → b ≡ true → (a && b) ≡ true
 both_true true b e f = f
 both_true false b e f = e
 

@@ -16,19 +16,19 @@ use Rattle.change_plan.specs.declared.change.Change.{Change}
 use Rattle.change_plan.specs.declared.change.Change.TheVariants.{AddIndex, DropIndex, AddColumn, DropColumn, Abandon}
 use Rattle.change_plan.specs.declared.fault.PlanFault.TheVariants.{Unknown}
 use Rattle.change_plan.specs.Plans.{IsTarget, IsLeast, Drops, Adds, IsAddition, IsColumnNamed}
-use Rattle.change_plan.specs.Batches.{named_index, named_column, leaving, lists_added, adds_column}
+use Rattle.change_plan.specs.Batches.{named, named_index, named_column, leaving, lists_added, adds_column}
 use Rattle.change_plan.specs.Refusals.{IsPlannable}
 use Rattle.change_plan.specs.declared.trip.Course.{Course}
 use Rattle.change_plan.specs.declared.trip.Course.TheVariants.{ColumnIn, IndexIn}
 use Rattle.change_plan.specs.declared.trip.Trip.{Trip}
 use Rattle.change_plan.specs.Schedule.{steps, duration, longest, out_trip, trips, schedule, is_early, column_number, added_number, number_or}
 use Rattle.change_plan.proofs.Named.{contains_first, contains_later, contains_cases, contains_none, ordered}
-use Rattle.change_plan.proofs.Leaving.{index_there, column_there, index_columns, column_type, departs, clear}
+use Rattle.change_plan.proofs.Leaving.{column_there, abandoned, departs, clear}
 use Rattle.change_plan.proofs.Least.{schedule_short}
 use Rattle.change_plan.proofs.Trips.{find_trip, is_in, suits, Away, At, element_of, here, at_destination}
 use Rattle.change_plan.proofs.Lawful.{IsAt, HasRoom, AreTrips, at_first, steps_allowed, after_steps, arrives_in, arrives_out}
 use Rattle.change_plan.proofs.Batch.{From, EarlyIndex, LateIndex, NewColumn, Leaves, out_of}
-use Rattle.change_plan.proofs.Fitting.{made, made_leaving, made_added, index_named, column_named, any_of, is_true_if_not_false, are_trips, moved_element, no_trip_of, stays, column_kind, place_of, has_change, Place}
+use Rattle.change_plan.proofs.Fitting.{made, made_leaving, made_added, own_name, index_named, column_named, any_of, is_true_if_not_false, are_trips, moved_element, no_trip_of, stays, column_kind, place_of, has_change, Place}
 
 within_longest : (trips : List Trip) (trip : Trip) → Contains trips trip → duration trip ≤ longest trips
 within_longest [] trip has = absurd (contains_none trip has)
@@ -72,6 +72,7 @@ module _ (old : Version) (sound : IsSoundVersion old) (all : List Change) (plann
   is_leaving : (number : ℕ) (e : ElementDef) (change : Change) → element_at old number ≡ Some e → Contains all change → Drops e change → leaving old change ≡ Some e
   is_leaving number e (DropIndex table name) at_old has d = subst (λ t. named_index old t name ≡ Some e) d.1 (subst (λ n. named_index old e.table n ≡ Some e) d.2 (index_named old sound number e at_old (ap is_index d.3)))
   is_leaving number e (DropColumn table name) at_old has d = subst (λ t. named_column old t name ≡ Some e) d.1 (subst (λ n. named_column old e.table n ≡ Some e) d.2 (column_named old sound number e at_old (ap is_index d.3)))
+  is_leaving number e (Abandon table name) at_old has d = abandoned old sound all plannable table name has e (subst (λ t. named old t name ≡ Some e) d.0 (subst (λ n. named old e.table n ≡ Some e) d.1 (own_name old sound number e at_old)))
   is_leaving number e change at_old has d = absurd d
 
   dropped : (number : ℕ) (element : ElementDef) (change : Change) → element_at old number ≡ Some element → Contains all change → Drops element change → element_at new number ≡ None

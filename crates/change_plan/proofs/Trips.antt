@@ -15,16 +15,17 @@ use Rattle.schema_version.specs.declared.element.Kind.TheVariants.{Index, Option
 use Rattle.schema_version.specs.declared.element.ElementDef.{ElementDef}
 use Rattle.schema_version.specs.declared.element.NewElement.{NewElement}
 use Rattle.schema_version.specs.declared.step.Move.{Move}
-use Rattle.schema_version.specs.declared.step.Move.TheVariants.{Enter, Go}
+use Rattle.schema_version.specs.declared.step.Move.TheVariants.{Enter, Go, Turn}
 use Rattle.schema_version.specs.Version.{is_index, is_column}
 use Rattle.schema_version.specs.Moves.{is_move_of, moves_element, is_entry, is_entry_like}
 use Rattle.schema_version.specs.Steps.{in_state_or_none}
-use Rattle.change_plan.proofs.Shim.{edge}
+use Rattle.std.specs.Option.{unwrap_or}
+use Rattle.schema_version.specs.Edges.{edge, has_state}
 use Rattle.change_plan.proofs.Steps.{same_or_apart}
 use Rattle.change_plan.specs.declared.trip.Act.{Act}
-use Rattle.change_plan.specs.declared.trip.Act.TheVariants.{Wait, Appear, Reach}
+use Rattle.change_plan.specs.declared.trip.Act.TheVariants.{Wait, Appear, Reach, Return}
 use Rattle.change_plan.specs.declared.trip.Course.{Course}
-use Rattle.change_plan.specs.declared.trip.Course.TheVariants.{ColumnIn, IndexIn, IndexOut, ColumnOut}
+use Rattle.change_plan.specs.declared.trip.Course.TheVariants.{ColumnIn, IndexIn, IndexOut, ColumnOut, DeleteOnlyBack, WriteOnlyBack}
 use Rattle.change_plan.specs.declared.trip.Trip.{Trip}
 use Rattle.change_plan.specs.Schedule.{acts, steps, course_out, nth_act, act_at, duration, move_by, move_of}
 use Rattle.change_plan.proofs.Named.{contains_first, contains_later, contains_cases, contains_none}
@@ -34,6 +35,8 @@ is_in ColumnIn = true
 is_in IndexIn = true
 is_in IndexOut = false
 is_in ColumnOut = false
+is_in DeleteOnlyBack = false
+is_in WriteOnlyBack = false
 
 -- the elements that may take the course
 abbrev pub suits : Course → Kind → Bool
@@ -41,6 +44,8 @@ suits ColumnIn kind = is_column kind
 suits IndexIn kind = is_index kind
 suits IndexOut kind = is_index kind
 suits ColumnOut kind = is_column kind
+suits DeleteOnlyBack kind = true
+suits WriteOnlyBack kind = has_state kind WriteOnly
 
 -- ---- where a trip is
 
@@ -54,6 +59,8 @@ departure ColumnIn = Away
 departure IndexIn = Away
 departure IndexOut = At Public Adding
 departure ColumnOut = At Public Adding
+departure DeleteOnlyBack = At DeleteOnly Adding
+departure WriteOnlyBack = At WriteOnly Adding
 
 -- behind each step
 abbrev pub stops : Course → List Stop
@@ -61,6 +68,8 @@ stops ColumnIn = At DeleteOnly Adding ∷ At Public Adding ∷ []
 stops IndexIn = At DeleteOnly Adding ∷ At WriteOnly Adding ∷ At Public Adding ∷ []
 stops IndexOut = At WriteOnly Dropping ∷ At DeleteOnly Dropping ∷ Away ∷ []
 stops ColumnOut = At DeleteOnly Dropping ∷ Away ∷ []
+stops DeleteOnlyBack = At DeleteOnly Dropping ∷ Away ∷ []
+stops WriteOnlyBack = At WriteOnly Dropping ∷ At DeleteOnly Dropping ∷ Away ∷ []
 
 abbrev pub destination : Course → Stop
 destination course = if is_in course then At Public Adding else Away
@@ -86,16 +95,22 @@ here number fresh (At state way) = Some (element_of number fresh state way)
 
 -- ---- what a trip does at a time
 
--- it goes along an edge of its way, or out of public
-pub record IsRun (course : Course) (state : ElementState) (way : Way) (goal : ElementState) (to : Stop) : Type 0 where
-  pub after : Way
-  pub along : (kind : Kind) → suits course kind ≡ true → edge kind way state goal ≡ Some after
-  pub reaches : (number : ℕ) (fresh : NewElement) → in_state_or_none (element_of number fresh state way) goal ≡ here number fresh to
+abbrev pub reached : ElementState → Way → Stop
+reached Absent way = Away
+reached state way = At state way
+
+pub reaches : (number : ℕ) (fresh : NewElement) (state : ElementState) (way : Way) (to : ElementState) (after : Way) → edge fresh.kind way state to ≡ Some after → in_state_or_none (element_of number fresh state way) to ≡ here number fresh (reached to after)
+reaches number fresh state way Absent after e = refl
+reaches number fresh state way DeleteOnly after e = ap (λ o. Some (element_of number fresh DeleteOnly (unwrap_or o way))) e
+reaches number fresh state way WriteOnly after e = ap (λ o. Some (element_of number fresh WriteOnly (unwrap_or o way))) e
+reaches number fresh state way Public after e = ap (λ o. Some (element_of number fresh Public (unwrap_or o way))) e
 
 pub data Leg (course : Course) (act : Act) (from to : Stop) : Type 0 where
   Rests : act ≡ Wait → to ≡ from → Leg course act from to
   Starts : act ≡ Appear → from ≡ Away → to ≡ At DeleteOnly Adding → is_in course ≡ true → Leg course act from to
-  Runs : (state : ElementState) (way : Way) (goal : ElementState) → act ≡ Reach goal → from ≡ At state way → IsRun course state way goal to → Leg course act from to
+  -- along an edge of its way, or out of public
+  Runs : (state : ElementState) (way : Way) (goal : ElementState) (after : Way) → act ≡ Reach goal → from ≡ At state way → ((kind : Kind) → suits course kind ≡ true → edge kind way state goal ≡ Some after) → to ≡ reached goal after → Leg course act from to
+  Turns : (state : ElementState) → act ≡ Return → from ≡ At state Adding → state ≢ Public → to ≡ At state Dropping → Leg course act from to
 
 index_only : {A : Type 0} (kind : Kind) → is_index kind ≡ true → ((columns : _) → kind ≡ Index columns → A) → A
 index_only (Index columns) e f = f columns refl
@@ -105,21 +120,37 @@ column_only : {A : Type 0} (kind : Kind) → is_column kind ≡ true → ((type 
 column_only (Index columns) e f = absurd (true≢false (sym e))
 column_only (Optional type) e f = f type refl
 
+gone : (kind : Kind) → edge kind Dropping DeleteOnly Absent ≡ Some Dropping
+gone (Index columns) = refl
+gone (Optional type) = refl
+
+back : (kind : Kind) → has_state kind WriteOnly ≡ true → edge kind Dropping WriteOnly DeleteOnly ≡ Some Dropping
+back (Index columns) e = refl
+back (Optional type) e = absurd (true≢false (sym e))
+
 leg_in : (course : Course) (time : ℕ) → Leg course (nth_act (acts course) time) (stop_in course time) (stop_in course (suc time))
 leg_in ColumnIn zero = Starts refl refl refl refl
-leg_in ColumnIn (suc zero) = Runs DeleteOnly Adding Public refl refl (record { after = Adding; along = λ k e. column_only k e (λ type is. ap (λ k. edge k Adding DeleteOnly Public) is); reaches = λ n f. refl })
+leg_in ColumnIn (suc zero) = Runs DeleteOnly Adding Public Adding refl refl (λ k e. column_only k e (λ type is. ap (λ k. edge k Adding DeleteOnly Public) is)) refl
 leg_in ColumnIn (suc (suc time)) = Rests refl refl
 leg_in IndexIn zero = Starts refl refl refl refl
-leg_in IndexIn (suc zero) = Runs DeleteOnly Adding WriteOnly refl refl (record { after = Adding; along = λ k e. index_only k e (λ columns is. ap (λ k. edge k Adding DeleteOnly WriteOnly) is); reaches = λ n f. refl })
-leg_in IndexIn (suc (suc zero)) = Runs WriteOnly Adding Public refl refl (record { after = Adding; along = λ k e. index_only k e (λ columns is. ap (λ k. edge k Adding WriteOnly Public) is); reaches = λ n f. refl })
+leg_in IndexIn (suc zero) = Runs DeleteOnly Adding WriteOnly Adding refl refl (λ k e. index_only k e (λ columns is. ap (λ k. edge k Adding DeleteOnly WriteOnly) is)) refl
+leg_in IndexIn (suc (suc zero)) = Runs WriteOnly Adding Public Adding refl refl (λ k e. index_only k e (λ columns is. ap (λ k. edge k Adding WriteOnly Public) is)) refl
 leg_in IndexIn (suc (suc (suc time))) = Rests refl refl
-leg_in IndexOut zero = Runs Public Adding WriteOnly refl refl (record { after = Dropping; along = λ k e. index_only k e (λ columns is. ap (λ k. edge k Adding Public WriteOnly) is); reaches = λ n f. refl })
-leg_in IndexOut (suc zero) = Runs WriteOnly Dropping DeleteOnly refl refl (record { after = Dropping; along = λ k e. index_only k e (λ columns is. ap (λ k. edge k Dropping WriteOnly DeleteOnly) is); reaches = λ n f. refl })
-leg_in IndexOut (suc (suc zero)) = Runs DeleteOnly Dropping Absent refl refl (record { after = Dropping; along = λ k e. index_only k e (λ columns is. ap (λ k. edge k Dropping DeleteOnly Absent) is); reaches = λ n f. refl })
+leg_in IndexOut zero = Runs Public Adding WriteOnly Dropping refl refl (λ k e. index_only k e (λ columns is. ap (λ k. edge k Adding Public WriteOnly) is)) refl
+leg_in IndexOut (suc zero) = Runs WriteOnly Dropping DeleteOnly Dropping refl refl (λ k e. index_only k e (λ columns is. ap (λ k. edge k Dropping WriteOnly DeleteOnly) is)) refl
+leg_in IndexOut (suc (suc zero)) = Runs DeleteOnly Dropping Absent Dropping refl refl (λ k e. index_only k e (λ columns is. ap (λ k. edge k Dropping DeleteOnly Absent) is)) refl
 leg_in IndexOut (suc (suc (suc time))) = Rests refl refl
-leg_in ColumnOut zero = Runs Public Adding DeleteOnly refl refl (record { after = Dropping; along = λ k e. column_only k e (λ type is. ap (λ k. edge k Adding Public DeleteOnly) is); reaches = λ n f. refl })
-leg_in ColumnOut (suc zero) = Runs DeleteOnly Dropping Absent refl refl (record { after = Dropping; along = λ k e. column_only k e (λ type is. ap (λ k. edge k Dropping DeleteOnly Absent) is); reaches = λ n f. refl })
+leg_in ColumnOut zero = Runs Public Adding DeleteOnly Dropping refl refl (λ k e. column_only k e (λ type is. ap (λ k. edge k Adding Public DeleteOnly) is)) refl
+leg_in ColumnOut (suc zero) = Runs DeleteOnly Dropping Absent Dropping refl refl (λ k e. column_only k e (λ type is. ap (λ k. edge k Dropping DeleteOnly Absent) is)) refl
 leg_in ColumnOut (suc (suc time)) = Rests refl refl
+
+leg_in DeleteOnlyBack zero = Turns DeleteOnly refl refl (λ is. cc) refl
+leg_in DeleteOnlyBack (suc zero) = Runs DeleteOnly Dropping Absent Dropping refl refl (λ k e. gone k) refl
+leg_in DeleteOnlyBack (suc (suc time)) = Rests refl refl
+leg_in WriteOnlyBack zero = Turns WriteOnly refl refl (λ is. cc) refl
+leg_in WriteOnlyBack (suc zero) = Runs WriteOnly Dropping DeleteOnly Dropping refl refl (λ k e. back k e) refl
+leg_in WriteOnlyBack (suc (suc zero)) = Runs DeleteOnly Dropping Absent Dropping refl refl (λ k e. gone k) refl
+leg_in WriteOnlyBack (suc (suc (suc time))) = Rests refl refl
 
 -- ---- waiting, and done
 
@@ -184,6 +215,8 @@ ends ColumnIn time h = walked (departure ColumnIn) (stops ColumnIn) time h
 ends IndexIn time h = walked (departure IndexIn) (stops IndexIn) time h
 ends IndexOut time h = walked (departure IndexOut) (stops IndexOut) time h
 ends ColumnOut time h = walked (departure ColumnOut) (stops ColumnOut) time h
+ends DeleteOnlyBack time h = walked (departure DeleteOnlyBack) (stops DeleteOnlyBack) time h
+ends WriteOnlyBack time h = walked (departure WriteOnlyBack) (stops WriteOnlyBack) time h
 
 pub at_destination : (trip : Trip) (time : ℕ) → duration trip ≤ time → stop_at trip time ≡ destination trip.course
 at_destination trip time done = ends trip.course (time - trip.wait) (omega arith)
@@ -204,6 +237,13 @@ appears_first IndexOut (suc (suc (suc time))) e = cc
 appears_first ColumnOut zero e = cc
 appears_first ColumnOut (suc zero) e = cc
 appears_first ColumnOut (suc (suc time)) e = cc
+appears_first DeleteOnlyBack zero e = cc
+appears_first DeleteOnlyBack (suc zero) e = cc
+appears_first DeleteOnlyBack (suc (suc time)) e = cc
+appears_first WriteOnlyBack zero e = cc
+appears_first WriteOnlyBack (suc zero) e = cc
+appears_first WriteOnlyBack (suc (suc zero)) e = cc
+appears_first WriteOnlyBack (suc (suc (suc time))) e = cc
 
 pub appears : (trip : Trip) (time : ℕ) → act_at trip time ≡ Appear → (time ≡ trip.wait) × (is_in trip.course ≡ true)
 appears trip time e = elim (cases_lt time trip.wait) [
@@ -227,6 +267,7 @@ one_move time trip = pick (act_at trip time) refl
     pick Wait is = inl (moved_by time trip Wait is)
     pick Appear is = inr (_, moved_by time trip Appear is)
     pick (Reach to) is = inr (_, moved_by time trip (Reach to) is)
+    pick Return is = inr (_, moved_by time trip Return is)
 
 nil_cons : (x : Move) (xs : List Move) → [] ≡ x ∷ xs → ⊥
 nil_cons x xs e = cc
@@ -242,6 +283,7 @@ no_entry time trip out = pick (act_at trip time) refl
     pick : (act : Act) → act_at trip time ≡ act → (count_by is_entry (move_of time trip) ≡ 0) × ((table : ℕ) (index : Bool) → count_by (is_entry_like table index) (move_of time trip) ≡ 0)
     pick Wait is = (ap (count_by is_entry) (moved_by time trip Wait is), λ table index. ap (count_by (is_entry_like table index)) (moved_by time trip Wait is))
     pick Appear is = absurd (true≢false (sym (appears trip time is).1 ∙ out))
+    pick Return is = (ap (count_by is_entry) (moved_by time trip Return is), λ table index. ap (count_by (is_entry_like table index)) (moved_by time trip Return is))
     pick (Reach to) is = (ap (count_by is_entry) (moved_by time trip (Reach to) is), λ table index. ap (count_by (is_entry_like table index)) (moved_by time trip (Reach to) is))
 
 -- ---- the trip of a move
@@ -314,6 +356,7 @@ trip_quiet time trip number (inl ne) = pick (act_at trip time) refl
     pick Wait is = ap (λ moves. moves_element moves number) (moved_by time trip Wait is)
     pick Appear is = ap (λ moves. moves_element moves number) (moved_by time trip Appear is)
     pick (Reach to) is = ap (λ moves. moves_element moves number) (moved_by time trip (Reach to) is) ∙ ap (λ b. b || false) another
+    pick Return is = ap (λ moves. moves_element moves number) (moved_by time trip Return is) ∙ ap (λ b. b || false) another
 
 pub quiet : (time : ℕ) (trips : List Trip) (number : ℕ) → ((trip : Trip) → Contains trips trip → (trip.number ≢ number) ⊎ (act_at trip time ≡ Wait)) → moves_element (flat_map (move_of time) trips) number ≡ false
 quiet time [] number h = refl

@@ -12,7 +12,7 @@ use Rattle.change_plan.specs.declared.change.Change.{Change}
 use Rattle.change_plan.specs.declared.change.Change.TheVariants.{AddIndex, DropIndex, AddColumn, DropColumn, Abandon}
 use Rattle.change_plan.specs.declared.fault.PlanFault.{PlanFault}
 use Rattle.change_plan.specs.declared.fault.PlanFault.TheVariants.{Unknown, NameTaken, StillIndexed, InChange, Limit}
-use Rattle.change_plan.specs.Batches.{named, named_index, named_column, adds, adds_column, drops, drops_index, drops_column, lists}
+use Rattle.change_plan.specs.Batches.{named, named_index, named_column, named_entering, adds, adds_column, drops, drops_index, drops_column, lists}
 use Rattle.change_plan.specs.Refusals.{adds_like, is_addition}
 
 abbrev pub Answer : Type 0
@@ -75,12 +75,16 @@ abbrev pub drop_column_check : Version → List Change → List Change → ℕ �
 drop_column_check old all earlier table name =
     first_fault (not (is_some (named_column old table name)) || list_any (drops table name) earlier) false (is_listed old all table name (named_column old table name)) (is_in_change (named_column old table name)) false
 
+abbrev pub abandon_check : Version → List Change → List Change → ℕ → List ℕ → Answer
+abandon_check old all earlier table name =
+    first_fault (not (is_some (named_entering old table name)) || list_any (drops table name) earlier) false (is_listed old all table name (named_column old table name)) false false
+
 abbrev pub change_check : Version → List Change → List Change → Change → Answer
 change_check old all earlier (AddIndex table name columns) = add_index_check old all earlier table name columns
 change_check old all earlier (DropIndex table name) = drop_index_check old earlier table name
 change_check old all earlier (AddColumn table name kind) = add_column_check old all earlier table name kind
 change_check old all earlier (DropColumn table name) = drop_column_check old all earlier table name
-change_check old all earlier (Abandon table name) = Ok tt
+change_check old all earlier (Abandon table name) = abandon_check old all earlier table name
 
 -- the changes behind these earlier ones of the batch
 abbrev pub changes_check : Version → List Change → List Change → List Change → Answer

@@ -12,7 +12,7 @@ use Rattle.change_plan.specs.declared.change.Change.{Change}
 use Rattle.change_plan.specs.declared.change.Change.TheVariants.{AddIndex, DropIndex, AddColumn, DropColumn, Abandon}
 use Rattle.change_plan.specs.declared.fault.PlanFault.{PlanFault}
 use Rattle.change_plan.specs.declared.fault.PlanFault.TheVariants.{Unknown, NameTaken, StillIndexed, InChange, Limit, Memory}
-use Rattle.change_plan.specs.Batches.{named, named_index, named_column, adds, adds_column, drops, drops_index, drops_column}
+use Rattle.change_plan.specs.Batches.{named, named_index, named_column, named_entering, adds, adds_column, drops, drops_index, drops_column}
 
 abbrev pub rank : PlanFault → ℕ
 rank Unknown = 1
@@ -84,6 +84,8 @@ ChangeFault old all earlier (AddColumn table name kind) Limit = (¬ (IsName name
 ChangeFault old all earlier (DropColumn table name) Unknown = IsNone (named_column old table name) ⊎ IsTrue (list_any (drops table name) earlier)
 ChangeFault old all earlier (DropColumn table name) StillIndexed = IsListed old all table name (named_column old table name)
 ChangeFault old all earlier (DropColumn table name) InChange = IsInChange (named_column old table name)
+ChangeFault old all earlier (Abandon table name) Unknown = IsNone (named_entering old table name) ⊎ IsTrue (list_any (drops table name) earlier)
+ChangeFault old all earlier (Abandon table name) StillIndexed = IsListed old all table name (named_column old table name)
 ChangeFault old all earlier change fault = ⊥
 
 -- every change can be planned

@@ -8,18 +8,19 @@ use Rattle.schema_version.specs.declared.element.Kind.TheVariants.{Index, Option
 use Rattle.schema_version.specs.declared.element.ElementDef.{ElementDef}
 use Rattle.schema_version.specs.declared.element.NewElement.{NewElement}
 use Rattle.schema_version.specs.declared.step.Move.{Move}
-use Rattle.schema_version.specs.declared.step.Move.TheVariants.{Enter, Go}
+use Rattle.schema_version.specs.declared.step.Move.TheVariants.{Enter, Go, Turn}
+use Rattle.schema_version.specs.Edges.{needed}
 use Rattle.schema_version.specs.Version.{Version}
 use Rattle.change_plan.specs.declared.change.Change.{Change}
 use Rattle.change_plan.specs.declared.change.Change.TheVariants.{AddIndex, DropIndex, AddColumn, DropColumn}
 use Rattle.change_plan.specs.declared.least_plan.Reorg.{Reorg}
 use Rattle.change_plan.specs.declared.least_plan.PlanStep.{PlanStep}
 use Rattle.change_plan.specs.declared.trip.Act.{Act}
-use Rattle.change_plan.specs.declared.trip.Act.TheVariants.{Wait, Appear, Reach}
+use Rattle.change_plan.specs.declared.trip.Act.TheVariants.{Wait, Appear, Reach, Return}
 use Rattle.change_plan.specs.declared.trip.Course.{Course}
-use Rattle.change_plan.specs.declared.trip.Course.TheVariants.{ColumnIn, IndexIn, IndexOut, ColumnOut}
+use Rattle.change_plan.specs.declared.trip.Course.TheVariants.{ColumnIn, IndexIn, IndexOut, ColumnOut, DeleteOnlyBack, WriteOnlyBack}
 use Rattle.change_plan.specs.declared.trip.Trip.{Trip}
-use Rattle.change_plan.specs.Plans.{work_by_kind}
+use Rattle.change_plan.specs.Plans.{reorgs}
 use Rattle.change_plan.specs.Batches.{leaving, named_column, adds_column, lists, lists_added}
 
 -- ---- courses
@@ -30,12 +31,16 @@ acts ColumnIn = Appear ∷ Reach Public ∷ []
 acts IndexIn = Appear ∷ Reach WriteOnly ∷ Reach Public ∷ []
 acts IndexOut = Reach WriteOnly ∷ Reach DeleteOnly ∷ Reach Absent ∷ []
 acts ColumnOut = Reach DeleteOnly ∷ Reach Absent ∷ []
+acts DeleteOnlyBack = Return ∷ Reach Absent ∷ []
+acts WriteOnlyBack = Return ∷ Reach DeleteOnly ∷ Reach Absent ∷ []
 
 abbrev pub steps : Course → ℕ
 steps course = length (acts course)
 
--- the way out of an element
+-- the way out of an element: one that isn't public is abandoned, and turns back first
 abbrev pub course_out : Kind → ElementState → Course
+course_out kind DeleteOnly = DeleteOnlyBack
+course_out kind WriteOnly = WriteOnlyBack
 course_out (Index columns) state = IndexOut
 course_out (Optional type) state = ColumnOut
 
@@ -58,9 +63,10 @@ abbrev pub move_by : ℕ → NewElement → Act → List Move
 move_by number fresh Wait = []
 move_by number fresh Appear = Enter fresh DeleteOnly ∷ []
 move_by number fresh (Reach to) = Go number to ∷ []
+move_by number fresh Return = Turn number ∷ []
 
 abbrev pub work_by : ℕ → Kind → Act → List Reorg
-work_by number kind (Reach to) = work_by_kind kind number to
+work_by number kind (Reach to) = reorgs number (needed kind to)
 work_by number kind act = []
 
 -- the trip's move in the step behind this number of steps

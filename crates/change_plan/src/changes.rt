@@ -7,6 +7,7 @@ ghost use Rattle.change_plan.specs.Deciding.{adds_index_on as adds_index_on_of};
 ghost use Rattle.change_plan.specs.Schedule.{is_early as is_early_of, is_late as is_late_of};
 
 use crate::change::Change;
+use crate::finding::named_column;
 use keycode::Text;
 use schema_version::Schema;
 
@@ -62,16 +63,24 @@ fn drops(change: &Change, table: u32, name: &Text) -> bool
             table: other,
             name: own,
         } => is_same_name(table, name, *other, own),
+        Change::Abandon {
+            table: other,
+            name: own,
+        } => is_same_name(table, name, *other, own),
         _ => false,
     }
 }
 
-// Whether the change takes the table's index of this name out.
+// Whether the change takes the table's index of this name out. Its elements have names of their own.
 fn drops_index(change: &Change, table: u32, name: &Text) -> bool
     ensures { result ≡ drops_index_of table name.now change.now }
 {
     match change {
         Change::DropIndex {
+            table: other,
+            name: own,
+        } => is_same_name(table, name, *other, own),
+        Change::Abandon {
             table: other,
             name: own,
         } => is_same_name(table, name, *other, own),
@@ -88,6 +97,10 @@ fn drops_column(schema: &Schema, change: &Change, table: u32, name: &Text) -> bo
             table: other,
             name: own,
         } => is_same_name(table, name, *other, own),
+        Change::Abandon {
+            table: other,
+            name: own,
+        } => is_same_name(table, name, *other, own) && named_column(schema, table, name).is_some(),
         _ => false,
     }
 }

@@ -71,12 +71,14 @@ fn column_numbers(
 }
 
 // The way out of an element.
-fn course_out(kind: &Kind, _state: ElementState) -> Course
-    ensures { result ≡ course_out_of kind.now _state }
+fn course_out(kind: &Kind, state: ElementState) -> Course
+    ensures { result ≡ course_out_of kind.now state }
 {
-    match kind {
-        Kind::Index(_) => Course::IndexOut,
-        Kind::Optional(_) => Course::ColumnOut,
+    match (state, kind) {
+        (ElementState::DeleteOnly, _) => Course::DeleteOnlyBack,
+        (ElementState::WriteOnly, _) => Course::WriteOnlyBack,
+        (_, Kind::Index(_)) => Course::IndexOut,
+        (_, Kind::Optional(_)) => Course::ColumnOut,
     }
 }
 

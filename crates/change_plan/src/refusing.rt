@@ -4,7 +4,7 @@ ghost use Rattle.std.specs.List.{list_any};
 ghost use Rattle.schema_version.specs.declared.element.ElementDef.{ElementDef as ElementDefinition};
 ghost use Rattle.change_plan.specs.Batches.{named_index as named_index_of, named_column as named_column_of, drops_column as drops_column_of};
 ghost use Rattle.change_plan.specs.Refusals.{adds_like as adds_like_of, is_addition as is_addition_of};
-ghost use Rattle.change_plan.specs.Deciding.{lacks_column as lacks_column_of, is_taken as is_taken_of, is_in_change as is_in_change_of, still_lists as still_lists_of, is_listed as is_listed_of, is_over as is_over_of, add_index_check, drop_index_check, add_column_check, drop_column_check, change_check, batch_check};
+ghost use Rattle.change_plan.specs.Deciding.{lacks_column as lacks_column_of, is_taken as is_taken_of, is_in_change as is_in_change_of, still_lists as still_lists_of, is_listed as is_listed_of, is_over as is_over_of, add_index_check, drop_index_check, add_column_check, drop_column_check, abandon_check, change_check, batch_check};
 
 use crate::change::Change;
 use crate::changes::{
@@ -12,7 +12,7 @@ use crate::changes::{
     any_drops_index, is_addition,
 };
 use crate::fault::PlanFault;
-use crate::finding::{lists, named_column, named_index};
+use crate::finding::{lists, named_column, named_entering, named_index};
 use keycode::Text;
 use schema_version::{
     ElementDef, Kind, MAX_COLUMNS, MAX_ELEMENTS, MAX_INDEXES, Schema, elements_like, is_name,
@@ -225,6 +225,24 @@ fn check_dropped_column(
     Ok(())
 }
 
+fn check_abandoned(
+    schema: &Schema,
+    all: &[Change],
+    earlier: &[Change],
+    table: u32,
+    name: &Text,
+) -> Result<(), PlanFault>
+    ensures { result ≡ abandon_check schema.now all.now earlier.now table name.now }
+{
+    if named_entering(schema, table, name).is_none() || any_drops(earlier, table, name) {
+        return Err(PlanFault::Unknown);
+    }
+    if is_listed(schema, all, table, name) {
+        return Err(PlanFault::StillIndexed);
+    }
+    Ok(())
+}
+
 // Whether this change can be planned, behind these earlier ones of the batch.
 fn check_change(
     schema: &Schema,
@@ -249,7 +267,7 @@ fn check_change(
         Change::DropColumn { table, name } => {
             check_dropped_column(schema, all, earlier, *table, name)
         }
-        Change::Abandon { .. } => Ok(()),
+        Change::Abandon { table, name } => check_abandoned(schema, all, earlier, *table, name),
     }
 }
 

@@ -1,11 +1,12 @@
 //! The steps of a plan, made from what each element does at each time.
 ghost use Rattle.std.specs.Prelude.{◌≡◌, IfOk, option_to_list, flat_map};
+ghost use Rattle.change_plan.specs.Plans.{reorgs};
 ghost use Rattle.change_plan.specs.Schedule.{move_by as move_by_of, work_by as work_by_of, move_of as move_of_trip, work_of_trip, step_at as step_at_time, longest as longest_of, steps_from};
 
 use crate::least_plan::{PlanStep, Reorg};
 use crate::trip::{Act, Trip, act_at, duration};
 use listed::Listed;
-use schema_version::{ElementState, Kind, Move, NewElement};
+use schema_version::{ElementState, Kind, Move, NewElement, Work, needed};
 use std::alloc::{AllocError, Global};
 
 // The move that does this with the element of this number.
@@ -22,6 +23,18 @@ fn move_by(number: u32, fresh: &NewElement, act: Act) -> Result<Option<Move>, Al
             element: number,
             to,
         })),
+        Act::Return => Ok(Some(Move::Turn { element: number })),
+    }
+}
+
+// The reorganisation of the element of this number, where a move needs one.
+fn reorg(number: u32, work: Option<Work>) -> Option<Reorg>
+    ensures { option_to_list result ≡ reorgs number work }
+{
+    match work {
+        Some(Work::Fill) => Some(Reorg::Fill(number)),
+        Some(Work::Clear) => Some(Reorg::Clear(number)),
+        None => None,
     }
 }
 
@@ -29,10 +42,9 @@ fn move_by(number: u32, fresh: &NewElement, act: Act) -> Result<Option<Move>, Al
 fn work_by(number: u32, kind: &Kind, act: Act) -> Option<Reorg>
     ensures { option_to_list result ≡ work_by_of number kind.now act }
 {
-    match (act, kind) {
-        (Act::Reach(ElementState::Absent), _) => Some(Reorg::Clear(number)),
-        (Act::Reach(ElementState::Public), Kind::Index(_)) => Some(Reorg::Fill(number)),
-        _ => None,
+    match act {
+        Act::Reach(to) => reorg(number, needed(kind, to)),
+        Act::Wait | Act::Appear | Act::Return => None,
     }
 }
 

@@ -12,6 +12,8 @@ pub(crate) enum Act {
     Appear,
     /// It goes to this state.
     Reach(ElementState),
+    /// It turns back.
+    Return,
 }
 
 /// The moves of an element, one per step.
@@ -21,6 +23,8 @@ pub(crate) enum Course {
     IndexIn,
     IndexOut,
     ColumnOut,
+    DeleteOnlyBack,
+    WriteOnlyBack,
 }
 
 /// An element that the batch adds or takes out.
@@ -40,13 +44,15 @@ pub(crate) struct Trip {
 fn acts(course: Course) -> &'static [Act]
     ensures { result.now ≡ acts_of course }
 {
-    use Act::{Appear, Reach};
+    use Act::{Appear, Reach, Return};
     use ElementState::{Absent, DeleteOnly, Public, WriteOnly};
     match course {
         Course::ColumnIn => &[Appear, Reach(Public)],
         Course::IndexIn => &[Appear, Reach(WriteOnly), Reach(Public)],
         Course::IndexOut => &[Reach(WriteOnly), Reach(DeleteOnly), Reach(Absent)],
         Course::ColumnOut => &[Reach(DeleteOnly), Reach(Absent)],
+        Course::DeleteOnlyBack => &[Return, Reach(Absent)],
+        Course::WriteOnlyBack => &[Return, Reach(DeleteOnly), Reach(Absent)],
     }
 }
 
@@ -55,8 +61,8 @@ pub(crate) fn steps(course: Course) -> u32
     ensures { result ≡ steps_of_course course }
 {
     match course {
-        Course::IndexIn | Course::IndexOut => 3,
-        Course::ColumnIn | Course::ColumnOut => 2,
+        Course::IndexIn | Course::IndexOut | Course::WriteOnlyBack => 3,
+        Course::ColumnIn | Course::ColumnOut | Course::DeleteOnlyBack => 2,
     }
 }
 

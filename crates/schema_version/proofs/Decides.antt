@@ -9,19 +9,21 @@ use Rattle.std.specs.FinMap as map
 use Rattle.row_map.specs.declared.shape.ColumnType.{ColumnType}
 use Rattle.schema_version.specs.declared.element.ElementState.{ElementState}
 use Rattle.schema_version.specs.declared.element.ElementState.TheVariants.{Absent, DeleteOnly, WriteOnly, Public}
+use Rattle.schema_version.specs.declared.element.Way.{Way}
 use Rattle.schema_version.specs.declared.element.Way.TheVariants.{Adding, Dropping}
 use Rattle.schema_version.specs.declared.element.Kind.{Kind}
 use Rattle.schema_version.specs.declared.element.Kind.TheVariants.{Index, Optional}
 use Rattle.schema_version.specs.declared.element.ElementDef.{ElementDef}
 use Rattle.schema_version.specs.declared.element.NewElement.{NewElement}
 use Rattle.schema_version.specs.declared.step.Move.{Move}
-use Rattle.schema_version.specs.declared.step.Move.TheVariants.{Enter, Go}
+use Rattle.schema_version.specs.declared.step.Move.TheVariants.{Enter, Go, Turn}
 use Rattle.schema_version.specs.declared.step.StepFault.{StepFault}
 use Rattle.schema_version.specs.declared.step.StepFault.TheVariants.{Unknown}
 use Rattle.schema_version.specs.Names.{IsName, is_name, is_letter, is_word_byte, max_listed, max_elements}
 use Rattle.schema_version.specs.Version.{Version, Table, table_at, element_at, live, is_index, is_public, is_column, is_named, listed, IsLiveColumn}
-use Rattle.schema_version.specs.Moves.{is_edge, moves_element, HasNoEdge, is_unready, is_distinct, count_like, max_like, is_entry, DependsOn, IsFirstSuch, IsLeastIndexOn, IsTaken, Enters, IsColumnList, IsWithinLimits, GoFault, GoFaultAt, MoveFault, rank}
-use Rattle.schema_version.specs.Deciding.{has_no_edge, lists, stands_against, go_check, go_check_at, enter_check, move_check, is_column_of, are_columns_of, has_key_column, is_entry_named, is_taken, is_column_list, is_within_limits}
+use Rattle.schema_version.specs.Moves.{moves_element, HasNoEdge, is_unready, is_distinct, count_like, max_like, is_entry, DependsOn, IsFirstSuch, IsLeastIndexOn, IsTaken, Enters, IsColumnList, IsWithinLimits, GoFault, GoFaultAt, TurnFault, TurnFaultAt, MoveFault, rank}
+use Rattle.schema_version.specs.Edges.{edge}
+use Rattle.schema_version.specs.Deciding.{has_no_edge, lists, stands_against, go_check, go_check_at, is_dropping, turn_check, turn_check_at, enter_check, move_check, is_column_of, are_columns_of, has_key_column, is_entry_named, is_taken, is_column_list, is_within_limits}
 use Rattle.schema_version.proofs.Lists.{any_says, any_from, all_says, all_fails, find_first, find_none, some_same, not_both}
 use Rattle.schema_version.proofs.Live.{IsLeast, first_is_least, none_passes, element_at-lookup, live_has, live_from}
 use Rattle.schema_version.proofs.Chain.{Finds, Says, chain_says}
@@ -42,12 +44,6 @@ itself b = (λ e. e, λ e. e)
 
 pub at_most : (a b : ℕ) → Decides (nat_le a b) (a ≤ b)
 at_most a b = elim (leb_tells a b) [ inl p ↦ (λ e. p.1, λ e. p.0) | inr p ↦ (λ e. absurd (not_both e p.0), λ le. absurd (omega (arith, p.1, le))) ]
-
-not_public : (s : ElementState) → Decides (not (is_public s)) (s ≢ Public)
-not_public Public = (λ e. cc, λ h. absurd (h refl))
-not_public Absent = (λ e p. cc, λ h. refl)
-not_public DeleteOnly = (λ e p. cc, λ h. refl)
-not_public WriteOnly = (λ e p. cc, λ h. refl)
 
 -- the first that is found, or none
 Finds-first : (test : ℕ → Bool) (list : List ℕ) (o : Option ℕ) → find test list ≡ o → Finds o (IsFirstSuch test list)
@@ -92,6 +88,7 @@ named table name e = Decides-and (e.table == table) (bytes_eq e.name name) (Deci
 entry_named : (table : ℕ) (name : List ℕ) (m : Move) → Decides (is_entry_named table name m) (Enters table name m)
 entry_named table name (Enter fresh to) = Decides-and (fresh.table == table) (bytes_eq fresh.name name) (Decides-eqb fresh.table table) (bytes_eq-Decides fresh.name name)
 entry_named table name (Go element to) = never
+entry_named table name (Turn element) = never
 
 key_taken : (v : Version) (n : ℕ) (name : List ℕ) → Decides (has_key_column (table_at v n) name) ((table : Table) × (type : ColumnType) × (table_at v n ≡ Some table) × Contains table.key (name, type))
 key_taken v n name = by (table_at v n) refl
@@ -151,8 +148,12 @@ within v earlier fresh =
 
 -- ---- edges and what stands against a move
 
+no_way : (o : Option Way) → Decides (not (is_some o)) (o ≡ None)
+no_way None = (λ e. refl, λ e. refl)
+no_way (Some way) = (λ e. cc, λ e. cc)
+
 no_edge : (k : Kind) (from to : ElementState) → Decides (has_no_edge k from to) (HasNoEdge k from to)
-no_edge k from to = Decides-and (not (is_edge k Adding from to)) (not (is_edge k Dropping from to)) (is_false (is_edge k Adding from to)) (is_false (is_edge k Dropping from to))
+no_edge k from to = Decides-and (not (is_some (edge k Adding from to))) (not (is_some (edge k Dropping from to))) (no_way (edge k Adding from to)) (no_way (edge k Dropping from to))
 
 pub listing : (n : ℕ) (e : ElementDef) → Decides (lists n e) (Contains (listed e.kind) n)
 listing n e = (
@@ -178,12 +179,35 @@ stands v step n (Optional type) numbered = least v n numbered (find (lists n) (l
 
 pub go_says : (v : Version) (step earlier : List Move) (n : ℕ) (e : ElementDef) (to : ElementState) → AreNumbered v → Says (GoFault v step earlier n e to) (go_check v step earlier n e to)
 go_says v step earlier n e to numbered =
-    chain_says (GoFault v step earlier n e to) false (has_no_edge e.kind e.state to || moves_element earlier n) (not (is_edge e.kind e.way e.state to) && not (is_public e.state)) (stands_against v step n e.kind) false false
+    chain_says (GoFault v step earlier n e to) false (has_no_edge e.kind e.state to || moves_element earlier n) (not (is_some (edge e.kind e.way e.state to))) (stands_against v step n e.kind) false false
     (record {
       unknown = never;
       not_adjacent = Decides-or (has_no_edge e.kind e.state to) (moves_element earlier n) (no_edge e.kind e.state to) (itself (moves_element earlier n));
-      wrong_way = Decides-and (not (is_edge e.kind e.way e.state to)) (not (is_public e.state)) (is_false (is_edge e.kind e.way e.state to)) (not_public e.state);
+      wrong_way = no_way (edge e.kind e.way e.state to);
       dependent = stands v step n e.kind numbered;
+      taken = never;
+      limit = never;
+      memory = λ h. h;
+    })
+
+public : (s : ElementState) → Decides (is_public s) (s ≡ Public)
+public Public = (λ e. refl, λ e. refl)
+public Absent = (λ e. cc, λ e. cc)
+public DeleteOnly = (λ e. cc, λ e. cc)
+public WriteOnly = (λ e. cc, λ e. cc)
+
+dropping : (w : Way) → Decides (is_dropping w) (w ≡ Dropping)
+dropping Adding = (λ e. cc, λ e. cc)
+dropping Dropping = (λ e. refl, λ e. refl)
+
+pub turn_says : (earlier : List Move) (n : ℕ) (e : ElementDef) → Says (TurnFault earlier n e) (turn_check earlier n e)
+turn_says earlier n e =
+    chain_says (TurnFault earlier n e) false (is_public e.state || moves_element earlier n) (is_dropping e.way) None false false
+    (record {
+      unknown = never;
+      not_adjacent = Decides-or (is_public e.state) (moves_element earlier n) (public e.state) (itself (moves_element earlier n));
+      wrong_way = dropping e.way;
+      dependent = λ on h. h;
       taken = never;
       limit = never;
       memory = λ h. h;
@@ -212,3 +236,8 @@ move_says v step earlier (Go n to) numbered = by (element_at v n)
     by : (o : Option ElementDef) → Says (GoFaultAt v step earlier n o to) (go_check_at v step earlier n o to)
     by None = unknown_says (GoFaultAt v step earlier n None to) refl (λ f e. e)
     by (Some e) = go_says v step earlier n e to numbered
+move_says v step earlier (Turn n) numbered = by (element_at v n)
+  where
+    by : (o : Option ElementDef) → Says (TurnFaultAt earlier n o) (turn_check_at earlier n o)
+    by None = unknown_says (TurnFaultAt earlier n None) refl (λ f e. e)
+    by (Some e) = turn_says earlier n e
