@@ -277,7 +277,6 @@ module _ (facts : Facts) (step : List Move) (allowed : IsAllowed facts.newest st
       by DeleteOnly e = never_next n s.next x to way.0 way.1 (λ a. absurd cc) after_is
       by WriteOnly e = never_next n s.next x to way.0 way.1 (λ a. absurd cc) after_is
       by Public e = never_next n s.next x to way.0 way.1 (λ a. absurd cc) after_is
-
   fresh_def n never (Turns x there was is) = dropped (subst (λ (o : Option ElementDef). NeverPublic the_kinds s.next n (option_map entry_of o)) is never).0
     where
       dropped : {B : Type 0} → false ≡ true → B

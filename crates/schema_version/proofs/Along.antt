@@ -84,7 +84,7 @@ no_edge_to_absent (Optional type) (Dropping, next, e) = cc
 way_to : (e : ElementDef) (to : ElementState) (way : Way) → edge e.kind e.way e.state to ≡ Some way → to ≡ Public → (in_state e to).way ≡ Adding
 way_to e to way own is =
     ap (λ o. unwrap_or o e.way) own
-    ∙ (adding_to_public e.kind e.way e.state way (subst (λ s. edge e.kind e.way e.state s ≡ Some way) is own)).1
+    ∙ (adding_to_public e.kind e.way e.state way (subst (λ s. edge e.kind e.way e.state s ≡ Some way) is own)).2
 
 count_behind : (p : Move → Bool) (earlier : List Move) (m : Move) → count_by p (earlier ++ m ∷ []) ≡ count_by p earlier + cond (p m) 1 0
 count_behind p earlier m =

@@ -44,6 +44,8 @@ none_some e = absurd cc
 pub adding_to_public : (kind : Kind) (way : Way) (from : ElementState) (next : Way) → edge kind way from Public ≡ Some next → (way ≡ Adding) × (from ≢ Public) × (next ≡ Adding)
 adding_to_public (Index columns) Adding WriteOnly next e = (refl, λ p. absurd cc, cc)
 adding_to_public (Optional type) Adding DeleteOnly next e = (refl, λ p. absurd cc, cc)
+adding_to_public (Index columns) Dropping Absent next e = none_some e
+adding_to_public (Optional type) Dropping Absent next e = none_some e
 adding_to_public kind way from next e = none_some e
 
 -- an edge leads to a state of the kind
