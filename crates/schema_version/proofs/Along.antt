@@ -31,7 +31,7 @@ use Rattle.schema_version.proofs.Changes.{moved_here, moved_apart, moved_next, t
 use Rattle.schema_version.proofs.Decides.{AreNumbered, least, listing, column_is, within}
 use Rattle.schema_version.proofs.Declared.{any_append}
 use Rattle.schema_version.proofs.Steps.{truly, step_allowed}
-use Rattle.schema_version.proofs.Stepping.{split_at, not_true, some_edge, adding_to_public, is_live, clear, is_live_back, not_before, own_way, may_turn}
+use Rattle.schema_version.proofs.Stepping.{split_at, not_true, some_edge, adding_to_public, edge_to, is_live, clear, is_live_back, not_before, own_way, may_turn}
 use Rattle.schema_version.proofs.Counts.{count_insert}
 use Rattle.schema_version.proofs.Keeping.{MayEnter, enter_sound, moved_sound, moved_count, turned_sound, turned_count}
 
@@ -178,6 +178,7 @@ module _ (v : Version) (step : List Move) (sound : IsSoundVersion v) (allowed : 
       record {
         room = (let room = l.3 in let next = along.next in omega (arith, room, next));
         live = λ is. no_edge_to_absent fresh.kind (subst (HasEdge fresh.kind Absent) is has);
+        possible = edge_to fresh.kind has.0 has.1 Absent to has.2;
         named = l.0;
         placed = (there.0, tables_at ∙ there.1);
         apart = λ (table, type, at, key). allowed earlier later (Enter fresh to) NameTaken split (inl (table, type, sym tables_at ∙ at, key));
@@ -237,7 +238,7 @@ module _ (v : Version) (step : List Move) (sound : IsSoundVersion v) (allowed : 
       let unlisted = not_listed earlier later n to e split at u along now in
       let own : e.number ≡ n = (along.sound.elements n e now).own in
       record {
-        sound = moved_sound u n e along.sound now unlisted to (way_to e to own_edge.0 own_edge.1);
+        sound = moved_sound u n e along.sound now unlisted to (edge_to e.kind e.way own_edge.0 e.state to own_edge.1) (way_to e to own_edge.0 own_edge.1);
         tables = moved_tables u e to ∙ along.tables;
         next = (let same = moved_next u (Some e) to in let next = along.next in let more = count_behind is_entry earlier (Go n to) in omega (arith, same, next, more));
         from = λ m x at_m. elim (tells m n) [

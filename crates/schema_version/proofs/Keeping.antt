@@ -1,5 +1,6 @@
 -- What is true of every version stays true when an element enters, goes to another state, or leaves.
 use Rattle.std.proofs.Common.{◌≡◌, ◌≢◌, ℕ, ◌+◌, ◌<◌, ◌≤◌, Bool, true, false, cond, ◌&&◌, ◌==◌, ◌⊎◌, Some, inl, inr, refl, sym, ap, subst, ◌∙◌, arith, Contains}
+use Rattle.std.specs.Prelude.{IsTrue}
 use Rattle.std.specs.Ordering.{nat_cmp}
 use Rattle.std.specs.FinMap as map
 use Rattle.schema_version.specs.declared.element.ElementState.{ElementState}
@@ -9,6 +10,7 @@ use Rattle.schema_version.specs.declared.element.Kind.{Kind}
 use Rattle.schema_version.specs.declared.element.Kind.TheVariants.{Index, Optional}
 use Rattle.schema_version.specs.declared.element.ElementDef.{ElementDef}
 use Rattle.schema_version.specs.declared.element.NewElement.{NewElement}
+use Rattle.schema_version.specs.Edges.{has_state}
 use Rattle.schema_version.specs.Names.{IsName, max_elements}
 use Rattle.schema_version.specs.Version.{Version, Table, table_at, element_at, live, is_like, is_index, listed, IsPublicColumn, IsKeyName, count_live}
 use Rattle.schema_version.specs.Moves.{as_element, in_state, turned_back, entered, moved, turned, IsColumnList, max_like}
@@ -25,6 +27,7 @@ use Rattle.std.proofs.lemmas.Bool.Decides.{Decides-eqb}
 pub record MayEnter (version : Version) (fresh : NewElement) (to : ElementState) : Type 0 where
   pub room : version.next ≤ max_elements
   pub live : to ≢ Absent
+  pub possible : IsTrue (has_state fresh.kind to)
   pub named : IsName fresh.name
   pub placed : (table : Table) × (table_at version fresh.table ≡ Some table)
   pub apart : ¬ (IsKeyName version fresh.table fresh.name)
@@ -59,6 +62,7 @@ module _ (u : Version) (fresh : NewElement) (to : ElementState) (sound : IsSound
         first = s.first;
         given = (let lt = s.given in omega (arith, lt));
         live = s.live;
+        possible = s.possible;
         way = s.way;
         named = s.named;
         placed = s.placed;
@@ -74,6 +78,7 @@ module _ (u : Version) (fresh : NewElement) (to : ElementState) (sound : IsSound
         first = sound.begun;
         given = omega arith;
         live = may.live;
+        possible = may.possible;
         way = λ _. refl;
         named = may.named;
         placed = may.placed;
@@ -149,6 +154,7 @@ pub record Follows (version : Version) (number : ℕ) (element : ElementDef) : T
   pub name : element.name ≡ old.name
   pub kind : element.kind ≡ old.kind
   pub live : element.state ≢ Absent
+  pub possible : IsTrue (has_state element.kind element.state)
   pub way : element.state ≡ Public → element.way ≡ Adding
 
 -- the same tables and elements but for one, which went on or left
@@ -171,11 +177,11 @@ module _ (u : Version) (after : map.FinMap nat_cmp ElementDef) (n : ℕ) (sound 
         | inr p ↦ (e, sym (same m p.1) ∙ at, refl, refl, refl, refl)
       ]
 
-  states : (m : ℕ) (e : ElementDef) → element_at then m ≡ Some e → (e.state ≢ Absent) × (e.state ≡ Public → e.way ≡ Adding)
+  states : (m : ℕ) (e : ElementDef) → element_at then m ≡ Some e → (e.state ≢ Absent) × IsTrue (has_state e.kind e.state) × (e.state ≡ Public → e.way ≡ Adding)
   states m e at =
       elim (tells m n) [
-        | inl p ↦ (let f = goes e (ap (map.get after) (sym p.1) ∙ at) in (f.live, f.way))
-        | inr p ↦ (let s = sound.elements m e (sym (same m p.1) ∙ at) in (s.live, s.way))
+        | inl p ↦ (let f = goes e (ap (map.get after) (sym p.1) ∙ at) in (f.live, f.possible, f.way))
+        | inr p ↦ (let s = sound.elements m e (sym (same m p.1) ∙ at) in (s.live, s.possible, s.way))
       ]
 
   still : (m : ℕ) (e : ElementDef) → element_at then m ≡ Some e → IsSoundElement then m e
@@ -189,7 +195,8 @@ module _ (u : Version) (after : map.FinMap nat_cmp ElementDef) (n : ℕ) (sound 
         first = s.first;
         given = s.given;
         live = st.0;
-        way = st.1;
+        possible = st.1;
+        way = st.2;
         named = subst IsName (sym w.4) s.named;
         placed = subst (λ t. (table : Table) × (table_at u t ≡ Some table)) (sym w.3) s.placed;
         apart = λ taken. s.apart (subst (λ name. IsKeyName u d.table name) w.4 (subst (λ t. IsKeyName u t e.name) w.3 taken));
@@ -240,13 +247,14 @@ module _ (u : Version) (n : ℕ) (e : ElementDef) (sound : IsSoundVersion u) (at
       (λ y is. subst (Follows u n) (some_same (sym (inserted_here u.elements e.number n x (sym own_number)) ∙ is)) follows)
       (changed_count x alike)
 
-  gone_sound : (to : ElementState) → to ≢ Absent → (to ≡ Public → (in_state e to).way ≡ Adding) → IsSoundVersion (record u { elements = map.insert u.elements e.number (in_state e to) })
-  gone_sound to live way = changed_sound (in_state e to) (λ table index. refl) (record { old = e; at = at; own = refl; table = refl; name = refl; kind = refl; live = live; way = way })
+  gone_sound : (to : ElementState) → to ≢ Absent → IsTrue (has_state e.kind to) → (to ≡ Public → (in_state e to).way ≡ Adding) → IsSoundVersion (record u { elements = map.insert u.elements e.number (in_state e to) })
+  gone_sound to live possible way =
+      changed_sound (in_state e to) (λ table index. refl) (record { old = e; at = at; own = refl; table = refl; name = refl; kind = refl; live = live; possible = possible; way = way })
 
   pub turned_sound : e.state ≢ Public → IsSoundVersion (turned u (Some e))
   turned_sound private =
       changed_sound (turned_back e) (λ table index. refl)
-      (record { old = e; at = at; own = refl; table = refl; name = refl; kind = refl; live = (sound.elements n e at).live; way = λ public. absurd (private public) })
+      (record { old = e; at = at; own = refl; table = refl; name = refl; kind = refl; live = (sound.elements n e at).live; possible = (sound.elements n e at).possible; way = λ public. absurd (private public) })
 
   pub turned_count : (table : ℕ) (index : Bool) → count_live (turned u (Some e)) table index ≤ count_live u table index
   turned_count table index = changed_count (turned_back e) (λ t i. refl) table index
@@ -258,11 +266,11 @@ module _ (u : Version) (n : ℕ) (e : ElementDef) (sound : IsSoundVersion u) (at
       (λ x is. absurd (none_there x (map.get (map.remove u.elements e.number) n) (removed_here u.elements e.number n (sym own_number)) is))
       (λ table index. count_remove (λ (x : ElementDef). (x.table == table) && is_like index x.kind) u.elements e.number)
 
-  pub moved_sound : (to : ElementState) → (to ≡ Public → (in_state e to).way ≡ Adding) → IsSoundVersion (moved u (Some e) to)
-  moved_sound Absent way = removed_sound
-  moved_sound DeleteOnly way = gone_sound DeleteOnly (λ is. cc) way
-  moved_sound WriteOnly way = gone_sound WriteOnly (λ is. cc) way
-  moved_sound Public way = gone_sound Public (λ is. cc) way
+  pub moved_sound : (to : ElementState) → IsTrue (has_state e.kind to) → (to ≡ Public → (in_state e to).way ≡ Adding) → IsSoundVersion (moved u (Some e) to)
+  moved_sound Absent possible way = removed_sound
+  moved_sound DeleteOnly possible way = gone_sound DeleteOnly (λ is. cc) possible way
+  moved_sound WriteOnly possible way = gone_sound WriteOnly (λ is. cc) possible way
+  moved_sound Public possible way = gone_sound Public (λ is. cc) possible way
 
   pub moved_count : (to : ElementState) (table : ℕ) (index : Bool) → count_live (moved u (Some e) to) table index ≤ count_live u table index
   moved_count Absent table index = count_remove (λ (x : ElementDef). (x.table == table) && is_like index x.kind) u.elements e.number

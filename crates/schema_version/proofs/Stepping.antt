@@ -14,7 +14,7 @@ use Rattle.schema_version.specs.declared.step.Move.TheVariants.{Enter, Go, Turn}
 use Rattle.schema_version.specs.declared.step.StepFault.{StepFault}
 use Rattle.schema_version.specs.declared.step.StepFault.TheVariants.{Unknown, NotAdjacent, WrongWay}
 use Rattle.schema_version.specs.Version.{Version, element_at}
-use Rattle.schema_version.specs.Edges.{edge, HasEdge}
+use Rattle.schema_version.specs.Edges.{edge, has_state, HasEdge}
 use Rattle.schema_version.specs.Moves.{HasNoEdge, is_move_of, moves_element, GoFaultAt, TurnFaultAt, IsAllowed, after_step}
 use Rattle.schema_version.specs.Steps.{Change, Stays, Enters, Goes, Turns, StepOf, Same, New, Next, Back, IsOrdered, StepsKeepToEdges}
 use Rattle.schema_version.proofs.Lists.{here, not_both, any_says, any_from}
@@ -47,6 +47,20 @@ adding_to_public (Optional type) Adding DeleteOnly next e = (refl, λ p. absurd 
 adding_to_public (Index columns) Dropping Absent next e = none_some e
 adding_to_public (Optional type) Dropping Absent next e = none_some e
 adding_to_public kind way from next e = none_some e
+
+-- an edge leads to a state of the kind
+pub edge_to : (kind : Kind) (way next : Way) (from to : ElementState) → edge kind way from to ≡ Some next → has_state kind to ≡ true
+edge_to (Index columns) Adding next Absent DeleteOnly e = refl
+edge_to (Index columns) Adding next DeleteOnly WriteOnly e = refl
+edge_to (Index columns) Adding next WriteOnly Public e = refl
+edge_to (Index columns) way next Public WriteOnly e = refl
+edge_to (Index columns) Dropping next WriteOnly DeleteOnly e = refl
+edge_to (Index columns) Dropping next DeleteOnly Absent e = refl
+edge_to (Optional type) Adding next Absent DeleteOnly e = refl
+edge_to (Optional type) Adding next DeleteOnly Public e = refl
+edge_to (Optional type) way next Public DeleteOnly e = refl
+edge_to (Optional type) Dropping next DeleteOnly Absent e = refl
+edge_to kind way next from to e = none_some e
 
 -- what is being added after an edge was so before it, and was not public
 pub adding_before : (kind : Kind) (way : Way) (from to : ElementState) → edge kind way from to ≡ Some Adding → (way ≡ Adding) × (from ≢ Public)
