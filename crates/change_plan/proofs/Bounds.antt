@@ -11,8 +11,9 @@ use Rattle.schema_version.specs.declared.element.Kind.{Kind}
 use Rattle.schema_version.specs.declared.element.Kind.TheVariants.{Index, Optional}
 use Rattle.schema_version.specs.declared.element.ElementDef.{ElementDef}
 use Rattle.schema_version.specs.declared.step.Move.{Move}
+use Rattle.schema_version.specs.Edges.{edge}
 use Rattle.schema_version.specs.Version.{Version, element_at, state_of, state_or_absent, is_public, listed}
-use Rattle.schema_version.specs.Moves.{is_edge, after_step, moves_element, is_unready}
+use Rattle.schema_version.specs.Moves.{after_step, moves_element, is_unready}
 use Rattle.schema_version.specs.Steps.{IsOrdered, in_state_or_none}
 use Rattle.change_plan.proofs.Steps.{Becomes, Stays, Comes, Goes, Midway, AreReady, after_allowed, not_both}
 use Rattle.change_plan.specs.declared.least_plan.PlanStep.{PlanStep}
@@ -35,18 +36,18 @@ abbrev pub IsWithin : ℕ → ℕ → ℕ → Type 0
 IsWithin far a b = (a ≤ b + far) × (b ≤ a + far)
 
 -- an edge goes one up or one down
-edge_height : (kind : Kind) (way : Way) (from to : ElementState) → is_edge kind way from to ≡ true → IsWithin 1 (height_in kind from) (height_in kind to)
-edge_height (Index columns) Adding Absent DeleteOnly e = (omega arith, omega arith)
-edge_height (Index columns) Adding DeleteOnly WriteOnly e = (omega arith, omega arith)
-edge_height (Index columns) Adding WriteOnly Public e = (omega arith, omega arith)
-edge_height (Index columns) Dropping Public WriteOnly e = (omega arith, omega arith)
-edge_height (Index columns) Dropping WriteOnly DeleteOnly e = (omega arith, omega arith)
-edge_height (Index columns) Dropping DeleteOnly Absent e = (omega arith, omega arith)
-edge_height (Optional type) Adding Absent DeleteOnly e = (omega arith, omega arith)
-edge_height (Optional type) Adding DeleteOnly Public e = (omega arith, omega arith)
-edge_height (Optional type) Dropping Public DeleteOnly e = (omega arith, omega arith)
-edge_height (Optional type) Dropping DeleteOnly Absent e = (omega arith, omega arith)
-edge_height kind way from to e = absurd (true≢false (sym e))
+edge_height : (kind : Kind) (way : Way) (from to : ElementState) (next : Way) → edge kind way from to ≡ Some next → IsWithin 1 (height_in kind from) (height_in kind to)
+edge_height (Index columns) Adding Absent DeleteOnly next e = (omega arith, omega arith)
+edge_height (Index columns) Adding DeleteOnly WriteOnly next e = (omega arith, omega arith)
+edge_height (Index columns) Adding WriteOnly Public next e = (omega arith, omega arith)
+edge_height (Index columns) way Public WriteOnly next e = (omega arith, omega arith)
+edge_height (Index columns) Dropping WriteOnly DeleteOnly next e = (omega arith, omega arith)
+edge_height (Index columns) Dropping DeleteOnly Absent next e = (omega arith, omega arith)
+edge_height (Optional type) Adding Absent DeleteOnly next e = (omega arith, omega arith)
+edge_height (Optional type) Adding DeleteOnly Public next e = (omega arith, omega arith)
+edge_height (Optional type) way Public DeleteOnly next e = (omega arith, omega arith)
+edge_height (Optional type) Dropping DeleteOnly Absent next e = (omega arith, omega arith)
+edge_height kind way from to next e = absurd cc
 
 height_turned : (element : ElementDef) (to : ElementState) → height (in_state_or_none element to) ≡ height_in element.kind to
 height_turned element Absent = refl
@@ -59,10 +60,10 @@ height_becomes : (old : Version) (step : List Move) (next n : ℕ) (now : Option
 height_becomes old step next n now (Stays same unmoved outside) = subst (λ o. IsWithin 1 (height (element_at old n)) (height o)) (sym same) (omega arith, omega arith)
 height_becomes old step next n now (Comes earlier later fresh split place before after ready) =
     subst (λ o. IsWithin 1 (height o) (height now)) (sym before) (subst (λ o. IsWithin 1 0 (height o)) (sym after) (omega arith, omega arith))
-height_becomes old step next n now (Goes earlier later element way to split before edge after ready) =
+height_becomes old step next n now (Goes earlier later element to split before edge after ready) =
     subst (λ o. IsWithin 1 (height o) (height now)) (sym before)
     (subst (λ o. IsWithin 1 (height_in element.kind element.state) (height o)) (sym after)
-    (subst (λ h. IsWithin 1 (height_in element.kind element.state) h) (sym (height_turned element to)) (edge_height element.kind way element.state to edge)))
+    (subst (λ h. IsWithin 1 (height_in element.kind element.state) h) (sym (height_turned element to)) (edge_height element.kind edge.0 element.state to edge.1 edge.2)))
 
 -- ---- one element over a plan
 
@@ -123,7 +124,7 @@ heights_step old step now index column numbered mid lists_old lists_now = pick (
         let a = of_column.0 in let b = of_column.1 in
         (omega arith, omega arith)
     pick (Comes earlier later fresh split place before after are) = ready fresh.kind are (lists_now _ after)
-    pick (Goes earlier later element way to split before edge after are) = ready element.kind are (lists_old element before)
+    pick (Goes earlier later element to split before edge after are) = ready element.kind are (lists_old element before)
 
 -- at each version on the plan's way
 abbrev pub AllAlong : (Version → Type 0) → Version → List PlanStep → Type 0
@@ -165,7 +166,7 @@ still_step old step now mid element number live =
     pick : (f : ElementDef) → element_at now number ≡ Some f → Becomes old step step now.next number (element_at now number) → IsStill f element
     pick f at (Stays same unmoved outside) = live.1 f (sym same ∙ at)
     pick f at (Comes earlier later fresh split place before after are) = let a : number < old.next = live.0 in absurd (omega arith)
-    pick f at (Goes earlier later e way to split before edge after are) =
+    pick f at (Goes earlier later e to split before edge after are) =
         let one : IsStill f e = still_turned e to f (sym after ∙ at) in
         let two : IsStill e element = live.1 e before in
         (one.0 ∙ two.0, one.1 ∙ two.1, one.2 ∙ two.2)

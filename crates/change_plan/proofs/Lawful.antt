@@ -10,6 +10,7 @@ use Rattle.std.proofs.lemmas.List.Sums.{sum_by-append}
 use Rattle.std.proofs.lemmas.Bool.Decides.{Decides-eqb}
 use Rattle.schema_version.specs.declared.element.ElementState.{ElementState}
 use Rattle.schema_version.specs.declared.element.ElementState.TheVariants.{Absent, DeleteOnly, WriteOnly, Public}
+use Rattle.schema_version.specs.declared.element.Way.{Way}
 use Rattle.schema_version.specs.declared.element.Way.TheVariants.{Adding, Dropping}
 use Rattle.schema_version.specs.declared.element.Kind.{Kind}
 use Rattle.schema_version.specs.declared.element.Kind.TheVariants.{Index, Optional}
@@ -19,9 +20,10 @@ use Rattle.schema_version.specs.declared.step.Move.{Move}
 use Rattle.schema_version.specs.declared.step.Move.TheVariants.{Enter, Go}
 use Rattle.schema_version.specs.declared.step.StepFault.{StepFault}
 use Rattle.schema_version.specs.declared.step.StepFault.TheVariants.{Unknown, NotAdjacent, WrongWay, Dependent, NameTaken, Limit, Memory}
+use Rattle.schema_version.specs.Edges.{edge}
 use Rattle.schema_version.specs.Version.{Version, Table, table_at, element_at, state_or_absent, is_index, is_public, listed, count_live, IsLiveColumn}
 use Rattle.schema_version.specs.Names.{IsName, max_elements}
-use Rattle.schema_version.specs.Moves.{is_edge, is_move_of, moves_element, is_entry, is_unready, IsFirstSuch, DependsOn, GoFault, GoFaultAt, MoveFault, IsAllowed, IsTaken, Enters, IsColumnList, IsWithinLimits, count_like, max_like, is_entry_like, after_step, as_element}
+use Rattle.schema_version.specs.Moves.{is_move_of, moves_element, is_entry, is_unready, IsFirstSuch, DependsOn, GoFault, GoFaultAt, MoveFault, IsAllowed, IsTaken, Enters, IsColumnList, IsWithinLimits, count_like, max_like, is_entry_like, after_step, as_element}
 use Rattle.schema_version.specs.Steps.{IsOrdered, in_state_or_none}
 use Rattle.change_plan.proofs.Steps.{same_or_apart, Becomes, Stays, Comes, Goes, Midway, after_allowed, not_both, not_given}
 use Rattle.change_plan.specs.declared.least_plan.Reorg.{Reorg}
@@ -32,7 +34,7 @@ use Rattle.change_plan.specs.declared.trip.Trip.{Trip}
 use Rattle.change_plan.specs.Schedule.{steps_from, state_at, move_between, move_of, work_of_trip}
 use Rattle.std.proofs.lemmas.List.Elements.{Contains-append_left as contains_left}
 use Rattle.change_plan.proofs.Named.{contains_first, contains_later, contains_middle, split_at}
-use Rattle.change_plan.proofs.Trips.{is_in, is_of_index, way_on, element_of, here, IsRun, Leg, Rests, Starts, Runs, leg, rests_move, rests_work, starts_move, starts_work, Source, source, find_trip, quiet, late_index_sees, leaving_index_sees, new_column_sees, late_column_sees}
+use Rattle.change_plan.proofs.Trips.{is_in, is_of_index, way_on, way_in, element_of, here, IsRun, Leg, Rests, Starts, Runs, leg, rests_move, rests_work, starts_move, starts_work, Source, source, find_trip, quiet, late_index_sees, leaving_index_sees, new_column_sees, late_column_sees}
 
 -- ---- what makes trips a plan
 
@@ -212,12 +214,12 @@ module _ (old : Version) (trips : List Trip) (are : AreTrips old trips) where
         is_kind : is_index trip.fresh.kind ≡ is_of_index trip.pace
         is_kind = (are.trip trip has).kind
 
-        edge : is_edge trip.fresh.kind (way_on (is_in trip.pace)) (state_at trip.pace time) (state_at trip.pace (suc time)) ≡ true
-        edge = run.edge trip.fresh.kind is_kind
+        own : edge trip.fresh.kind (way_in (is_in trip.pace) (state_at trip.pace time)) (state_at trip.pace time) (state_at trip.pace (suc time)) ≡ Some (way_on (is_in trip.pace))
+        own = run.own trip.fresh.kind is_kind
 
-        some_edge : (kind : Kind) (b : Bool) (from to : ElementState) → is_edge kind (way_on b) from to ≡ true → is_edge kind Adding from to ≡ false → is_edge kind Dropping from to ≡ false → ⊥
-        some_edge kind true from to e f g = true≢false (sym e ∙ f)
-        some_edge kind false from to e f g = true≢false (sym e ∙ g)
+        some_edge : (kind : Kind) (way : Way) (from to : ElementState) (next : Way) → edge kind way from to ≡ Some next → edge kind Adding from to ≡ None → edge kind Dropping from to ≡ None → ⊥
+        some_edge kind Adding from to next e f g = not_both next _ e f
+        some_edge kind Dropping from to next e f g = not_both next _ e g
 
         depends : (on : ℕ) (kind : Kind) → trip.fresh.kind ≡ kind → DependsOn now (flat_map (move_of time) trips) trip.number kind on → ⊥
         depends on (Index columns) is such = all_ready trip has _ (run.move trip.number trip.fresh) columns is on such
@@ -225,12 +227,9 @@ module _ (old : Version) (trips : List Trip) (are : AreTrips old trips) where
 
         refute : (fault : StepFault) → GoFault now (flat_map (move_of time) trips) (flat_map (move_of time) done) trip.number (element_of trip.pace trip.number trip.fresh (state_at trip.pace time)) (state_at trip.pace (suc time)) fault → ⊥
         refute Unknown h = h
-        refute NotAdjacent (inl none) = some_edge trip.fresh.kind (is_in trip.pace) _ _ edge none.0 none.1
+        refute NotAdjacent (inl none) = some_edge trip.fresh.kind (way_in (is_in trip.pace) (state_at trip.pace time)) _ _ _ own none.0 none.1
         refute NotAdjacent (inr twice) = true≢false (sym twice ∙ quiet time done trip.number (λ x among. inl (are.apart done rest trip x split among)))
-        refute WrongWay h = elim run.way [
-          | inl is ↦ h.1 is
-          | inr is ↦ true≢false (sym edge ∙ ap (λ w. is_edge trip.fresh.kind w (state_at trip.pace time) (state_at trip.pace (suc time))) (sym is) ∙ h.0)
-        ]
+        refute WrongWay h = not_both _ _ own h
         refute (Dependent on) h = depends on trip.fresh.kind refl h
         refute NameTaken h = h
         refute Limit h = h
@@ -309,9 +308,9 @@ module _ (old : Version) (trips : List Trip) (are : AreTrips old trips) where
         moving : move_of time trip ≡ Enter trip.fresh DeleteOnly ∷ []
         moving = starts_move trip.number trip.fresh _ _ from to
 
-        no_edge : (kind : Kind) → is_edge kind Adding Absent DeleteOnly ≡ false → ⊥
-        no_edge (Index columns) e = true≢false e
-        no_edge (Optional type) e = true≢false e
+        no_edge : (kind : Kind) → edge kind Adding Absent DeleteOnly ≡ None → ⊥
+        no_edge (Index columns) e = cc
+        no_edge (Optional type) e = cc
 
         live_name : (place : ℕ) (element : ElementDef) → element_at now place ≡ Some element → element.table ≡ trip.fresh.table → element.name ≡ trip.fresh.name → ⊥
         live_name place element at_now table name = elim (find_trip trips place) [
@@ -494,14 +493,14 @@ module _ (old : Version) (trips : List Trip) (are : AreTrips old trips) where
               let is_fresh : trip.fresh ≡ fresh = subst (λ (t : Trip). t.fresh ≡ fresh) same entry.is_fresh in
               let to : state_at trip.pace (suc time) ≡ DeleteOnly = subst (λ (t : Trip). state_at t.pace (suc time) ≡ DeleteOnly) same entry.to in
               at_after ∙ ap (λ f. Some (as_element trip.number f DeleteOnly)) (sym is_fresh) ∙ entry_is trip.pace trip.number trip.fresh is_new ∙ ap (here trip.pace trip.number trip.fresh) (sym to)
-          pick (Goes before later element way to at_split at_now edge at_after ready) =
+          pick (Goes before later element to at_split at_now edge at_after ready) =
               let by = run_of before later trip.number to at_split in
               let same : by.trip ≡ trip = are.one by.trip trip by.has has by.is_number in
               let is_to : state_at trip.pace (suc time) ≡ to = subst (λ (t : Trip). state_at t.pace (suc time) ≡ to) same by.is_to in
               let run : IsRun trip.pace (state_at trip.pace time) (state_at trip.pace (suc time)) = subst (λ (t : Trip). IsRun t.pace (state_at t.pace time) (state_at t.pace (suc time))) same by.run in
               let is_element : Some element ≡ Some (element_of trip.pace trip.number trip.fresh (state_at trip.pace time)) = sym at_now ∙ at.trip trip has ∙ run.live trip.number trip.fresh in
               let same_element : element ≡ element_of trip.pace trip.number trip.fresh (state_at trip.pace time) = some_same element _ is_element in
-              at_after ∙ ap (λ s. in_state_or_none element s) (sym is_to) ∙ ap (λ e. in_state_or_none e (state_at trip.pace (suc time))) same_element ∙ run.turns trip.number trip.fresh
+              at_after ∙ ap (λ s. in_state_or_none element s) (sym is_to) ∙ ap (λ e. in_state_or_none e (state_at trip.pace (suc time))) same_element ∙ run.turns trip.number trip.fresh (are.trip trip has).kind
             where
               some_same : (a b : ElementDef) → Some a ≡ Some b → a ≡ b
               some_same a b e = cc
@@ -512,7 +511,7 @@ module _ (old : Version) (trips : List Trip) (are : AreTrips old trips) where
           pick : Becomes now (flat_map (move_of time) trips) (flat_map (move_of time) trips) after.next number (element_at after number) → element_at after number ≡ element_at old number
           pick (Stays same unmoved outside) = same ∙ at.rest number none
           pick (Comes before later fresh at_split place at_now at_after ready) = let entry = entry_of before later fresh number at_split place in absurd (none entry.trip entry.has entry.is_number)
-          pick (Goes before later element way to at_split at_now edge at_after ready) = let by = run_of before later number to at_split in absurd (none by.trip by.has by.is_number)
+          pick (Goes before later element to at_split at_now edge at_after ready) = let by = run_of before later number to at_split in absurd (none by.trip by.has by.is_number)
 
       pub is_after : IsAt old trips (suc time) after
       is_after = record { numbered = mid.numbered; next = mid.next ∙ ap (λ n. n + count_by is_entry (flat_map (move_of time) trips)) at.next; tables = mid.tables ∙ at.tables; trip = trip_after; rest = rest_after; like = λ table index. omega (arith, mid.like table index, at.like table index) }

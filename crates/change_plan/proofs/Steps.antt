@@ -25,11 +25,13 @@ use Rattle.schema_version.specs.declared.step.Move.TheVariants.{Enter, Go}
 use Rattle.schema_version.specs.declared.step.StepFault.{StepFault}
 use Rattle.schema_version.specs.declared.step.StepFault.TheVariants.{Unknown, NotAdjacent, Dependent}
 use mathlib.Core.List.{map as each}
+use Rattle.schema_version.specs.Edges.{edge, HasEdge}
 use Rattle.schema_version.specs.Version.{Version, element_at, listed, is_like, count_live}
+use Rattle.schema_version.proofs.Stepping.{some_edge}
 use Rattle.schema_version.proofs.Counts.{count_insert, count_change, count_remove}
 use Rattle.schema_version.proofs.Live.{element_at-lookup}
 use Rattle.schema_version.specs.Steps.{IsOrdered, in_state_or_none}
-use Rattle.schema_version.specs.Moves.{is_edge, as_element, entered, moved, after_move, after_step, is_move_of, moves_element, HasNoEdge, is_unready, IsFirstSuch, DependsOn, GoFaultAt, MoveFault, IsAllowed, is_entry, is_entry_like}
+use Rattle.schema_version.specs.Moves.{as_element, entered, moved, after_move, after_step, is_move_of, moves_element, HasNoEdge, is_unready, IsFirstSuch, DependsOn, GoFaultAt, MoveFault, IsAllowed, is_entry, is_entry_like}
 
 -- ---- one number of the map of elements is written
 
@@ -98,15 +100,6 @@ entered_apart v fresh to n ne = put_apart v.elements v.next _ n ne
 pub not_both : {A : Type 0} (v : A) (o : Option A) → o ≡ Some v → o ≡ None → ⊥
 not_both v o e f = cc
 
-edge_one : (kind : Kind) (from to : ElementState) → ¬ (HasNoEdge kind from to) → (way : Way) × (is_edge kind way from to ≡ true)
-edge_one kind from to some = elim (is_edge kind Adding from to) as (λ b. is_edge kind Adding from to ≡ b → (way : Way) × (is_edge kind way from to ≡ true)) [
-  | true ↦ λ e. (Adding, e)
-  | false ↦ λ e. elim (is_edge kind Dropping from to) as (λ b. is_edge kind Dropping from to ≡ b → (way : Way) × (is_edge kind way from to ≡ true)) [
-    | true ↦ λ f. (Dropping, f)
-    | false ↦ λ f. absurd (some (e, f))
-  ] refl
-] refl
-
 not_true : (b : Bool) → ¬ (IsTrue b) → b ≡ false
 not_true true h = absurd (h refl)
 not_true false h = refl
@@ -115,8 +108,7 @@ pub record MayGo (version : Version) (step earlier : List Move) (number : ℕ) (
   pub element : ElementDef
   pub there : element_at version number ≡ Some element
   pub first : moves_element earlier number ≡ false
-  pub way : Way
-  pub edge : is_edge element.kind way element.state to ≡ true
+  pub joined : HasEdge element.kind element.state to
   pub free : (on : ℕ) → ¬ (DependsOn version step number element.kind on)
 
 pub may_go : (version : Version) (step earlier : List Move) (number : ℕ) (to : ElementState) → ((fault : StepFault) → ¬ (MoveFault version step earlier (Go number to) fault)) → MayGo version step earlier number to
@@ -125,8 +117,7 @@ may_go version step earlier number to h = pick (element_at version number) refl 
     pick : (o : Option ElementDef) → element_at version number ≡ o → ((fault : StepFault) → ¬ (GoFaultAt version step earlier number o to fault)) → MayGo version step earlier number to
     pick None at h = absurd (h Unknown refl)
     pick (Some e) at h =
-        let way : (way : Way) × (is_edge e.kind way e.state to ≡ true) = edge_one e.kind e.state to (λ none. h NotAdjacent (inl none)) in
-        record { element = e; there = at; first = not_true (moves_element earlier number) (λ t. h NotAdjacent (inr t)); way = way.0; edge = way.1; free = λ on d. h (Dependent on) d }
+        record { element = e; there = at; first = not_true (moves_element earlier number) (λ t. h NotAdjacent (inr t)); joined = some_edge e.kind e.state to (λ none. h NotAdjacent (inl none)); free = λ on d. h (Dependent on) d }
 
 -- the list has no first such, so none of it is such
 pub none_such : (test : ℕ → Bool) (list : List ℕ) → ((found : ℕ) → ¬ (IsFirstSuch test list found)) → AllByRecursion (λ x. test x ≡ false) list
@@ -147,28 +138,15 @@ pub record MayEnter (version : Version) (step : List Move) (fresh : NewElement) 
   pub edge : to ≡ DeleteOnly
   pub ready : AreReady version step fresh.kind
 
-enters_delete_only : (kind : Kind) (way : Way) (to : ElementState) → is_edge kind way Absent to ≡ true → to ≡ DeleteOnly
-enters_delete_only (Index columns) Adding Absent e = cc
-enters_delete_only (Index columns) Adding DeleteOnly e = refl
-enters_delete_only (Index columns) Adding WriteOnly e = cc
-enters_delete_only (Index columns) Adding Public e = cc
-enters_delete_only (Optional type) Adding Absent e = cc
-enters_delete_only (Optional type) Adding DeleteOnly e = refl
-enters_delete_only (Optional type) Adding WriteOnly e = cc
-enters_delete_only (Optional type) Adding Public e = cc
-enters_delete_only (Index columns) Dropping Absent e = cc
-enters_delete_only (Index columns) Dropping DeleteOnly e = cc
-enters_delete_only (Index columns) Dropping WriteOnly e = cc
-enters_delete_only (Index columns) Dropping Public e = cc
-enters_delete_only (Optional type) Dropping Absent e = cc
-enters_delete_only (Optional type) Dropping DeleteOnly e = cc
-enters_delete_only (Optional type) Dropping WriteOnly e = cc
-enters_delete_only (Optional type) Dropping Public e = cc
+enters_delete_only : (kind : Kind) (way : Way) (to : ElementState) (next : Way) → edge kind way Absent to ≡ Some next → to ≡ DeleteOnly
+enters_delete_only (Index columns) Adding DeleteOnly next e = refl
+enters_delete_only (Optional type) Adding DeleteOnly next e = refl
+enters_delete_only kind way to next e = absurd cc
 
 pub may_enter : (version : Version) (step earlier : List Move) (fresh : NewElement) (to : ElementState) → ((fault : StepFault) → ¬ (MoveFault version step earlier (Enter fresh to) fault)) → MayEnter version step fresh to
 may_enter version step earlier fresh to h =
-    let w : (way : Way) × (is_edge fresh.kind way Absent to ≡ true) = edge_one fresh.kind Absent to (λ none. h NotAdjacent none) in
-    record { edge = enters_delete_only fresh.kind w.0 to w.1; ready = none_such (is_unready version step) (listed fresh.kind) (λ on. h (Dependent on)) }
+    let w = some_edge fresh.kind Absent to (λ none. h NotAdjacent none) in
+    record { edge = enters_delete_only fresh.kind w.0 to w.1 w.2; ready = none_such (is_unready version step) (listed fresh.kind) (λ on. h (Dependent on)) }
 
 -- ---- a step, move by move
 
@@ -176,7 +154,7 @@ may_enter version step earlier fresh to h =
 pub data Becomes (old : Version) (step earlier : List Move) (next number : ℕ) (now : Option ElementDef) : Type 0 where
   Stays : now ≡ element_at old number → moves_element earlier number ≡ false → ((number < old.next) ⊎ (next ≤ number)) → Becomes old step earlier next number now
   Comes : (before after : List Move) (fresh : NewElement) → step ≡ before ++ Enter fresh DeleteOnly ∷ after → number ≡ old.next + count_by is_entry before → element_at old number ≡ None → now ≡ Some (as_element number fresh DeleteOnly) → AreReady old step fresh.kind → Becomes old step earlier next number now
-  Goes : (before after : List Move) (element : ElementDef) (way : Way) (to : ElementState) → step ≡ before ++ Go number to ∷ after → element_at old number ≡ Some element → is_edge element.kind way element.state to ≡ true → now ≡ in_state_or_none element to → AreReady old step element.kind → Becomes old step earlier next number now
+  Goes : (before after : List Move) (element : ElementDef) (to : ElementState) → step ≡ before ++ Go number to ∷ after → element_at old number ≡ Some element → HasEdge element.kind element.state to → now ≡ in_state_or_none element to → AreReady old step element.kind → Becomes old step earlier next number now
 
 -- the version behind the first moves of a step
 pub record Midway (old : Version) (step earlier : List Move) (now : Version) : Type 0 where
@@ -291,7 +269,7 @@ module _ (old : Version) (step : List Move) (numbered : IsOrdered old) where
               strictly : now.next ≤ n → now.next + 1 ≤ n
               strictly above = elim (eq-or-lt_of_le above) [ inl is ↦ absurd (ne (sym is)) | inr more ↦ omega (arith, more) ]
           on n ne (Comes before after fresh split place at_old at_now ready) = Comes before after fresh split place at_old at_now ready
-          on n ne (Goes before after element way to split at_old edge at_now ready) = Goes before after element way to split at_old edge at_now ready
+          on n ne (Goes before after element to split at_old edge at_now ready) = Goes before after element to split at_old edge at_now ready
 
   mid_go : (earlier later : List Move) (now : Version) → Midway old step earlier now → (number : ℕ) (to : ElementState) → step ≡ earlier ++ Go number to ∷ later → MayGo old step earlier number to → Midway old step (earlier ++ Go number to ∷ []) (after_move now (Go number to))
   mid_go earlier later now mid number to split may = subst (λ (o : Option ElementDef). Midway old step (earlier ++ Go number to ∷ []) (moved now o to)) (sym at_now) (record {
@@ -347,14 +325,14 @@ module _ (old : Version) (step : List Move) (numbered : IsOrdered old) where
       becomes : (n : ℕ) → Becomes old step (earlier ++ Go number to ∷ []) (moved now (Some may.element) to).next n (element_at (moved now (Some may.element) to) n)
       becomes n = subst (λ next. Becomes old step (earlier ++ Go number to ∷ []) next n (element_at (moved now (Some may.element) to) n)) (sym (moved_next now may.element to)) (elim (same_or_apart n number) [
         | inl is ↦ subst (λ k. Becomes old step (earlier ++ Go number to ∷ []) now.next k (element_at (moved now (Some may.element) to) k)) (sym is)
-            (Goes earlier later may.element may.way to split may.there may.edge here (ready_go old step number may.element.kind may.free))
+            (Goes earlier later may.element to split may.there may.joined here (ready_go old step number may.element.kind may.free))
         | inr ne ↦ subst (Becomes old step (earlier ++ Go number to ∷ []) now.next n) (sym (apart_at n ne)) (on n ne (mid.becomes n))
       ])
         where
           on : (n : ℕ) → n ≢ number → Becomes old step earlier now.next n (element_at now n) → Becomes old step (earlier ++ Go number to ∷ []) now.next n (element_at now n)
           on n ne (Stays same unmoved outside) = Stays same (moves_both earlier (Go number to) n unmoved (not_true (number == n) (λ t. ne (sym ((Decides-eqb number n).0 t))))) outside
           on n ne (Comes before after fresh split place at_old at_now ready) = Comes before after fresh split place at_old at_now ready
-          on n ne (Goes before after element way to split at_old edge at_now ready) = Goes before after element way to split at_old edge at_now ready
+          on n ne (Goes before after element to split at_old edge at_now ready) = Goes before after element to split at_old edge at_now ready
 
   mid_move : (earlier later : List Move) (now : Version) → Midway old step earlier now → (move : Move) → step ≡ earlier ++ move ∷ later → ((fault : StepFault) → ¬ (MoveFault old step earlier move fault)) → Midway old step (earlier ++ move ∷ []) (after_move now move)
   mid_move earlier later now mid (Go number to) split h = mid_go earlier later now mid number to split (may_go old step earlier number to h)

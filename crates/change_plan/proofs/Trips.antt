@@ -1,6 +1,7 @@
 -- Trips, one time after another.
 use Rattle.schema_version.specs.Steps.{in_state_or_none}
 use Rattle.std.specs.Prelude.{◌≡◌, ◌≢◌, ℕ, zero, suc, ◌≤◌, List, [], ◌∷◌, ◌++◌, length, Bool, true, false, ◌||◌, ◌==◌, Option, Some, None, Contains, ◌⊎◌, flat_map, refl}
+use Rattle.std.specs.Option.{unwrap_or}
 use Rattle.std.proofs.Common.{sym, ap, subst, ◌∙◌, inl, inr, true≢false, arith}
 use Rattle.std.proofs.lemmas.List.Concat.{flat_map-cons}
 use Rattle.std.proofs.lemmas.List.Folds.{list_any-append}
@@ -15,10 +16,11 @@ use Rattle.schema_version.specs.declared.element.ElementDef.{ElementDef}
 use Rattle.schema_version.specs.declared.element.NewElement.{NewElement}
 use Rattle.schema_version.specs.declared.step.Move.{Move}
 use Rattle.schema_version.specs.declared.step.Move.TheVariants.{Enter, Go}
+use Rattle.schema_version.specs.Edges.{edge, needed}
 use Rattle.schema_version.specs.Version.{is_index}
-use Rattle.schema_version.specs.Moves.{is_edge, is_move_of, moves_element}
+use Rattle.schema_version.specs.Moves.{is_move_of, moves_element}
 use Rattle.change_plan.proofs.Steps.{same_or_apart}
-use Rattle.change_plan.specs.Plans.{work_by_kind}
+use Rattle.change_plan.specs.Plans.{reorgs}
 use Rattle.change_plan.specs.declared.trip.Pace.{Pace}
 use Rattle.change_plan.specs.declared.trip.Pace.TheVariants.{ColumnIn, IndexIn, IndexInLate, IndexOut, ColumnOut, ColumnOutLate}
 use Rattle.change_plan.specs.declared.trip.Trip.{Trip}
@@ -50,8 +52,12 @@ abbrev pub way_in : Bool → ElementState → Way
 way_in adding Public = Adding
 way_in adding state = way_on adding
 
+-- a new element in a state and on a way
+abbrev pub on_way : ℕ → NewElement → ElementState → Way → ElementDef
+on_way number fresh state way = record { number = number; table = fresh.table; name = fresh.name; kind = fresh.kind; state = state; way = way }
+
 abbrev pub element_of : Pace → ℕ → NewElement → ElementState → ElementDef
-element_of pace number fresh state = record { number = number; table = fresh.table; name = fresh.name; kind = fresh.kind; state = state; way = way_in (is_in pace) state }
+element_of pace number fresh state = on_way number fresh state (way_in (is_in pace) state)
 
 abbrev pub here : Pace → ℕ → NewElement → ElementState → Option ElementDef
 here pace number fresh Absent = None
@@ -62,10 +68,9 @@ here pace number fresh state = Some (element_of pace number fresh state)
 pub record IsRun (pace : Pace) (from to : ElementState) : Type 0 where
   pub live : (number : ℕ) (fresh : NewElement) → here pace number fresh from ≡ Some (element_of pace number fresh from)
   pub move : (number : ℕ) (fresh : NewElement) → move_between number fresh from to ≡ Go number to ∷ []
-  pub work : (number : ℕ) (kind : Kind) → work_between number kind from to ≡ work_by_kind kind number to
-  pub edge : (kind : Kind) → is_index kind ≡ is_of_index pace → is_edge kind (way_on (is_in pace)) from to ≡ true
-  pub way : (from ≡ Public) ⊎ (way_in (is_in pace) from ≡ way_on (is_in pace))
-  pub turns : (number : ℕ) (fresh : NewElement) → in_state_or_none (element_of pace number fresh from) to ≡ here pace number fresh to
+  pub work : (number : ℕ) (kind : Kind) → work_between number kind from to ≡ reorgs number (needed kind to)
+  pub own : (kind : Kind) → is_index kind ≡ is_of_index pace → edge kind (way_in (is_in pace) from) from to ≡ Some (way_on (is_in pace))
+  pub turns : (number : ℕ) (fresh : NewElement) → is_index fresh.kind ≡ is_of_index pace → in_state_or_none (element_of pace number fresh from) to ≡ here pace number fresh to
 
 pub data Leg (pace : Pace) (from to : ElementState) : Type 0 where
   Rests : to ≡ from → Leg pace from to
@@ -80,32 +85,44 @@ column_only : {A : Type 0} (kind : Kind) → is_index kind ≡ false → ((type 
 column_only (Index columns) e f = absurd (true≢false e)
 column_only (Optional type) e f = f type refl
 
+-- an edge gives the way of the state that it leads to
+taken_on : (pace : Pace) (number : ℕ) (fresh : NewElement) (from to : ElementState) → edge fresh.kind (way_in (is_in pace) from) from to ≡ Some (way_on (is_in pace)) → way_in (is_in pace) to ≡ way_on (is_in pace)
+    → in_state_or_none (element_of pace number fresh from) to ≡ here pace number fresh to
+taken_on pace number fresh from Absent own same = refl
+taken_on pace number fresh from DeleteOnly own same = ap (λ (o : Option Way). Some (on_way number fresh DeleteOnly (unwrap_or o (way_in (is_in pace) from)))) own ∙ ap (λ w. Some (on_way number fresh DeleteOnly w)) (sym same)
+taken_on pace number fresh from WriteOnly own same = ap (λ (o : Option Way). Some (on_way number fresh WriteOnly (unwrap_or o (way_in (is_in pace) from)))) own ∙ ap (λ w. Some (on_way number fresh WriteOnly w)) (sym same)
+taken_on pace number fresh from Public own same = ap (λ (o : Option Way). Some (on_way number fresh Public (unwrap_or o (way_in (is_in pace) from)))) own ∙ ap (λ w. Some (on_way number fresh Public w)) (sym same)
+
+run : (pace : Pace) (from to : ElementState) → ((number : ℕ) (fresh : NewElement) → here pace number fresh from ≡ Some (element_of pace number fresh from)) → ((number : ℕ) (fresh : NewElement) → move_between number fresh from to ≡ Go number to ∷ [])
+    → ((number : ℕ) (kind : Kind) → work_between number kind from to ≡ reorgs number (needed kind to)) → ((kind : Kind) → is_index kind ≡ is_of_index pace → edge kind (way_in (is_in pace) from) from to ≡ Some (way_on (is_in pace))) → way_in (is_in pace) to ≡ way_on (is_in pace) → IsRun pace from to
+run pace from to live move work own same = record { live = live; move = move; work = work; own = own; turns = λ number fresh is. taken_on pace number fresh from to (own fresh.kind is) same }
+
 pub leg : (pace : Pace) (time : ℕ) → Leg pace (state_at pace time) (state_at pace (suc time))
 leg ColumnIn zero = Starts refl refl refl
-leg ColumnIn (suc zero) = Runs (record { live = λ n f. refl; move = λ n f. refl; work = λ n k. refl; edge = λ k e. column_only k e (λ type is. ap (λ k. is_edge k Adding DeleteOnly Public) is); way = inr refl; turns = λ n f. refl })
+leg ColumnIn (suc zero) = Runs (run ColumnIn DeleteOnly Public (λ n f. refl) (λ n f. refl) (λ n k. refl) (λ k e. column_only k e (λ type is. ap (λ k. edge k Adding DeleteOnly Public) is)) refl)
 leg ColumnIn (suc (suc time)) = Rests refl
 leg IndexIn zero = Starts refl refl refl
-leg IndexIn (suc zero) = Runs (record { live = λ n f. refl; move = λ n f. refl; work = λ n k. refl; edge = λ k e. index_only k e (λ columns is. ap (λ k. is_edge k Adding DeleteOnly WriteOnly) is); way = inr refl; turns = λ n f. refl })
-leg IndexIn (suc (suc zero)) = Runs (record { live = λ n f. refl; move = λ n f. refl; work = λ n k. refl; edge = λ k e. index_only k e (λ columns is. ap (λ k. is_edge k Adding WriteOnly Public) is); way = inr refl; turns = λ n f. refl })
+leg IndexIn (suc zero) = Runs (run IndexIn DeleteOnly WriteOnly (λ n f. refl) (λ n f. refl) (λ n k. refl) (λ k e. index_only k e (λ columns is. ap (λ k. edge k Adding DeleteOnly WriteOnly) is)) refl)
+leg IndexIn (suc (suc zero)) = Runs (run IndexIn WriteOnly Public (λ n f. refl) (λ n f. refl) (λ n k. refl) (λ k e. index_only k e (λ columns is. ap (λ k. edge k Adding WriteOnly Public) is)) refl)
 leg IndexIn (suc (suc (suc time))) = Rests refl
 leg IndexInLate zero = Rests refl
 leg IndexInLate (suc zero) = Rests refl
 leg IndexInLate (suc (suc zero)) = Starts refl refl refl
-leg IndexInLate (suc (suc (suc zero))) = Runs (record { live = λ n f. refl; move = λ n f. refl; work = λ n k. refl; edge = λ k e. index_only k e (λ columns is. ap (λ k. is_edge k Adding DeleteOnly WriteOnly) is); way = inr refl; turns = λ n f. refl })
-leg IndexInLate (suc (suc (suc (suc zero)))) = Runs (record { live = λ n f. refl; move = λ n f. refl; work = λ n k. refl; edge = λ k e. index_only k e (λ columns is. ap (λ k. is_edge k Adding WriteOnly Public) is); way = inr refl; turns = λ n f. refl })
+leg IndexInLate (suc (suc (suc zero))) = Runs (run IndexInLate DeleteOnly WriteOnly (λ n f. refl) (λ n f. refl) (λ n k. refl) (λ k e. index_only k e (λ columns is. ap (λ k. edge k Adding DeleteOnly WriteOnly) is)) refl)
+leg IndexInLate (suc (suc (suc (suc zero)))) = Runs (run IndexInLate WriteOnly Public (λ n f. refl) (λ n f. refl) (λ n k. refl) (λ k e. index_only k e (λ columns is. ap (λ k. edge k Adding WriteOnly Public) is)) refl)
 leg IndexInLate (suc (suc (suc (suc (suc time))))) = Rests refl
-leg IndexOut zero = Runs (record { live = λ n f. refl; move = λ n f. refl; work = λ n k. refl; edge = λ k e. index_only k e (λ columns is. ap (λ k. is_edge k Dropping Public WriteOnly) is); way = inl refl; turns = λ n f. refl })
-leg IndexOut (suc zero) = Runs (record { live = λ n f. refl; move = λ n f. refl; work = λ n k. refl; edge = λ k e. index_only k e (λ columns is. ap (λ k. is_edge k Dropping WriteOnly DeleteOnly) is); way = inr refl; turns = λ n f. refl })
-leg IndexOut (suc (suc zero)) = Runs (record { live = λ n f. refl; move = λ n f. refl; work = λ n k. refl; edge = λ k e. index_only k e (λ columns is. ap (λ k. is_edge k Dropping DeleteOnly Absent) is); way = inr refl; turns = λ n f. refl })
+leg IndexOut zero = Runs (run IndexOut Public WriteOnly (λ n f. refl) (λ n f. refl) (λ n k. refl) (λ k e. index_only k e (λ columns is. ap (λ k. edge k Adding Public WriteOnly) is)) refl)
+leg IndexOut (suc zero) = Runs (run IndexOut WriteOnly DeleteOnly (λ n f. refl) (λ n f. refl) (λ n k. refl) (λ k e. index_only k e (λ columns is. ap (λ k. edge k Dropping WriteOnly DeleteOnly) is)) refl)
+leg IndexOut (suc (suc zero)) = Runs (run IndexOut DeleteOnly Absent (λ n f. refl) (λ n f. refl) (λ n k. refl) (λ k e. index_only k e (λ columns is. ap (λ k. edge k Dropping DeleteOnly Absent) is)) refl)
 leg IndexOut (suc (suc (suc time))) = Rests refl
-leg ColumnOut zero = Runs (record { live = λ n f. refl; move = λ n f. refl; work = λ n k. refl; edge = λ k e. column_only k e (λ type is. ap (λ k. is_edge k Dropping Public DeleteOnly) is); way = inl refl; turns = λ n f. refl })
-leg ColumnOut (suc zero) = Runs (record { live = λ n f. refl; move = λ n f. refl; work = λ n k. refl; edge = λ k e. column_only k e (λ type is. ap (λ k. is_edge k Dropping DeleteOnly Absent) is); way = inr refl; turns = λ n f. refl })
+leg ColumnOut zero = Runs (run ColumnOut Public DeleteOnly (λ n f. refl) (λ n f. refl) (λ n k. refl) (λ k e. column_only k e (λ type is. ap (λ k. edge k Adding Public DeleteOnly) is)) refl)
+leg ColumnOut (suc zero) = Runs (run ColumnOut DeleteOnly Absent (λ n f. refl) (λ n f. refl) (λ n k. refl) (λ k e. column_only k e (λ type is. ap (λ k. edge k Dropping DeleteOnly Absent) is)) refl)
 leg ColumnOut (suc (suc time)) = Rests refl
 leg ColumnOutLate zero = Rests refl
 leg ColumnOutLate (suc zero) = Rests refl
 leg ColumnOutLate (suc (suc zero)) = Rests refl
-leg ColumnOutLate (suc (suc (suc zero))) = Runs (record { live = λ n f. refl; move = λ n f. refl; work = λ n k. refl; edge = λ k e. column_only k e (λ type is. ap (λ k. is_edge k Dropping Public DeleteOnly) is); way = inl refl; turns = λ n f. refl })
-leg ColumnOutLate (suc (suc (suc (suc zero)))) = Runs (record { live = λ n f. refl; move = λ n f. refl; work = λ n k. refl; edge = λ k e. column_only k e (λ type is. ap (λ k. is_edge k Dropping DeleteOnly Absent) is); way = inr refl; turns = λ n f. refl })
+leg ColumnOutLate (suc (suc (suc zero))) = Runs (run ColumnOutLate Public DeleteOnly (λ n f. refl) (λ n f. refl) (λ n k. refl) (λ k e. column_only k e (λ type is. ap (λ k. edge k Adding Public DeleteOnly) is)) refl)
+leg ColumnOutLate (suc (suc (suc (suc zero)))) = Runs (run ColumnOutLate DeleteOnly Absent (λ n f. refl) (λ n f. refl) (λ n k. refl) (λ k e. column_only k e (λ type is. ap (λ k. edge k Dropping DeleteOnly Absent) is)) refl)
 leg ColumnOutLate (suc (suc (suc (suc (suc time))))) = Rests refl
 
 rest_move : (number : ℕ) (fresh : NewElement) (state : ElementState) → move_between number fresh state state ≡ []

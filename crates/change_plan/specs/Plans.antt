@@ -2,13 +2,16 @@
 use Rattle.std.specs.Prelude.{◌≡◌, ℕ, ◌≤◌, List, [], ◌∷◌, length, Option, Some, None, flat_map, Contains, IsPermutation}
 use Rattle.std.specs.List.{AllZip, AllByRecursion}
 use Rattle.schema_version.specs.declared.element.ElementState.{ElementState}
-use Rattle.schema_version.specs.declared.element.ElementState.TheVariants.{Absent, Public}
+use Rattle.schema_version.specs.declared.element.ElementState.TheVariants.{Public}
 use Rattle.schema_version.specs.declared.element.Kind.{Kind}
 use Rattle.schema_version.specs.declared.element.Kind.TheVariants.{Index, Optional}
 use Rattle.schema_version.specs.declared.element.ElementDef.{ElementDef}
+use Rattle.schema_version.specs.declared.element.Work.{Work}
+use Rattle.schema_version.specs.declared.element.Work.TheVariants as work
 use Rattle.schema_version.specs.declared.step.Move.{Move}
 use Rattle.schema_version.specs.declared.step.Move.TheVariants.{Enter, Go}
 use Rattle.schema_version.specs.Version.{Version, element_at}
+use Rattle.schema_version.specs.Edges.{needed}
 use Rattle.schema_version.specs.Moves.{IsAllowed, after_step}
 use Rattle.change_plan.specs.declared.change.Change.{Change}
 use Rattle.change_plan.specs.declared.change.Change.TheVariants.{AddIndex, DropIndex, AddColumn, DropColumn}
@@ -16,14 +19,15 @@ use Rattle.change_plan.specs.declared.least_plan.Reorg.{Reorg}
 use Rattle.change_plan.specs.declared.least_plan.Reorg.TheVariants.{Fill, Clear}
 use Rattle.change_plan.specs.declared.least_plan.PlanStep.{PlanStep}
 
-abbrev pub work_by_kind : Kind → ℕ → ElementState → List Reorg
-work_by_kind (Index columns) number Public = Fill number ∷ []
-work_by_kind kind number Absent = Clear number ∷ []
-work_by_kind kind number to = []
+-- the reorganisation of an element of this number, where a move needs one
+abbrev pub reorgs : ℕ → Option Work → List Reorg
+reorgs number None = []
+reorgs number (Some work.Fill) = Fill number ∷ []
+reorgs number (Some work.Clear) = Clear number ∷ []
 
 abbrev pub work_of : Option ElementDef → ElementState → List Reorg
 work_of None to = []
-work_of (Some element) to = work_by_kind element.kind element.number to
+work_of (Some element) to = reorgs element.number (needed element.kind to)
 
 -- the fill or the clear that must end before a move
 abbrev pub work_before : Version → Move → List Reorg

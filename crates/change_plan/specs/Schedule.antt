@@ -9,6 +9,7 @@ use Rattle.schema_version.specs.declared.element.ElementDef.{ElementDef}
 use Rattle.schema_version.specs.declared.element.NewElement.{NewElement}
 use Rattle.schema_version.specs.declared.step.Move.{Move}
 use Rattle.schema_version.specs.declared.step.Move.TheVariants.{Enter, Go}
+use Rattle.schema_version.specs.Edges.{needed}
 use Rattle.schema_version.specs.Version.{Version}
 use Rattle.change_plan.specs.declared.change.Change.{Change}
 use Rattle.change_plan.specs.declared.change.Change.TheVariants.{AddIndex, DropIndex, AddColumn, DropColumn}
@@ -17,7 +18,7 @@ use Rattle.change_plan.specs.declared.least_plan.PlanStep.{PlanStep}
 use Rattle.change_plan.specs.declared.trip.Pace.{Pace}
 use Rattle.change_plan.specs.declared.trip.Pace.TheVariants.{ColumnIn, IndexIn, IndexInLate, IndexOut, ColumnOut, ColumnOutLate}
 use Rattle.change_plan.specs.declared.trip.Trip.{Trip}
-use Rattle.change_plan.specs.Plans.{work_by_kind}
+use Rattle.change_plan.specs.Plans.{reorgs}
 use Rattle.change_plan.specs.Batches.{named_index, named_column, adds_column, lists_added, is_under_dropped}
 
 -- ---- timetables
@@ -60,12 +61,13 @@ move_between number fresh WriteOnly WriteOnly = []
 move_between number fresh Public Public = []
 move_between number fresh from to = Go number to ∷ []
 
+-- what that move needs
 abbrev pub work_between : ℕ → Kind → ElementState → ElementState → List Reorg
 work_between number kind Absent to = []
 work_between number kind DeleteOnly DeleteOnly = []
 work_between number kind WriteOnly WriteOnly = []
 work_between number kind Public Public = []
-work_between number kind from to = work_by_kind kind number to
+work_between number kind from to = reorgs number (needed kind to)
 
 -- the trip's move in the step behind this number of steps
 abbrev pub move_of : ℕ → Trip → List Move

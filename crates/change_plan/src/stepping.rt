@@ -1,11 +1,12 @@
 //! The steps of a plan, made from what each element does at each time.
 ghost use Rattle.std.specs.Prelude.{◌≡◌, ◌<◌, IfOk, option_to_list, flat_map};
+ghost use Rattle.change_plan.specs.Plans.{reorgs};
 ghost use Rattle.change_plan.specs.Schedule.{move_between as move_between_of, work_between as work_between_of, move_of as move_of_trip, work_of_trip, step_at as step_at_time, longest as longest_of, steps_from};
 
 use crate::least_plan::{PlanStep, Reorg};
 use crate::trip::{Trip, state_at, timetable};
 use listed::Listed;
-use schema_version::{ElementState, Kind, Move, NewElement};
+use schema_version::{ElementState, Kind, Move, NewElement, Work, needed};
 use std::alloc::{AllocError, Global};
 
 // The move of an element from one state to another.
@@ -32,23 +33,25 @@ fn move_between(
     }
 }
 
+// The reorganisation of the element of this number, where a move needs one.
+fn reorg(number: u32, work: Option<Work>) -> Option<Reorg>
+    ensures { option_to_list result ≡ reorgs number work }
+{
+    match work {
+        Some(Work::Fill) => Some(Reorg::Fill(number)),
+        Some(Work::Clear) => Some(Reorg::Clear(number)),
+        None => None,
+    }
+}
+
 // The reorganisation that must end before an element goes from one state to another.
 fn work_between(number: u32, kind: &Kind, from: ElementState, to: ElementState) -> Option<Reorg>
     ensures { option_to_list result ≡ work_between_of number kind.now from to }
 {
     use ElementState::{Absent, DeleteOnly, Public, WriteOnly};
     match (from, to) {
-        (Absent, _)
-        | (DeleteOnly, DeleteOnly)
-        | (WriteOnly, WriteOnly)
-        | (Public, Public)
-        | (_, DeleteOnly)
-        | (_, WriteOnly) => None,
-        (_, Absent) => Some(Reorg::Clear(number)),
-        (_, Public) => match kind {
-            Kind::Index(_) => Some(Reorg::Fill(number)),
-            Kind::Optional(_) => None,
-        },
+        (Absent, _) | (DeleteOnly, DeleteOnly) | (WriteOnly, WriteOnly) | (Public, Public) => None,
+        _ => reorg(number, needed(kind, to)),
     }
 }
 

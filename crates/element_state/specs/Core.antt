@@ -8,17 +8,14 @@ use Rattle.row_map.specs.Rows.{Bytes, RowKey, Cells, Rows, Pairs, AreStorable}
 use Rattle.row_map.specs.Writes.{written_all}
 use Rattle.schema_version.specs.declared.element.ElementState.{ElementState}
 use Rattle.schema_version.specs.declared.element.ElementState.TheVariants.{Absent, DeleteOnly, WriteOnly, Public}
+use Rattle.schema_version.specs.declared.element.Work.{Work}
+use Rattle.schema_version.specs.declared.element.Work.TheVariants.{Fill, Clear}
 use Rattle.element_state.specs.Elements.{Change, rows_after, Fits, ChangesPublicOnly, IsStorableNew, IsStorableChange, owner, AreFormed, owner_named, Meaning, Subset, CoveredAt, Empty, Demand}
 use Rattle.element_state.specs.Laws.{pairs_after, Operates, Grows, Laws, Joined}
 use Rattle.element_state.specs.Effects.{both_storable, storable_after}
 use Rattle.element_state.specs.Exists.{row_key}
 use Rattle.element_state.specs.Schemas.{Entry, Schema, state_of, Kinds, AreLawful, version_writes, at_own, at_none}
 use Rattle.element_state.specs.Apart.{none_some, some_one}
-
--- the two reorganisations: a fill puts the pairs of an element that is being added, a clear takes those of a dropped one away
-pub data Work : Type 0 where
-  Fill : Work
-  Clear : Work
 
 -- what a reorganisation has passed: from its lower bound to below its cursor
 pub record Span : Type 0 where

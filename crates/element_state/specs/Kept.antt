@@ -7,7 +7,9 @@ use Rattle.row_map.specs.Writes.{written_all}
 use Rattle.schema_version.specs.declared.element.Kind.{Kind}
 use Rattle.element_state.specs.Elements.{Change}
 use Rattle.element_state.specs.Schemas.{Entry, Schema, state_of, AreLawful}
-use Rattle.element_state.specs.Core.{Core, Work, Fill, Clear, Span, MayRun, Progress, Invariant}
+use Rattle.schema_version.specs.declared.element.Work.{Work}
+use Rattle.schema_version.specs.declared.element.Work.TheVariants.{Fill, Clear}
+use Rattle.element_state.specs.Core.{Core, Span, MayRun, Progress, Invariant}
 use Rattle.element_state.specs.Whole.{RunsAll, committed_all, fresh_spans}
 use Rattle.element_state.specs.Publishing.{Steps, published}
 use Rattle.element_state.specs.Pieces.{moved}

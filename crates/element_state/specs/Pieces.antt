@@ -16,7 +16,9 @@ use Rattle.element_state.specs.Exists.{row_key}
 use Rattle.element_state.specs.IndexLaws.{removed}
 use Rattle.element_state.specs.Items.{IsIn, AmongEntries, clear_writes, put_pair, fill_puts}
 use Rattle.element_state.specs.Schemas.{Entry, state_of, Kinds}
-use Rattle.element_state.specs.Core.{Work, Fill, Clear, Span, InSpans, Progress, Core, Meets, JoinedAt, Passed, Reached, Invariant, same_demand}
+use Rattle.schema_version.specs.declared.element.Work.{Work}
+use Rattle.schema_version.specs.declared.element.Work.TheVariants.{Fill, Clear}
+use Rattle.element_state.specs.Core.{Span, InSpans, Progress, Core, Meets, JoinedAt, Passed, Reached, Invariant, same_demand}
 use Rattle.element_state.specs.Whole.{number_one}
 use Rattle.element_state.specs.Apart.{not_none, none_some, some_one}
 

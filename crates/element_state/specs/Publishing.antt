@@ -11,7 +11,8 @@ use Rattle.element_state.specs.Laws.{IsLive}
 use Rattle.element_state.specs.Effects.{none_where}
 use Rattle.element_state.specs.Exists.{row_key}
 use Rattle.element_state.specs.Schemas.{Entry, Schema, state_of, Kinds, AreLawful}
-use Rattle.element_state.specs.Core.{Fill, Clear, Span, InSpans, Progress, Core, Meets, JoinedAt, MayRun, NeverPublic, Invariant}
+use Rattle.schema_version.specs.declared.element.Work.TheVariants.{Fill, Clear}
+use Rattle.element_state.specs.Core.{Span, InSpans, Progress, Core, Meets, JoinedAt, MayRun, NeverPublic, Invariant}
 use Rattle.element_state.specs.Apart.{not_none, hidden_not_public, none_some, some_one}
 
 absent_public : Absent ≡ Public → ⊥

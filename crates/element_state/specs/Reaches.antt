@@ -16,7 +16,8 @@ use Rattle.element_state.specs.Exists.{row_key}
 use Rattle.element_state.specs.Items.{fill_puts, Between, row_items, clear_writes, ClearRange, IsBound, ClearFacts}
 use Rattle.element_state.specs.Clears.{entry_kept, facts_kept, both_true, test_between}
 use Rattle.element_state.specs.Schemas.{Entry, Kinds}
-use Rattle.element_state.specs.Core.{Reached, Fill, Clear, Span, InSpans, Core, Invariant}
+use Rattle.schema_version.specs.declared.element.Work.TheVariants.{Fill, Clear}
+use Rattle.element_state.specs.Core.{Reached, Span, InSpans, Core, Invariant}
 use Rattle.element_state.specs.Pieces.{AreRows, fill_puts-filled, fill_writes, moved, fill_kept, clear_kept}
 use Rattle.element_state.specs.Publishing.{FillEnded, ClearEnded, subset_meets}
 use Rattle.element_state.specs.Ended.{Piece, passed_spans, AreJoined, HaveEnded, less_or_not, all_passed}

@@ -9,7 +9,9 @@ use Rattle.byte_map.proofs.Written.{written_all-append, written_here, written_ap
 use Rattle.element_state.specs.Elements.{Change, rows_after}
 use Rattle.element_state.specs.Exists.{row_key}
 use Rattle.element_state.specs.Schemas.{Entry, Schema, state_of, Kinds, version_writes}
-use Rattle.element_state.specs.Core.{Work, Fill, Clear, Span, InSpans, Core, Passed, MayRun, Reached, Invariant, Runs, committed}
+use Rattle.schema_version.specs.declared.element.Work.{Work}
+use Rattle.schema_version.specs.declared.element.Work.TheVariants.{Fill, Clear}
+use Rattle.element_state.specs.Core.{Span, InSpans, Core, Passed, MayRun, Reached, Invariant, Runs, committed}
 use Rattle.element_state.specs.Events.{commit_kept}
 use Rattle.element_state.specs.Apart.{some_one}
 

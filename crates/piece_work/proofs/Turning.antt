@@ -6,7 +6,7 @@ use Rattle.std.specs.Prelude.{◌≢◌, ◌&&◌, slice_get}
 use Rattle.std.specs.Ordering.{is_eq, is_le}
 use Rattle.keycode.specs.Order.{bytes_cmp}
 use Rattle.listed.specs.Refusal.{IsRefusal}
-use Rattle.reorganise.specs.declared.work.Work.{Work}
+use Rattle.schema_version.specs.declared.element.Work.{Work}
 use Rattle.reorganise.specs.declared.work.Span.{Span}
 use Rattle.reorganise.specs.declared.work.Progress.{Progress}
 use Rattle.reorganise.specs.declared.reading.Reading.{Reading}

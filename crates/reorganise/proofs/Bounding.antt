@@ -26,8 +26,8 @@ use Rattle.element_state.specs.Elements.{HasForm, AreFormed}
 use Rattle.element_state.specs.Items.{Bounds, AnyKey, RowsOf, IsBound}
 use Rattle.element_state.specs.Kinds.{kind_clear}
 use Rattle.element_state.specs.Ended.{HaveEnded}
-use Rattle.reorganise.specs.declared.work.Work.{Work}
-use Rattle.reorganise.specs.declared.work.Work.TheVariants.{Fill, Clear}
+use Rattle.schema_version.specs.declared.element.Work.{Work}
+use Rattle.schema_version.specs.declared.element.Work.TheVariants.{Fill, Clear}
 use Rattle.reorganise.specs.declared.work.Span.{Span}
 use Rattle.reorganise.specs.declared.region.Region.{Region}
 use Rattle.reorganise.specs.declared.region.Region.TheVariants.{Rows, Entries}

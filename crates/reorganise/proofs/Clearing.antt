@@ -27,7 +27,7 @@ use Rattle.element_state.specs.Index.{index_items}
 use Rattle.element_state.specs.Column.{column_pair, column_items}
 use Rattle.element_state.specs.Items.{clear_writes, row_items}
 use Rattle.element_state.specs.Clears.{test_between, between_test}
-use Rattle.reorganise.specs.declared.work.Work.TheVariants.{Clear}
+use Rattle.schema_version.specs.declared.element.Work.TheVariants.{Clear}
 use Rattle.reorganise.specs.declared.region.Region.TheVariants.{Entries}
 use Rattle.reorganise.specs.Regions.{row_at, is_item_read, is_item}
 use Rattle.reorganise.specs.Pieces.{part}

@@ -19,7 +19,7 @@ use Rattle.element_state.specs.Kinds.{kind_meaning}
 use Rattle.element_state.specs.Index.{indexed, index_meaning}
 use Rattle.element_state.specs.Column.{column_of, IsLawfulColumn}
 use Rattle.element_state.specs.Items.{put_pair, fill_puts, row_items}
-use Rattle.reorganise.specs.declared.work.Work.TheVariants.{Fill}
+use Rattle.schema_version.specs.declared.element.Work.TheVariants.{Fill}
 use Rattle.reorganise.specs.Pieces.{part}
 use Rattle.reorganise.specs.Batches.{columns_of, cells_in, row_in, row_put, piece_writes}
 use Rattle.reorganise.specs.Laws.{meaning_in, FillLays}

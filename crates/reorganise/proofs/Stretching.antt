@@ -12,7 +12,7 @@ use Rattle.row_map.specs.declared.expect.Stretch.{Stretch}
 use Rattle.reorganise.specs.declared.region.Region.{Region}
 use Rattle.row_map.specs.Ranges.{is_within}
 use Rattle.schema_version.specs.declared.element.ElementDef.{ElementDef}
-use Rattle.reorganise.specs.declared.work.Work.{Work}
+use Rattle.schema_version.specs.declared.element.Work.{Work}
 use Rattle.reorganise.specs.Regions.{region_of, is_item, item_key, item_keys, IsItemKey}
 use Rattle.reorganise.specs.Pieces.{part, next_cursor, stretch_read, ComesTo, IsReading}
 use Rattle.reorganise.proofs.Items.{Pair, Begins, one_item, item_keys-cons}

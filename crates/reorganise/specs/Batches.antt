@@ -19,8 +19,8 @@ use Rattle.schema_version.specs.declared.element.ElementDef.{ElementDef}
 use Rattle.element_state.specs.Items.{put_pair}
 use Rattle.element_state.specs.Operations.{cells_of, fill_pair}
 use Rattle.element_state.specs.Kinds.{kind_meaning}
-use Rattle.reorganise.specs.declared.work.Work.{Work}
-use Rattle.reorganise.specs.declared.work.Work.TheVariants.{Fill, Clear}
+use Rattle.schema_version.specs.declared.element.Work.{Work}
+use Rattle.schema_version.specs.declared.element.Work.TheVariants.{Fill, Clear}
 use Rattle.reorganise.specs.declared.region.Region.TheVariants.{Entries}
 use Rattle.reorganise.specs.declared.reading.Reading.{Reading}
 use Rattle.reorganise.specs.Regions.{row_at, is_item}

@@ -18,8 +18,8 @@ use Rattle.element_state.specs.Whole.{fresh_spans}
 use Rattle.element_state.specs.Reaches as reaches
 use Rattle.element_state.specs.Ended.{Piece, passed_spans, HaveEnded}
 use Rattle.element_state.specs.Ended as ended
-use Rattle.reorganise.specs.declared.work.Work.{Work}
-use Rattle.reorganise.specs.declared.work.Work.TheVariants.{Fill, Clear}
+use Rattle.schema_version.specs.declared.element.Work.{Work}
+use Rattle.schema_version.specs.declared.element.Work.TheVariants.{Fill, Clear}
 use Rattle.reorganise.specs.declared.work.Span.{Span}
 use Rattle.reorganise.specs.declared.reading.Reading.{Reading}
 use Rattle.reorganise.specs.Regions.{region_of, front, back}

@@ -8,7 +8,7 @@ use Rattle.row_map.specs.Ranges.{is_within}
 use Rattle.row_map.specs.Walk.{stretch}
 use Rattle.row_map.specs.declared.expect.Stretch.{Stretch}
 use Rattle.schema_version.specs.declared.element.ElementDef.{ElementDef}
-use Rattle.reorganise.specs.declared.work.Work.{Work}
+use Rattle.schema_version.specs.declared.element.Work.{Work}
 use Rattle.reorganise.specs.declared.work.Span.{Span}
 use Rattle.reorganise.specs.declared.work.Progress.{Progress}
 use Rattle.reorganise.specs.declared.reading.Reading.{Reading}

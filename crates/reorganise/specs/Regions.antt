@@ -12,8 +12,8 @@ use Rattle.row_map.specs.Walk.{stretch}
 use Rattle.schema_version.specs.declared.element.Kind.{Kind}
 use Rattle.schema_version.specs.declared.element.Kind.TheVariants.{Index, Optional}
 use Rattle.schema_version.specs.declared.element.ElementDef.{ElementDef}
-use Rattle.reorganise.specs.declared.work.Work.{Work}
-use Rattle.reorganise.specs.declared.work.Work.TheVariants.{Fill, Clear}
+use Rattle.schema_version.specs.declared.element.Work.{Work}
+use Rattle.schema_version.specs.declared.element.Work.TheVariants.{Fill, Clear}
 use Rattle.reorganise.specs.declared.region.Region.{Region}
 use Rattle.reorganise.specs.declared.region.Region.TheVariants.{Rows, Entries}
 

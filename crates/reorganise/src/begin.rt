@@ -5,11 +5,11 @@ ghost use Rattle.reorganise.specs.Pieces.{bound as bound_of, spans as spans_of, 
 ghost use Rattle.reorganise.specs.Partition.{AreJoined, IsPartition};
 
 use crate::region::{Region, back, front, is_item, region_of};
-use crate::work::{Progress, Span, Work};
+use crate::work::{Progress, Span};
 use byte_map::Bytes;
 use listed::Listed;
 use row_map::PairView;
-use schema_version::ElementDef;
+use schema_version::{ElementDef, Work};
 use std::alloc::{AllocError, Global};
 
 /// The bytes, as an owner has them.

@@ -21,5 +21,6 @@ pub use fault::ViewFault;
 pub use laws::{bounds_hold, clear_lays, cursors_pass, fill_lays, pieces_share, ranges_are};
 pub use prepared::PreparedPiece;
 pub use preparing::prepare_piece;
+pub use schema_version::Work;
 pub use view::PieceView;
-pub use work::{Progress, Span, Work};
+pub use work::{Progress, Span};

@@ -3,10 +3,9 @@ ghost use Rattle.std.specs.Prelude.{◌≡◌};
 ghost use Rattle.reorganise.specs.Pieces.{IsReading};
 ghost use Rattle.reorganise.specs.Batches.{expect_of, batch_for};
 
-use crate::work::Work;
 use byte_map::{Bytes, KeyMap};
 use row_map::{Batch, Expect, Stretch};
-use schema_version::ElementDef;
+use schema_version::{ElementDef, Work};
 use std::marker::Model;
 
 /// A piece that was read and prepared: what it expects to find again, and what it then writes. `prepare_piece` alone

@@ -3,7 +3,7 @@ ghost use Rattle.std.specs.Prelude.{◌≡◌, IfOk, IfErr, OnOk};
 ghost use Rattle.std.specs.FinMap as map;
 ghost use Rattle.row_map.specs.Writes.{noted};
 ghost use Rattle.element_state.specs.Kinds.{kind_meaning, table_of_any, meaning_of_any};
-ghost use Rattle.reorganise.specs.declared.work.Work.TheVariants.{Fill, Clear};
+ghost use Rattle.schema_version.specs.declared.element.Work.TheVariants.{Fill, Clear};
 ghost use Rattle.reorganise.specs.Batches.{pair_writes, piece_writes};
 
 use crate::prepared::PreparedPiece;
@@ -11,11 +11,10 @@ use crate::reading::Reading;
 use crate::region::{Region, is_item, row_at};
 use crate::row::row;
 use crate::view::PieceView;
-use crate::work::Work;
 use byte_map::{Bytes, KeyMap};
 use element_state::{AnyElement, Element};
 use row_map::{Batch, Expect, column_key};
-use schema_version::{ElementDef, Kind};
+use schema_version::{ElementDef, Kind, Work};
 use std::alloc::{AllocError, Global};
 
 /// Notes the pair that a fill puts for the row of this key, if it is one.

@@ -11,10 +11,10 @@ use crate::begin::{copied, shared};
 use crate::fault::ViewFault;
 use crate::region::{Region, is_item, region_of};
 use crate::view::PieceView;
-use crate::work::{Progress, Span, Work};
+use crate::work::{Progress, Span};
 use byte_map::{Bytes, KeyMap};
 use row_map::{PairView, Stretch};
-use schema_version::ElementDef;
+use schema_version::{ElementDef, Work};
 use std::alloc::{AllocError, Global};
 
 /// The largest limit.

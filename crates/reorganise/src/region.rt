@@ -4,11 +4,10 @@ ghost use Rattle.row_map.specs.declared.key.KeyOf.TheVariants.{Exists as ExistsK
 ghost use Rattle.row_map.specs.Keys.{key_code, IsKey};
 ghost use Rattle.reorganise.specs.Regions.{region_of as region_for, prefix as prefix_bytes, prefix_end as prefix_end_bytes, front as front_of, back as back_of, is_item as is_item_key, row_at as row_of, IsItemKey};
 
-use crate::work::Work;
 use byte_map::Bytes;
 use keycode::{KeyFault, Values};
 use row_map::{KeyOf, read_key};
-use schema_version::{ElementDef, Kind};
+use schema_version::{ElementDef, Kind, Work};
 use std::alloc::{AllocError, Global};
 
 /// The keys that a reorganisation goes through.

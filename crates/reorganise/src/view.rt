@@ -3,9 +3,8 @@ ghost use Rattle.std.specs.Prelude.{◌≡◌};
 ghost use Rattle.reorganise.specs.Pieces.{IsReading};
 
 use crate::reading::Reading;
-use crate::work::Work;
 use byte_map::{Bytes, KeyMap};
-use schema_version::ElementDef;
+use schema_version::{ElementDef, Work};
 use std::marker::Model;
 
 /// The next items of a piece as they were read, to be prepared. `Progress::read_piece` alone makes one.

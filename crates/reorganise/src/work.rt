@@ -1,16 +1,7 @@
-//! Fills and clears, their pieces and how far each has come.
+//! The pieces of fills and clears, and how far each has come.
 use byte_map::Bytes;
 use listed::Listed;
-use schema_version::ElementDef;
-
-/// What a reorganisation does.
-#[derive(Clone, Copy, Debug, PartialEq, Eq)]
-pub enum Work {
-    /// Puts the pairs of an element that is being added.
-    Fill,
-    /// Removes the pairs of an element that is being dropped.
-    Clear,
-}
+use schema_version::{ElementDef, Work};
 
 /// A piece of a reorganisation: its bounds, and how far it has come.
 #[derive(Clone, Debug, Drop, PartialEq, Eq)]

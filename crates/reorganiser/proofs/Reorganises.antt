@@ -6,7 +6,7 @@ use Rattle.std.proofs.lemmas.List.{reverse-reverse}
 use Rattle.std.proofs.lemmas.List.Sums.{sum_by-le}
 use Rattle.tasks.proofs.Handing.{map_reverse, map_map, map_push, sum_reverse, sum_map}
 use Rattle.tasks.specs.Outcomes.{IsRow, held_in}
-use Rattle.reorganise.specs.declared.work.Work.{Work}
+use Rattle.schema_version.specs.declared.element.Work.{Work}
 use Rattle.reorganise.specs.declared.work.Progress.{Progress}
 use Rattle.replay.specs.Replay.{Opening, progress_of}
 use Rattle.world.specs.Piecework.{standing, standing_at}

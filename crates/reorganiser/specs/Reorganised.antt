@@ -1,6 +1,6 @@
 -- What a call for all pieces answers.
 use Rattle.std.specs.Prelude.{◌≡◌, ℕ, ◌+◌, ◌<◌, ◌≤◌, List, [], ◌∷◌, ◌++◌, length, All, map, sum_by, Bool, Some, None}
-use Rattle.reorganise.specs.declared.work.Work.{Work}
+use Rattle.schema_version.specs.declared.element.Work.{Work}
 use Rattle.replay.specs.Replay.{Opening}
 use Rattle.world.specs.Piecework.{standing_at}
 use Rattle.world.specs.State.{State, facts_of}

@@ -18,13 +18,15 @@ use Rattle.schema_version.specs.declared.element.Way.TheVariants.{Adding, Droppi
 use Rattle.schema_version.specs.declared.element.Kind.{Kind}
 use Rattle.schema_version.specs.declared.element.Kind.TheVariants.{Index, Optional}
 use Rattle.schema_version.specs.declared.element.ElementDef.{ElementDef}
+use Rattle.schema_version.specs.Edges.{work_by, wanted}
 use Rattle.schema_version.specs.Version.{Version, element_at, state_of, state_or_absent}
 use Rattle.element_state.specs.Core.{Core, Invariant, MayRun}
 use Rattle.element_state.specs.Core as core
 use Rattle.element_state.specs.Schemas.{state_of as state_in}
 use Rattle.element_state.specs.Versions.{ElementKind, Of, the_kinds, meaning_of, schema_of, entry_of, IsLawfulOf}
 use Rattle.element_state.specs.Whole.{begin_kept, number_one}
-use Rattle.reorganise.specs.declared.work.Work.{Work}
+use Rattle.schema_version.specs.declared.element.Work.{Work}
+use Rattle.schema_version.specs.declared.element.Work.TheVariants.{Fill, Clear}
 use Rattle.reorganise.specs.declared.work.Span.{Span}
 use Rattle.reorganise.specs.declared.work.Progress.{Progress}
 use Rattle.reorganise.specs.Pieces.{begun}
@@ -32,8 +34,8 @@ use Rattle.reorganise.specs.Regions.{region_of}
 use Rattle.reorganise.proofs.Bounding.{begins_fresh, begins_at_bounds}
 use Rattle.reorganise.proofs.Shares.{begun_joined}
 use Rattle.replay.specs.declared.entry.What.TheVariants.{Begin}
-use Rattle.replay.specs.Replay.{Facts, after, work_by, wanted, is_of, progress_of, begun_by, begun_of}
-use Rattle.replay.specs.Kept.{IsKept, IsBegun, core_at, used_before, all_passed, passed, work_in}
+use Rattle.replay.specs.Replay.{Facts, after, is_of, progress_of, begun_by, begun_of}
+use Rattle.replay.specs.Kept.{IsKept, IsBegun, core_at, used_before, all_passed, passed}
 use Rattle.replay.specs.Laws.{BeginsKeep, IsPieceCount}
 use Rattle.replay.proofs.Agree.{at_number}
 use Rattle.replay.proofs.Begun.{get_passed}
@@ -49,13 +51,13 @@ none_some e = absurd cc
 
 -- ---- what an element wants may run
 
-may_run : (n table : ℕ) (kind : Kind) (way : Way) (state : ElementState) (work : Work) → work_by kind way state ≡ Some work → MayRun the_kinds (work_in work) (Of table kind) state
+may_run : (n table : ℕ) (kind : Kind) (way : Way) (state : ElementState) (work : Work) → work_by kind way state ≡ Some work → MayRun the_kinds work (Of table kind) state
 may_run n table (Index columns) Adding Absent work e = none_some e
 may_run n table (Index columns) Adding DeleteOnly work e = none_some e
-may_run n table (Index columns) Adding WriteOnly work e = subst (λ (u : Work). MayRun the_kinds (work_in u) (Of table (Index columns)) WriteOnly) (some_one e) tt
+may_run n table (Index columns) Adding WriteOnly work e = subst (λ (u : Work). MayRun the_kinds u (Of table (Index columns)) WriteOnly) (some_one e) tt
 may_run n table (Index columns) Adding Public work e = none_some e
 may_run n table (Index columns) Dropping Absent work e = none_some e
-may_run n table (Index columns) Dropping DeleteOnly work e = subst (λ (u : Work). MayRun the_kinds (work_in u) (Of table (Index columns)) DeleteOnly) (some_one e) (λ g. g)
+may_run n table (Index columns) Dropping DeleteOnly work e = subst (λ (u : Work). MayRun the_kinds u (Of table (Index columns)) DeleteOnly) (some_one e) (λ g. g)
 may_run n table (Index columns) Dropping WriteOnly work e = none_some e
 may_run n table (Index columns) Dropping Public work e = none_some e
 may_run n table (Optional type) Adding Absent work e = none_some e
@@ -63,22 +65,22 @@ may_run n table (Optional type) Adding DeleteOnly work e = none_some e
 may_run n table (Optional type) Adding WriteOnly work e = none_some e
 may_run n table (Optional type) Adding Public work e = none_some e
 may_run n table (Optional type) Dropping Absent work e = none_some e
-may_run n table (Optional type) Dropping DeleteOnly work e = subst (λ (u : Work). MayRun the_kinds (work_in u) (Of table (Optional type)) DeleteOnly) (some_one e) (λ g. g)
+may_run n table (Optional type) Dropping DeleteOnly work e = subst (λ (u : Work). MayRun the_kinds u (Of table (Optional type)) DeleteOnly) (some_one e) (λ g. g)
 may_run n table (Optional type) Dropping WriteOnly work e = none_some e
 may_run n table (Optional type) Dropping Public work e = none_some e
 
-clear_fill : {B : Type 0} → core.Clear ≡ core.Fill → B
+clear_fill : {B : Type 0} → Clear ≡ Fill → B
 clear_fill e = absurd cc
 
 -- a fill is one of a kind that is filled
-filled_so : (n table : ℕ) (kind : Kind) (way : Way) (state : ElementState) (work : Work) → work_by kind way state ≡ Some work → work_in work ≡ core.Fill → IsTrue ((meaning_of n (Of table kind)).filled)
+filled_so : (n table : ℕ) (kind : Kind) (way : Way) (state : ElementState) (work : Work) → work_by kind way state ≡ Some work → work ≡ Fill → IsTrue ((meaning_of n (Of table kind)).filled)
 filled_so n table (Index columns) way state work e f = refl
 filled_so n table (Optional type) Adding Absent work e f = none_some e
 filled_so n table (Optional type) Adding DeleteOnly work e f = none_some e
 filled_so n table (Optional type) Adding WriteOnly work e f = none_some e
 filled_so n table (Optional type) Adding Public work e f = none_some e
 filled_so n table (Optional type) Dropping Absent work e f = none_some e
-filled_so n table (Optional type) Dropping DeleteOnly work e f = clear_fill (ap work_in (some_one e) ∙ f)
+filled_so n table (Optional type) Dropping DeleteOnly work e f = clear_fill (some_one e ∙ f)
 filled_so n table (Optional type) Dropping WriteOnly work e f = none_some e
 filled_so n table (Optional type) Dropping Public work e f = none_some e
 
@@ -170,10 +172,10 @@ module _ (facts : Facts) (now number pieces : ℕ) (element : ElementDef) (work 
   unfolding lows
   begun_core =
       subst (λ (n : ℕ). Invariant the_kinds (record (core_at (at facts now) now) { progress = map.insert (all_passed facts.progress) n (passed b) })) (sym own)
-      (subst (λ spans. Invariant the_kinds (record (core_at (at facts now) now) { progress = map.insert (all_passed facts.progress) number (let c : core.Progress = record { work = work_in work; spans = spans } in c) })) (sym (begins_fresh element work facts.pairs pieces))
-      (begin_kept the_kinds (core_at (at facts now) now) number (entry_of element) (work_in work) lows entry (filled_so number element.table element.kind element.way element.state work wants)
-      (subst (MayRun the_kinds (work_in work) (Of element.table element.kind)) (sym (state_seen (used_before facts now) number above (element_at (used_before facts now) number) refl ∙ settled)) (may_run number element.table element.kind element.way element.state work wants))
-      (subst (MayRun the_kinds (work_in work) (Of element.table element.kind)) (sym (ap state_in entry)) (may_run number element.table element.kind element.way element.state work wants))
+      (subst (λ spans. Invariant the_kinds (record (core_at (at facts now) now) { progress = map.insert (all_passed facts.progress) number (let c : core.Progress = record { work = work; spans = spans } in c) })) (sym (begins_fresh element work facts.pairs pieces))
+      (begin_kept the_kinds (core_at (at facts now) now) number (entry_of element) work lows entry (filled_so number element.table element.kind element.way element.state work wants)
+      (subst (MayRun the_kinds work (Of element.table element.kind)) (sym (state_seen (used_before facts now) number above (element_at (used_before facts now) number) refl ∙ settled)) (may_run number element.table element.kind element.way element.state work wants))
+      (subst (MayRun the_kinds work (Of element.table element.kind)) (sym (ap state_in entry)) (may_run number element.table element.kind element.way element.state work wants))
       k.core_kept))
 
   one_more : IsKept (record (at facts now) { progress = facts.progress ++ b ∷ [] })

@@ -12,9 +12,10 @@ use Rattle.schema_version.specs.declared.element.Kind.TheVariants.{Index, Option
 use Rattle.schema_version.specs.declared.element.ElementDef.{ElementDef}
 use Rattle.schema_version.specs.declared.step.Move.{Move}
 use Rattle.schema_version.specs.declared.step.Move.TheVariants.{Enter, Go}
+use Rattle.schema_version.specs.Edges.{edge, HasEdge}
 use Rattle.schema_version.specs.Version.{Version, element_at}
-use Rattle.schema_version.specs.Moves.{is_edge, moved, after_move, after_step}
-use Rattle.schema_version.specs.Steps.{in_state_or_none, HasEdge, StepOf, Same, New, Next}
+use Rattle.schema_version.specs.Moves.{moved, after_move, after_step}
+use Rattle.schema_version.specs.Steps.{in_state_or_none, StepOf, Same, New, Next}
 use Rattle.schema_version.proofs.Changes.{moved_next}
 use Rattle.element_state.specs.Core.{JoinedAt}
 use Rattle.element_state.specs.Laws.{IsLive}
@@ -22,67 +23,29 @@ use Rattle.element_state.specs.Schemas.{Entry}
 use Rattle.element_state.specs.Versions.{ElementKind, Of, the_kinds, meaning_of, schema_of, get-schema_of, entry_of, row_entry}
 use Rattle.replay.proofs.Time.{joined_itself}
 
-false_true : {B : Type 0} → false ≡ true → B
-false_true e = absurd cc
-
-no_edge : {B : Type 0} → (false ≡ true) ⊎ (false ≡ true) → B
-no_edge (inl e) = false_true e
-no_edge (inr e) = false_true e
+no_way : {B : Type 0} {next : Way} → None ≡ Some next → B
+no_way e = absurd cc
 
 -- an edge of a kind is one in the words of the laws
-pub edge_in : (table n : ℕ) (kind : Kind) (from to : ElementState) → HasEdge kind from to → IsTrue ((meaning_of n (Of table kind)).edge from to)
-edge_in table n (Index columns) Absent Absent h = no_edge h
-edge_in table n (Index columns) Absent DeleteOnly h = refl
-edge_in table n (Index columns) Absent WriteOnly h = no_edge h
-edge_in table n (Index columns) Absent Public h = no_edge h
-edge_in table n (Index columns) DeleteOnly Absent h = refl
-edge_in table n (Index columns) DeleteOnly DeleteOnly h = no_edge h
-edge_in table n (Index columns) DeleteOnly WriteOnly h = refl
-edge_in table n (Index columns) DeleteOnly Public h = no_edge h
-edge_in table n (Index columns) WriteOnly Absent h = no_edge h
-edge_in table n (Index columns) WriteOnly DeleteOnly h = refl
-edge_in table n (Index columns) WriteOnly WriteOnly h = no_edge h
-edge_in table n (Index columns) WriteOnly Public h = refl
-edge_in table n (Index columns) Public Absent h = no_edge h
-edge_in table n (Index columns) Public DeleteOnly h = no_edge h
-edge_in table n (Index columns) Public WriteOnly h = refl
-edge_in table n (Index columns) Public Public h = no_edge h
-edge_in table n (Optional type) Absent Absent h = no_edge h
-edge_in table n (Optional type) Absent DeleteOnly h = refl
-edge_in table n (Optional type) Absent WriteOnly h = no_edge h
-edge_in table n (Optional type) Absent Public h = no_edge h
-edge_in table n (Optional type) DeleteOnly Absent h = refl
-edge_in table n (Optional type) DeleteOnly DeleteOnly h = no_edge h
-edge_in table n (Optional type) DeleteOnly WriteOnly h = no_edge h
-edge_in table n (Optional type) DeleteOnly Public h = refl
-edge_in table n (Optional type) WriteOnly Absent h = no_edge h
-edge_in table n (Optional type) WriteOnly DeleteOnly h = no_edge h
-edge_in table n (Optional type) WriteOnly WriteOnly h = no_edge h
-edge_in table n (Optional type) WriteOnly Public h = no_edge h
-edge_in table n (Optional type) Public Absent h = no_edge h
-edge_in table n (Optional type) Public DeleteOnly h = refl
-edge_in table n (Optional type) Public WriteOnly h = no_edge h
-edge_in table n (Optional type) Public Public h = no_edge h
+edge_in : (table n : ℕ) (kind : Kind) (way : Way) (from to : ElementState) (next : Way) → edge kind way from to ≡ Some next → IsTrue ((meaning_of n (Of table kind)).edge from to)
+edge_in table n (Index columns) Adding Absent DeleteOnly next e = refl
+edge_in table n (Index columns) Adding DeleteOnly WriteOnly next e = refl
+edge_in table n (Index columns) Adding WriteOnly Public next e = refl
+edge_in table n (Index columns) way Public WriteOnly next e = refl
+edge_in table n (Index columns) Dropping WriteOnly DeleteOnly next e = refl
+edge_in table n (Index columns) Dropping DeleteOnly Absent next e = refl
+edge_in table n (Optional type) Adding Absent DeleteOnly next e = refl
+edge_in table n (Optional type) Adding DeleteOnly Public next e = refl
+edge_in table n (Optional type) way Public DeleteOnly next e = refl
+edge_in table n (Optional type) Dropping DeleteOnly Absent next e = refl
+edge_in table n kind way from to next e = no_way e
 
--- nothing enters as public, and nothing public becomes public
+-- nothing enters as public
 pub not_at_once : (kind : Kind) → HasEdge kind Absent Public → ⊥
-not_at_once (Index columns) h = no_edge h
-not_at_once (Optional type) h = no_edge h
-
-pub not_again : (kind : Kind) → HasEdge kind Public Public → ⊥
-not_again (Index columns) h = no_edge h
-not_again (Optional type) h = no_edge h
-
--- a column that becomes public by its way is being added
-pub column_adding : (type : _) (way : Way) (state : ElementState) → is_edge (Optional type) way state Public ≡ true → (way ≡ Adding) × (state ≢ Public)
-column_adding type Adding Absent e = false_true e
-column_adding type Adding DeleteOnly e = (refl, λ p. absurd cc)
-column_adding type Adding WriteOnly e = false_true e
-column_adding type Adding Public e = false_true e
-column_adding type Dropping Absent e = false_true e
-column_adding type Dropping DeleteOnly e = false_true e
-column_adding type Dropping WriteOnly e = false_true e
-column_adding type Dropping Public e = false_true e
+not_at_once (Index columns) (Adding, next, e) = no_way e
+not_at_once (Index columns) (Dropping, next, e) = no_way e
+not_at_once (Optional type) (Adding, next, e) = no_way e
+not_at_once (Optional type) (Dropping, next, e) = no_way e
 
 -- ---- a version as the laws see it
 
@@ -96,20 +59,20 @@ is_zero n = eq_by_cmp nat_cmp n 0
 pub get_seen : (version : Version) (n : ℕ) → map.get (schema_of version) n ≡ seen (is_zero n) (element_at version n)
 get_seen version n = get-schema_of version n
 
-next_joined : (n : ℕ) (x : ElementDef) (to : ElementState) → HasEdge x.kind x.state to → JoinedAt the_kinds n (Some (entry_of x)) (option_map entry_of (in_state_or_none x to))
-next_joined n x Absent edge = inr (edge_in x.table n x.kind x.state Absent edge)
-next_joined n x DeleteOnly edge = (refl, inr (edge_in x.table n x.kind x.state DeleteOnly edge))
-next_joined n x WriteOnly edge = (refl, inr (edge_in x.table n x.kind x.state WriteOnly edge))
-next_joined n x Public edge = (refl, inr (edge_in x.table n x.kind x.state Public edge))
+next_joined : (n : ℕ) (x : ElementDef) (to : ElementState) (way : Way) → edge x.kind x.way x.state to ≡ Some way → JoinedAt the_kinds n (Some (entry_of x)) (option_map entry_of (in_state_or_none x to))
+next_joined n x Absent way e = inr (edge_in x.table n x.kind x.way x.state Absent way e)
+next_joined n x DeleteOnly way e = (refl, inr (edge_in x.table n x.kind x.way x.state DeleteOnly way e))
+next_joined n x WriteOnly way e = (refl, inr (edge_in x.table n x.kind x.way x.state WriteOnly way e))
+next_joined n x Public way e = (refl, inr (edge_in x.table n x.kind x.way x.state Public way e))
 
 joined_def : (n next : ℕ) (old new : Option ElementDef) → StepOf next n old new → JoinedAt the_kinds n (option_map entry_of old) (option_map entry_of new)
 joined_def n next old new (Same e) = subst (λ (o : Option ElementDef). JoinedAt the_kinds n (option_map entry_of old) (option_map entry_of o)) (sym e) (joined_itself n (option_map entry_of old))
-joined_def n next old new (New fresh to le edge none is) =
+joined_def n next old new (New fresh to le has none is) =
     subst (λ (o : Option ElementDef). JoinedAt the_kinds n (option_map entry_of o) (option_map entry_of new)) (sym none)
-    (subst (λ (o : Option ElementDef). JoinedAt the_kinds n None (option_map entry_of o)) (sym is) (inr (edge_in fresh.table n fresh.kind Absent to edge)))
-joined_def n next old new (Next x to edge way was is) =
+    (subst (λ (o : Option ElementDef). JoinedAt the_kinds n None (option_map entry_of o)) (sym is) (inr (edge_in fresh.table n fresh.kind has.0 Absent to has.1 has.2)))
+joined_def n next old new (Next x to way e was is) =
     subst (λ (o : Option ElementDef). JoinedAt the_kinds n (option_map entry_of o) (option_map entry_of new)) (sym was)
-    (subst (λ (o : Option ElementDef). JoinedAt the_kinds n (Some (entry_of x)) (option_map entry_of o)) (sym is) (next_joined n x to edge))
+    (subst (λ (o : Option ElementDef). JoinedAt the_kinds n (Some (entry_of x)) (option_map entry_of o)) (sym is) (next_joined n x to way e))
 
 -- an element and what a step makes of it are of one kind and in states that an edge joins
 pub joined_step : (b : Bool) (n next : ℕ) (old new : Option ElementDef) → StepOf next n old new → JoinedAt the_kinds n (seen b old) (seen b new)

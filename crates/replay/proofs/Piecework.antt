@@ -17,6 +17,7 @@ use Rattle.schema_version.specs.declared.element.Kind.TheVariants.{Index, Option
 use Rattle.schema_version.specs.declared.element.ElementState.{ElementState}
 use Rattle.schema_version.specs.declared.element.ElementState.TheVariants.{Public}
 use Rattle.schema_version.specs.declared.element.ElementDef.{ElementDef}
+use Rattle.schema_version.specs.Edges.{wanted}
 use Rattle.schema_version.specs.Version.{Version, element_at, listed, IsPublicColumn}
 use Rattle.element_state.specs.Column.{column_of, column_meaning, IsLawfulColumn}
 use Rattle.element_state.specs.Core.{Core, Invariant, Meets, IsConsistent as Consistent}
@@ -29,8 +30,8 @@ use Rattle.element_state.specs.Reaches as reaches
 use Rattle.element_state.specs.Tables.{within}
 use Rattle.element_state.specs.Versions.{ElementKind, Of, the_kinds, meaning_of, schema_of, entry_of, IsLawfulOf, exists_exact}
 use Rattle.element_state.specs.Whole.{number_one}
-use Rattle.reorganise.specs.declared.work.Work.{Work}
-use Rattle.reorganise.specs.declared.work.Work.TheVariants.{Fill, Clear}
+use Rattle.schema_version.specs.declared.element.Work.{Work}
+use Rattle.schema_version.specs.declared.element.Work.TheVariants.{Fill, Clear}
 use Rattle.reorganise.specs.declared.work.Span.{Span}
 use Rattle.reorganise.specs.declared.work.Progress.{Progress}
 use Rattle.reorganise.specs.declared.reading.Reading.{Reading}
@@ -42,8 +43,8 @@ use Rattle.reorganise.proofs.Bounding.{cursor_stands, cursor_moves, join_stays, 
 use Rattle.reorganise.proofs.Clearing.{clear_lays}
 use Rattle.reorganise.proofs.Filling.{fill_lays}
 use Rattle.reorganise.proofs.Holding.{part_is}
-use Rattle.replay.specs.Replay.{Facts, after, wanted, is_of, progress_of, come_to, moved_to, writes_by_piece, span_writes}
-use Rattle.replay.specs.Kept.{IsKept, IsBegun, AreInPieces, core_at, all_passed, passed, work_in}
+use Rattle.replay.specs.Replay.{Facts, after, is_of, progress_of, come_to, moved_to, writes_by_piece, span_writes}
+use Rattle.replay.specs.Kept.{IsKept, IsBegun, AreInPieces, core_at, all_passed, passed}
 use Rattle.replay.specs.Laws.{IsNextOf, piece_entry, PiecesKeep}
 use Rattle.replay.proofs.Agree.{at_number}
 use Rattle.replay.proofs.Begun.{found, get_passed, passed_at, progress_moved}
@@ -146,7 +147,7 @@ module _ (facts : Facts) (now number : ℕ) (read : Reading) (later : facts.mome
 
   -- the reorganisation with its cursor moved
   abbrev pub come : core.Progress
-  come = record { work = work_in p.kind; spans = reaches.with_cursor read.piece to (passed_by p.pieces) }
+  come = record { work = p.kind; spans = reaches.with_cursor read.piece to (passed_by p.pieces) }
 
   cursor_is : reaches.cursor_at read.piece (passed_by p.pieces) ≡ read.stretch.low
   cursor_is = cursor_stands p.pieces read.piece next.span next.piece ∙ sym next.cursor
@@ -182,10 +183,10 @@ module _ (facts : Facts) (now number : ℕ) (read : Reading) (later : facts.mome
       (subst (λ (e : ElementDef). After (written_all facts.pairs (fill_puts (meaning_of e.number (Of e.table e.kind)) (row_items (meaning_of e.number (Of e.table e.kind)).serves facts.rows read.stretch.low to)))) (sym same)
       (subst (λ (n : ℕ). After (written_all facts.pairs (fill_puts (meaning_of n (Of p.element.table p.element.kind)) (row_items (meaning_of n (Of p.element.table p.element.kind)).serves facts.rows read.stretch.low to)))) (sym begun_p.1)
       (subst (λ (low : Bytes). After (written_all facts.pairs (fill_puts (meaning_of number (Of p.element.table p.element.kind)) (row_items (meaning_of number (Of p.element.table p.element.kind)).serves facts.rows low to)))) cursor_is
-      (subst (λ (u : Work). Invariant the_kinds (moved the_kinds w number (let c : core.Progress = record { work = work_in u; spans = reaches.with_cursor read.piece to (passed_by p.pieces) } in c)
+      (subst (λ (u : Work). Invariant the_kinds (moved the_kinds w number (let c : core.Progress = record { work = u; spans = reaches.with_cursor read.piece to (passed_by p.pieces) } in c)
       (written_all facts.pairs (fill_puts (meaning_of number (Of p.element.table p.element.kind)) (row_items (meaning_of number (Of p.element.table p.element.kind)).serves facts.rows (reaches.cursor_at read.piece (passed_by p.pieces)) to))))) (sym is)
       (reaches.fill_puts_kept the_kinds w number (entry_of p.element) (passed_by p.pieces) read.piece to k.core_kept entry
-      (passed_p ∙ ap (λ (u : Work). Some (let c : core.Progress = record { work = work_in u; spans = passed_by p.pieces } in c)) is))))))
+      (passed_p ∙ ap (λ (u : Work). Some (let c : core.Progress = record { work = u; spans = passed_by p.pieces } in c)) is))))))
   core_by Clear is =
       let bound = subst (λ (u : Work). IsBound (bounds_of p.element u) to) is bound_to in
       let from = subst (λ (u : Work). IsBound (bounds_of p.element u) next.span.cursor) is bounds_p.cursor in
@@ -196,10 +197,10 @@ module _ (facts : Facts) (now number : ℕ) (read : Reading) (later : facts.mome
       (subst (λ (e : ElementDef). After (written_all facts.pairs (clear_writes ((kind_clear e.table e.number e.kind).items facts.rows facts.pairs read.stretch.low to)))) (sym same)
       (subst (λ (n : ℕ). After (written_all facts.pairs (clear_writes ((kind_clear p.element.table n p.element.kind).items facts.rows facts.pairs read.stretch.low to)))) (sym begun_p.1)
       (subst (λ (low : Bytes). After (written_all facts.pairs (clear_writes ((kind_clear p.element.table number p.element.kind).items facts.rows facts.pairs low to)))) cursor_is
-      (subst (λ (u : Work). Invariant the_kinds (moved the_kinds w number (let c : core.Progress = record { work = work_in u; spans = reaches.with_cursor read.piece to (passed_by p.pieces) } in c)
+      (subst (λ (u : Work). Invariant the_kinds (moved the_kinds w number (let c : core.Progress = record { work = u; spans = reaches.with_cursor read.piece to (passed_by p.pieces) } in c)
       (written_all facts.pairs (clear_writes ((kind_clear p.element.table number p.element.kind).items facts.rows facts.pairs (reaches.cursor_at read.piece (passed_by p.pieces)) to))))) (sym is)
       (reaches.clear_piece_kept the_kinds w number (entry_of p.element) (passed_by p.pieces) read.piece to (kind_clear p.element.table number p.element.kind) (kind_clears p.element.table number p.element.kind own.lawful own.range) k.core_kept entry
-      (passed_p ∙ ap (λ (u : Work). Some (let c : core.Progress = record { work = work_in u; spans = passed_by p.pieces } in c)) is)
+      (passed_p ∙ ap (λ (u : Work). Some (let c : core.Progress = record { work = u; spans = passed_by p.pieces } in c)) is)
       (subst (λ (n : ℕ). IsBound (kind_clear p.element.table n p.element.kind).bounds (reaches.cursor_at read.piece (passed_by p.pieces))) begun_p.1 (subst (IsBound (bounds_of p.element Clear)) (sym (cursor_stands p.pieces read.piece next.span next.piece)) from))
       (subst (λ (n : ℕ). IsBound (kind_clear p.element.table n p.element.kind).bounds to) begun_p.1 bound))))))
 
@@ -213,7 +214,7 @@ module _ (facts : Facts) (now number : ℕ) (read : Reading) (later : facts.mome
       moved_p : passed (moved_to number read.piece to p) ≡ come
       moved_p =
           ap (λ (b : Bool). passed (cond b (come_to read.piece to p) p)) (eq-eqb p.element.number number begun_p.1)
-          ∙ ap (λ spans. let x : core.Progress = record { work = work_in p.kind; spans = spans } in x) (cursor_moves p.pieces read.piece to)
+          ∙ ap (λ spans. let x : core.Progress = record { work = p.kind; spans = spans } in x) (cursor_moves p.pieces read.piece to)
 
       other : (o : Option Progress) → progress_of facts.progress m ≡ o → m ≢ number → option_map passed (option_map (moved_to number read.piece to) o) ≡ option_map passed o
       other None is ne = refl

@@ -2,6 +2,7 @@
 use Rattle.std.proofs.Common.{◌≡◌, ℕ, zero, suc, ◌+◌, ◌≤◌, List, [], ◌∷◌, length, Option, Some, None, option_map, refl, sym, ap, subst, ◌∙◌, inl, inr, Bool, true, false, cond, arith, Contains, nat_lt}
 use Rattle.std.specs.Prelude.{◌≢◌, IsTrue, filter}
 use Rattle.std.specs.List.{All, AllByRecursion}
+use Rattle.std.specs.Option.{unwrap_or}
 use Rattle.std.specs.FinMap as map
 use Rattle.std.proofs.lemmas.Bool.{lt-ltb}
 use Rattle.std.proofs.lemmas.Bool.Decides.{Decides-eqb}
@@ -13,18 +14,21 @@ use Rattle.row_map.specs.Shape.{has_type}
 use Rattle.row_map.specs.Ranges.{table_prefix}
 use Rattle.schema_version.specs.declared.element.ElementState.{ElementState}
 use Rattle.schema_version.specs.declared.element.ElementState.TheVariants.{Absent, DeleteOnly, WriteOnly, Public}
+use Rattle.schema_version.specs.declared.element.Way.{Way}
+use Rattle.schema_version.specs.declared.element.Way.TheVariants.{Adding, Dropping}
 use Rattle.schema_version.specs.declared.element.Kind.{Kind}
 use Rattle.schema_version.specs.declared.element.Kind.TheVariants.{Index, Optional}
 use Rattle.schema_version.specs.declared.element.ElementDef.{ElementDef}
 use Rattle.schema_version.specs.declared.step.Move.{Move}
 use Rattle.schema_version.specs.declared.step.Move.TheVariants.{Enter, Go}
 use Rattle.schema_version.specs.declared.step.StepFault.TheVariants.{NotAdjacent}
+use Rattle.schema_version.specs.Edges.{edge, HasEdge}
 use Rattle.schema_version.specs.Version.{Version, table_at, element_at}
-use Rattle.schema_version.specs.Moves.{is_edge, is_move_of, moves_element, way_after, in_state, after_step, IsAllowed}
+use Rattle.schema_version.specs.Moves.{is_move_of, moves_element, in_state, after_step, IsAllowed}
 use Rattle.schema_version.specs.Sound.{IsSoundVersion}
-use Rattle.schema_version.specs.Steps.{Change, Stays, Enters, Goes, in_state_or_none, HasEdge, StepOf, Same, New, Next, IsOrdered}
+use Rattle.schema_version.specs.Steps.{Change, Stays, Enters, Goes, in_state_or_none, StepOf, Same, New, Next, IsOrdered}
 use Rattle.schema_version.proofs.Lists.{any_from, not_both}
-use Rattle.schema_version.proofs.Edges.{split_at, edge, clear, own_way, change_at, steps_keep_to_edges}
+use Rattle.schema_version.proofs.Stepping.{split_at, some_edge, adding_to_public, adding_before, clear, own_way, change_at, steps_keep_to_edges}
 use Rattle.schema_version.proofs.Along.{ordered_of}
 use Rattle.schema_version.proofs.Served.{steps_stay_sound}
 use Rattle.element_state.specs.Consistent.{IsLawfulRow, AreLawfulRows}
@@ -38,19 +42,19 @@ use Rattle.element_state.specs.Publishing.{MayBePublic, Was, Filled, Unfilled, M
 use Rattle.element_state.specs.Reaches.{fill_ended, clear_ended}
 use Rattle.element_state.specs.Schemas.{Entry, state_of}
 use Rattle.element_state.specs.Versions.{ElementKind, Of, the_kinds, meaning_of, schema_of, entry_of, is_adding, laws, one_table, IsLawfulOf}
-use Rattle.reorganise.specs.declared.work.Work.{Work}
-use Rattle.reorganise.specs.declared.work.Work.TheVariants.{Fill, Clear}
+use Rattle.schema_version.specs.declared.element.Work.{Work}
+use Rattle.schema_version.specs.declared.element.Work.TheVariants.{Fill, Clear}
 use Rattle.reorganise.specs.declared.work.Progress.{Progress}
 use Rattle.reorganise.specs.Regions.{region_of, front, back}
 use Rattle.reorganise.specs.Laws.{pieces_of, passed_by}
 use Rattle.reorganise.proofs.Bounding.{pieces_join, pieces_end, fill_range, clear_range}
 use Rattle.replay.specs.declared.entry.What.TheVariants.{Publish}
 use Rattle.replay.specs.Replay.{Facts, after, stays, progress_of}
-use Rattle.replay.specs.Kept.{IsKept, IsBegun, core_at, all_passed, work_in}
+use Rattle.replay.specs.Kept.{IsKept, IsBegun, core_at, all_passed}
 use Rattle.replay.specs.Laws.{IsDone, Needs, AreFinished, PublicationsKeep}
 use Rattle.replay.proofs.Agree.{at_number}
 use Rattle.replay.proofs.Begun.{found, stayed, all_stayed, passed_at, from_passed}
-use Rattle.replay.proofs.Moved.{seen, is_zero, get_seen, joined_step, live_state, not_at_once, not_again, column_adding, same_tables, next_rises}
+use Rattle.replay.proofs.Moved.{seen, is_zero, get_seen, joined_step, live_state, not_at_once, same_tables, next_rises}
 use Rattle.replay.proofs.Cursors.{stay_in_pieces}
 use Rattle.replay.proofs.Soundness.{lawful}
 use Rattle.replay.proofs.Time.{retired}
@@ -85,20 +89,18 @@ needs_clear facts n (Index columns) needs = needs
 needs_clear facts n (Optional type) needs = needs
 
 -- what was never public was not before a move either
-never_before : (x : ElementDef) (to : ElementState) → (is_adding (way_after x.state x.way) ≡ true) → (is_adding x.way ≡ true) × (x.state ≢ Public)
-never_before x to adding = by x.state refl adding
+never_before : (x : ElementDef) (to : ElementState) (way : Way) → edge x.kind x.way x.state to ≡ Some way → is_adding (in_state x to).way ≡ true → (is_adding x.way ≡ true) × (x.state ≢ Public)
+never_before x to way own adding = by way own (sym (ap (λ (o : Option Way). is_adding (unwrap_or o x.way)) own) ∙ adding)
   where
-    by : (q : ElementState) → x.state ≡ q → is_adding (way_after q x.way) ≡ true → (is_adding x.way ≡ true) × (x.state ≢ Public)
-    by Absent is a = (a, λ e. absurd cc)
-    by DeleteOnly is a = (a, λ e. absurd cc)
-    by WriteOnly is a = (a, λ e. absurd cc)
-    by Public is a = absurd cc
+    by : (w : Way) → edge x.kind x.way x.state to ≡ Some w → is_adding w ≡ true → (is_adding x.way ≡ true) × (x.state ≢ Public)
+    by Adding e a = let before = adding_before x.kind x.way x.state to e in (ap is_adding before.0, before.1)
+    by Dropping e a = absurd cc
 
-never_next : (n next : ℕ) (x : ElementDef) (to : ElementState) → to ≢ Absent → NeverPublic the_kinds next n (option_map entry_of (in_state_or_none x to)) → (is_adding x.way ≡ true) × (x.state ≢ Public)
-never_next n next x Absent live h = absurd (live refl)
-never_next n next x DeleteOnly live h = never_before x DeleteOnly h.0
-never_next n next x WriteOnly live h = never_before x WriteOnly h.0
-never_next n next x Public live h = never_before x Public h.0
+never_next : (n next : ℕ) (x : ElementDef) (to : ElementState) (way : Way) → edge x.kind x.way x.state to ≡ Some way → to ≢ Absent → NeverPublic the_kinds next n (option_map entry_of (in_state_or_none x to)) → (is_adding x.way ≡ true) × (x.state ≢ Public)
+never_next n next x Absent way own live h = absurd (live refl)
+never_next n next x DeleteOnly way own live h = never_before x DeleteOnly way own h.0
+never_next n next x WriteOnly way own live h = never_before x WriteOnly way own h.0
+never_next n next x Public way own live h = never_before x Public way own h.0
 
 module _ (facts : Facts) (step : List Move) (allowed : IsAllowed facts.newest step) (finished : AreFinished facts step) (k : IsKept facts) where
   abbrev pub v : Version
@@ -141,8 +143,8 @@ module _ (facts : Facts) (step : List Move) (allowed : IsAllowed facts.newest st
 
   -- ---- what is finished
 
-  passed_so : (n : ℕ) (work : Work) (d : IsDone facts n work) → map.get (all_passed facts.progress) n ≡ Some (record { work = work_in work; spans = passed_by d.progress.pieces })
-  passed_so n work d = passed_at facts.progress n d.progress d.here ∙ ap (λ (x : Work). Some (let c : core.Progress = record { work = work_in x; spans = passed_by d.progress.pieces } in c)) d.work_is
+  passed_so : (n : ℕ) (work : Work) (d : IsDone facts n work) → map.get (all_passed facts.progress) n ≡ Some (record { work = work; spans = passed_by d.progress.pieces })
+  passed_so n work d = passed_at facts.progress n d.progress d.here ∙ ap (λ (x : Work). Some (let c : core.Progress = record { work = x; spans = passed_by d.progress.pieces } in c)) d.work_is
 
   filled : (n : ℕ) (x : ElementDef) → element_at v n ≡ Some x → IsDone facts n Fill → FillEnded the_kinds w n (Of x.table x.kind)
   filled n x at d =
@@ -174,26 +176,22 @@ module _ (facts : Facts) (step : List Move) (allowed : IsAllowed facts.newest st
 
   -- ---- a step to public, and one to absent
 
-  edge_of : (n : ℕ) (to : ElementState) (x : ElementDef) → Contains step (Go n to) → element_at v n ≡ Some x → HasEdge x.kind x.state to
-  edge_of n to x there at = let p = split_at step (Go n to) there in edge x.kind x.state to (λ h. clear v step allowed p.0 p.1 n to x NotAdjacent p.2 at (inl h))
+  way_of : (n : ℕ) (to : ElementState) (x : ElementDef) → Contains step (Go n to) → element_at v n ≡ Some x → (way : Way) × (edge x.kind x.way x.state to ≡ Some way)
+  way_of n to x there at = let p = split_at step (Go n to) there in own_way v step allowed p.0 p.1 n to x p.2 at
 
   to_public : (n : ℕ) (x : ElementDef) (kind : Kind) → x.kind ≡ kind → Contains step (Go n Public) → element_at v n ≡ Some x → MayBePublic the_kinds w n (Of x.table x.kind)
   to_public n x (Index columns) is there at = Filled (filled n x at (needs_fill facts n x.kind columns is (finished n Public x there at)))
   to_public n x (Optional type) is there at =
-      let p = split_at step (Go n Public) there in
-      elim (own_way v step allowed p.0 p.1 n Public x p.2 at) [
-        | inl way ↦
-            let column = column_adding type x.way x.state (subst (λ (y : Kind). is_edge y x.way x.state Public ≡ true) is way) in
-            Unfilled (ap (λ (y : Kind). (meaning_of n (Of x.table y)).filled) is) (subst (NeverPublic the_kinds v.next n) (sym (entry_at n x at)) (ap is_adding column.0, column.1))
-        | inr public ↦ absurd (not_again x.kind (subst (λ (q : ElementState). HasEdge x.kind q Public) public (edge_of n Public x there at)))
-      ]
+      let way = way_of n Public x there at in
+      let own = adding_to_public x.kind x.way x.state way.0 way.1 in
+      Unfilled (ap (λ (y : Kind). (meaning_of n (Of x.table y)).filled) is) (subst (NeverPublic the_kinds v.next n) (sym (entry_at n x at)) (ap is_adding own.0, own.1))
 
   public_def : (n : ℕ) (d : ElementDef) → element_at s n ≡ Some d → is_zero n ≡ false → d.state ≡ Public → Change step v.next n (element_at v n) (element_at s n) → MayBePublic the_kinds w n (Of d.table d.kind)
   public_def n d at b public (Stays same) = Was (ap state_of (get_seen v n ∙ ap (λ c. seen c (element_at v n)) b ∙ ap (option_map entry_of) (sym same ∙ at)) ∙ public)
   public_def n d at b public (Enters fresh to there le none is) =
       let p = split_at step (Enter fresh to) there in
       let entered : to ≡ Public = ap (λ (e : ElementDef). e.state) (some_one (sym is ∙ at)) ∙ public in
-      absurd (not_at_once fresh.kind (subst (HasEdge fresh.kind Absent) entered (edge fresh.kind Absent to (λ h. allowed p.0 p.1 (Enter fresh to) NotAdjacent p.2 h))))
+      absurd (not_at_once fresh.kind (subst (HasEdge fresh.kind Absent) entered (some_edge fresh.kind Absent to (λ h. allowed p.0 p.1 (Enter fresh to) NotAdjacent p.2 h))))
   public_def n d at b public (Goes x to there was is) =
       let goes = goes_to x d to (sym is ∙ at) in
       let target : to ≡ Public = ap (λ (e : ElementDef). e.state) (sym goes.0) ∙ public in
@@ -260,14 +258,17 @@ module _ (facts : Facts) (step : List Move) (allowed : IsAllowed facts.newest st
   fresh_def n never (Enters fresh to there le none is) = subst (λ (o : Option ElementDef). NeverPublic the_kinds v.next n (option_map entry_of o)) (sym none) le
   fresh_def n never (Goes x to there was is) = subst (λ (o : Option ElementDef). NeverPublic the_kinds v.next n (option_map entry_of o)) (sym was) (by to refl)
     where
+      way : (way : Way) × (edge x.kind x.way x.state to ≡ Some way)
+      way = way_of n to x there was
+
       after_is : NeverPublic the_kinds s.next n (option_map entry_of (in_state_or_none x to))
       after_is = subst (λ (o : Option ElementDef). NeverPublic the_kinds s.next n (option_map entry_of o)) is never
 
       by : (q : ElementState) → to ≡ q → (is_adding x.way ≡ true) × (x.state ≢ Public)
       by Absent e = absurd (omega (arith, next_rises facts.newest step, ordered.below n x was, subst (λ (q : ElementState). NeverPublic the_kinds s.next n (option_map entry_of (in_state_or_none x q))) e after_is))
-      by DeleteOnly e = never_next n s.next x to (λ a. absurd cc) after_is
-      by WriteOnly e = never_next n s.next x to (λ a. absurd cc) after_is
-      by Public e = never_next n s.next x to (λ a. absurd cc) after_is
+      by DeleteOnly e = never_next n s.next x to way.0 way.1 (λ a. absurd cc) after_is
+      by WriteOnly e = never_next n s.next x to way.0 way.1 (λ a. absurd cc) after_is
+      by Public e = never_next n s.next x to way.0 way.1 (λ a. absurd cc) after_is
 
   fresh_step : (n : ℕ) → NeverPublic the_kinds s.next n (map.get (schema_of s) n) → NeverPublic the_kinds v.next n (map.get w.newest n)
   fresh_step n never = subst (NeverPublic the_kinds v.next n) (sym (get_seen v n)) (by (is_zero n) refl (subst (NeverPublic the_kinds s.next n) (get_seen s n) never))
@@ -306,11 +307,11 @@ module _ (facts : Facts) (step : List Move) (allowed : IsAllowed facts.newest st
   typed : (key : RowKey) (cells : Cells) → map.get facts.rows key ≡ Some cells → (column : ℕ) (element : ElementDef) (type : ColumnType) (value : Value) → element_at s column ≡ Some element → element.kind ≡ Optional type
       → map.get cells column ≡ Some value → StepOf v.next column (element_at v column) (element_at s column) → IsTrue (has_type type value)
   typed key cells at column element type value there kind is (Same e) = (k.rows key cells at).types column element type value (sym e ∙ there) kind is
-  typed key cells at column element type value there kind is (New fresh to le edge none new) =
+  typed key cells at column element type value there kind is (New fresh to le has none new) =
       let above : 1 ≤ column = omega (arith, le, k.sound.begun) in
       let never : NeverPublic the_kinds v.next column (map.get w.newest column) = subst (NeverPublic the_kinds v.next column) (sym (at_number v column above ∙ ap (option_map entry_of) none)) le in
       none_some (sym ((kept_core.bare column never).0 key cells at) ∙ is)
-  typed key cells at column element type value there kind is (Next x to edge way was new) =
+  typed key cells at column element type value there kind is (Next x to way own was new) =
       (k.rows key cells at).types column x type value was (ap (λ (e : ElementDef). e.kind) (sym (goes_to x element to (sym new ∙ there)).0) ∙ kind) is
 
   rows_after : AreLawfulRows s facts.rows

@@ -50,7 +50,7 @@ use Rattle.row_write.proofs.Keys.{keys_tell, spelled_with}
 use Rattle.row_write.proofs.Prepares.{made_from}
 use Rattle.row_write.proofs.Ran.{prepared_for_all}
 use Rattle.row_write.proofs.Sound.{served_from}
-use Rattle.reorganise.specs.declared.work.Work.TheVariants.{Fill}
+use Rattle.schema_version.specs.declared.element.Work.TheVariants.{Fill}
 use Rattle.reorganise.specs.declared.work.Span.{Span}
 use Rattle.reorganise.specs.declared.work.Progress.{Progress}
 use Rattle.reorganise.specs.declared.reading.Reading.{Reading}

@@ -2,18 +2,19 @@
 use Rattle.std.specs.Prelude.{◌≡◌, ℕ, ◌≤◌, List, [], ◌∷◌, Some, None}
 use Rattle.lease.specs.Timeline.{IsLength, earliest, max_moment}
 use Rattle.schema_version.specs.declared.element.ElementDef.{ElementDef}
+use Rattle.schema_version.specs.Edges.{wanted}
 use Rattle.schema_version.specs.Moves.{IsAllowed}
 use Rattle.schema_version.specs.Sound.{IsSoundVersion}
 use Rattle.schema_version.specs.Version.{element_at, state_of}
 use Rattle.row_write.specs.declared.op.RowOutcome.TheVariants.{Done}
 use Rattle.row_write.specs.Made.{PreparedTxn}
 use Rattle.row_write.specs.Plain.{outcome}
-use Rattle.reorganise.specs.declared.work.Work.{Work}
+use Rattle.schema_version.specs.declared.element.Work.{Work}
 use Rattle.reorganise.specs.declared.reading.Reading.{Reading}
 use Rattle.replay.specs.declared.entry.Entry.{Entry}
 use Rattle.replay.specs.declared.entry.What.{What}
 use Rattle.replay.specs.declared.entry.What.TheVariants.{Lease as Granted, Txn, Publish, Begin, Piece}
-use Rattle.replay.specs.Replay.{Opening, Facts, start, after, replay, wanted, progress_of}
+use Rattle.replay.specs.Replay.{Opening, Facts, start, after, replay, progress_of}
 use Rattle.replay.specs.Kept.{Agrees, used_before}
 use Rattle.replay.specs.Laws.{IsDue, IsNextOf, IsPieceCount, AreFinished}
 

@@ -6,29 +6,24 @@ use Rattle.std.specs.FinMap.{FinMap, from_entries}
 use Rattle.std.specs.Ordering.{nat_cmp, is_le}
 use Rattle.keycode.specs.Order.{bytes_cmp}
 use Rattle.lease.specs.Timeline.{IsValid, IsUsable, earliest, last_publication, newest as newest_number}
+use Rattle.schema_version.specs.Edges.{wanted}
 use Rattle.schema_version.specs.Version.{Version, element_at}
 use Rattle.schema_version.specs.Sound.{IsSoundVersion}
 use Rattle.element_state.specs.Consistent.{IsConsistent, AreLawfulRows}
 use Rattle.element_state.specs.Core.{Core, Invariant}
 use Rattle.element_state.specs.Core as core
 use Rattle.element_state.specs.Versions.{ElementKind, the_kinds, schema_of}
-use Rattle.reorganise.specs.declared.work.Work.{Work}
-use Rattle.reorganise.specs.declared.work.Work.TheVariants.{Fill, Clear}
 use Rattle.reorganise.specs.declared.work.Span.{Span}
 use Rattle.reorganise.specs.declared.work.Progress.{Progress}
 use Rattle.reorganise.specs.Regions.{region_of, front, back}
 use Rattle.reorganise.specs.Partition.{AreJoined}
 use Rattle.reorganise.specs.Laws.{passed_by, bounds_of, HasBounds}
-use Rattle.replay.specs.Replay.{Facts, before_of, version_at, wanted, progress_of}
+use Rattle.replay.specs.Replay.{Facts, before_of, version_at, progress_of}
 
 -- ---- the core as the elements' laws see it
 
-abbrev pub work_in : Work → core.Work
-work_in Fill = core.Fill
-work_in Clear = core.Clear
-
 abbrev pub passed : Progress → core.Progress
-passed progress = record { work = work_in progress.kind; spans = passed_by progress.pieces }
+passed progress = record { work = progress.kind; spans = passed_by progress.pieces }
 
 abbrev pub all_passed : List Progress → FinMap nat_cmp core.Progress
 all_passed begun = from_entries (each (λ (p : Progress). (p.element.number, passed p)) begun)

@@ -1,21 +1,19 @@
 -- What each accepted call keeps.
-use Rattle.std.specs.Prelude.{◌≡◌, ℕ, ◌≤◌, List, Some, None, true, Contains, slice_get}
+use Rattle.std.specs.Prelude.{◌≡◌, ℕ, ◌≤◌, List, Option, Some, None, true, Contains, slice_get}
 use Rattle.lease.specs.declared.lease.Lease.{Lease}
 use Rattle.lease.specs.Timeline.{IsLength, IsUsable, earliest, max_moment}
 use Rattle.row_map.specs.Expect.{Holds}
 use Rattle.row_map.specs.Writes.{laid}
 use Rattle.schema_version.specs.declared.element.ElementState.{ElementState}
-use Rattle.schema_version.specs.declared.element.ElementState.TheVariants.{Absent, Public}
 use Rattle.schema_version.specs.declared.element.Kind.{Kind}
-use Rattle.schema_version.specs.declared.element.Kind.TheVariants.{Index}
 use Rattle.schema_version.specs.declared.element.ElementDef.{ElementDef}
 use Rattle.schema_version.specs.declared.step.Move.{Move}
 use Rattle.schema_version.specs.declared.step.Move.TheVariants.{Go}
+use Rattle.schema_version.specs.Edges.{needed, wanted}
 use Rattle.schema_version.specs.Moves.{IsAllowed}
 use Rattle.schema_version.specs.Sound.{IsSoundVersion}
 use Rattle.schema_version.specs.Version.{element_at, state_of}
-use Rattle.reorganise.specs.declared.work.Work.{Work}
-use Rattle.reorganise.specs.declared.work.Work.TheVariants.{Fill, Clear}
+use Rattle.schema_version.specs.declared.element.Work.{Work}
 use Rattle.reorganise.specs.declared.work.Span.{Span}
 use Rattle.reorganise.specs.declared.work.Progress.{Progress}
 use Rattle.reorganise.specs.declared.reading.Reading.{Reading}
@@ -27,7 +25,7 @@ use Rattle.row_write.specs.Made.{PreparedTxn, IsMade}
 use Rattle.row_write.specs.Plain.{outcome}
 use Rattle.replay.specs.declared.entry.Entry.{Entry}
 use Rattle.replay.specs.declared.entry.What.TheVariants.{Lease as Granted, Txn, Publish, Begin, Piece}
-use Rattle.replay.specs.Replay.{Opening, Facts, start, after, version_at, progress_of, wanted}
+use Rattle.replay.specs.Replay.{Opening, Facts, start, after, version_at, progress_of}
 use Rattle.replay.specs.Kept.{IsKept, Agrees, used_before}
 
 -- an empty store under one sound version
@@ -45,11 +43,13 @@ pub record IsDone (facts : Facts) (number : ℕ) (work : Work) : Type 0 where
   pub work_is : progress.kind ≡ work
   pub ended : are_ended progress.pieces ≡ true
 
--- what a move needs to be finished: an index's step to public its fill, every step to absent the clear
+-- what a move needs is finished, where it needs anything
+abbrev pub IsFinished : Facts → ℕ → Option Work → Type 0
+IsFinished facts number None = Unit {0}
+IsFinished facts number (Some work) = IsDone facts number work
+
 abbrev pub Needs : Facts → Kind → ℕ → ElementState → Type 0
-Needs facts (Index columns) number Public = IsDone facts number Fill
-Needs facts kind number Absent = IsDone facts number Clear
-Needs facts kind number to = Unit {0}
+Needs facts kind number to = IsFinished facts number (needed kind to)
 
 abbrev pub AreFinished : Facts → List Move → Type 0
 AreFinished facts step = (number : ℕ) (to : ElementState) (element : ElementDef) → Contains step (Go number to) → element_at facts.newest number ≡ Some element → Needs facts element.kind number to

@@ -6,21 +6,15 @@ use Rattle.std.specs.FinMap as map
 use Rattle.lease.specs.Timeline.{Timeline, opened as line_opened, after_publication}
 use Rattle.row_map.specs.Rows.{Bytes, Rows, Pairs}
 use Rattle.row_map.specs.Writes.{Writes, written_all}
-use Rattle.schema_version.specs.declared.element.ElementState.{ElementState}
-use Rattle.schema_version.specs.declared.element.ElementState.TheVariants.{DeleteOnly, WriteOnly}
-use Rattle.schema_version.specs.declared.element.Way.{Way}
-use Rattle.schema_version.specs.declared.element.Way.TheVariants.{Adding, Dropping}
-use Rattle.schema_version.specs.declared.element.Kind.{Kind}
-use Rattle.schema_version.specs.declared.element.Kind.TheVariants.{Index}
 use Rattle.schema_version.specs.declared.element.ElementDef.{ElementDef}
 use Rattle.schema_version.specs.declared.step.Move.{Move}
+use Rattle.schema_version.specs.Edges.{wanted}
 use Rattle.schema_version.specs.Version.{Version, element_at}
 use Rattle.schema_version.specs.Moves.{after_step, moves_element}
 use Rattle.row_write.specs.declared.op.RowOp.{RowOp}
 use Rattle.row_write.specs.Plain.{transacted}
 use Rattle.row_write.specs.Prepare.{txn_writes}
-use Rattle.reorganise.specs.declared.work.Work.{Work}
-use Rattle.reorganise.specs.declared.work.Work.TheVariants.{Fill, Clear}
+use Rattle.schema_version.specs.declared.element.Work.{Work}
 use Rattle.reorganise.specs.declared.work.Span.{Span}
 use Rattle.reorganise.specs.declared.work.Progress.{Progress}
 use Rattle.reorganise.specs.Pieces.{begun, part}
@@ -79,15 +73,6 @@ abbrev pub before_of : Facts → Version
 before_of facts = first_or facts.newest facts.older
 
 -- ---- reorganisations
-
--- what an element wants: a fill for an index that is write-only and being added, a clear for what is delete-only and being dropped
-abbrev pub work_by : Kind → Way → ElementState → Option Work
-work_by (Index columns) Adding WriteOnly = Some Fill
-work_by kind Dropping DeleteOnly = Some Clear
-work_by kind way state = None
-
-abbrev pub wanted : ElementDef → Option Work
-wanted element = work_by element.kind element.way element.state
 
 abbrev pub is_of : ℕ → Progress → Bool
 is_of number progress = progress.element.number == number

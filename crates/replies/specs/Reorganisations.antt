@@ -1,9 +1,11 @@
 -- What a script prints of the begin of a reorganisation, and of one that is worked off.
 use Rattle.std.specs.Prelude.{ℕ, List, ◌++◌, Option, Some, None, Result, Ok, Err, codes}
+use Rattle.std.specs.Option.{option_and_then}
 use Rattle.std.specs.Fmt.{decimal}
 use Rattle.schema_version.specs.declared.element.ElementDef.{ElementDef}
-use Rattle.schema_version.specs.declared.element.Way.{Way}
-use Rattle.schema_version.specs.declared.element.Way.TheVariants.{Adding, Dropping}
+use Rattle.schema_version.specs.declared.element.Work.{Work}
+use Rattle.schema_version.specs.declared.element.Work.TheVariants.{Fill, Clear}
+use Rattle.schema_version.specs.Edges.{wanted}
 use Rattle.schema_version.specs.Version.{Version, element_at}
 use Rattle.world.specs.declared.entry.Receipt.{Receipt}
 use Rattle.world.specs.declared.fault.BeginFault.{BeginFault}
@@ -21,15 +23,14 @@ begin_name begin_fault.Begun = codes "Begun"
 begin_name begin_fault.BadCount = codes "BadCount"
 begin_name begin_fault.Memory = codes "Memory"
 
--- an element that is being added is filled, one that is being dropped cleared
-abbrev pub way_word : Way → List ℕ
-way_word Adding = codes "fill"
-way_word Dropping = codes "clear"
+-- the word for what an element wants; none is ever begun that wants nothing
+abbrev pub want_word : Option Work → List ℕ
+want_word (Some Fill) = codes "fill"
+want_word (Some Clear) = codes "clear"
+want_word None = codes "clear"
 
--- no element that isn't live is ever begun
 abbrev pub work_word : Option ElementDef → List ℕ
-work_word None = codes "clear"
-work_word (Some element) = way_word element.way
+work_word element = want_word (option_and_then wanted element)
 
 -- `ok begun fill PIECES` or `ok begun clear PIECES`
 abbrev pub begun_words : List ℕ → ℕ → Result Receipt BeginFault → List ℕ

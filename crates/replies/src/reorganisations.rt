@@ -1,14 +1,16 @@
 //! The begin of a reorganisation, and its working off.
 ghost use Rattle.std.specs.Prelude.{◌≡◌, ◌++◌, IfOk, OnOk, codes, string_bytes};
 ghost use Rattle.std.specs.Fmt.{decimal};
+ghost use Rattle.std.specs.Option.{option_and_then};
+ghost use Rattle.schema_version.specs.Edges.{wanted};
 ghost use Rattle.schema_version.specs.Version.{element_at};
-ghost use Rattle.replies.specs.Reorganisations.{begin_name, begun_words, way_word, work_word, work_name, worked_text};
+ghost use Rattle.replies.specs.Reorganisations.{begin_name, begun_words, want_word, work_word, work_name, worked_text};
 ghost use Rattle.replies.specs.Texts.{line};
 
 use crate::numbers::push_number;
 use crate::pieces::{push_piece, push_read};
 use piece_work::WorkFault;
-use schema_version::{Schema, Way};
+use schema_version::{Schema, Work};
 use std::alloc::{AllocError, Global};
 use world::{BeginFault, Receipt};
 
@@ -28,26 +30,31 @@ fn push_begin(out: &mut String, fault: BeginFault) -> Result<(), AllocError>
     }
 }
 
-fn way_word(way: Way) -> &'static str
-    ensures { result.now ≡ way_word way }
+fn want_word(work: Option<Work>) -> &'static str
+    ensures { result.now ≡ want_word work }
 {
-    match way {
-        Way::Adding => "fill",
-        Way::Dropping => "clear",
+    match work {
+        Some(Work::Fill) => "fill",
+        Some(Work::Clear) => "clear",
+        None => "clear",
     }
 }
 
-/// The word for what an element wants: `fill` where it is being added, else `clear`.
+// What the live element of this number wants.
+fn wanted(schema: &Schema, number: u32) -> Option<Work>
+    ensures { result ≡ option_and_then wanted (element_at schema.now number) }
+{
+    schema.element(number)?.wanted()
+}
+
+/// The word for what an element wants: `fill` or `clear`.
 ///
 /// - `schema`: the version that has the element.
-/// - `number`: the number of the element. No element that isn't live is ever begun: its word is `clear`.
+/// - `number`: the number of the element. None that isn't live, or wants nothing, is ever begun: its word is `clear`.
 pub fn work_word(schema: &Schema, number: u32) -> &'static str
     ensures { result.now ≡ work_word (element_at schema.now number) }
 {
-    match schema.element(number) {
-        Some(element) => way_word(element.way),
-        None => "clear",
-    }
+    want_word(wanted(schema, number))
 }
 
 fn push_begun(out: &mut String, word: &str, pieces: u32) -> Result<(), AllocError>

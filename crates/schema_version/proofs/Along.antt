@@ -1,6 +1,7 @@
 -- An allowed step keeps what is true of every version: how the version after some of its moves goes back to the old one.
 use Rattle.std.proofs.Common.{◌≡◌, ℕ, ◌+◌, ◌≤◌, Bool, true, false, cond, not, ◌&&◌, ◌||◌, ◌==◌, ◌⊎◌, List, [], ◌∷◌, ◌++◌, Option, Some, None, inl, inr, refl, sym, ap, subst, ◌∙◌, arith, Contains, Ok, Err, count_by, append_assoc, add-zero}
 use Rattle.std.specs.Prelude.{IsNone, OnOk}
+use Rattle.std.specs.Option.{unwrap_or}
 use Rattle.std.specs.List.{find as find_by, list_any}
 use Rattle.std.specs.FinMap as map
 use Rattle.std.proofs.lemmas.Bool.Decides.{Decides-eqb}
@@ -18,8 +19,9 @@ use Rattle.schema_version.specs.declared.step.Move.{Move}
 use Rattle.schema_version.specs.declared.step.Move.TheVariants.{Enter, Go}
 use Rattle.schema_version.specs.declared.step.StepFault.TheVariants.{Unknown, NotAdjacent, Dependent, NameTaken, Limit}
 use Rattle.schema_version.specs.Version.{Version, table_at, element_at, state_of, state_or_absent, live, is_index, is_like, is_public, listed, IsLiveColumn, IsPublicColumn, count_live}
-use Rattle.schema_version.specs.Moves.{is_edge, way_after, as_element, moved, after_move, after_step, is_move_of, moves_element, is_unready, is_entry, is_entry_like, count_like, IsFirstSuch, IsIndexOn, IsLeastIndexOn, DependsOn, IsWithinLimits, IsAllowed}
-use Rattle.schema_version.specs.Steps.{HasEdge, IsOrdered, in_state_or_none}
+use Rattle.schema_version.specs.Edges.{edge, HasEdge}
+use Rattle.schema_version.specs.Moves.{as_element, in_state, moved, after_move, after_step, is_move_of, moves_element, is_unready, is_entry, is_entry_like, count_like, IsFirstSuch, IsIndexOn, IsLeastIndexOn, DependsOn, IsWithinLimits, IsAllowed}
+use Rattle.schema_version.specs.Steps.{IsOrdered, in_state_or_none}
 use Rattle.schema_version.specs.Deciding.{Answer, step_check, lists, is_column_of, is_within_limits}
 use Rattle.schema_version.specs.Sound.{IsSoundVersion}
 use Rattle.schema_version.proofs.Entries.{tells}
@@ -29,7 +31,7 @@ use Rattle.schema_version.proofs.Changes.{moved_here, moved_apart, moved_next, i
 use Rattle.schema_version.proofs.Decides.{AreNumbered, least, listing, column_is, within}
 use Rattle.schema_version.proofs.Declared.{any_append}
 use Rattle.schema_version.proofs.Steps.{truly, step_allowed}
-use Rattle.schema_version.proofs.Edges.{split_at, edge, is_live, clear, own_way}
+use Rattle.schema_version.proofs.Stepping.{split_at, some_edge, adding_to_public, is_live, clear, own_way}
 use Rattle.schema_version.proofs.Counts.{count_insert}
 use Rattle.schema_version.proofs.Keeping.{MayEnter, enter_sound, moved_sound, moved_count}
 
@@ -77,40 +79,16 @@ public_state o e at public = by e.state refl (subst (λ (p : Option ElementDef).
     by WriteOnly is p = absurd (not_both p (ap is_public is))
 
 no_edge_to_absent : (kind : Kind) → ¬ (HasEdge kind Absent Absent)
-no_edge_to_absent (Index columns) (inl e) = cc
-no_edge_to_absent (Index columns) (inr e) = cc
-no_edge_to_absent (Optional type) (inl e) = cc
-no_edge_to_absent (Optional type) (inr e) = cc
+no_edge_to_absent (Index columns) (Adding, next, e) = cc
+no_edge_to_absent (Index columns) (Dropping, next, e) = cc
+no_edge_to_absent (Optional type) (Adding, next, e) = cc
+no_edge_to_absent (Optional type) (Dropping, next, e) = cc
 
 -- what comes to public does so by adding
-only_adding : (kind : Kind) (way : Way) (from : ElementState) → is_edge kind way from Public ≡ true → way_after from way ≡ Adding
-only_adding (Index columns) Adding WriteOnly e = refl
-only_adding (Index columns) Adding Absent e = cc
-only_adding (Index columns) Adding DeleteOnly e = cc
-only_adding (Index columns) Adding Public e = cc
-only_adding (Index columns) Dropping Absent e = cc
-only_adding (Index columns) Dropping DeleteOnly e = cc
-only_adding (Index columns) Dropping WriteOnly e = cc
-only_adding (Index columns) Dropping Public e = cc
-only_adding (Optional type) Adding DeleteOnly e = refl
-only_adding (Optional type) Adding Absent e = cc
-only_adding (Optional type) Adding WriteOnly e = cc
-only_adding (Optional type) Adding Public e = cc
-only_adding (Optional type) Dropping Absent e = cc
-only_adding (Optional type) Dropping DeleteOnly e = cc
-only_adding (Optional type) Dropping WriteOnly e = cc
-only_adding (Optional type) Dropping Public e = cc
-
--- no edge of either way goes from public to public
-public_stays : (kind : Kind) → ¬ (HasEdge kind Public Public)
-public_stays (Index columns) (inl e) = cc
-public_stays (Index columns) (inr e) = cc
-public_stays (Optional type) (inl e) = cc
-public_stays (Optional type) (inr e) = cc
-
-way_to : (e : ElementDef) (to : ElementState) → HasEdge e.kind e.state to → (is_edge e.kind e.way e.state to ≡ true) ⊎ (e.state ≡ Public) → to ≡ Public → way_after e.state e.way ≡ Adding
-way_to e to has (inl own) is = only_adding e.kind e.way e.state (subst (λ s. is_edge e.kind e.way e.state s ≡ true) is own)
-way_to e to has (inr public) is = absurd (public_stays e.kind (subst (λ s. HasEdge e.kind s Public) public (subst (λ s. HasEdge e.kind e.state s) is has)))
+way_to : (e : ElementDef) (to : ElementState) (way : Way) → edge e.kind e.way e.state to ≡ Some way → to ≡ Public → (in_state e to).way ≡ Adding
+way_to e to way own is =
+    ap (λ o. unwrap_or o e.way) own
+    ∙ (adding_to_public e.kind e.way e.state way (subst (λ s. edge e.kind e.way e.state s ≡ Some way) is own)).1
 
 count_behind : (p : Move → Bool) (earlier : List Move) (m : Move) → count_by p (earlier ++ m ∷ []) ≡ count_by p earlier + cond (p m) 1 0
 count_behind p earlier m =
@@ -198,7 +176,7 @@ module _ (v : Version) (step : List Move) (sound : IsSoundVersion v) (allowed : 
   may_enter : (earlier later : List Move) (fresh : NewElement) (to : ElementState) → step ≡ earlier ++ Enter fresh to ∷ later → (u : Version) → Along v earlier u → MayEnter u fresh to
   may_enter earlier later fresh to split u along =
       let l = limits earlier later fresh to split in
-      let has : HasEdge fresh.kind Absent to = edge fresh.kind Absent to (λ none. allowed earlier later (Enter fresh to) NotAdjacent split none) in
+      let has : HasEdge fresh.kind Absent to = some_edge fresh.kind Absent to (λ none. allowed earlier later (Enter fresh to) NotAdjacent split none) in
       let tables_at : table_at u fresh.table ≡ table_at v fresh.table = ap (λ ts. table_at (record v { tables = ts }) fresh.table) along.tables in
       let there = some_there (table_at v fresh.table) (λ none. allowed earlier later (Enter fresh to) Unknown split (inl none)) in
       record {
@@ -259,11 +237,11 @@ module _ (v : Version) (step : List Move) (sound : IsSoundVersion v) (allowed : 
   along_moved : (earlier later : List Move) (n : ℕ) (to : ElementState) (e : ElementDef) → step ≡ earlier ++ Go n to ∷ later → element_at v n ≡ Some e → (u : Version) → Along v earlier u → element_at u n ≡ Some e
       → Along v (earlier ++ Go n to ∷ []) (moved u (Some e) to)
   along_moved earlier later n to e split at u along now =
-      let has : HasEdge e.kind e.state to = edge e.kind e.state to (λ none. clear v step allowed earlier later n to e NotAdjacent split at (inl none)) in
+      let own_edge = own_way v step allowed earlier later n to e split at in
       let unlisted = not_listed earlier later n to e split at u along now in
       let own : e.number ≡ n = (along.sound.elements n e now).own in
       record {
-        sound = moved_sound u n e along.sound now unlisted to (way_to e to has (own_way v step allowed earlier later n to e split at));
+        sound = moved_sound u n e along.sound now unlisted to (way_to e to own_edge.0 own_edge.1);
         tables = moved_tables u e to ∙ along.tables;
         next = (let same = moved_next u (Some e) to in let next = along.next in let more = count_behind is_entry earlier (Go n to) in omega (arith, same, next, more));
         from = λ m x at_m. elim (tells m n) [

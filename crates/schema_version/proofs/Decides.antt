@@ -9,6 +9,7 @@ use Rattle.std.specs.FinMap as map
 use Rattle.row_map.specs.declared.shape.ColumnType.{ColumnType}
 use Rattle.schema_version.specs.declared.element.ElementState.{ElementState}
 use Rattle.schema_version.specs.declared.element.ElementState.TheVariants.{Absent, DeleteOnly, WriteOnly, Public}
+use Rattle.schema_version.specs.declared.element.Way.{Way}
 use Rattle.schema_version.specs.declared.element.Way.TheVariants.{Adding, Dropping}
 use Rattle.schema_version.specs.declared.element.Kind.{Kind}
 use Rattle.schema_version.specs.declared.element.Kind.TheVariants.{Index, Optional}
@@ -20,7 +21,8 @@ use Rattle.schema_version.specs.declared.step.StepFault.{StepFault}
 use Rattle.schema_version.specs.declared.step.StepFault.TheVariants.{Unknown}
 use Rattle.schema_version.specs.Names.{IsName, is_name, is_letter, is_word_byte, max_listed, max_elements}
 use Rattle.schema_version.specs.Version.{Version, Table, table_at, element_at, live, is_index, is_public, is_column, is_named, listed, IsLiveColumn}
-use Rattle.schema_version.specs.Moves.{is_edge, moves_element, HasNoEdge, is_unready, is_distinct, count_like, max_like, is_entry, DependsOn, IsFirstSuch, IsLeastIndexOn, IsTaken, Enters, IsColumnList, IsWithinLimits, GoFault, GoFaultAt, MoveFault, rank}
+use Rattle.schema_version.specs.Moves.{moves_element, HasNoEdge, is_unready, is_distinct, count_like, max_like, is_entry, DependsOn, IsFirstSuch, IsLeastIndexOn, IsTaken, Enters, IsColumnList, IsWithinLimits, GoFault, GoFaultAt, MoveFault, rank}
+use Rattle.schema_version.specs.Edges.{edge}
 use Rattle.schema_version.specs.Deciding.{has_no_edge, lists, stands_against, go_check, go_check_at, enter_check, move_check, is_column_of, are_columns_of, has_key_column, is_entry_named, is_taken, is_column_list, is_within_limits}
 use Rattle.schema_version.proofs.Lists.{any_says, any_from, all_says, all_fails, find_first, find_none, some_same, not_both}
 use Rattle.schema_version.proofs.Live.{IsLeast, first_is_least, none_passes, element_at-lookup, live_has, live_from}
@@ -42,12 +44,6 @@ itself b = (λ e. e, λ e. e)
 
 pub at_most : (a b : ℕ) → Decides (nat_le a b) (a ≤ b)
 at_most a b = elim (leb_tells a b) [ inl p ↦ (λ e. p.1, λ e. p.0) | inr p ↦ (λ e. absurd (not_both e p.0), λ le. absurd (omega (arith, p.1, le))) ]
-
-not_public : (s : ElementState) → Decides (not (is_public s)) (s ≢ Public)
-not_public Public = (λ e. cc, λ h. absurd (h refl))
-not_public Absent = (λ e p. cc, λ h. refl)
-not_public DeleteOnly = (λ e p. cc, λ h. refl)
-not_public WriteOnly = (λ e p. cc, λ h. refl)
 
 -- the first that is found, or none
 Finds-first : (test : ℕ → Bool) (list : List ℕ) (o : Option ℕ) → find test list ≡ o → Finds o (IsFirstSuch test list)
@@ -151,8 +147,12 @@ within v earlier fresh =
 
 -- ---- edges and what stands against a move
 
+no_way : (o : Option Way) → Decides (not (is_some o)) (o ≡ None)
+no_way None = (λ e. refl, λ e. refl)
+no_way (Some way) = (λ e. cc, λ e. cc)
+
 no_edge : (k : Kind) (from to : ElementState) → Decides (has_no_edge k from to) (HasNoEdge k from to)
-no_edge k from to = Decides-and (not (is_edge k Adding from to)) (not (is_edge k Dropping from to)) (is_false (is_edge k Adding from to)) (is_false (is_edge k Dropping from to))
+no_edge k from to = Decides-and (not (is_some (edge k Adding from to))) (not (is_some (edge k Dropping from to))) (no_way (edge k Adding from to)) (no_way (edge k Dropping from to))
 
 pub listing : (n : ℕ) (e : ElementDef) → Decides (lists n e) (Contains (listed e.kind) n)
 listing n e = (
@@ -178,11 +178,11 @@ stands v step n (Optional type) numbered = least v n numbered (find (lists n) (l
 
 pub go_says : (v : Version) (step earlier : List Move) (n : ℕ) (e : ElementDef) (to : ElementState) → AreNumbered v → Says (GoFault v step earlier n e to) (go_check v step earlier n e to)
 go_says v step earlier n e to numbered =
-    chain_says (GoFault v step earlier n e to) false (has_no_edge e.kind e.state to || moves_element earlier n) (not (is_edge e.kind e.way e.state to) && not (is_public e.state)) (stands_against v step n e.kind) false false
+    chain_says (GoFault v step earlier n e to) false (has_no_edge e.kind e.state to || moves_element earlier n) (not (is_some (edge e.kind e.way e.state to))) (stands_against v step n e.kind) false false
     (record {
       unknown = never;
       not_adjacent = Decides-or (has_no_edge e.kind e.state to) (moves_element earlier n) (no_edge e.kind e.state to) (itself (moves_element earlier n));
-      wrong_way = Decides-and (not (is_edge e.kind e.way e.state to)) (not (is_public e.state)) (is_false (is_edge e.kind e.way e.state to)) (not_public e.state);
+      wrong_way = no_way (edge e.kind e.way e.state to);
       dependent = stands v step n e.kind numbered;
       taken = never;
       limit = never;

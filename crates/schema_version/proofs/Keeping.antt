@@ -11,7 +11,7 @@ use Rattle.schema_version.specs.declared.element.ElementDef.{ElementDef}
 use Rattle.schema_version.specs.declared.element.NewElement.{NewElement}
 use Rattle.schema_version.specs.Names.{IsName, max_elements}
 use Rattle.schema_version.specs.Version.{Version, Table, table_at, element_at, live, is_like, is_index, listed, IsPublicColumn, IsKeyName, count_live}
-use Rattle.schema_version.specs.Moves.{as_element, in_state, way_after, entered, moved, IsColumnList, max_like}
+use Rattle.schema_version.specs.Moves.{as_element, in_state, entered, moved, IsColumnList, max_like}
 use Rattle.schema_version.specs.Sound.{IsSoundElement, HaveOwnNames, IsSoundVersion}
 use Rattle.schema_version.proofs.Entries.{tells}
 use Rattle.schema_version.proofs.Lists.{some_same}
@@ -231,7 +231,7 @@ module _ (u : Version) (n : ℕ) (e : ElementDef) (sound : IsSoundVersion u) (at
       let same = count_change (λ (x : ElementDef). (x.table == table) && is_like index x.kind) u.elements e.number (in_state e to) e (sym (element_at-lookup u e.number) ∙ ap (element_at u) own_number ∙ at) refl in
       omega (arith, same)
 
-  changed_sound : (to : ElementState) → to ≢ Absent → (to ≡ Public → way_after e.state e.way ≡ Adding) → IsSoundVersion (record u { elements = map.insert u.elements e.number (in_state e to) })
+  changed_sound : (to : ElementState) → to ≢ Absent → (to ≡ Public → (in_state e to).way ≡ Adding) → IsSoundVersion (record u { elements = map.insert u.elements e.number (in_state e to) })
   changed_sound to live way =
       kept_sound u (map.insert u.elements e.number (in_state e to)) n sound unlisted
       (λ m apart. inserted_apart u.elements e.number m (in_state e to) (λ is. apart (is ∙ own_number)))
@@ -246,7 +246,7 @@ module _ (u : Version) (n : ℕ) (e : ElementDef) (sound : IsSoundVersion u) (at
       (λ x is. absurd (none_there x (map.get (map.remove u.elements e.number) n) (removed_here u.elements e.number n (sym own_number)) is))
       (λ table index. count_remove (λ (x : ElementDef). (x.table == table) && is_like index x.kind) u.elements e.number)
 
-  pub moved_sound : (to : ElementState) → (to ≡ Public → way_after e.state e.way ≡ Adding) → IsSoundVersion (moved u (Some e) to)
+  pub moved_sound : (to : ElementState) → (to ≡ Public → (in_state e to).way ≡ Adding) → IsSoundVersion (moved u (Some e) to)
   moved_sound Absent way = removed_sound
   moved_sound DeleteOnly way = changed_sound DeleteOnly (λ is. cc) way
   moved_sound WriteOnly way = changed_sound WriteOnly (λ is. cc) way

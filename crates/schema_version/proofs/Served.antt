@@ -13,7 +13,7 @@ use Rattle.schema_version.specs.Steps.{Change, Stays, Enters, Goes, StepsStaySou
 use Rattle.schema_version.specs.Sound.{IsSoundVersion}
 use Rattle.schema_version.proofs.Lists.{some_same, not_both, any_from}
 use Rattle.schema_version.proofs.Changes.{none_there}
-use Rattle.schema_version.proofs.Edges.{split_at, clear, change_at}
+use Rattle.schema_version.proofs.Stepping.{split_at, clear, change_at}
 use Rattle.schema_version.proofs.Along.{least_there, ready, step_sound, ordered_of, same_else}
 
 module _ (v : Version) (step : List Move) (sound : IsSoundVersion v) (allowed : IsAllowed v step) where

@@ -4,25 +4,27 @@ use Rattle.std.specs.List.{list_any, list_all, find}
 use Rattle.listed.specs.Answers.{◌>>>=◌}
 use Rattle.schema_version.specs.declared.element.ElementState.{ElementState}
 use Rattle.schema_version.specs.declared.element.ElementState.TheVariants.{Absent}
+use Rattle.schema_version.specs.declared.element.Way.{Way}
 use Rattle.schema_version.specs.declared.element.Way.TheVariants.{Adding, Dropping}
 use Rattle.schema_version.specs.declared.element.Kind.{Kind}
 use Rattle.schema_version.specs.declared.element.Kind.TheVariants.{Index, Optional}
 use Rattle.schema_version.specs.declared.element.ElementDef.{ElementDef}
 use Rattle.schema_version.specs.declared.element.NewElement.{NewElement}
 use Rattle.schema_version.specs.declared.step.Move.{Move}
-use Rattle.schema_version.specs.declared.step.Move.TheVariants.{Enter, Go}
+use Rattle.schema_version.specs.declared.step.Move.TheVariants.{Enter, Go, Turn}
 use Rattle.schema_version.specs.declared.step.StepFault.{StepFault}
 use Rattle.schema_version.specs.declared.step.StepFault.TheVariants.{Unknown, NotAdjacent, WrongWay, Dependent, NameTaken, Limit}
+use Rattle.schema_version.specs.Edges.{edge}
 use Rattle.schema_version.specs.Names.{is_name, max_listed, max_elements}
 use Rattle.schema_version.specs.Version.{Version, Table, table_at, element_at, live, is_index, is_public, is_column, is_named, listed}
-use Rattle.schema_version.specs.Moves.{is_edge, moves_element, is_unready, is_distinct, count_like, max_like, is_entry}
+use Rattle.schema_version.specs.Moves.{moves_element, is_unready, is_distinct, count_like, max_like, is_entry}
 
 abbrev pub Answer : Type 0
 Answer = Result (Unit {0}) StepFault
 
 -- no edge of either way joins the states
 abbrev pub has_no_edge : Kind → ElementState → ElementState → Bool
-has_no_edge kind from to = not (is_edge kind Adding from to) && not (is_edge kind Dropping from to)
+has_no_edge kind from to = not (is_some (edge kind Adding from to)) && not (is_some (edge kind Dropping from to))
 
 -- whether the element is an index that lists the column
 abbrev pub lists : ℕ → ElementDef → Bool
@@ -40,12 +42,26 @@ unless (Some on) answer = Err (Dependent on)
 abbrev pub go_check : Version → List Move → List Move → ℕ → ElementDef → ElementState → Answer
 go_check version step earlier number element to =
     if has_no_edge element.kind element.state to || moves_element earlier number then Err NotAdjacent
-    else (if not (is_edge element.kind element.way element.state to) && not (is_public element.state) then Err WrongWay
+    else (if not (is_some (edge element.kind element.way element.state to)) then Err WrongWay
     else unless (stands_against version step number element.kind) (Ok tt))
 
 abbrev pub go_check_at : Version → List Move → List Move → ℕ → Option ElementDef → ElementState → Answer
 go_check_at version step earlier number None to = Err Unknown
 go_check_at version step earlier number (Some element) to = go_check version step earlier number element to
+
+abbrev pub is_dropping : Way → Bool
+is_dropping Adding = false
+is_dropping Dropping = true
+
+abbrev pub turn_check : List Move → ℕ → ElementDef → Answer
+turn_check earlier number element =
+    if is_public element.state || moves_element earlier number then Err NotAdjacent
+    else (if is_dropping element.way then Err WrongWay
+    else Ok tt)
+
+abbrev pub turn_check_at : List Move → ℕ → Option ElementDef → Answer
+turn_check_at earlier number None = Err Unknown
+turn_check_at earlier number (Some element) = turn_check earlier number element
 
 abbrev pub is_column_of : ℕ → Option ElementDef → Bool
 is_column_of table None = false
@@ -62,6 +78,7 @@ has_key_column (Some table) name = list_any (λ column. bytes_eq column.0 name) 
 abbrev pub is_entry_named : ℕ → List ℕ → Move → Bool
 is_entry_named table name (Enter fresh to) = (fresh.table == table) && bytes_eq fresh.name name
 is_entry_named table name (Go element to) = false
+is_entry_named table name (Turn element) = false
 
 abbrev pub is_taken : Version → List Move → ℕ → List ℕ → Bool
 is_taken version earlier table name =
@@ -88,6 +105,7 @@ enter_check version step earlier fresh to =
 abbrev pub move_check : Version → List Move → List Move → Move → Answer
 move_check version step earlier (Enter fresh to) = enter_check version step earlier fresh to
 move_check version step earlier (Go number to) = go_check_at version step earlier number (element_at version number) to
+move_check version step earlier (Turn number) = turn_check_at earlier number (element_at version number)
 
 -- the moves behind these earlier ones of the step
 abbrev pub moves_check : Version → List Move → List Move → List Move → Answer

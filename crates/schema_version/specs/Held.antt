@@ -5,9 +5,9 @@ use Rattle.indexmap.specs.IndexMap.{insert_entry}
 use Rattle.schema_version.specs.declared.element.ElementState.{ElementState}
 use Rattle.schema_version.specs.declared.element.ElementState.TheVariants.{Absent}
 use Rattle.schema_version.specs.declared.step.Move.{Move}
-use Rattle.schema_version.specs.declared.step.Move.TheVariants.{Enter, Go}
+use Rattle.schema_version.specs.declared.step.Move.TheVariants.{Enter, Go, Turn}
 use Rattle.schema_version.specs.Names.{max_elements}
-use Rattle.schema_version.specs.Moves.{as_element, in_state}
+use Rattle.schema_version.specs.Moves.{as_element, in_state, turned_back}
 use Rattle.std.specs.Ordering.{nat_cmp}
 use Rattle.std.specs.String.{string_bytes}
 use Rattle.std.specs.declared.string.String.{String}
@@ -55,10 +55,16 @@ moved_entries entries number None to = entries
 moved_entries entries number (Some element) Absent = remove_entry (nat_eq number) entries
 moved_entries entries number (Some element) to = insert_entry nat_eq entries number (in_state element to)
 
+-- and after one turned back
+abbrev pub turned_entries : List (ℕ × ElementDef) → ℕ → Option ElementDef → List (ℕ × ElementDef)
+turned_entries entries number None = entries
+turned_entries entries number (Some element) = insert_entry nat_eq entries number (turned_back element)
+
 -- the entries, and the next number, after a move
 abbrev pub made : List (ℕ × ElementDef) → ℕ → Move → List (ℕ × ElementDef) × ℕ
 made entries next (Enter fresh to) = (insert_entry nat_eq entries next (as_element next fresh to), next + 1)
 made entries next (Go number to) = (moved_entries entries number (lookup (nat_eq number) entries) to, next)
+made entries next (Turn number) = (turned_entries entries number (lookup (nat_eq number) entries), next)
 
 -- and after these
 abbrev pub all_made : List (ℕ × ElementDef) → ℕ → List Move → List (ℕ × ElementDef) × ℕ

@@ -4,24 +4,15 @@ ghost use Rattle.std.specs.Map.{lookup};
 ghost use Rattle.indexmap.specs.IndexMap.{insert_entry};
 ghost use Rattle.schema_version.specs.Version.{Version};
 ghost use Rattle.schema_version.specs.Names.{max_elements};
-ghost use Rattle.schema_version.specs.Moves.{way_after as way_after_of, as_element, is_entry, after_step};
-ghost use Rattle.schema_version.specs.Held.{moved_entries, made, table_held, IsHeld, holding};
+ghost use Rattle.schema_version.specs.Moves.{as_element, is_entry, after_step};
+ghost use Rattle.schema_version.specs.Held.{moved_entries, turned_entries, made, table_held, IsHeld, holding};
 
+use crate::edges::edge;
 use crate::element::{ElementDef, ElementState, NewElement, Way};
 use crate::step::Move;
 use crate::table::Columns;
 use indexmap::IndexMap;
 use std::alloc::AllocError;
-
-// An element that leaves public is dropped from then on.
-fn way_after(from: ElementState, way: Way) -> Way
-    ensures { result ≡ way_after_of from way }
-{
-    match from {
-        ElementState::Public => Way::Dropping,
-        _ => way,
-    }
-}
 
 // Adds a new element under its number.
 fn enter(
@@ -65,7 +56,26 @@ fn go(
         name: element.name.clone()?,
         kind: element.kind.clone()?,
         state: to,
-        way: way_after(element.state, element.way),
+        way: edge(&element.kind, element.way, element.state, to).unwrap_or(element.way),
+    };
+    elements.insert(number, next)?;
+    Ok(())
+}
+
+// Turns an element back: it keeps its state, and is dropped from then on.
+fn turn(elements: &mut IndexMap<u32, ElementDef>, number: u32) -> Result<(), AllocError>
+    ensures turned { OnOk result (elements.new.entries ≡ turned_entries elements.old.entries number (lookup (nat_eq number) elements.old.entries)) }
+{
+    let Some(element) = elements.get(&number) else {
+        return Ok(());
+    };
+    let next = ElementDef {
+        number: element.number,
+        table: element.table,
+        name: element.name.clone()?,
+        kind: element.kind.clone()?,
+        state: element.state,
+        way: Way::Dropping,
     };
     elements.insert(number, next)?;
     Ok(())
@@ -83,6 +93,10 @@ fn make(elements: &mut IndexMap<u32, ElementDef>, next: u32, a: &Move) -> Result
         }
         Move::Go { element, to } => {
             go(elements, *element, *to)?;
+            Ok(next)
+        }
+        Move::Turn { element } => {
+            turn(elements, *element)?;
             Ok(next)
         }
     }

@@ -4,17 +4,25 @@ ghost use Rattle.std.specs.List.{find};
 ghost use Rattle.schema_version.specs.Version.{table_at, element_at};
 ghost use Rattle.schema_version.specs.Moves.{is_unready as is_unready_of, count_like, max_like, is_entry};
 ghost use Rattle.schema_version.specs.Names.{max_elements};
-ghost use Rattle.schema_version.specs.Deciding.{stands_against as stands_against_of, go_check, enter_check, move_check, step_check, is_column_of as is_column_at, are_columns_of as are_columns_at, is_taken as is_taken_in, is_within_limits as is_within, has_key_column as has_key_column_in};
+ghost use Rattle.schema_version.specs.Deciding.{has_no_edge as has_no_edge_of, stands_against as stands_against_of, go_check, turn_check_at, enter_check, move_check, step_check, is_column_of as is_column_at, are_columns_of as are_columns_at, is_taken as is_taken_in, is_within_limits as is_within, has_key_column as has_key_column_in};
 
-use crate::element::{ElementDef, ElementState, Kind, NewElement};
+use crate::edges::edge;
+use crate::element::{ElementDef, ElementState, Kind, NewElement, Way};
 use crate::limits::{MAX_COLUMNS, MAX_ELEMENTS, MAX_INDEXES};
 use crate::moves::{
     any_column_named, any_named, elements_like, enters_named, entries, entries_like, first_listing,
-    has_no_edge, is_column_list, is_edge, moves_element,
+    is_column_list, moves_element,
 };
 use crate::names::is_name;
 use crate::schema::Schema;
 use crate::step::{Move, StepFault};
+
+// Whether no edge of either way joins the states.
+fn has_no_edge(kind: &Kind, from: ElementState, to: ElementState) -> bool
+    ensures { result ≡ has_no_edge_of kind.now from to }
+{
+    edge(kind, Way::Adding, from, to).is_none() && edge(kind, Way::Dropping, from, to).is_none()
+}
 
 impl Schema {
     // Whether the column can't carry an index: it isn't public, or it moves in this step.
@@ -54,7 +62,7 @@ impl Schema {
         if has_no_edge(&element.kind, element.state, to) || moves_element(earlier, number) {
             return Err(StepFault::NotAdjacent);
         }
-        if !is_edge(&element.kind, element.way, element.state, to) && !element.state.is_public() {
+        if edge(&element.kind, element.way, element.state, to).is_none() {
             return Err(StepFault::WrongWay);
         }
         match self.stands_against(step, number, &element.kind) {
@@ -149,6 +157,22 @@ impl Schema {
         Ok(())
     }
 
+    // Whether the element of this number, if it is live, may turn back behind these earlier moves of the step.
+    fn check_turn(&self, earlier: &[Move], number: u32) -> Result<(), StepFault>
+        ensures { result ≡ turn_check_at earlier.now number (element_at self.now number) }
+    {
+        let Some(element) = self.element(number) else {
+            return Err(StepFault::Unknown);
+        };
+        if element.state.is_public() || moves_element(earlier, number) {
+            return Err(StepFault::NotAdjacent);
+        }
+        if matches!(element.way, Way::Dropping) {
+            return Err(StepFault::WrongWay);
+        }
+        Ok(())
+    }
+
     // Whether this move is allowed behind these earlier ones of the step.
     fn check_move(&self, step: &[Move], earlier: &[Move], a: &Move) -> Result<(), StepFault>
         ensures { result ≡ move_check self.now step.now earlier.now a.now }
@@ -159,6 +183,7 @@ impl Schema {
                 Some(found) => self.check_go(step, earlier, *element, found, *to),
                 None => Err(StepFault::Unknown),
             },
+            Move::Turn { element } => self.check_turn(earlier, *element),
         }
     }
 

@@ -1,49 +1,18 @@
-//! The edges between states.
+//! What is asked of elements and of the moves of a step.
 ghost use Rattle.std.specs.Prelude.{◌≡◌, ◌==◌, ◌&&◌, count_by, bytes_eq, option_map};
 ghost use Rattle.std.specs.List.{list_any, find};
 ghost use Rattle.schema_version.specs.Version.{is_like as is_like_of, is_named as is_named_of};
-ghost use Rattle.schema_version.specs.Moves.{is_edge as is_edge_of, moves_element as moves_element_of, is_move_of as is_move_of_number, is_entry as is_entry_of, is_entry_like as is_entry_like_of, is_distinct as is_distinct_of};
-ghost use Rattle.schema_version.specs.Deciding.{has_no_edge as has_no_edge_of, is_entry_named as is_entry_named_of, lists as lists_of, is_column_list as is_column_list_of};
+ghost use Rattle.schema_version.specs.Moves.{moves_element as moves_element_of, is_move_of as is_move_of_number, is_entry as is_entry_of, is_entry_like as is_entry_like_of, is_distinct as is_distinct_of};
+ghost use Rattle.schema_version.specs.Deciding.{is_entry_named as is_entry_named_of, lists as lists_of, is_column_list as is_column_list_of};
 ghost use Rattle.schema_version.specs.declared.element.ElementDef.{ElementDef as ElementDefinition};
 
-use crate::element::{ElementDef, ElementState, Kind, Way};
+use crate::element::{ElementDef, Kind};
 use crate::limits::MAX_LISTED;
 use crate::step::Move;
 use keycode::Text;
 use row_map::ColumnType;
 
-/// Whether elements of this kind go from the one state to the other on their way.
-pub(crate) fn is_edge(kind: &Kind, way: Way, from: ElementState, to: ElementState) -> bool
-    ensures { result ≡ is_edge_of kind.now way from to }
-{
-    use ElementState::{Absent, DeleteOnly, Public, WriteOnly};
-    match (kind, way) {
-        (Kind::Index(_), Way::Adding) => matches!(
-            (from, to),
-            (Absent, DeleteOnly) | (DeleteOnly, WriteOnly) | (WriteOnly, Public)
-        ),
-        (Kind::Index(_), Way::Dropping) => matches!(
-            (from, to),
-            (Public, WriteOnly) | (WriteOnly, DeleteOnly) | (DeleteOnly, Absent)
-        ),
-        (Kind::Optional(_), Way::Adding) => matches!(
-            (from, to),
-            (Absent, DeleteOnly) | (DeleteOnly, Public)
-        ),
-        (Kind::Optional(_), Way::Dropping) => matches!(
-            (from, to),
-            (Public, DeleteOnly) | (DeleteOnly, Absent)
-        ),
-    }
-}
-
-pub(crate) fn has_no_edge(kind: &Kind, from: ElementState, to: ElementState) -> bool
-    ensures { result ≡ has_no_edge_of kind.now from to }
-{
-    !is_edge(kind, Way::Adding, from, to) && !is_edge(kind, Way::Dropping, from, to)
-}
-
-/// Whether the step takes the element of this number to another state. An entered element has no number before.
+/// Whether the step takes the element of this number to another state or turns it back. An entered element has no number before.
 pub fn moves_element(step: &[Move], number: u32) -> bool
     ensures { result ≡ moves_element_of step.now number }
 {
@@ -55,7 +24,7 @@ fn is_move_of(a: &Move, number: u32) -> bool
 {
     match a {
         Move::Enter { .. } => false,
-        Move::Go { element, .. } => *element == number,
+        Move::Go { element, .. } | Move::Turn { element } => *element == number,
     }
 }
 
@@ -115,7 +84,7 @@ fn is_entry_like(a: &Move, table: u32, index: bool) -> bool
 {
     match a {
         Move::Enter { fresh, .. } => fresh.table == table && fresh.kind.is_like(index),
-        Move::Go { .. } => false,
+        Move::Go { .. } | Move::Turn { .. } => false,
     }
 }
 
@@ -144,7 +113,7 @@ fn is_entry_named(a: &Move, table: u32, name: &[u8]) -> bool
 {
     match a {
         Move::Enter { fresh, .. } => fresh.table == table && fresh.name.as_bytes() == name,
-        Move::Go { .. } => false,
+        Move::Go { .. } | Move::Turn { .. } => false,
     }
 }
 

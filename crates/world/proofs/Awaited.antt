@@ -4,39 +4,20 @@ use Rattle.std.proofs.Math.ListN.{get_or}
 use Rattle.std.proofs.Math.Seq.{take-suc, split_at}
 use Rattle.std.proofs.lemmas.List.Elements.{Contains-append_cases, Contains-append_right}
 use Rattle.schema_version.specs.declared.element.ElementState.{ElementState}
-use Rattle.schema_version.specs.declared.element.ElementState.TheVariants.{Absent, DeleteOnly, WriteOnly, Public}
-use Rattle.schema_version.specs.declared.element.Kind.{Kind}
-use Rattle.schema_version.specs.declared.element.Kind.TheVariants.{Index, Optional}
 use Rattle.schema_version.specs.declared.element.ElementDef.{ElementDef}
 use Rattle.schema_version.specs.declared.step.Move.{Move}
 use Rattle.schema_version.specs.declared.step.Move.TheVariants.{Enter, Go}
+use Rattle.schema_version.specs.Edges.{needed}
 use Rattle.schema_version.specs.Version.{element_at}
-use Rattle.reorganise.specs.declared.work.Work.{Work}
+use Rattle.schema_version.specs.declared.element.Work.{Work}
 use Rattle.replay.specs.Replay.{Facts}
-use Rattle.replay.specs.Laws.{IsDone, Needs, AreFinished}
-use Rattle.world.specs.Publishing.{needed, IsReady, Lacks, IsUnfinished}
-
-some_one : {A : Type 0} {v w : A} → Some v ≡ (let o : Option A = Some w in o) → v ≡ w
-some_one e = cc
-
-none_some : {A B : Type 0} {v : A} → None ≡ Some v → B
-none_some e = absurd cc
+use Rattle.replay.specs.Laws.{IsDone, IsFinished, Needs, AreFinished}
+use Rattle.world.specs.Publishing.{IsReady, Lacks, IsUnfinished}
 
 -- ---- one move
 
--- where a move needs work, that is what it needs
-pub needs_work : (facts : Facts) (kind : Kind) (number : ℕ) (to : ElementState) (work : Work) → needed kind to ≡ Some work → Needs facts kind number to → IsDone facts number work
-needs_work facts (Index columns) number Absent work e d = subst (IsDone facts number) (some_one e) d
-needs_work facts (Index columns) number DeleteOnly work e d = none_some e
-needs_work facts (Index columns) number WriteOnly work e d = none_some e
-needs_work facts (Index columns) number Public work e d = subst (IsDone facts number) (some_one e) d
-needs_work facts (Optional type) number Absent work e d = subst (IsDone facts number) (some_one e) d
-needs_work facts (Optional type) number DeleteOnly work e d = none_some e
-needs_work facts (Optional type) number WriteOnly work e d = none_some e
-needs_work facts (Optional type) number Public work e d = none_some e
-
 pub lacks_work : (facts : Facts) (move : Move) (number : ℕ) (to : ElementState) (element : ElementDef) (work : Work) → move ≡ Go number to → element_at facts.newest number ≡ Some element → needed element.kind to ≡ Some work → ¬ (IsDone facts number work) → Lacks facts move number
-lacks_work facts move number to element work is there needs undone = subst (λ (m : Move). Lacks facts m number) (sym is) (refl, element, there, λ n. undone (needs_work facts element.kind number to work needs n))
+lacks_work facts move number to element work is there needs undone = subst (λ (m : Move). Lacks facts m number) (sym is) (refl, element, there, λ n. undone (subst (IsFinished facts number) needs n))
 
 -- ---- a step
 

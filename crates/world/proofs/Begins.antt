@@ -2,12 +2,13 @@
 use Rattle.std.proofs.Common.{◌≡◌, ℕ, ◌≤◌, List, [], ◌∷◌, ◌++◌, Option, Some, None, refl, sym, ap, subst, ◌∙◌, Vec, Global}
 use Rattle.std.specs.Option.{option_and_then}
 use Rattle.schema_version.specs.declared.element.ElementDef.{ElementDef}
+use Rattle.schema_version.specs.Edges.{wanted}
 use Rattle.schema_version.specs.Version.{element_at, state_of, state_or_absent}
-use Rattle.reorganise.specs.declared.work.Work.{Work}
+use Rattle.schema_version.specs.declared.element.Work.{Work}
 use Rattle.reorganise.specs.declared.work.Progress.{Progress}
 use Rattle.replay.specs.declared.entry.Entry.{Entry}
 use Rattle.replay.specs.declared.entry.What.TheVariants.{Begin}
-use Rattle.replay.specs.Replay.{Facts, wanted, begun_by, begun_of}
+use Rattle.replay.specs.Replay.{Facts, begun_by, begun_of}
 use Rattle.replay.specs.Kept.{used_before}
 use Rattle.replay.specs.Laws.{BeginsKeep}
 use Rattle.world.specs.declared.world.World.TheInside.{Inside}

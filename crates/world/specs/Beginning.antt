@@ -4,12 +4,13 @@ use Rattle.std.specs.Option.{option_and_then}
 use Rattle.lease.specs.Timeline.{earliest, max_moment}
 use Rattle.listed.specs.Refusal.{IsRefusal, IsClear}
 use Rattle.schema_version.specs.declared.element.ElementDef.{ElementDef}
+use Rattle.schema_version.specs.Edges.{wanted}
 use Rattle.schema_version.specs.Version.{element_at, state_of}
-use Rattle.reorganise.specs.declared.work.Work.{Work}
+use Rattle.schema_version.specs.declared.element.Work.{Work}
 use Rattle.reorganise.specs.declared.work.Progress.{Progress}
 use Rattle.reorganise.specs.Pieces.{begun}
 use Rattle.replay.specs.declared.entry.What.TheVariants.{Begin}
-use Rattle.replay.specs.Replay.{Facts, wanted, progress_of}
+use Rattle.replay.specs.Replay.{Facts, progress_of}
 use Rattle.replay.specs.Kept.{used_before}
 use Rattle.replay.specs.Laws.{IsPieceCount}
 use Rattle.world.specs.declared.entry.Receipt.{Receipt}

@@ -5,7 +5,7 @@ use Rattle.std.specs.Option.{option_map}
 use Rattle.lease.specs.Timeline.{max_moment}
 use Rattle.listed.specs.Refusal.{IsRefusal, IsClear}
 use Rattle.row_map.specs.Expect.{IsConflict, Holds}
-use Rattle.reorganise.specs.declared.work.Work.{Work}
+use Rattle.schema_version.specs.declared.element.Work.{Work}
 use Rattle.reorganise.specs.declared.work.Span.{Span}
 use Rattle.reorganise.specs.declared.work.Progress.{Progress}
 use Rattle.reorganise.specs.declared.reading.Reading.{Reading}

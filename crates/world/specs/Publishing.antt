@@ -1,18 +1,12 @@
 -- What a publication answers.
-use Rattle.std.specs.Prelude.{◌≡◌, ℕ, ◌+◌, ◌<◌, ◌≤◌, List, ◌∷◌, ◌++◌, Option, Some, None, Result, Ok, Err}
+use Rattle.std.specs.Prelude.{◌≡◌, ℕ, ◌+◌, ◌<◌, ◌≤◌, List, ◌∷◌, ◌++◌, Some, Result, Ok, Err}
 use Rattle.lease.specs.Timeline.{earliest, max_moment, newest as newest_number}
 use Rattle.listed.specs.Refusal.{IsRefusal, IsClear}
-use Rattle.schema_version.specs.declared.element.ElementState.{ElementState}
-use Rattle.schema_version.specs.declared.element.ElementState.TheVariants.{Absent, Public}
-use Rattle.schema_version.specs.declared.element.Kind.{Kind}
-use Rattle.schema_version.specs.declared.element.Kind.TheVariants.{Index}
 use Rattle.schema_version.specs.declared.element.ElementDef.{ElementDef}
 use Rattle.schema_version.specs.declared.step.Move.{Move}
 use Rattle.schema_version.specs.declared.step.Move.TheVariants.{Enter, Go}
 use Rattle.schema_version.specs.Moves.{IsAllowed, IsRefused}
 use Rattle.schema_version.specs.Version.{element_at}
-use Rattle.reorganise.specs.declared.work.Work.{Work}
-use Rattle.reorganise.specs.declared.work.Work.TheVariants.{Fill, Clear}
 use Rattle.replay.specs.declared.entry.What.TheVariants.{Publish}
 use Rattle.replay.specs.Replay.{Facts}
 use Rattle.replay.specs.Laws.{Needs, AreFinished}
@@ -26,12 +20,6 @@ abbrev pub max_versions : ℕ
 max_versions = 1000000
 
 -- ---- the reorganisations that a step waits for
-
--- what a move of an element of this kind needs to be finished
-abbrev pub needed : Kind → ElementState → Option Work
-needed (Index columns) Public = Some Fill
-needed kind Absent = Some Clear
-needed kind to = None
 
 -- a move of a live element has what it needs
 abbrev pub IsReady : Facts → Move → Type 0

@@ -2,8 +2,8 @@
 ghost use Rattle.std.specs.Bool.{Decides};
 ghost use Rattle.std.specs.Prelude.{◌≡◌, ◌≤◌, IfOk, IfErr, MatchOption, Some, None};
 ghost use Rattle.listed.specs.Refusal.{IsRefusal};
+ghost use Rattle.schema_version.specs.Edges.{wanted as wanted_by};
 ghost use Rattle.schema_version.specs.Version.{element_at};
-ghost use Rattle.replay.specs.Replay.{wanted as wanted_by};
 ghost use Rattle.world.specs.declared.fault.BeginFault.TheVariants.{Memory};
 ghost use Rattle.world.specs.Beginning.{BeginStep, BeginAt, BeginCondition, Begins, IsSettled, begin_rank, wanted_at};
 ghost use Rattle.world.specs.State.{facts_of};
@@ -15,23 +15,11 @@ use crate::world::World;
 use lease::MAX_MOMENT;
 use reorganise::{Progress, Work};
 use replay::{What, begins_keep};
-use schema_version::{ElementDef, ElementState, Kind, Way};
+use schema_version::ElementDef;
 use std::alloc::{AllocError, Global};
 
 /// The greatest number of pieces.
 const MAX_PIECES: u32 = 64;
-
-/// What an element wants: an index that is write-only and being added a fill, what is delete-only and being dropped a
-/// clear.
-fn wanted(element: &ElementDef) -> Option<Work>
-    ensures { result ≡ wanted_by element.now }
-{
-    match (&element.kind, element.way, element.state) {
-        (Kind::Index(_), Way::Adding, ElementState::WriteOnly) => Some(Work::Fill),
-        (_, Way::Dropping, ElementState::DeleteOnly) => Some(Work::Clear),
-        _ => None,
-    }
-}
 
 /// A copy of a definition.
 fn element_copied(element: &ElementDef) -> Result<ElementDef, AllocError>
@@ -69,7 +57,7 @@ impl World {
         ensures wants { MatchOption result (wanted_at (facts_of self.now) number ≡ None) (λ x. wanted_by x.0.now ≡ Some x.1) }
     {
         let found = self.newest.get().element(number)?;
-        let work = wanted(found)?;
+        let work = found.wanted()?;
         Some((found, work))
     }
 

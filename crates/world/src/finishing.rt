@@ -5,28 +5,16 @@ ghost use Rattle.std.specs.Option.{option_copied};
 ghost use Rattle.lease.specs.Timeline.{newest as newest_number};
 ghost use Rattle.replay.specs.Laws.{IsDone, AreFinished};
 ghost use Rattle.replay.specs.Replay.{progress_of};
-ghost use Rattle.world.specs.Publishing.{IsReady, Lacks, IsUnfinished, IsUnready, max_versions, needed as needed_of};
+ghost use Rattle.world.specs.Publishing.{IsReady, Lacks, IsUnfinished, IsUnready, max_versions};
 ghost use Rattle.world.specs.State.{facts_of};
 
 use crate::fault::PublishFault;
 use crate::world::World;
 use reorganise::{Progress, Work};
-use schema_version::{ElementState, Kind, Move};
+use schema_version::{Move, needed};
 
 /// The greatest number of a version.
 const MAX_VERSIONS: u64 = 1_000_000;
-
-/// What a move of an element of this kind to this state needs to be finished: an index's to public its fill, every one to
-/// absent the clear.
-fn needed(kind: &Kind, to: ElementState) -> Option<Work>
-    ensures { result ≡ needed_of kind.now to }
-{
-    match (kind, to) {
-        (Kind::Index(_), ElementState::Public) => Some(Work::Fill),
-        (_, ElementState::Absent) => Some(Work::Clear),
-        _ => None,
-    }
-}
 
 impl World {
     // The begun reorganisation of an element.

@@ -3,7 +3,7 @@ use Rattle.std.specs.List.{flat_map}
 use Rattle.std.specs.FinMap as map
 use Rattle.row_map.specs.Rows.{Bytes}
 use Rattle.row_map.specs.Writes.{noted}
-use Rattle.reorganise.specs.declared.work.Work.TheVariants.{Clear}
+use Rattle.schema_version.specs.declared.element.Work.TheVariants.{Clear}
 use Rattle.reorganise.specs.Batches.{pair_writes, piece_writes}
 use Rattle.reorganise.proofs.preparing.removals.Given as goal
 

@@ -4,16 +4,19 @@ use Rattle.std.proofs.lemmas.Bool.Decides.{Decides-eqb}
 use Rattle.std.proofs.lemmas.List.Elements.{Contains-append_right}
 use Rattle.schema_version.specs.declared.element.ElementState.{ElementState}
 use Rattle.schema_version.specs.declared.element.ElementState.TheVariants.{Absent, DeleteOnly, WriteOnly, Public}
+use Rattle.schema_version.specs.declared.element.Way.{Way}
 use Rattle.schema_version.specs.declared.element.Way.TheVariants.{Adding, Dropping}
 use Rattle.schema_version.specs.declared.element.Kind.{Kind}
+use Rattle.schema_version.specs.declared.element.Kind.TheVariants.{Index, Optional}
 use Rattle.schema_version.specs.declared.element.ElementDef.{ElementDef}
 use Rattle.schema_version.specs.declared.step.Move.{Move}
 use Rattle.schema_version.specs.declared.step.Move.TheVariants.{Enter, Go}
 use Rattle.schema_version.specs.declared.step.StepFault.{StepFault}
 use Rattle.schema_version.specs.declared.step.StepFault.TheVariants.{Unknown, NotAdjacent, WrongWay}
 use Rattle.schema_version.specs.Version.{Version, element_at}
-use Rattle.schema_version.specs.Moves.{is_edge, HasNoEdge, is_move_of, GoFaultAt, IsAllowed, after_step}
-use Rattle.schema_version.specs.Steps.{Change, Stays, Enters, Goes, HasEdge, StepOf, Same, New, Next, IsOrdered, StepsKeepToEdges}
+use Rattle.schema_version.specs.Edges.{edge, HasEdge}
+use Rattle.schema_version.specs.Moves.{HasNoEdge, is_move_of, GoFaultAt, IsAllowed, after_step}
+use Rattle.schema_version.specs.Steps.{Change, Stays, Enters, Goes, StepOf, Same, New, Next, IsOrdered, StepsKeepToEdges}
 use Rattle.schema_version.proofs.Lists.{here, any_from}
 use Rattle.schema_version.proofs.Changes.{change_of, AreKnown, AreMovedOnce}
 
@@ -22,19 +25,36 @@ split_at [] x (k, below, is) = absurd (omega (arith, below))
 split_at (y ∷ xs) x (zero, below, is) = ([], xs, ap (λ z. z ∷ xs) is)
 split_at (y ∷ xs) x (suc k, below, is) = let r = split_at xs x (k, omega (arith, below), is) in (y ∷ r.0, r.1, ap (λ l. y ∷ l) r.2)
 
-pub edge : (kind : Kind) (from to : ElementState) → ¬ (HasNoEdge kind from to) → HasEdge kind from to
-edge kind from to h = by (is_edge kind Adding from to) (is_edge kind Dropping from to) refl refl
+pub some_edge : (kind : Kind) (from to : ElementState) → ¬ (HasNoEdge kind from to) → HasEdge kind from to
+some_edge kind from to h = by (edge kind Adding from to) (edge kind Dropping from to) refl refl
   where
-    by : (a d : Bool) → is_edge kind Adding from to ≡ a → is_edge kind Dropping from to ≡ d → HasEdge kind from to
-    by true d p q = inl p
-    by false true p q = inr q
-    by false false p q = absurd (h (p, q))
+    by : (a d : Option Way) → edge kind Adding from to ≡ a → edge kind Dropping from to ≡ d → HasEdge kind from to
+    by (Some next) d p q = (Adding, next, p)
+    by None (Some next) p q = (Dropping, next, q)
+    by None None p q = absurd (h (p, q))
 
-is_public_or_not : (s : ElementState) → (s ≡ Public) ⊎ (s ≢ Public)
-is_public_or_not Public = inl refl
-is_public_or_not Absent = inr (λ e. cc)
-is_public_or_not DeleteOnly = inr (λ e. cc)
-is_public_or_not WriteOnly = inr (λ e. cc)
+none_some : {A B : Type 0} {x : A} → None ≡ Some x → B
+none_some e = absurd cc
+
+-- what comes to public is being added, was not public, and is being added still
+pub adding_to_public : (kind : Kind) (way : Way) (from : ElementState) (next : Way) → edge kind way from Public ≡ Some next → (way ≡ Adding) × (from ≢ Public) × (next ≡ Adding)
+adding_to_public (Index columns) Adding WriteOnly next e = (refl, λ p. absurd cc, cc)
+adding_to_public (Optional type) Adding DeleteOnly next e = (refl, λ p. absurd cc, cc)
+adding_to_public kind way from next e = none_some e
+
+-- what is being added after an edge was so before it, and was not public
+pub adding_before : (kind : Kind) (way : Way) (from to : ElementState) → edge kind way from to ≡ Some Adding → (way ≡ Adding) × (from ≢ Public)
+adding_before (Index columns) Adding Absent DeleteOnly e = (refl, λ p. absurd cc)
+adding_before (Index columns) Adding DeleteOnly WriteOnly e = (refl, λ p. absurd cc)
+adding_before (Index columns) Adding WriteOnly Public e = (refl, λ p. absurd cc)
+adding_before (Index columns) way Public WriteOnly e = absurd cc
+adding_before (Index columns) Dropping WriteOnly DeleteOnly e = absurd cc
+adding_before (Index columns) Dropping DeleteOnly Absent e = absurd cc
+adding_before (Optional type) Adding Absent DeleteOnly e = (refl, λ p. absurd cc)
+adding_before (Optional type) Adding DeleteOnly Public e = (refl, λ p. absurd cc)
+adding_before (Optional type) way Public DeleteOnly e = absurd cc
+adding_before (Optional type) Dropping DeleteOnly Absent e = absurd cc
+adding_before kind way from to e = none_some e
 
 module _ (v : Version) (step : List Move) (allowed : IsAllowed v step) where
   -- a move of the step is one of a live element
@@ -65,22 +85,22 @@ module _ (v : Version) (step : List Move) (allowed : IsAllowed v step) where
     once_from (earlier ++ Go n to ∷ []) moves (split ∙ sym (append_assoc earlier (Go n to ∷ []) moves)),
   )
 
-  pub own_way : (earlier later : List Move) (n : ℕ) (to : ElementState) (e : ElementDef) → step ≡ earlier ++ Go n to ∷ later → element_at v n ≡ Some e → (is_edge e.kind e.way e.state to ≡ true) ⊎ (e.state ≡ Public)
-  own_way earlier later n to e split is = by (is_edge e.kind e.way e.state to) refl (is_public_or_not e.state)
+  pub own_way : (earlier later : List Move) (n : ℕ) (to : ElementState) (e : ElementDef) → step ≡ earlier ++ Go n to ∷ later → element_at v n ≡ Some e → (way : Way) × (edge e.kind e.way e.state to ≡ Some way)
+  own_way earlier later n to e split is = by (edge e.kind e.way e.state to) refl
     where
-      by : (b : Bool) → is_edge e.kind e.way e.state to ≡ b → (e.state ≡ Public) ⊎ (e.state ≢ Public) → (is_edge e.kind e.way e.state to ≡ true) ⊎ (e.state ≡ Public)
-      by true p q = inl p
-      by false p (inl q) = inr q
-      by false p (inr q) = absurd (clear earlier later n to e WrongWay split is (p, q))
+      by : (o : Option Way) → edge e.kind e.way e.state to ≡ o → (way : Way) × (edge e.kind e.way e.state to ≡ Some way)
+      by (Some way) p = (way, p)
+      by None p = absurd (clear earlier later n to e WrongWay split is p)
 
   step_of : (n : ℕ) (new : Option ElementDef) → Change step v.next n (element_at v n) new → StepOf v.next n (element_at v n) new
   step_of n new (Stays e) = Same e
   step_of n new (Enters fresh to there le none e) =
       let s = split_at step (Enter fresh to) there in
-      New fresh to le (edge fresh.kind Absent to (λ h. allowed s.0 s.1 (Enter fresh to) NotAdjacent s.2 h)) none e
+      New fresh to le (some_edge fresh.kind Absent to (λ h. allowed s.0 s.1 (Enter fresh to) NotAdjacent s.2 h)) none e
   step_of n new (Goes x to there was e) =
       let s = split_at step (Go n to) there in
-      Next x to (edge x.kind x.state to (λ h. clear s.0 s.1 n to x NotAdjacent s.2 was (inl h))) (own_way s.0 s.1 n to x s.2 was) was e
+      let w = own_way s.0 s.1 n to x s.2 was in
+      Next x to w.0 w.1 was e
 
   pub change_at : IsOrdered v → (n : ℕ) → Change step v.next n (element_at v n) (element_at (after_step v step) n)
   change_at ordered n = change_of v step v.next n ordered (omega arith) (known ordered) (once_from [] step refl)

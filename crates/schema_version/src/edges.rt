@@ -1,0 +1,71 @@
+//! The edges between the states of an element, and what a move along one of them needs.
+ghost use Rattle.std.specs.Prelude.{◌≡◌, is_some};
+ghost use Rattle.schema_version.specs.Edges.{edge as edge_of, needed as needed_of, wanted as wanted_by};
+
+use crate::element::{ElementDef, ElementState, Kind, Way, Work};
+
+/// The way of an element after it goes from one state to another; `None` where no edge joins them that is one of its way or leaves
+/// public.
+///
+/// An index goes absent, delete-only, write-only, public, one state at a time, and the same way back; a column goes absent, delete-only,
+/// public, and the same way back. What leaves public is dropped from then on.
+///
+/// - `kind`: what the element is.
+/// - `way`: where it is going; that of a public one does not count.
+/// - `from`: the state that it has.
+/// - `to`: the state to go to.
+pub fn edge(kind: &Kind, way: Way, from: ElementState, to: ElementState) -> Option<Way>
+    ensures { result ≡ edge_of kind.now way from to }
+{
+    use ElementState::{Absent, DeleteOnly, Public, WriteOnly};
+    match (kind, way, from, to) {
+        (Kind::Index(_), Way::Adding, Absent, DeleteOnly)
+        | (Kind::Index(_), Way::Adding, DeleteOnly, WriteOnly)
+        | (Kind::Index(_), Way::Adding, WriteOnly, Public)
+        | (Kind::Optional(_), Way::Adding, Absent, DeleteOnly)
+        | (Kind::Optional(_), Way::Adding, DeleteOnly, Public) => Some(Way::Adding),
+        (Kind::Index(_), _, Public, WriteOnly)
+        | (Kind::Index(_), Way::Dropping, WriteOnly, DeleteOnly)
+        | (Kind::Index(_), Way::Dropping, DeleteOnly, Absent)
+        | (Kind::Optional(_), _, Public, DeleteOnly)
+        | (Kind::Optional(_), Way::Dropping, DeleteOnly, Absent) => Some(Way::Dropping),
+        _ => None,
+    }
+}
+
+/// What a move needs to be finished: an index's to public its fill, every one to absent the clear; `None` where it needs nothing.
+///
+/// - `kind`: what the element is.
+/// - `to`: the state to go to.
+pub fn needed(kind: &Kind, to: ElementState) -> Option<Work>
+    ensures { result ≡ needed_of kind.now to }
+{
+    match (kind, to) {
+        (Kind::Index(_), ElementState::Public) => Some(Work::Fill),
+        (_, ElementState::Absent) => Some(Work::Clear),
+        _ => None,
+    }
+}
+
+impl ElementDef {
+    // Whether the element may go to this state.
+    fn leads(&self, to: ElementState) -> bool
+        ensures { result ≡ is_some (edge_of self.now.kind self.now.way self.now.state to) }
+    {
+        edge(&self.kind, self.way, self.state, to).is_some()
+    }
+
+    /// What the element wants, which is what the next move on its way needs: an index that is write-only and being added a fill, what is
+    /// delete-only and being dropped a clear; `None` where that move needs nothing.
+    pub fn wanted(&self) -> Option<Work>
+        ensures { result ≡ wanted_by self.now }
+    {
+        if self.leads(ElementState::Public) {
+            needed(&self.kind, ElementState::Public)
+        } else if self.leads(ElementState::Absent) {
+            needed(&self.kind, ElementState::Absent)
+        } else {
+            None
+        }
+    }
+}
