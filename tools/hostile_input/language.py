@@ -55,8 +55,8 @@ OPERATION = rf"(?:insert {NAME} {TUPLE}(?: {SETS})?|update {NAME} {TUPLE} {SETS}
 OPERATIONS = rf"{OPERATION}(?: ; {OPERATION})*"
 INDEX = rf"index {NAME} on {NAME} \( {NAMES} \)"
 NEW = rf"(?:{INDEX}|column {NAME} {TYPE} on {NAME})"
-MOVE = rf"(?:add {NEW}(?: to {STATE})?|move {NAME} \. {NAME} to {STATE})"
-CHANGE = rf"(?:add {NEW}|drop (?:index|column) {NAME} on {NAME})"
+MOVE = rf"(?:add {NEW}(?: to {STATE})?|move {NAME} \. {NAME} to {STATE}|turn {NAME} \. {NAME})"
+CHANGE = rf"(?:add {NEW}|drop (?:index|column) {NAME} on {NAME}|abandon {NAME} \. {NAME})"
 # In the place of a condition the word `key` is always the primary key.
 COLUMN = rf"(?!key ){NAME}"
 CONDITION = rf"(?:key = {TUPLE}|{COLUMN} (?:=|>=|<=) {VALUE}|{COLUMN} between {VALUE} and {VALUE})"
@@ -96,6 +96,7 @@ OF_PIECE = rf"MomentTooLarge|NotWanted|WrongElement|Moved {HEX}|Conflict {HEX}"
 PUBLISHING = (
     rf"MomentTooLarge|TooEarly {N}|Unknown|NotAdjacent|WrongWay|Dependent {N}|NameTaken|Limit|Unfinished {N}|VersionsSpent"
 )
+ITEM = rf"(?:(?:fill|clear) {NAME}\.{NAME}|{NAME}\.{NAME} (?:absent|delete_only|write_only|public|dropping))"
 DONE = rf"ok done {N}|ok refused {N} (?:Duplicate|NoRow)"
 REPLIES = {
     "length": r"ok",
@@ -109,7 +110,7 @@ REPLIES = {
     "commit": rf"{DONE}|ok piece {N} (?:more|done)|refused (?:NoWork|{COMMITTING}|{OF_PIECE})",
     "query": rf"(?:row \(.*\).*\n)*ok rows {N}|refused (?:NoServer|MomentTooLarge|BadLease|LeaseEnded {N} {N}|NoTable|NotPublic {N}|WrongType)",
     "publish": rf"ok version {N}|refused (?:{PUBLISHING})",
-    "plan": rf"(?:step {N}: .*\n)*ok plan {N}|refused (?:Unknown|NameTaken|StillIndexed|InChange|Limit)",
+    "plan": rf"(?:step {N}: {ITEM}(?:, {ITEM})*\n)*ok plan {N}|refused (?:Unknown|NameTaken|StillIndexed|InChange|Limit)",
     "next": rf"ok version {N}|refused (?:NoPlan|{PUBLISHING})",
     "reorganise": rf"ok begun (?:fill|clear) {N}|refused (?:MomentTooLarge|NotWanted|StillUsed {N}|Begun|BadCount)",
     "work": rf"ok work {N}|refused (?:BadPiece|Spent|BadLimit|{OF_PIECE})",

@@ -7,7 +7,7 @@ from language import judge
 
 WORDS = sorted(set(
     "length table index open lease forge txn prepare commit query publish plan next reorganise work piece check pairs status log int text"
-    " bool key on at by of to and from where select between version granted until pieces limit insert update delete set add move drop"
+    " bool key on at by of to and from where select between version granted until pieces limit insert update delete set add move turn drop abandon"
     " column absent delete_only write_only public true false null".split()
 ))
 OWN = "t u a b c d i j k s v w p q id zz".split()
@@ -144,12 +144,16 @@ class Lines:
         state = self.one("absent", "delete_only", "write_only", "public")
         if self.one(True, False, False):
             return f"add {self.new()}" + (f" to {state}" if self.seldom() else "")
+        if self.one(True, False, False, False):
+            return f"turn {self.element()}"
         return f"move {self.element()} to {state}"
 
     def change(self):
-        form = self.rng.randrange(4)
+        form = self.rng.randrange(5)
         if form < 2:
             return f"add {self.new()}"
+        if form == 4:
+            return f"abandon {self.element()}"
         return f"drop index {self.one('i', 'j', 'k')} on t" if form == 2 else f"drop column {self.column('t')[0]} on t"
 
     def piece(self, element):

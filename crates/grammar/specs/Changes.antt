@@ -9,9 +9,9 @@ use Rattle.grammar.specs.declared.element.ElementName.{ElementName}
 use Rattle.grammar.specs.declared.element.New.{New}
 use Rattle.grammar.specs.declared.element.New.TheVariants.{Index, Column}
 use Rattle.grammar.specs.declared.named.NamedMove.{NamedMove}
-use Rattle.grammar.specs.declared.named.NamedMove.TheVariants.{Enter, Go}
+use Rattle.grammar.specs.declared.named.NamedMove.TheVariants.{Enter, Go, Turn}
 use Rattle.grammar.specs.declared.named.NamedChange.{NamedChange}
-use Rattle.grammar.specs.declared.named.NamedChange.TheVariants.{Add, DropIndex, DropColumn}
+use Rattle.grammar.specs.declared.named.NamedChange.TheVariants.{Add, DropIndex, DropColumn, Abandon}
 use Rattle.tokens.specs.Productions.{◌>>=◌, first_by, after_first, at_end, is_mark, is_word, name_in, type_in, state_in, bracketed, each_between, name_of}
 
 -- `TABLE.NAME`, and the tokens behind it
@@ -21,6 +21,12 @@ element_at ts = do
   behind ← after_first (is_mark mark.Dot) table.1
   name ← first_by name_in behind
   Some (record { table = table.0; name = name.0 }, name.1)
+
+-- `TABLE.NAME`
+unfoldable pub element_of : List Token → Option ElementName
+element_of ts = do
+  element ← element_at ts
+  at_end element.0 element.1
 
 -- `on TABLE`, and the tokens behind it
 unfoldable pub on_table_at : List Token → Option (List ℕ × List Token)
@@ -103,7 +109,8 @@ move_of [] = None
 move_of (t ∷ ts) =
     if is_word (codes "add") t then enter_of ts
     else (if is_word (codes "move") t then go_of ts
-    else None)
+    else (if is_word (codes "turn") t then option_map Turn (element_of ts)
+    else None))
 
 -- `NEW`, behind `add`
 unfoldable pub add_of : List Token → Option NamedChange
@@ -125,4 +132,5 @@ change_of [] = None
 change_of (t ∷ ts) =
     if is_word (codes "add") t then add_of ts
     else (if is_word (codes "drop") t then drop_of ts
-    else None)
+    else (if is_word (codes "abandon") t then option_map Abandon (element_of ts)
+    else None))

@@ -1,6 +1,6 @@
 //! Elements by their names, and what is to enter.
 ghost use Rattle.tokens.specs.Productions.{Gives};
-ghost use Rattle.grammar.specs.Changes.{element_at, on_table_at, named_on_at, named_on, index_at, new_index_at, new_column_at, new_at, to_state_of, optional_to_state_of};
+ghost use Rattle.grammar.specs.Changes.{element_at, element_of, on_table_at, named_on_at, named_on, index_at, new_index_at, new_column_at, new_at, to_state_of, optional_to_state_of};
 
 use keycode::Text;
 use listed::Listed;
@@ -48,6 +48,15 @@ pub(crate) fn element<'t, 'a>(
     let rest = after_mark(rest, Mark::Dot)?;
     let (name, rest) = name(alloc, rest)?;
     Ok((ElementName { table, name }, rest))
+}
+
+/// `TABLE.NAME`, read whole.
+#[tactic(auto, unfolding(crate::specs::Changes::element_of))]
+pub(crate) fn whole_element(alloc: Global, tokens: &[Token<'_>]) -> Result<ElementName, LineFault>
+    ensures { Gives (λ x. x) result (element_of tokens.now) }
+{
+    let (element, rest) = element(alloc, tokens)?;
+    at_end(element, rest)
 }
 
 /// `on TABLE` at the front.

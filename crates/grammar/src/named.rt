@@ -2,7 +2,7 @@
 ghost use Rattle.tokens.specs.Productions.{Gives};
 ghost use Rattle.grammar.specs.Changes.{enter_of, go_of, move_of, add_of, drop_of, change_of};
 
-use crate::element::{ElementName, New, element, fresh, named_on, optional_to_state, to_state};
+use crate::element::{ElementName, New, element, fresh, named_on, optional_to_state, to_state, whole_element};
 use schema_version::ElementState;
 use std::alloc::Global;
 use tokens::{LineFault, Production, Token, at_end, is_word};
@@ -20,6 +20,10 @@ pub enum NamedMove {
         element: ElementName,
         to: ElementState,
     },
+    /// `turn TABLE.NAME`: from being added to being dropped, in the state in which it is.
+    Turn {
+        element: ElementName,
+    },
 }
 
 /// A change that a plan brings about.
@@ -31,6 +35,8 @@ pub enum NamedChange {
     DropIndex(ElementName),
     /// `drop column NAME on TABLE`
     DropColumn(ElementName),
+    /// `abandon TABLE.NAME`: the add of an element that is not public yet is taken back.
+    Abandon(ElementName),
 }
 
 #[tactic(auto, unfolding(crate::specs::Changes::enter_of))]
@@ -63,6 +69,9 @@ impl Production for NamedMove {
             enter(alloc, rest)
         } else if is_word(first, b"move") {
             go(alloc, rest)
+        } else if is_word(first, b"turn") {
+            let element = whole_element(alloc, rest)?;
+            Ok(NamedMove::Turn { element })
         } else {
             Err(LineFault::Malformed)
         }
@@ -108,6 +117,9 @@ impl Production for NamedChange {
             add(alloc, rest)
         } else if is_word(first, b"drop") {
             dropped(alloc, rest)
+        } else if is_word(first, b"abandon") {
+            let element = whole_element(alloc, rest)?;
+            Ok(NamedChange::Abandon(element))
         } else {
             Err(LineFault::Malformed)
         }

@@ -2,7 +2,7 @@
 use Rattle.std.specs.Prelude.{List}
 use mathlib.Core.List.{map as each}
 use Rattle.change_plan.specs.declared.change.Change.{Change}
-use Rattle.change_plan.specs.declared.change.Change.TheVariants.{AddIndex, DropIndex, AddColumn, DropColumn}
+use Rattle.change_plan.specs.declared.change.Change.TheVariants.{AddIndex, DropIndex, AddColumn, DropColumn, Abandon}
 use Rattle.grammar.specs.declared.element.New.{New}
 use Rattle.grammar.specs.declared.element.New.TheVariants as new
 use Rattle.grammar.specs.declared.named.NamedChange.{NamedChange}
@@ -21,6 +21,7 @@ abbrev pub changed : Version → NamedChange → Change
 changed version (named.Add fresh) = added version fresh
 changed version (named.DropIndex element) = DropIndex (table_number version element.table) element.name
 changed version (named.DropColumn element) = DropColumn (table_number version element.table) element.name
+changed version (named.Abandon element) = Abandon (table_number version element.table) element.name
 
 abbrev pub changes_of : Version → List NamedChange → List Change
 changes_of version changes = each (changed version) changes

@@ -8,7 +8,7 @@ use Rattle.grammar.specs.declared.named.NamedMove.TheVariants as named
 use Rattle.schema_version.specs.declared.element.Kind.TheVariants.{Index, Optional}
 use Rattle.schema_version.specs.declared.element.NewElement.{NewElement}
 use Rattle.schema_version.specs.declared.step.Move.{Move}
-use Rattle.schema_version.specs.declared.step.Move.TheVariants.{Enter, Go}
+use Rattle.schema_version.specs.declared.step.Move.TheVariants.{Enter, Go, Turn}
 use Rattle.schema_version.specs.Version.{Version}
 use Rattle.naming.specs.Names.{table_number, element_number, numbered}
 
@@ -26,6 +26,7 @@ entered version (new.Column name type table) = record { table = table_number ver
 abbrev pub moved : Version → NamedMove → Move
 moved version (named.Enter fresh to) = Enter (entered version fresh) to
 moved version (named.Go element to) = Go (numbered version element) to
+moved version (named.Turn element) = Turn (numbered version element)
 
 abbrev pub step_of : Version → List NamedMove → List Move
 step_of version moves = each (moved version) moves

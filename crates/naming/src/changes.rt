@@ -50,6 +50,10 @@ fn changed(schema: &Schema, change: NamedChange) -> Change
             let table = table_number(schema, &table);
             Change::DropColumn { table, name }
         }
+        NamedChange::Abandon(ElementName { table, name }) => {
+            let table = table_number(schema, &table);
+            Change::Abandon { table, name }
+        }
     }
 }
 

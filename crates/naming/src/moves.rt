@@ -61,6 +61,10 @@ fn moved(alloc: Global, schema: &Schema, named: NamedMove) -> Result<Move, Alloc
             let element = element_of(schema, &element);
             Ok(Move::Go { element, to })
         }
+        NamedMove::Turn { element } => {
+            let element = element_of(schema, &element);
+            Ok(Move::Turn { element })
+        }
     }
 }
 

@@ -6,7 +6,7 @@ use mathlib.Core.List.{map as each}
 use Rattle.grammar.specs.Printing.{state_word}
 use Rattle.schema_version.specs.declared.element.ElementDef.{ElementDef}
 use Rattle.schema_version.specs.declared.step.Move.{Move}
-use Rattle.schema_version.specs.declared.step.Move.TheVariants.{Enter, Go}
+use Rattle.schema_version.specs.declared.step.Move.TheVariants.{Enter, Go, Turn}
 use Rattle.schema_version.specs.Version.{Version, Table, table_at, element_at}
 use Rattle.schema_version.specs.Moves.{after_step}
 use Rattle.change_plan.specs.declared.least_plan.Reorg.{Reorg}
@@ -36,10 +36,11 @@ abbrev pub reorg_text : Version → Reorg → List ℕ
 reorg_text version (Fill number) = codes "fill " ++ element_text version number
 reorg_text version (Clear number) = codes "clear " ++ element_text version number
 
--- `TABLE.ELEMENT STATE`
+-- `TABLE.ELEMENT STATE`, or `TABLE.ELEMENT dropping` of a turn
 abbrev pub move_text : Version → Move → List ℕ
 move_text version (Enter fresh to) = dotted version fresh.table fresh.name ++ codes " " ++ state_word to
 move_text version (Go number to) = element_text version number ++ codes " " ++ state_word to
+move_text version (Turn number) = element_text version number ++ codes " " ++ codes "dropping"
 
 -- the reorganisations that stand before the step, and then its moves
 abbrev pub item_texts : Version → PlanStep → List (List ℕ)

@@ -57,18 +57,22 @@ fn move_text(alloc: Global, schema: &Schema, a: &Move) -> Result<String, AllocEr
     ensures { IfOk result (λ text. string_bytes text ≡ move_text schema.now a.now) }
 {
     let mut text = String::new(alloc);
-    let to = match a {
+    let word = match a {
         Move::Enter { fresh, to } => {
             push_dotted(&mut text, schema, fresh.table, &fresh.name)?;
-            *to
+            state_word(*to)
         }
         Move::Go { element, to } => {
             push_element(&mut text, schema, *element)?;
-            *to
+            state_word(*to)
+        }
+        Move::Turn { element } => {
+            push_element(&mut text, schema, *element)?;
+            "dropping"
         }
     };
     text.push_str(" ")?;
-    text.push_str(state_word(to))?;
+    text.push_str(word)?;
     Ok(text)
 }
 

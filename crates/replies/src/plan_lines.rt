@@ -55,7 +55,7 @@ fn push_later(
 
 /// The steps of a plan, a line each, numbered from 1: `step 3: fill t.i, t.i public`. In a line stand first the fills and the clears
 /// that must end before the step, and then its moves, each in its order: a table's name, a dot, the element's name, and of a move the
-/// state that it leads to. No step is the empty text.
+/// state that it leads to, or `dropping` where it turns. No step is the empty text.
 ///
 /// - `schema`: the version from which the plan starts.
 /// - `steps`: the plan, each of whose steps is allowed behind those before it. Elements are named as the version has them that the
