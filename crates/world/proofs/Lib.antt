@@ -6,6 +6,5 @@ pub mod Viewing
 pub mod Awaited
 pub mod Publications
 pub mod Begins
-pub mod Cursors
 pub mod Pieces
 pub mod Happenings
