@@ -9,3 +9,4 @@ pub mod Rowwise
 pub mod Spelling
 pub mod Filling
 pub mod Clearing
+pub mod Cursors

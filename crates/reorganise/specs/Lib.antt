@@ -4,3 +4,4 @@ pub mod Partition
 pub mod Refusals
 pub mod Batches
 pub mod Laws
+pub mod Moving

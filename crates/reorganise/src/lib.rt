@@ -9,6 +9,7 @@
 mod begin;
 mod fault;
 mod laws;
+mod moving;
 mod prepared;
 mod preparing;
 mod reading;

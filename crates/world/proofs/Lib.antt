@@ -1,11 +1,10 @@
 pub mod Holding
 pub mod Calling
-pub mod Querying
+pub mod Queries
 pub mod Snapshots
 pub mod Viewing
 pub mod Awaited
 pub mod Publications
 pub mod Begins
-pub mod Cursors
-pub mod Pieces
+pub mod PieceSteps
 pub mod Happenings

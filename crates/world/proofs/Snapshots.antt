@@ -19,7 +19,7 @@ use Rattle.world.specs.Snapshots.{snapshot_rank, SnapshotCondition, SnapshotAt, 
 use Rattle.world.specs.State.{State, facts_of}
 use Rattle.world.specs.Told.{snapshot_told}
 use Rattle.world.proofs.Holding.{follow_of}
-use Rattle.world.proofs.Querying.{IsServed, consistent_held}
+use Rattle.world.proofs.Queries.{IsServed, consistent_held}
 
 -- ---- a lease that does not serve
 

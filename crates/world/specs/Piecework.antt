@@ -10,6 +10,7 @@ use Rattle.reorganise.specs.declared.work.Span.{Span}
 use Rattle.reorganise.specs.declared.work.Progress.{Progress}
 use Rattle.reorganise.specs.declared.reading.Reading.{Reading}
 use Rattle.reorganise.specs.declared.fault.ViewFault.TheVariants.{Memory as OutOfMemory}
+use Rattle.reorganise.specs.Moving.{IsSpanOf}
 use Rattle.reorganise.specs.Pieces.{are_ended, IsReadOf}
 use Rattle.reorganise.specs.Batches.{expect_of}
 use Rattle.reorganise.specs.Refusals.{rank as view_rank, Condition as ViewCondition}
@@ -43,14 +44,6 @@ ReadStep old number piece limit (Err (read_fault.View fault)) =
     (progress : Progress) × (progress_of (facts_of old).progress number ≡ Some progress) × IsRefusal view_rank (ViewCondition progress piece limit) OutOfMemory fault
 
 -- ---- committing a piece
-
--- it is one of this reorganisation: of the same definition and work, with the same bounds
-pub record IsSpanOf (progress : Progress) (read : Reading) (span : Span) : Type 0 where
-  pub element : read.element ≡ progress.element
-  pub work : read.kind ≡ progress.kind
-  pub piece : slice_get progress.pieces read.piece ≡ Some span
-  pub low : read.low ≡ span.low
-  pub high : read.high ≡ span.high
 
 -- it is one of its element's begun reorganisation
 pub record IsPieceOf (facts : Facts) (read : Reading) (span : Span) : Type 0 where

@@ -20,7 +20,7 @@ impl World {
         ensures { Decides result (IsDone (facts_of self.now) element work) }
     {
         match self.begun_of(element) {
-            Some(progress) => progress.kind == work && progress.finished(),
+            Some(progress) => progress.is_done(work),
             None => false,
         }
     }

@@ -1,15 +1,12 @@
 //! The pieces of a begun reorganisation.
 ghost use Rattle.std.specs.Bool.{Decides};
-ghost use Rattle.std.specs.Prelude.{◌≡◌, ◌≤◌, IfOk, IfErr, OnOk, MatchOption, slice_get, zero};
-ghost use Rattle.std.specs.Option.{option_copied};
+ghost use Rattle.std.specs.Prelude.{◌≡◌, ◌≤◌, IfOk, IfErr, OnOk};
 ghost use mathlib.Core.List.{map as each};
-ghost use Rattle.reorganise.specs.declared.work.Span.{Span as SpanOf};
 ghost use Rattle.listed.specs.Refusal.{IsRefusal};
-ghost use Rattle.reorganise.specs.Laws.{with_cursor};
-ghost use Rattle.replay.specs.Replay.{come_to, moved_to};
+ghost use Rattle.replay.specs.Replay.{moved_to};
 ghost use Rattle.world.specs.declared.pieces.PieceFault.TheVariants.{Memory};
 ghost use Rattle.world.specs.declared.pieces.ReadFault.TheVariants.{View as ViewOf};
-ghost use Rattle.world.specs.Piecework.{standing_at, ReadStep, PieceStep, PieceAt, PieceCondition, IsCurrent, IsSpanOf, piece_rank};
+ghost use Rattle.world.specs.Piecework.{standing_at, ReadStep, PieceStep, PieceAt, PieceCondition, IsCurrent, piece_rank};
 ghost use Rattle.world.specs.State.{facts_of};
 ghost use Rattle.world.specs.Told.{piece_told};
 
@@ -17,10 +14,8 @@ use crate::entry::PieceDone;
 use crate::world::World;
 use byte_map::Bytes;
 use lease::MAX_MOMENT;
-use listed::Listed;
-use reorganise::{PieceView, PreparedPiece, Progress, Span, ViewFault, Work};
+use reorganise::{PieceView, PreparedPiece, Progress, ViewFault, Work};
 use replay::{What, pieces_keep};
-use schema_version::ElementDef;
 use std::alloc::{AllocError, Global};
 use thiserror::Error;
 use txn_store::SetFault;
@@ -99,42 +94,6 @@ fn copied(alloc: Global, bytes: &[u8]) -> Result<Bytes, AllocError>
     Bytes::new(Vec::from_slice(alloc, bytes)?)
 }
 
-/// A copy of a reorganisation.
-fn same(progress: &Progress) -> Result<Progress, AllocError>
-    ensures { IfOk result (λ copy. copy ≡ progress.now) }
-{
-    progress.clone()
-}
-
-/// The pieces, with the cursor of the one of this number come on.
-fn with_moved(mut pieces: Vec<Span>, piece: u32, cursor: Bytes) -> Vec<Span>
-    ensures { result.items ≡ with_cursor piece cursor pieces.items }
-{
-    let place = piece as usize;
-    if place >= pieces.len() {
-        return pieces;
-    }
-    pieces[place].cursor = cursor;
-    pieces
-}
-
-/// A copy of a reorganisation, with the cursor of its piece of this number come on.
-fn come_on(progress: &Progress, piece: u32, cursor: &Bytes) -> Result<Progress, AllocError>
-    ensures { IfOk result (λ copy. copy ≡ come_to piece cursor.now progress.now) }
-{
-    let Progress {
-        element,
-        kind,
-        pieces,
-    } = same(progress)?;
-    let pieces = with_moved(pieces.into_vec(), piece, cursor.clone()?);
-    Ok(Progress {
-        element,
-        kind,
-        pieces: Listed::new(pieces),
-    })
-}
-
 /// A copy of a reorganisation, with that cursor come on where it is the one of this element.
 fn moved(
     progress: &Progress,
@@ -145,9 +104,9 @@ fn moved(
     ensures { IfOk result (λ copy. copy ≡ moved_to number piece cursor.now progress.now) }
 {
     if progress.element.number == number {
-        come_on(progress, piece, cursor)
+        progress.moved(piece, cursor)
     } else {
-        same(progress)
+        progress.clone()
     }
 }
 
@@ -168,40 +127,11 @@ fn all_moved(
     Ok(copies)
 }
 
-/// Whether two definitions of an element are the same.
-fn is_same(one: &ElementDef, other: &ElementDef) -> bool
-    ensures { Decides result (one.now ≡ other.now) }
-{
-    one == other
-}
-
 /// Whether two keys are the same.
 fn is_key(one: &[u8], other: &[u8]) -> bool
     ensures { Decides result (one.now ≡ other.now) }
 {
     one == other
-}
-
-/// The piece of this number.
-fn piece_of(progress: &Progress, piece: u32) -> Option<&Span>
-    ensures { option_copied result ≡ slice_get progress.now.pieces piece }
-{
-    progress.pieces.as_slice().get(piece as usize)
-}
-
-/// The piece that was prepared, among those of a reorganisation.
-fn span_of<'a>(progress: &'a Progress, prepared: &PreparedPiece) -> Option<&'a Span>
-    ensures { MatchOption result ((span : SpanOf) → ¬ (IsSpanOf progress.entry.now prepared.now span)) (λ span. IsSpanOf progress.entry.now prepared.now span.now) }
-{
-    if !is_same(prepared.element(), &progress.element) || prepared.kind() != progress.kind {
-        return None;
-    }
-    let span = piece_of(progress, prepared.piece())?;
-    let (low, high) = prepared.bounds();
-    if !is_key(low, span.low.as_slice()) || !is_key(high, span.high.as_slice()) {
-        return None;
-    }
-    Some(span)
 }
 
 impl World {
@@ -274,7 +204,7 @@ impl World {
         let Some(progress) = self.begun_of(prepared.element().number) else {
             return Err(PieceFault::NotWanted);
         };
-        let Some(span) = span_of(progress, prepared) else {
+        let Some(span) = progress.span_of(prepared) else {
             return Err(PieceFault::WrongElement);
         };
         if !is_key(span.cursor.as_slice(), prepared.cursors().0) {

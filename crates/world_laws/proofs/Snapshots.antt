@@ -8,7 +8,7 @@ use Rattle.world.specs.declared.querying.QueryRefusal.TheVariants as refusal
 use Rattle.world.specs.declared.snapshot.SnapshotFault.TheVariants as snapshot_fault
 use Rattle.world.specs.Snapshots.{SnapshotCondition}
 use Rattle.world.specs.State.{State, facts_of}
-use Rattle.world.proofs.Querying.{NoneBelow, last, clear, faulty_at}
+use Rattle.world.proofs.Queries.{NoneBelow, last, clear, faulty_at}
 use Rattle.world_laws.specs.Snapshots.{SnapshotsAnswerTheirLog, SnapshotsAnswerAsQueries, SnapshotsAreRecent}
 use Rattle.world_laws.proofs.Recent.{lease_recent}
 

@@ -2,7 +2,7 @@ use Rattle.std.proofs.Common.{rules}
 use Rattle.std.proofs.lemmas.Result.{err_from_is_err_and}
 use Rattle.world.specs.Piecework.{IsPieceOf}
 use Rattle.world.specs.State.{facts_of}
-use Rattle.world.proofs.Pieces.{moved_on, short_of}
+use Rattle.world.proofs.PieceSteps.{moved_on, short_of}
 use Rattle.world.proofs.world.World.is_current.Goals as goal
 
 pub returns-in_err-cursor-clause-refused : goal.returns-in_err-cursor-clause-refused

@@ -6,7 +6,7 @@ use Rattle.reorganise.specs.Batches.{expect_of}
 use Rattle.replay.specs.Replay.{moved_to}
 use Rattle.world.proofs.Holding.{IsLogged, logged}
 use Rattle.world.proofs.Calling.{same_state}
-use Rattle.world.proofs.Pieces.{IsReady, entry_of, entry_of_parts, piece_short, piece_failed, piece_held, piece_done}
+use Rattle.world.proofs.PieceSteps.{IsReady, entry_of, entry_of_parts, piece_short, piece_failed, piece_held, piece_done}
 use Rattle.world.proofs.world.World.move_on.Goals as goal
 
 pub returns-in_err-cursor : goal.returns-in_err-cursor

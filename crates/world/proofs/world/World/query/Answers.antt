@@ -2,7 +2,7 @@ use Rattle.std.proofs.Common.{refl, sym, ap, ◌∙◌, Some}
 use Rattle.std.proofs.lemmas.Result.{err_from_is_err_and}
 use Rattle.world.proofs.Holding.{published, later}
 use Rattle.world.proofs.Calling.{serves_there}
-use Rattle.world.proofs.Querying.{IsServed, query_unserved, query_faulty, query_answered}
+use Rattle.world.proofs.Queries.{IsServed, query_unserved, query_faulty, query_answered}
 use Rattle.world.proofs.world.World.query.Goals as goal
 
 pub standing-requires : goal.standing-requires

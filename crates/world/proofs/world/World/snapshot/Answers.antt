@@ -2,7 +2,7 @@ use Rattle.std.proofs.Common.{refl, ap, ◌∙◌, Some, sym}
 use Rattle.std.proofs.lemmas.Result.{err_from_is_err_and}
 use Rattle.world.proofs.Holding.{published, later}
 use Rattle.world.proofs.Calling.{serves_there}
-use Rattle.world.proofs.Querying.{IsServed}
+use Rattle.world.proofs.Queries.{IsServed}
 use Rattle.world.proofs.Snapshots.{snapshot_unserved, snapshot_short, snapshot_taken}
 use Rattle.world.proofs.world.World.snapshot.Goals as goal
 

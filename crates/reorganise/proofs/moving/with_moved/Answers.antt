@@ -1,6 +1,6 @@
 use Rattle.std.proofs.Common.{rules}
-use Rattle.world.proofs.Cursors.{past_last, set_cursor}
-use Rattle.world.proofs.pieces.with_moved.Goals as goal
+use Rattle.reorganise.proofs.Cursors.{past_last, set_cursor}
+use Rattle.reorganise.proofs.moving.with_moved.Goals as goal
 
 pub returns-then-place-len : goal.returns-then-place-len
 returns-then-place-len c = past_last c.args.piece c.args.cursor c.args.pieces.items (search rules)
