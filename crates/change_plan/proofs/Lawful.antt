@@ -334,9 +334,9 @@ module _ (old : Version) (trips : List Trip) (are : AreTrips old trips) where
         moves_now : move_of time trip ≡ Enter trip.fresh DeleteOnly ∷ []
         moves_now = moved_by time trip Appear act
 
-        no_edge : (kind : Kind) → is_edge kind Adding Absent DeleteOnly ≡ false → ⊥
-        no_edge (Index columns) e = true≢false e
-        no_edge (Optional type) e = true≢false e
+        no_edge : (kind : Kind) → edge kind Adding Absent DeleteOnly ≡ None → ⊥
+        no_edge (Index columns) e = no_way Adding (Some Adding) refl e
+        no_edge (Optional type) e = no_way Adding (Some Adding) refl e
 
         live_name : (place : ℕ) (element : ElementDef) → element_at now place ≡ Some element → element.table ≡ trip.fresh.table → element.name ≡ trip.fresh.name → ⊥
         live_name place element at_now table name = elim (find_trip trips place) [

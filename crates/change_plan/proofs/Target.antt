@@ -23,7 +23,7 @@ use Rattle.change_plan.specs.declared.trip.Course.TheVariants.{ColumnIn, IndexIn
 use Rattle.change_plan.specs.declared.trip.Trip.{Trip}
 use Rattle.change_plan.specs.Schedule.{steps, duration, longest, out_trip, trips, schedule, is_early, column_number, added_number, number_or}
 use Rattle.change_plan.proofs.Named.{contains_first, contains_later, contains_cases, contains_none, ordered}
-use Rattle.change_plan.proofs.Leaving.{column_there, abandoned, departs, clear}
+use Rattle.change_plan.proofs.Leaving.{column_there, column_type, abandoned, departs, clear}
 use Rattle.change_plan.proofs.Least.{schedule_short}
 use Rattle.change_plan.proofs.Trips.{find_trip, is_in, suits, Away, At, element_of, here, at_destination}
 use Rattle.change_plan.proofs.Lawful.{IsAt, HasRoom, AreTrips, at_first, steps_allowed, after_steps, arrives_in, arrives_out}
