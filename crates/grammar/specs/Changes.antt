@@ -1,4 +1,4 @@
--- The productions of changes to the schema: elements, what is to enter, moves and changes, read whole unless a name ends in `_at`.
+-- The productions of changes to the schema: elements, what is to enter, named moves and named changes, read whole unless a name ends in `_at`.
 use Rattle.std.specs.Prelude.{ℕ, List, [], ◌∷◌, Option, Some, None, if◌then◌else◌, codes}
 use Rattle.std.specs.Option.{option_map}
 use Rattle.schema_version.specs.declared.element.ElementState.{ElementState}
