@@ -3,47 +3,45 @@ use Rattle.std.specs.Prelude.{◌≡◌, ◌≢◌, ℕ, zero, suc, ◌+◌, ◌
 use Rattle.std.specs.List.{list_any}
 use mathlib.Core.List.{map as each}
 use Rattle.std.proofs.Common.{sym, ap, subst, ◌∙◌, inl, inr, true≢false, arith}
-use Rattle.std.proofs.lemmas.List.{append_assoc}
+use Rattle.std.proofs.lemmas.List.{append_assoc, append-nil}
+use Rattle.std.proofs.lemmas.List.Concat.{flat_map-cons}
 use Rattle.std.proofs.lemmas.Grind.{flat_map-append}
 use Rattle.std.proofs.lemmas.List.Sums.{sum_by-append, sum_by-cons}
 use Rattle.std.proofs.lemmas.List.Folds.{list_any-append}
-use Rattle.std.proofs.lemmas.List.Elements.{Contains-append_cases}
-use Rattle.schema_version.specs.declared.element.ElementState.TheVariants.{Absent, DeleteOnly}
+use Rattle.std.proofs.lemmas.List.Elements.{Contains-append_cases, Contains-append_left}
+use Rattle.schema_version.specs.declared.element.ElementState.{ElementState}
+use Rattle.schema_version.specs.declared.element.ElementState.TheVariants.{Absent, DeleteOnly, WriteOnly, Public}
 use Rattle.schema_version.specs.declared.element.Kind.{Kind}
-use Rattle.schema_version.specs.declared.element.Kind.TheVariants.{Index}
+use Rattle.schema_version.specs.declared.element.Kind.TheVariants.{Index, Optional}
 use Rattle.schema_version.specs.declared.element.ElementDef.{ElementDef}
 use Rattle.schema_version.specs.declared.step.Move.{Move}
 use Rattle.schema_version.specs.Version.{Version, element_at, is_index, listed}
 use Rattle.schema_version.specs.Sound.{IsSoundVersion}
 use Rattle.schema_version.specs.Moves.{is_entry}
 use Rattle.change_plan.specs.declared.change.Change.{Change}
-use Rattle.change_plan.specs.declared.change.Change.TheVariants.{AddIndex, DropIndex, AddColumn, DropColumn}
+use Rattle.change_plan.specs.declared.change.Change.TheVariants.{AddIndex, DropIndex, AddColumn, DropColumn, Abandon}
 use Rattle.std.proofs.lemmas.Bool.Decides.{Decides-eqb}
 use Rattle.std.proofs.lemmas.Slice.Eq.{bytes_eq-Decides}
-use Rattle.change_plan.specs.declared.fault.PlanFault.{PlanFault}
 use Rattle.change_plan.specs.declared.fault.PlanFault.TheVariants.{Unknown}
-use Rattle.change_plan.specs.Batches.{named_index, named_column, lists_added, is_under_dropped, drops_index, drops_column, is_same_name}
+use Rattle.change_plan.specs.Batches.{leaving, lists_added, drops}
 use Rattle.change_plan.specs.Refusals.{ChangeFault, IsPlannable}
-use Rattle.change_plan.specs.declared.trip.Pace.{Pace}
-use Rattle.change_plan.specs.declared.trip.Pace.TheVariants.{ColumnIn, IndexIn, IndexInLate, IndexOut, ColumnOut, ColumnOutLate}
+use Rattle.change_plan.specs.declared.trip.Act.TheVariants.{Appear}
+use Rattle.change_plan.specs.declared.trip.Course.TheVariants.{ColumnIn, IndexIn}
 use Rattle.change_plan.specs.declared.trip.Trip.{Trip}
-use Rattle.change_plan.specs.Schedule.{state_at, move_of, trip_out, trip_of, trips_from, trips, is_early, is_late, column_number}
-use Rattle.change_plan.proofs.Named.{contains_cases, contains_middle, split_at, ordered}
-use Rattle.change_plan.proofs.Least.{index_there, column_there}
+use Rattle.change_plan.specs.Schedule.{steps, course_out, act_at, move_of, out_trip, trip_out, trip_of, trips_from, trips, is_early, is_late, column_number}
+use Rattle.change_plan.proofs.Steps.{not_both}
+use Rattle.change_plan.proofs.Named.{contains_cases, contains_middle, split_at, ordered, same_name_is}
+use Rattle.change_plan.proofs.Trips.{is_in, appears, no_entry}
+use Rattle.change_plan.proofs.Leaving.{index_there, column_there, entering_there, Departs, departs}
 use Rattle.change_plan.proofs.Lawful.{next_at}
 
 -- ---- where a trip comes from
 
-abbrev pub out_trip : Pace → ElementDef → Trip
-out_trip pace e = record { pace = pace; number = e.number; fresh = record { table = e.table; name = e.name; kind = e.kind } }
-
 pub data From (old : Version) (all : List Change) (early late : ℕ) (change : Change) (trip : Trip) : Type 0 where
-  EarlyIndex : (table : ℕ) (name : List ℕ) (columns : List (List ℕ)) → change ≡ AddIndex table name columns → lists_added all table columns ≡ false → trip ≡ record { pace = IndexIn; number = early; fresh = record { table = table; name = name; kind = Index (each (column_number old all table) columns) } } → From old all early late change trip
-  LateIndex : (table : ℕ) (name : List ℕ) (columns : List (List ℕ)) → change ≡ AddIndex table name columns → lists_added all table columns ≡ true → trip ≡ record { pace = IndexInLate; number = late; fresh = record { table = table; name = name; kind = Index (each (column_number old all table) columns) } } → From old all early late change trip
-  NewColumn : (table : ℕ) (name : List ℕ) (kind : Kind) → change ≡ AddColumn table name kind → trip ≡ record { pace = ColumnIn; number = early; fresh = record { table = table; name = name; kind = kind } } → From old all early late change trip
-  OldIndex : (table : ℕ) (name : List ℕ) (e : ElementDef) → change ≡ DropIndex table name → named_index old table name ≡ Some e → trip ≡ out_trip IndexOut e → From old all early late change trip
-  OldColumn : (table : ℕ) (name : List ℕ) (e : ElementDef) → change ≡ DropColumn table name → named_column old table name ≡ Some e → is_under_dropped old all e.number ≡ false → trip ≡ out_trip ColumnOut e → From old all early late change trip
-  OldLateColumn : (table : ℕ) (name : List ℕ) (e : ElementDef) → change ≡ DropColumn table name → named_column old table name ≡ Some e → is_under_dropped old all e.number ≡ true → trip ≡ out_trip ColumnOutLate e → From old all early late change trip
+  EarlyIndex : (table : ℕ) (name : List ℕ) (columns : List (List ℕ)) → change ≡ AddIndex table name columns → lists_added all table columns ≡ false → trip ≡ record { wait = 0; course = IndexIn; number = early; fresh = record { table = table; name = name; kind = Index (each (column_number old all table) columns) } } → From old all early late change trip
+  LateIndex : (table : ℕ) (name : List ℕ) (columns : List (List ℕ)) → change ≡ AddIndex table name columns → lists_added all table columns ≡ true → trip ≡ record { wait = steps ColumnIn; course = IndexIn; number = late; fresh = record { table = table; name = name; kind = Index (each (column_number old all table) columns) } } → From old all early late change trip
+  NewColumn : (table : ℕ) (name : List ℕ) (kind : Kind) → change ≡ AddColumn table name kind → trip ≡ record { wait = 0; course = ColumnIn; number = early; fresh = record { table = table; name = name; kind = kind } } → From old all early late change trip
+  Leaves : (e : ElementDef) → leaving old change ≡ Some e → trip ≡ out_trip old all e → From old all early late change trip
 
 one_head : (a b : Trip) (xs ys : List Trip) → a ∷ xs ≡ b ∷ ys → a ≡ b
 one_head a b xs ys e = cc
@@ -54,42 +52,33 @@ one_tail a b xs ys e = cc
 no_trip : (b : Trip) (ys : List Trip) → [] ≡ b ∷ ys → ⊥
 no_trip b ys e = cc
 
+from_out : (old : Version) (all : List Change) (early late : ℕ) (change : Change) (trip : Trip) → trip_out old all (leaving old change) ≡ trip ∷ [] → From old all early late change trip
+from_out old all early late change trip is = pick (leaving old change) refl
+  where
+    pick : (o : Option ElementDef) → leaving old change ≡ o → From old all early late change trip
+    pick None t = absurd (no_trip trip [] (sym (ap (trip_out old all) t) ∙ is))
+    pick (Some e) t = Leaves e t (sym (one_head (out_trip old all e) trip [] [] (sym (ap (trip_out old all) t) ∙ is)))
+
 pub from : (old : Version) (all : List Change) (early late : ℕ) (change : Change) (trip : Trip) → trip_of old all early late change ≡ trip ∷ [] → From old all early late change trip
 from old all early late (AddIndex table name columns) trip is = pick (lists_added all table columns) refl
   where
     pick : (b : Bool) → lists_added all table columns ≡ b → From old all early late (AddIndex table name columns) trip
-    pick true t = LateIndex table name columns refl t (sym (one_head _ trip [] [] is) ∙ ap (λ b. record { pace = if b then IndexInLate else IndexIn; number = if b then late else early; fresh = record { table = table; name = name; kind = Index (each (column_number old all table) columns) } }) t)
-    pick false t = EarlyIndex table name columns refl t (sym (one_head _ trip [] [] is) ∙ ap (λ b. record { pace = if b then IndexInLate else IndexIn; number = if b then late else early; fresh = record { table = table; name = name; kind = Index (each (column_number old all table) columns) } }) t)
-from old all early late (DropIndex table name) trip is = pick (named_index old table name) refl
-  where
-    pick : (o : Option ElementDef) → named_index old table name ≡ o → From old all early late (DropIndex table name) trip
-    pick None t = absurd (no_trip trip [] (sym (ap (λ o. trip_out o (λ e. IndexOut)) t) ∙ is))
-    pick (Some e) t = OldIndex table name e refl t (sym (one_head (out_trip IndexOut e) trip [] [] (sym (ap (λ o. trip_out o (λ e. IndexOut)) t) ∙ is)))
+    pick true t = LateIndex table name columns refl t (sym (one_head _ trip [] [] is) ∙ ap (λ b. record { wait = if b then steps ColumnIn else 0; course = IndexIn; number = if b then late else early; fresh = record { table = table; name = name; kind = Index (each (column_number old all table) columns) } }) t)
+    pick false t = EarlyIndex table name columns refl t (sym (one_head _ trip [] [] is) ∙ ap (λ b. record { wait = if b then steps ColumnIn else 0; course = IndexIn; number = if b then late else early; fresh = record { table = table; name = name; kind = Index (each (column_number old all table) columns) } }) t)
 from old all early late (AddColumn table name kind) trip is = NewColumn table name kind refl (sym (one_head _ trip [] [] is))
-from old all early late (DropColumn table name) trip is = pick (named_column old table name) refl
-  where
-    late_or_not : (e : ElementDef) → named_column old table name ≡ Some e → (b : Bool) → is_under_dropped old all e.number ≡ b → record { pace = if b then ColumnOutLate else ColumnOut; number = e.number; fresh = record { table = e.table; name = e.name; kind = e.kind } } ≡ trip → From old all early late (DropColumn table name) trip
-    late_or_not e t true u is_trip = OldLateColumn table name e refl t u (sym is_trip)
-    late_or_not e t false u is_trip = OldColumn table name e refl t u (sym is_trip)
-
-    pick : (o : Option ElementDef) → named_column old table name ≡ o → From old all early late (DropColumn table name) trip
-    pick None t = absurd (no_trip trip [] (sym (ap (λ o. trip_out o (λ e. if is_under_dropped old all e.number then ColumnOutLate else ColumnOut)) t) ∙ is))
-    pick (Some e) t = late_or_not e t (is_under_dropped old all e.number) refl (one_head _ trip [] [] (sym (ap (λ o. trip_out o (λ e. if is_under_dropped old all e.number then ColumnOutLate else ColumnOut)) t) ∙ is))
+from old all early late (DropIndex table name) trip is = from_out old all early late (DropIndex table name) trip is
+from old all early late (DropColumn table name) trip is = from_out old all early late (DropColumn table name) trip is
+from old all early late (Abandon table name) trip is = from_out old all early late (Abandon table name) trip is
 
 -- a change makes at most one trip
 single : (old : Version) (all : List Change) (early late : ℕ) (change : Change) → (trip_of old all early late change ≡ []) ⊎ ((trip : Trip) × (trip_of old all early late change ≡ trip ∷ []))
 single old all early late (AddIndex table name columns) = inr (_, refl)
-single old all early late (DropIndex table name) = out (named_index old table name) _
-  where
-    out : (o : Option ElementDef) (pace : ElementDef → Pace) → (trip_out o pace ≡ []) ⊎ ((trip : Trip) × (trip_out o pace ≡ trip ∷ []))
-    out None pace = inl refl
-    out (Some e) pace = inr (_, refl)
 single old all early late (AddColumn table name kind) = inr (_, refl)
-single old all early late (DropColumn table name) = out (named_column old table name) _
+single old all early late change = out (leaving old change)
   where
-    out : (o : Option ElementDef) (pace : ElementDef → Pace) → (trip_out o pace ≡ []) ⊎ ((trip : Trip) × (trip_out o pace ≡ trip ∷ []))
-    out None pace = inl refl
-    out (Some e) pace = inr (_, refl)
+    out : (o : Option ElementDef) → (trip_out old all o ≡ []) ⊎ ((trip : Trip) × (trip_out old all o ≡ trip ∷ []))
+    out None = inl refl
+    out (Some e) = inr (_, refl)
 
 -- the change of a trip, with the numbers that are next there
 pub record Placed (old : Version) (all : List Change) (early late : ℕ) (changes : List Change) (done : List Trip) (trip : Trip) : Type 0 where
@@ -170,38 +159,37 @@ counts old all time test h (change ∷ changes) early late =
     ∙ ap (λ c. cond (test change) 1 0 + c) (counts old all time test h changes _ _)
     ∙ sym (count_first test change changes)
 
+-- none of what leaves enters
+pub out_of : (kind : Kind) (state : ElementState) → is_in (course_out kind state) ≡ false
+out_of kind DeleteOnly = refl
+out_of kind WriteOnly = refl
+out_of (Index columns) Absent = refl
+out_of (Index columns) Public = refl
+out_of (Optional type) Absent = refl
+out_of (Optional type) Public = refl
+
+no_out_entry : (old : Version) (all : List Change) (time : ℕ) (o : Option ElementDef) → count_by is_entry (flat_map (move_of time) (trip_out old all o)) ≡ 0
+no_out_entry old all time None = refl
+no_out_entry old all time (Some e) =
+    ap (count_by is_entry) (flat_map-cons (move_of time) (out_trip old all e) [] ∙ append-nil (move_of time (out_trip old all e))) ∙ (no_entry time (out_trip old all e) (out_of e.kind e.state)).0
+
 early_entries : (old : Version) (all : List Change) (early late : ℕ) (change : Change) → count_by is_entry (flat_map (move_of 0) (trip_of old all early late change)) ≡ cond (is_early all change) 1 0
 early_entries old all early late (AddIndex table name columns) =
-    elim (lists_added all table columns) as (λ b. count_by is_entry (flat_map (move_of 0) (record { pace = if b then IndexInLate else IndexIn; number = if b then late else early; fresh = record { table = table; name = name; kind = Index (each (column_number old all table) columns) } } ∷ [])) ≡ cond (if b then false else true) 1 0) [ true ↦ refl | false ↦ refl ]
-early_entries old all early late (DropIndex table name) = elim (named_index old table name) as (λ o. count_by is_entry (flat_map (move_of 0) (trip_out o (λ e. IndexOut))) ≡ 0) [ None ↦ refl | Some e ↦ refl ]
+    elim (lists_added all table columns) as (λ b. count_by is_entry (flat_map (move_of 0) (record { wait = if b then steps ColumnIn else 0; course = IndexIn; number = if b then late else early; fresh = record { table = table; name = name; kind = Index (each (column_number old all table) columns) } } ∷ [])) ≡ cond (if b then false else true) 1 0) [ true ↦ refl | false ↦ refl ]
 early_entries old all early late (AddColumn table name kind) = refl
-early_entries old all early late (DropColumn table name) =
-    elim (named_column old table name) as (λ o. count_by is_entry (flat_map (move_of 0) (trip_out o (λ e. if is_under_dropped old all e.number then ColumnOutLate else ColumnOut))) ≡ 0) [
-      | None ↦ refl
-      | Some e ↦ elim (is_under_dropped old all e.number) as (λ b. count_by is_entry (flat_map (move_of 0) (out_trip (if b then ColumnOutLate else ColumnOut) e ∷ [])) ≡ 0) [ true ↦ refl | false ↦ refl ]
-    ]
+early_entries old all early late change = no_out_entry old all 0 (leaving old change)
 
 no_entries : (old : Version) (all : List Change) (early late : ℕ) (change : Change) → count_by is_entry (flat_map (move_of 1) (trip_of old all early late change)) ≡ 0
 no_entries old all early late (AddIndex table name columns) =
-    elim (lists_added all table columns) as (λ b. count_by is_entry (flat_map (move_of 1) (record { pace = if b then IndexInLate else IndexIn; number = if b then late else early; fresh = record { table = table; name = name; kind = Index (each (column_number old all table) columns) } } ∷ [])) ≡ 0) [ true ↦ refl | false ↦ refl ]
-no_entries old all early late (DropIndex table name) = elim (named_index old table name) as (λ o. count_by is_entry (flat_map (move_of 1) (trip_out o (λ e. IndexOut))) ≡ 0) [ None ↦ refl | Some e ↦ refl ]
+    elim (lists_added all table columns) as (λ b. count_by is_entry (flat_map (move_of 1) (record { wait = if b then steps ColumnIn else 0; course = IndexIn; number = if b then late else early; fresh = record { table = table; name = name; kind = Index (each (column_number old all table) columns) } } ∷ [])) ≡ 0) [ true ↦ refl | false ↦ refl ]
 no_entries old all early late (AddColumn table name kind) = refl
-no_entries old all early late (DropColumn table name) =
-    elim (named_column old table name) as (λ o. count_by is_entry (flat_map (move_of 1) (trip_out o (λ e. if is_under_dropped old all e.number then ColumnOutLate else ColumnOut))) ≡ 0) [
-      | None ↦ refl
-      | Some e ↦ elim (is_under_dropped old all e.number) as (λ b. count_by is_entry (flat_map (move_of 1) (out_trip (if b then ColumnOutLate else ColumnOut) e ∷ [])) ≡ 0) [ true ↦ refl | false ↦ refl ]
-    ]
+no_entries old all early late change = no_out_entry old all 1 (leaving old change)
 
 late_entries : (old : Version) (all : List Change) (early late : ℕ) (change : Change) → count_by is_entry (flat_map (move_of 2) (trip_of old all early late change)) ≡ cond (is_late all change) 1 0
 late_entries old all early late (AddIndex table name columns) =
-    elim (lists_added all table columns) as (λ b. count_by is_entry (flat_map (move_of 2) (record { pace = if b then IndexInLate else IndexIn; number = if b then late else early; fresh = record { table = table; name = name; kind = Index (each (column_number old all table) columns) } } ∷ [])) ≡ cond b 1 0) [ true ↦ refl | false ↦ refl ]
-late_entries old all early late (DropIndex table name) = elim (named_index old table name) as (λ o. count_by is_entry (flat_map (move_of 2) (trip_out o (λ e. IndexOut))) ≡ 0) [ None ↦ refl | Some e ↦ refl ]
+    elim (lists_added all table columns) as (λ b. count_by is_entry (flat_map (move_of 2) (record { wait = if b then steps ColumnIn else 0; course = IndexIn; number = if b then late else early; fresh = record { table = table; name = name; kind = Index (each (column_number old all table) columns) } } ∷ [])) ≡ cond b 1 0) [ true ↦ refl | false ↦ refl ]
 late_entries old all early late (AddColumn table name kind) = refl
-late_entries old all early late (DropColumn table name) =
-    elim (named_column old table name) as (λ o. count_by is_entry (flat_map (move_of 2) (trip_out o (λ e. if is_under_dropped old all e.number then ColumnOutLate else ColumnOut))) ≡ 0) [
-      | None ↦ refl
-      | Some e ↦ elim (is_under_dropped old all e.number) as (λ b. count_by is_entry (flat_map (move_of 2) (out_trip (if b then ColumnOutLate else ColumnOut) e ∷ [])) ≡ 0) [ true ↦ refl | false ↦ refl ]
-    ]
+late_entries old all early late change = no_out_entry old all 2 (leaving old change)
 
 count_none : (changes : List Change) → count_by (λ (c : Change). false) changes ≡ 0
 count_none [] = refl
@@ -209,54 +197,19 @@ count_none (change ∷ changes) = count_first (λ c. false) change changes ∙ a
 
 -- ---- numbers
 
-pub starts_column : (time : ℕ) → state_at ColumnIn time ≡ Absent → time ≡ 0
-starts_column zero a = refl
-starts_column (suc zero) a = cc
-starts_column (suc (suc time)) a = cc
-
-pub starts_index : (time : ℕ) → state_at IndexIn time ≡ Absent → time ≡ 0
-starts_index zero a = refl
-starts_index (suc zero) a = cc
-starts_index (suc (suc zero)) a = cc
-starts_index (suc (suc (suc time))) a = cc
-
-pub starts_late : (time : ℕ) → state_at IndexInLate time ≡ Absent → state_at IndexInLate (suc time) ≡ DeleteOnly → time ≡ 2
-starts_late zero a b = cc
-starts_late (suc zero) a b = cc
-starts_late (suc (suc zero)) a b = refl
-starts_late (suc (suc (suc zero))) a b = cc
-starts_late (suc (suc (suc (suc zero)))) a b = cc
-starts_late (suc (suc (suc (suc (suc time))))) a b = cc
-
-pub never_starts_index : (time : ℕ) → state_at IndexOut (suc time) ≡ DeleteOnly → state_at IndexOut time ≡ Absent → ⊥
-never_starts_index zero a b = cc
-never_starts_index (suc zero) a b = cc
-never_starts_index (suc (suc zero)) a b = cc
-never_starts_index (suc (suc (suc time))) a b = cc
-
-pub never_starts_column : (time : ℕ) → state_at ColumnOut (suc time) ≡ DeleteOnly → state_at ColumnOut time ≡ Absent → ⊥
-never_starts_column zero a b = cc
-never_starts_column (suc zero) a b = cc
-never_starts_column (suc (suc time)) a b = cc
-
-pub never_starts_late : (time : ℕ) → state_at ColumnOutLate (suc time) ≡ DeleteOnly → state_at ColumnOutLate time ≡ Absent → ⊥
-never_starts_late zero a b = cc
-never_starts_late (suc zero) a b = cc
-never_starts_late (suc (suc zero)) a b = cc
-never_starts_late (suc (suc (suc zero))) a b = cc
-never_starts_late (suc (suc (suc (suc zero)))) a b = cc
-never_starts_late (suc (suc (suc (suc (suc time))))) a b = cc
-
 module _ (old : Version) (all : List Change) where
   abbrev first_late : ℕ
   first_late = old.next + count_by (is_early all) all
 
   -- numbers are given in order
-  pub number_is : (done rest : List Trip) (trip : Trip) (time : ℕ) → trips old all ≡ done ++ trip ∷ rest → state_at trip.pace time ≡ Absent → state_at trip.pace (suc time) ≡ DeleteOnly → trip.number ≡ next_at old (trips old all) time + count_by is_entry (flat_map (move_of time) done)
-  number_is done rest trip time split a b = pick p.from_change
+  pub number_is : (done rest : List Trip) (trip : Trip) (time : ℕ) → trips old all ≡ done ++ trip ∷ rest → act_at trip time ≡ Appear → trip.number ≡ next_at old (trips old all) time + count_by is_entry (flat_map (move_of time) done)
+  number_is done rest trip time split act = pick p.from_change
     where
       p : Placed old all old.next (old.next + count_by (is_early all) all) all done trip
       p = placed old all all old.next (old.next + count_by (is_early all) all) done rest trip split
+
+      first : (time ≡ trip.wait) × (is_in trip.course ≡ true)
+      first = appears trip time act
 
       early_number : time ≡ 0 → trip.number ≡ p.now_early → trip.number ≡ next_at old (trips old all) time + count_by is_entry (flat_map (move_of time) done)
       early_number now is =
@@ -275,12 +228,10 @@ module _ (old : Version) (all : List Change) where
           subst (λ t. trip.number ≡ next_at old (trips old all) t + count_by is_entry (flat_map (move_of t) done)) (sym now) there
 
       pick : From old all p.now_early p.now_late p.change trip → trip.number ≡ next_at old (trips old all) time + count_by is_entry (flat_map (move_of time) done)
-      pick (EarlyIndex table name columns change listed is) = early_number (starts_index time (subst (λ (t : Trip). state_at t.pace time ≡ Absent) is a)) (ap (λ (t : Trip). t.number) is)
-      pick (LateIndex table name columns change listed is) = late_number (starts_late time (subst (λ (t : Trip). state_at t.pace time ≡ Absent) is a) (subst (λ (t : Trip). state_at t.pace (suc time) ≡ DeleteOnly) is b)) (ap (λ (t : Trip). t.number) is)
-      pick (NewColumn table name kind change is) = early_number (starts_column time (subst (λ (t : Trip). state_at t.pace time ≡ Absent) is a)) (ap (λ (t : Trip). t.number) is)
-      pick (OldIndex table name e change found is) = absurd (never_starts_index time (subst (λ (t : Trip). state_at t.pace (suc time) ≡ DeleteOnly) is b) (subst (λ (t : Trip). state_at t.pace time ≡ Absent) is a))
-      pick (OldColumn table name e change found under is) = absurd (never_starts_column time (subst (λ (t : Trip). state_at t.pace (suc time) ≡ DeleteOnly) is b) (subst (λ (t : Trip). state_at t.pace time ≡ Absent) is a))
-      pick (OldLateColumn table name e change found under is) = absurd (never_starts_late time (subst (λ (t : Trip). state_at t.pace (suc time) ≡ DeleteOnly) is b) (subst (λ (t : Trip). state_at t.pace time ≡ Absent) is a))
+      pick (EarlyIndex table name columns change listed is) = early_number (first.0 ∙ ap (λ (t : Trip). t.wait) is) (ap (λ (t : Trip). t.number) is)
+      pick (LateIndex table name columns change listed is) = late_number (first.0 ∙ ap (λ (t : Trip). t.wait) is) (ap (λ (t : Trip). t.number) is)
+      pick (NewColumn table name kind change is) = early_number (first.0 ∙ ap (λ (t : Trip). t.wait) is) (ap (λ (t : Trip). t.number) is)
+      pick (Leaves e found is) = absurd (true≢false (sym first.1 ∙ ap (λ (t : Trip). is_in t.course) is ∙ out_of e.kind e.state))
 
 -- ---- different numbers
 
@@ -290,16 +241,13 @@ one_if b e = ap (λ c. cond c 1 0) e
 pub data Role (old : Version) (all : List Change) (early late : ℕ) (change : Change) (trip : Trip) : Type 0 where
   IsEarly : is_early all change ≡ true → trip.number ≡ early → Role old all early late change trip
   IsLate : is_late all change ≡ true → trip.number ≡ late → Role old all early late change trip
-  DropsIndex : (table : ℕ) (name : List ℕ) (e : ElementDef) → change ≡ DropIndex table name → named_index old table name ≡ Some e → trip.number ≡ e.number → Role old all early late change trip
-  DropsColumn : (table : ℕ) (name : List ℕ) (e : ElementDef) → change ≡ DropColumn table name → named_column old table name ≡ Some e → trip.number ≡ e.number → Role old all early late change trip
+  Goes : (e : ElementDef) → leaving old change ≡ Some e → trip.number ≡ e.number → Role old all early late change trip
 
 pub role : (old : Version) (all : List Change) (early late : ℕ) (change : Change) (trip : Trip) → From old all early late change trip → Role old all early late change trip
 role old all early late change trip (EarlyIndex table name columns is listed trip_is) = IsEarly (ap (is_early all) is ∙ ap (λ b. if b then false else true) listed) (ap (λ (t : Trip). t.number) trip_is)
 role old all early late change trip (LateIndex table name columns is listed trip_is) = IsLate (ap (is_late all) is ∙ listed) (ap (λ (t : Trip). t.number) trip_is)
 role old all early late change trip (NewColumn table name kind is trip_is) = IsEarly (ap (is_early all) is) (ap (λ (t : Trip). t.number) trip_is)
-role old all early late change trip (OldIndex table name e is found trip_is) = DropsIndex table name e is found (ap (λ (t : Trip). t.number) trip_is)
-role old all early late change trip (OldColumn table name e is found under trip_is) = DropsColumn table name e is found (ap (λ (t : Trip). t.number) trip_is)
-role old all early late change trip (OldLateColumn table name e is found under trip_is) = DropsColumn table name e is found (ap (λ (t : Trip). t.number) trip_is)
+role old all early late change trip (Leaves e found trip_is) = Goes e found (ap (λ (t : Trip). t.number) trip_is)
 
 pub count_split : (test : Change → Bool) (xs before after : List Change) (x : Change) → xs ≡ before ++ x ∷ after → count_by test xs ≡ count_by test before + (cond (test x) 1 0 + count_by test after)
 count_split test xs before after x e = ap (count_by test) e ∙ sum_by-append (λ y. cond (test y) 1 0) before (x ∷ after) ∙ ap (λ c. count_by test before + c) (count_first test x after)
@@ -311,19 +259,23 @@ or_here false b e = e
 pub any_middle : (test : Change → Bool) (xs before after : List Change) (x : Change) → xs ≡ before ++ x ∷ after → test x ≡ true → list_any test xs ≡ true
 any_middle test xs before after x e is = ap (list_any test) e ∙ list_any-append test before (x ∷ after) ∙ or_here (list_any test before) _ (ap (λ b. b || list_any test after) is)
 
-pub same_name_is : (table other : ℕ) (name own : List ℕ) → table ≡ other → name ≡ own → is_same_name table name other own ≡ true
-same_name_is table other name own t n = both (table == other) (bytes_eq name own) ((Decides-eqb table other).1 t) ((bytes_eq-Decides name own).1 n)
-  where
-    both : (a b : Bool) → a ≡ true → b ≡ true → (a && b) ≡ true
-    both true b e f = f
-    both false b e f = absurd (true≢false (sym e))
-
 pub same_element : (old : Version) (a b : ElementDef) → element_at old a.number ≡ Some a → element_at old b.number ≡ Some b → a.number ≡ b.number → a ≡ b
 same_element old a b at_a at_b is = let e : Some a ≡ Some b = sym at_a ∙ ap (element_at old) is ∙ at_b in cc
 
 module _ (old : Version) (sound : IsSoundVersion old) (all : List Change) (plannable : IsPlannable old all) where
-  clear : (change : Change) → Contains all change → (fault : PlanFault) → ((earlier : List Change) → ChangeFault old all earlier change fault) → ⊥
-  clear change has fault faulty = let split = split_at all change has in plannable split.0 split.1 change fault split.2 (faulty split.0)
+  -- what a change takes out, no other takes out behind it
+  twice : (before after : List Change) (change : Change) (e : ElementDef) → all ≡ before ++ change ∷ after → leaving old change ≡ Some e → list_any (drops e.table e.name) before ≡ true → ⊥
+  twice before after (AddIndex table name columns) e split is earlier = not_both e None is refl
+  twice before after (AddColumn table name kind) e split is earlier = not_both e None is refl
+  twice before after (DropIndex table name) e split is earlier =
+      let there = index_there old (ordered sound) table name e is in
+      plannable before after (DropIndex table name) Unknown split (inr (subst (λ t. list_any (drops t name) before ≡ true) there.1 (subst (λ n. list_any (drops e.table n) before ≡ true) there.2 earlier)))
+  twice before after (DropColumn table name) e split is earlier =
+      let there = column_there old (ordered sound) table name e is in
+      plannable before after (DropColumn table name) Unknown split (inr (subst (λ t. list_any (drops t name) before ≡ true) there.1 (subst (λ n. list_any (drops e.table n) before ≡ true) there.2 earlier)))
+  twice before after (Abandon table name) e split is earlier =
+      let there = entering_there old (ordered sound) table name e is in
+      plannable before after (Abandon table name) Unknown split (inr (subst (λ t. list_any (drops t name) before ≡ true) there.1 (subst (λ n. list_any (drops e.table n) before ≡ true) there.2 earlier)))
 
   pub apart_is : (done rest : List Trip) (trip other : Trip) → trips old all ≡ done ++ trip ∷ rest → Contains done other → other.number ≢ trip.number
   apart_is done rest trip other split among same = differ (role old all p.now_early p.now_late p.change trip p.from_change) (role old all q.now_early q.now_late q.change other q.from_change)
@@ -346,52 +298,30 @@ module _ (old : Version) (sound : IsSoundVersion old) (all : List Change) (plann
       early_all : count_by (is_early all) all ≡ count_by (is_early all) p.before + (cond (is_early all p.change) 1 0 + count_by (is_early all) p.after)
       early_all = count_split (is_early all) all p.before p.after p.change p.split
 
-      below : (e : ElementDef) → element_at old e.number ≡ Some e → e.number < old.next
-      below e at = (ordered sound).below e.number e at
+      goes : (change : Change) → Contains all change → (e : ElementDef) → leaving old change ≡ Some e → Departs old change e
+      goes change has e is = departs old sound all plannable change has e is
 
-      twice_index : (table : ℕ) (name : List ℕ) (t : ℕ) (n : List ℕ) → p.change ≡ DropIndex table name → q.change ≡ DropIndex t n → table ≡ t → name ≡ n → ⊥
-      twice_index table name t n is_p is_q st sn =
-          plannable p.before p.after p.change Unknown p.split
-          (subst (λ c. ChangeFault old all p.before c Unknown) (sym is_p) (inr (any_middle (drops_index table name) p.before q.before q.after q.change q.split (ap (drops_index table name) is_q ∙ same_name_is table t name n st sn))))
+      has_p : Contains all p.change
+      has_p = subst (λ cs. Contains cs p.change) (sym p.split) (contains_middle p.before p.after p.change)
 
-      twice_column : (table : ℕ) (name : List ℕ) (t : ℕ) (n : List ℕ) → p.change ≡ DropColumn table name → q.change ≡ DropColumn t n → table ≡ t → name ≡ n → ⊥
-      twice_column table name t n is_p is_q st sn =
-          plannable p.before p.after p.change Unknown p.split
-          (subst (λ c. ChangeFault old all p.before c Unknown) (sym is_p) (inr (any_middle (drops_column table name) p.before q.before q.after q.change q.split (ap (drops_column table name) is_q ∙ same_name_is table t name n st sn))))
+      has_q : Contains all q.change
+      has_q = subst (λ cs. Contains cs q.change) (sym p.split) (Contains-append_left p.before (p.change ∷ p.after) q.change (subst (λ cs. Contains cs q.change) (sym q.split) (contains_middle q.before q.after q.change)))
+
+      below : (change : Change) → Contains all change → (e : ElementDef) → leaving old change ≡ Some e → e.number < old.next
+      below change has e is = (ordered sound).below e.number e (goes change has e is).there
 
       differ : Role old all p.now_early p.now_late p.change trip → Role old all q.now_early q.now_late q.change other → ⊥
       differ (IsEarly pe pn) (IsEarly qe qn) = omega (arith, one_if (is_early all q.change) qe, early_before, p.early_is, q.early_is, same)
       differ (IsEarly pe pn) (IsLate ql qn) = omega (arith, one_if (is_early all p.change) pe, early_all, p.early_is, q.late_is, same)
       differ (IsLate pl pn) (IsEarly qe qn) = omega (arith, one_if (is_early all q.change) qe, early_before, early_all, p.late_is, q.early_is, same)
       differ (IsLate pl pn) (IsLate ql qn) = omega (arith, one_if (is_late all q.change) ql, late_before, p.late_is, q.late_is, same)
-      differ (IsEarly pe pn) (DropsIndex t n f is found qn) = let small : f.number < old.next = below f (index_there old (ordered sound) t n f found).0 in omega (arith, p.early_is, same)
-      differ (IsEarly pe pn) (DropsColumn t n f is found qn) = let small : f.number < old.next = below f (column_there old (ordered sound) t n f found).0 in omega (arith, p.early_is, same)
-      differ (IsLate pl pn) (DropsIndex t n f is found qn) = let small : f.number < old.next = below f (index_there old (ordered sound) t n f found).0 in omega (arith, p.late_is, same)
-      differ (IsLate pl pn) (DropsColumn t n f is found qn) = let small : f.number < old.next = below f (column_there old (ordered sound) t n f found).0 in omega (arith, p.late_is, same)
-      differ (DropsIndex t n f is found pn) (IsEarly qe qn) = let small : f.number < old.next = below f (index_there old (ordered sound) t n f found).0 in omega (arith, q.early_is, same)
-      differ (DropsColumn t n f is found pn) (IsEarly qe qn) = let small : f.number < old.next = below f (column_there old (ordered sound) t n f found).0 in omega (arith, q.early_is, same)
-      differ (DropsIndex t n f is found pn) (IsLate ql qn) = let small : f.number < old.next = below f (index_there old (ordered sound) t n f found).0 in omega (arith, q.late_is, same)
-      differ (DropsColumn t n f is found pn) (IsLate ql qn) = let small : f.number < old.next = below f (column_there old (ordered sound) t n f found).0 in omega (arith, q.late_is, same)
-      differ (DropsIndex t n f is found pn) (DropsIndex u m g is_q found_q qn) =
-          let a = index_there old (ordered sound) t n f found in
-          let b = index_there old (ordered sound) u m g found_q in
-          let one : f ≡ g = same_element old f g a.0 b.0 (sym pn ∙ sym same ∙ qn) in
-          twice_index t n u m is is_q (sym a.1 ∙ ap (λ (e : ElementDef). e.table) one ∙ b.1) (sym a.2 ∙ ap (λ (e : ElementDef). e.name) one ∙ b.2)
-      differ (DropsColumn t n f is found pn) (DropsColumn u m g is_q found_q qn) =
-          let a = column_there old (ordered sound) t n f found in
-          let b = column_there old (ordered sound) u m g found_q in
-          let one : f ≡ g = same_element old f g a.0 b.0 (sym pn ∙ sym same ∙ qn) in
-          twice_column t n u m is is_q (sym a.1 ∙ ap (λ (e : ElementDef). e.table) one ∙ b.1) (sym a.2 ∙ ap (λ (e : ElementDef). e.name) one ∙ b.2)
-      differ (DropsIndex t n f is found pn) (DropsColumn u m g is_q found_q qn) =
-          let a = index_there old (ordered sound) t n f found in
-          let b = column_there old (ordered sound) u m g found_q in
-          let one : f ≡ g = same_element old f g a.0 b.0 (sym pn ∙ sym same ∙ qn) in
-          true≢false (sym a.3 ∙ ap (λ (e : ElementDef). is_index e.kind) one ∙ b.3)
-      differ (DropsColumn t n f is found pn) (DropsIndex u m g is_q found_q qn) =
-          let a = column_there old (ordered sound) t n f found in
-          let b = index_there old (ordered sound) u m g found_q in
-          let one : f ≡ g = same_element old f g a.0 b.0 (sym pn ∙ sym same ∙ qn) in
-          true≢false (sym b.3 ∙ ap (λ (e : ElementDef). is_index e.kind) (sym one) ∙ a.3)
+      differ (IsEarly pe pn) (Goes f found qn) = let small : f.number < old.next = below q.change has_q f found in omega (arith, p.early_is, same)
+      differ (IsLate pl pn) (Goes f found qn) = let small : f.number < old.next = below q.change has_q f found in omega (arith, p.late_is, same)
+      differ (Goes f found pn) (IsEarly qe qn) = let small : f.number < old.next = below p.change has_p f found in omega (arith, q.early_is, same)
+      differ (Goes f found pn) (IsLate ql qn) = let small : f.number < old.next = below p.change has_p f found in omega (arith, q.late_is, same)
+      differ (Goes f found pn) (Goes g found_q qn) =
+          let one : f ≡ g = same_element old f g (goes p.change has_p f found).there (goes q.change has_q g found_q).there (sym pn ∙ sym same ∙ qn) in
+          twice p.before p.after p.change f p.split found (any_middle (drops f.table f.name) p.before q.before q.after q.change q.split (subst (λ (x : ElementDef). drops x.table x.name q.change ≡ true) (sym one) (goes q.change has_q g found_q).is_named))
 
   pub one_is : (a b : Trip) → Contains (trips old all) a → Contains (trips old all) b → a.number ≡ b.number → a ≡ b
   one_is a b has_a has_b same = pick (Contains-append_cases sa.0 (a ∷ sa.1) b (subst (λ ts. Contains ts b) sa.2 has_b))

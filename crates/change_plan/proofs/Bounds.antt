@@ -1,6 +1,7 @@
--- A plan needs at least as many steps as its elements have edges, one after another.
-use Rattle.std.specs.Prelude.{◌≡◌, ℕ, ◌+◌, ◌<◌, ◌≤◌, List, [], ◌∷◌, length, Bool, true, false, ◌||◌, not, Option, Some, None, Contains, refl}
-use Rattle.std.proofs.Common.{sym, ap, subst, ◌∙◌, true≢false, arith}
+-- A plan needs at least as many steps as its elements have moves, one after another.
+use Rattle.std.specs.Prelude.{◌≡◌, ℕ, zero, suc, ◌+◌, ◌<◌, ◌≤◌, List, [], ◌∷◌, length, Bool, true, false, ◌||◌, not, Option, Some, None, Contains, refl}
+use Rattle.std.proofs.Common.{sym, ap, subst, ◌∙◌, inl, inr, true≢false, arith}
+use Rattle.std.proofs.lemmas.Bool.{cases_lt}
 use Rattle.std.proofs.lemmas.List.Elements.{All-contains}
 use Rattle.std.proofs.lemmas.List.Elements.{All-from_recursion}
 use Rattle.schema_version.specs.declared.element.ElementState.{ElementState}
@@ -11,15 +12,17 @@ use Rattle.schema_version.specs.declared.element.Kind.{Kind}
 use Rattle.schema_version.specs.declared.element.Kind.TheVariants.{Index, Optional}
 use Rattle.schema_version.specs.declared.element.ElementDef.{ElementDef}
 use Rattle.schema_version.specs.declared.step.Move.{Move}
-use Rattle.schema_version.specs.Edges.{edge}
 use Rattle.schema_version.specs.Version.{Version, element_at, state_of, state_or_absent, is_public, listed}
-use Rattle.schema_version.specs.Moves.{after_step, moves_element, is_unready}
+use Rattle.std.specs.Option.{unwrap_or}
+use Rattle.schema_version.specs.Edges.{edge}
+use Rattle.schema_version.specs.Moves.{turned_back, after_step, moves_element, is_unready, IsIndexOn, IsLeastIndexOn, DependsOn}
 use Rattle.schema_version.specs.Steps.{IsOrdered, in_state_or_none}
-use Rattle.change_plan.proofs.Steps.{Becomes, Stays, Comes, Goes, Midway, AreReady, after_allowed, not_both}
+use Rattle.change_plan.proofs.Steps.{Becomes, Stays, Comes, Goes, Turns, Midway, AreReady, ready_go, after_allowed, not_both}
 use Rattle.change_plan.specs.declared.least_plan.PlanStep.{PlanStep}
 use Rattle.change_plan.specs.Plans.{after_plan, AreAllowed}
 
--- how many edges a state stands above absent
+-- ---- how far an element has come, and how far it is from being gone
+
 abbrev pub height_in : Kind → ElementState → ℕ
 height_in kind Absent = 0
 height_in kind DeleteOnly = 1
@@ -31,52 +34,158 @@ abbrev pub height : Option ElementDef → ℕ
 height None = 0
 height (Some element) = height_in element.kind element.state
 
--- at most so many apart
-abbrev pub IsWithin : ℕ → ℕ → ℕ → Type 0
-IsWithin far a b = (a ≤ b + far) × (b ≤ a + far)
+-- one that is being added turns back first
+abbrev pub moves_out : Kind → ElementState → Way → ℕ
+moves_out kind Absent way = 0
+moves_out kind DeleteOnly Dropping = 1
+moves_out kind DeleteOnly Adding = 2
+moves_out kind WriteOnly Dropping = 2
+moves_out kind WriteOnly Adding = 3
+moves_out (Index columns) Public way = 3
+moves_out (Optional type) Public way = 2
 
--- an edge goes one up or one down
-edge_height : (kind : Kind) (way : Way) (from to : ElementState) (next : Way) → edge kind way from to ≡ Some next → IsWithin 1 (height_in kind from) (height_in kind to)
-edge_height (Index columns) Adding Absent DeleteOnly next e = (omega arith, omega arith)
-edge_height (Index columns) Adding DeleteOnly WriteOnly next e = (omega arith, omega arith)
-edge_height (Index columns) Adding WriteOnly Public next e = (omega arith, omega arith)
-edge_height (Index columns) way Public WriteOnly next e = (omega arith, omega arith)
-edge_height (Index columns) Dropping WriteOnly DeleteOnly next e = (omega arith, omega arith)
-edge_height (Index columns) Dropping DeleteOnly Absent next e = (omega arith, omega arith)
-edge_height (Optional type) Adding Absent DeleteOnly next e = (omega arith, omega arith)
-edge_height (Optional type) Adding DeleteOnly Public next e = (omega arith, omega arith)
-edge_height (Optional type) way Public DeleteOnly next e = (omega arith, omega arith)
-edge_height (Optional type) Dropping DeleteOnly Absent next e = (omega arith, omega arith)
-edge_height kind way from to next e = absurd cc
+abbrev pub distance : Option ElementDef → ℕ
+distance None = 0
+distance (Some element) = moves_out element.kind element.state element.way
 
-height_turned : (element : ElementDef) (to : ElementState) → height (in_state_or_none element to) ≡ height_in element.kind to
-height_turned element Absent = refl
-height_turned element DeleteOnly = refl
-height_turned element WriteOnly = refl
-height_turned element Public = refl
+-- an edge goes at most one up
+edge_rises : (kind : Kind) (way after : Way) (from to : ElementState) → edge kind way from to ≡ Some after → height_in kind to ≤ height_in kind from + 1
+edge_rises (Index columns) Adding after Absent DeleteOnly e = omega arith
+edge_rises (Index columns) Adding after DeleteOnly WriteOnly e = omega arith
+edge_rises (Index columns) Adding after WriteOnly Public e = omega arith
+edge_rises (Index columns) way after Public WriteOnly e = omega arith
+edge_rises (Index columns) Dropping after WriteOnly DeleteOnly e = omega arith
+edge_rises (Index columns) Dropping after DeleteOnly Absent e = omega arith
+edge_rises (Optional type) Adding after Absent DeleteOnly e = omega arith
+edge_rises (Optional type) Adding after DeleteOnly Public e = omega arith
+edge_rises (Optional type) way after Public DeleteOnly e = omega arith
+edge_rises (Optional type) Dropping after DeleteOnly Absent e = omega arith
+edge_rises kind way after from to e = absurd cc
 
--- a step moves a number at most one up or down
-height_becomes : (old : Version) (step : List Move) (next n : ℕ) (now : Option ElementDef) → Becomes old step step next n now → IsWithin 1 (height (element_at old n)) (height now)
-height_becomes old step next n now (Stays same unmoved outside) = subst (λ o. IsWithin 1 (height (element_at old n)) (height o)) (sym same) (omega arith, omega arith)
-height_becomes old step next n now (Comes earlier later fresh split place before after ready) =
-    subst (λ o. IsWithin 1 (height o) (height now)) (sym before) (subst (λ o. IsWithin 1 0 (height o)) (sym after) (omega arith, omega arith))
-height_becomes old step next n now (Goes earlier later element to split before edge after ready) =
-    subst (λ o. IsWithin 1 (height o) (height now)) (sym before)
-    (subst (λ o. IsWithin 1 (height_in element.kind element.state) (height o)) (sym after)
-    (subst (λ h. IsWithin 1 (height_in element.kind element.state) h) (sym (height_turned element to)) (edge_height element.kind edge.0 element.state to edge.1 edge.2)))
+-- and at most one nearer to being gone
+edge_falls : (kind : Kind) (way after : Way) (from to : ElementState) → edge kind way from to ≡ Some after → moves_out kind from way ≤ moves_out kind to after + 1
+edge_falls (Index columns) Adding after Absent DeleteOnly e = omega arith
+edge_falls (Index columns) Adding Adding DeleteOnly WriteOnly e = omega arith
+edge_falls (Index columns) Adding Dropping DeleteOnly WriteOnly e = omega arith
+edge_falls (Index columns) Adding after WriteOnly Public e = omega arith
+edge_falls (Index columns) way Adding Public WriteOnly e = omega arith
+edge_falls (Index columns) way Dropping Public WriteOnly e = omega arith
+edge_falls (Index columns) Dropping Adding WriteOnly DeleteOnly e = omega arith
+edge_falls (Index columns) Dropping Dropping WriteOnly DeleteOnly e = omega arith
+edge_falls (Index columns) Dropping after DeleteOnly Absent e = omega arith
+edge_falls (Optional type) Adding after Absent DeleteOnly e = omega arith
+edge_falls (Optional type) Adding after DeleteOnly Public e = omega arith
+edge_falls (Optional type) way Adding Public DeleteOnly e = omega arith
+edge_falls (Optional type) way Dropping Public DeleteOnly e = omega arith
+edge_falls (Optional type) Dropping after DeleteOnly Absent e = omega arith
+edge_falls kind way after from to e = absurd cc
+
+-- and so does a turn
+turn_falls : (kind : Kind) (state : ElementState) → moves_out kind state Adding ≤ moves_out kind state Dropping + 1
+turn_falls kind Absent = omega arith
+turn_falls kind DeleteOnly = omega arith
+turn_falls kind WriteOnly = omega arith
+turn_falls (Index columns) Public = omega arith
+turn_falls (Optional type) Public = omega arith
+
+height_gone : (element : ElementDef) (to : ElementState) → height (in_state_or_none element to) ≡ height_in element.kind to
+height_gone element Absent = refl
+height_gone element DeleteOnly = refl
+height_gone element WriteOnly = refl
+height_gone element Public = refl
+
+distance_gone : (element : ElementDef) (to : ElementState) (way : Way) → edge element.kind element.way element.state to ≡ Some way → distance (in_state_or_none element to) ≡ moves_out element.kind to way
+distance_gone element Absent way e = refl
+distance_gone element DeleteOnly way e = ap (λ o. moves_out element.kind DeleteOnly (unwrap_or o element.way)) e
+distance_gone element WriteOnly way e = ap (λ o. moves_out element.kind WriteOnly (unwrap_or o element.way)) e
+distance_gone element Public way e = ap (λ o. moves_out element.kind Public (unwrap_or o element.way)) e
+
+-- a step moves a number at most one up, and one nearer to being gone
+height_rises : (old : Version) (step : List Move) (next n : ℕ) (now : Option ElementDef) → Becomes old step step next n now → height now ≤ height (element_at old n) + 1
+height_rises old step next n now (Stays same unmoved outside) = let is : height now ≡ height (element_at old n) = ap height same in omega arith
+height_rises old step next n now (Comes earlier later fresh split place before after ready) = let is : height now ≡ 1 = ap height after in omega arith
+height_rises old step next n now (Goes earlier later to split may after) =
+    let start : height (element_at old n) ≡ height_in may.element.kind may.element.state = ap height may.there in
+    let end : height now ≡ height_in may.element.kind to = ap height after ∙ height_gone may.element to in
+    let up = edge_rises may.element.kind may.element.way may.way may.element.state to may.along in
+    omega arith
+height_rises old step next n now (Turns earlier later split may after) = let is : height now ≡ height (element_at old n) = ap height after ∙ sym (ap height may.there) in omega arith
+
+distance_falls : (old : Version) (step : List Move) (next n : ℕ) (now : Option ElementDef) → Becomes old step step next n now → distance (element_at old n) ≤ distance now + 1
+distance_falls old step next n now (Stays same unmoved outside) = let is : distance now ≡ distance (element_at old n) = ap distance same in omega arith
+distance_falls old step next n now (Comes earlier later fresh split place before after ready) = let is : distance (element_at old n) ≡ 0 = ap distance before in omega arith
+distance_falls old step next n now (Goes earlier later to split may after) =
+    let start : distance (element_at old n) ≡ moves_out may.element.kind may.element.state may.element.way = ap distance may.there in
+    let end : distance now ≡ moves_out may.element.kind to may.way = ap distance after ∙ distance_gone may.element to may.way may.along in
+    let down = edge_falls may.element.kind may.element.way may.way may.element.state to may.along in
+    omega arith
+distance_falls old step next n now (Turns earlier later split may after) =
+    let start : distance (element_at old n) ≡ moves_out may.element.kind may.element.state Adding = ap distance may.there ∙ ap (moves_out may.element.kind may.element.state) may.adding in
+    let end : distance now ≡ moves_out may.element.kind may.element.state Dropping = ap distance after in
+    let down = turn_falls may.element.kind may.element.state in
+    omega arith
 
 -- ---- one element over a plan
 
-pub one_element : (plan : List PlanStep) (old : Version) → IsOrdered old → AreAllowed old plan → (n : ℕ) → IsWithin (length plan) (height (element_at old n)) (height (element_at (after_plan old plan) n))
-one_element [] old numbered allowed n = (omega arith, omega arith)
-one_element (first ∷ rest) old numbered allowed n =
+pub height_over : (plan : List PlanStep) (old : Version) → IsOrdered old → AreAllowed old plan → (n : ℕ) → height (element_at (after_plan old plan) n) ≤ height (element_at old n) + length plan
+height_over [] old numbered allowed n = omega arith
+height_over (first ∷ rest) old numbered allowed n =
     let mid : Midway old first.step first.step (after_step old first.step) = after_allowed old first.step numbered allowed.0 in
-    let near : IsWithin 1 (height (element_at old n)) (height (element_at (after_step old first.step) n)) = height_becomes old first.step _ n _ (mid.becomes n) in
-    let far : IsWithin (length rest) (height (element_at (after_step old first.step) n)) (height (element_at (after_plan (after_step old first.step) rest) n)) = one_element rest (after_step old first.step) mid.numbered allowed.2 n in
-    let a = near.0 in let b = near.1 in let c = far.0 in let d = far.1 in
-    (omega arith, omega arith)
+    let near : height (element_at (after_step old first.step) n) ≤ height (element_at old n) + 1 = height_rises old first.step _ n _ (mid.becomes n) in
+    let far : height (element_at (after_plan (after_step old first.step) rest) n) ≤ height (element_at (after_step old first.step) n) + length rest = height_over rest (after_step old first.step) mid.numbered allowed.2 n in
+    omega arith
 
--- ---- an index and a column that it lists
+pub distance_over : (plan : List PlanStep) (old : Version) → IsOrdered old → AreAllowed old plan → (n : ℕ) → distance (element_at old n) ≤ distance (element_at (after_plan old plan) n) + length plan
+distance_over [] old numbered allowed n = omega arith
+distance_over (first ∷ rest) old numbered allowed n =
+    let mid : Midway old first.step first.step (after_step old first.step) = after_allowed old first.step numbered allowed.0 in
+    let near : distance (element_at old n) ≤ distance (element_at (after_step old first.step) n) + 1 = distance_falls old first.step _ n _ (mid.becomes n) in
+    let far : distance (element_at (after_step old first.step) n) ≤ distance (element_at (after_plan (after_step old first.step) rest) n) + length rest = distance_over rest (after_step old first.step) mid.numbered allowed.2 n in
+    omega arith
+
+-- ---- a number is given once, so it keeps its table, name and kind
+
+-- a live element of this number has them
+abbrev pub IsStill : ElementDef → ElementDef → Type 0
+IsStill one other = (one.table ≡ other.table) × (one.name ≡ other.name) × (one.kind ≡ other.kind)
+
+abbrev pub IfLive : ElementDef → ℕ → Version → Type 0
+IfLive element number version = (number < version.next) × ((now : ElementDef) → element_at version number ≡ Some now → IsStill now element)
+
+still_gone : (element : ElementDef) (to : ElementState) (now : ElementDef) → in_state_or_none element to ≡ Some now → IsStill now element
+still_gone element Absent now is = absurd (not_both now None is refl)
+still_gone element DeleteOnly now is = (cc, cc, cc)
+still_gone element WriteOnly now is = (cc, cc, cc)
+still_gone element Public now is = (cc, cc, cc)
+
+still_turned : (element now : ElementDef) → Some (turned_back element) ≡ Some now → IsStill now element
+still_turned element now is = (cc, cc, cc)
+
+still_step : (old : Version) (step : List Move) (now : Version) → Midway old step step now → (element : ElementDef) (number : ℕ) → IfLive element number old → IfLive element number now
+still_step old step now mid element number live =
+    (let a : number < old.next = live.0 in let l = mid.next in omega arith, λ f at. pick f at (mid.becomes number))
+  where
+    both : (f e : ElementDef) → IsStill f e → IsStill e element → IsStill f element
+    both f e one two = (one.0 ∙ two.0, one.1 ∙ two.1, one.2 ∙ two.2)
+
+    pick : (f : ElementDef) → element_at now number ≡ Some f → Becomes old step step now.next number (element_at now number) → IsStill f element
+    pick f at (Stays same unmoved outside) = live.1 f (sym same ∙ at)
+    pick f at (Comes earlier later fresh split place before after are) = let a : number < old.next = live.0 in absurd (omega arith)
+    pick f at (Turns earlier later split may after) = both f may.element (still_turned may.element f (sym after ∙ at)) (live.1 may.element may.there)
+    pick f at (Goes earlier later to split may after) = both f may.element (still_gone may.element to f (sym after ∙ at)) (live.1 may.element may.there)
+
+still_over : (plan : List PlanStep) (old : Version) → IsOrdered old → AreAllowed old plan → (element : ElementDef) (number : ℕ) → IfLive element number old → IfLive element number (after_plan old plan)
+still_over [] old numbered allowed element number live = live
+still_over (first ∷ rest) old numbered allowed element number live =
+    let mid : Midway old first.step first.step (after_step old first.step) = after_allowed old first.step numbered allowed.0 in
+    still_over rest (after_step old first.step) mid.numbered allowed.2 element number (still_step old first.step _ mid element number live)
+
+-- a live element that is live in the end has kept its table, name and kind
+pub still_in_the_end : (plan : List PlanStep) (old : Version) → IsOrdered old → AreAllowed old plan → (number : ℕ) (before after : ElementDef) → element_at old number ≡ Some before → element_at (after_plan old plan) number ≡ Some after → IsStill after before
+still_in_the_end plan old numbered allowed number before after at_old at_new =
+    (still_over plan old numbered allowed before number (numbered.below number before at_old, λ now at. let same : before ≡ now = cc in subst (λ x. IsStill x before) same (refl, refl, refl))).1 after at_new
+
+-- ---- an added index and a column that it lists
 
 or_false : (a b : Bool) → (a || b) ≡ false → (a ≡ false) × (b ≡ false)
 or_false true b e = absurd (true≢false e)
@@ -102,111 +211,97 @@ ListsIfLive index column version = (element : ElementDef) → element_at version
 abbrev pub heights : ℕ → ℕ → Version → ℕ
 heights index column version = height (element_at version index) + height (element_at version column)
 
--- no step moves both
-heights_step : (old : Version) (step : List Move) (now : Version) (index column : ℕ) → IsOrdered old → Midway old step step now → ListsIfLive index column old → ListsIfLive index column now → IsWithin 1 (heights index column old) (heights index column now)
+-- no step raises both
+heights_step : (old : Version) (step : List Move) (now : Version) (index column : ℕ) → IsOrdered old → Midway old step step now → ListsIfLive index column old → ListsIfLive index column now → heights index column now ≤ heights index column old + 1
 heights_step old step now index column numbered mid lists_old lists_now = pick (mid.becomes index)
   where
-    of_index : IsWithin 1 (height (element_at old index)) (height (element_at now index))
-    of_index = height_becomes old step _ index _ (mid.becomes index)
+    of_index : height (element_at now index) ≤ height (element_at old index) + 1
+    of_index = height_rises old step _ index _ (mid.becomes index)
 
-    of_column : IsWithin 1 (height (element_at old column)) (height (element_at now column))
-    of_column = height_becomes old step _ column _ (mid.becomes column)
+    of_column : height (element_at now column) ≤ height (element_at old column) + 1
+    of_column = height_rises old step _ column _ (mid.becomes column)
 
-    ready : (kind : Kind) → AreReady old step kind → Contains (listed kind) column → IsWithin 1 (heights index column old) (heights index column now)
+    ready : (kind : Kind) → AreReady old step kind → Contains (listed kind) column → heights index column now ≤ heights index column old + 1
     ready kind are lists =
         let same : height (element_at now column) ≡ height (element_at old column) = ap height (stays_if_ready old step now numbered mid kind are column lists) in
-        let a = of_index.0 in let b = of_index.1 in
-        (omega arith, omega arith)
+        let a = of_index in
+        omega arith
 
-    pick : Becomes old step step now.next index (element_at now index) → IsWithin 1 (heights index column old) (heights index column now)
-    pick (Stays same unmoved outside) =
-        let is : height (element_at now index) ≡ height (element_at old index) = ap height same in
-        let a = of_column.0 in let b = of_column.1 in
-        (omega arith, omega arith)
+    level : height (element_at now index) ≡ height (element_at old index) → heights index column now ≤ heights index column old + 1
+    level is = let a = of_column in omega arith
+
+    pick : Becomes old step step now.next index (element_at now index) → heights index column now ≤ heights index column old + 1
+    pick (Stays same unmoved outside) = level (ap height same)
     pick (Comes earlier later fresh split place before after are) = ready fresh.kind are (lists_now _ after)
-    pick (Goes earlier later element to split before edge after are) = ready element.kind are (lists_old element before)
+    pick (Turns earlier later split may after) = level (ap height after ∙ sym (ap height may.there))
+    pick (Goes earlier later to split may after) = ready may.element.kind (ready_go old step index may.element.kind may.free) (lists_old may.element may.there)
 
--- at each version on the plan's way
-abbrev pub AllAlong : (Version → Type 0) → Version → List PlanStep → Type 0
-AllAlong P version [] = P version
-AllAlong P version (first ∷ rest) = P version × AllAlong P (after_step version first.step) rest
-
-along_head : (P : Version → Type 0) (version : Version) (plan : List PlanStep) → AllAlong P version plan → P version
-along_head P version [] h = h
-along_head P version (first ∷ rest) h = h.0
-
-two_elements_along : (plan : List PlanStep) (old : Version) → IsOrdered old → AreAllowed old plan → (index column : ℕ) → AllAlong (ListsIfLive index column) old plan → IsWithin (length plan) (heights index column old) (heights index column (after_plan old plan))
-two_elements_along [] old numbered allowed index column along = (omega arith, omega arith)
-two_elements_along (first ∷ rest) old numbered allowed index column along =
+pub two_added : (plan : List PlanStep) (old : Version) → IsOrdered old → AreAllowed old plan → (index column : ℕ) (element : ElementDef) → element_at (after_plan old plan) index ≡ Some element → Contains (listed element.kind) column
+    → heights index column (after_plan old plan) ≤ heights index column old + length plan
+two_added [] old numbered allowed index column element at lists = omega arith
+two_added (first ∷ rest) old numbered allowed index column element at lists =
     let mid : Midway old first.step first.step (after_step old first.step) = after_allowed old first.step numbered allowed.0 in
-    let near : IsWithin 1 (heights index column old) (heights index column (after_step old first.step)) = heights_step old first.step _ index column numbered mid along.0 (along_head _ _ rest along.1) in
-    let far : IsWithin (length rest) (heights index column (after_step old first.step)) (heights index column (after_plan (after_step old first.step) rest)) = two_elements_along rest (after_step old first.step) mid.numbered allowed.2 index column along.1 in
-    let a = near.0 in let b = near.1 in let c = far.0 in let d = far.1 in
-    (omega arith, omega arith)
+    let lists_old : ListsIfLive index column old = λ now is. subst (λ kind. Contains (listed kind) column) (still_in_the_end (first ∷ rest) old numbered allowed index now element is at).2 lists in
+    let lists_mid : ListsIfLive index column (after_step old first.step) = λ now is. subst (λ kind. Contains (listed kind) column) (still_in_the_end rest (after_step old first.step) mid.numbered allowed.2 index now element is at).2 lists in
+    let near : heights index column (after_step old first.step) ≤ heights index column old + 1 = heights_step old first.step _ index column numbered mid lists_old lists_mid in
+    let far : heights index column (after_plan (after_step old first.step) rest) ≤ heights index column (after_step old first.step) + length rest = two_added rest (after_step old first.step) mid.numbered allowed.2 index column element at lists in
+    omega arith
 
--- ---- a number is given once, so it keeps its table, name and kind
+-- ---- a public column and a live index that lists it
 
--- a live element of this number has them
-abbrev pub IsStill : ElementDef → ElementDef → Type 0
-IsStill one other = (one.table ≡ other.table) × (one.name ≡ other.name) × (one.kind ≡ other.kind)
+-- where none is the least, there is none
+none_below : (version : Version) (column : ℕ) → ((on : ℕ) → ¬ (IsLeastIndexOn version column on)) → (most number : ℕ) → number < most → ¬ (IsIndexOn version column number)
+none_below version column none zero number below is = absurd (omega arith)
+none_below version column none (suc most) number below is =
+    none number (is, λ other on. elim (cases_lt other number) [ inl less ↦ absurd (none_below version column none most other (omega (arith, less)) on) | inr le ↦ le ])
 
-abbrev pub IfLive : ElementDef → ℕ → Version → Type 0
-IfLive element number version = (number < version.next) × ((now : ElementDef) → element_at version number ≡ Some now → IsStill now element)
-
-still_turned : (element : ElementDef) (to : ElementState) (now : ElementDef) → in_state_or_none element to ≡ Some now → IsStill now element
-still_turned element Absent now is = absurd (not_both now None is refl)
-still_turned element DeleteOnly now is = (cc, cc, cc)
-still_turned element WriteOnly now is = (cc, cc, cc)
-still_turned element Public now is = (cc, cc, cc)
-
-still_step : (old : Version) (step : List Move) (now : Version) → Midway old step step now → (element : ElementDef) (number : ℕ) → IfLive element number old → IfLive element number now
-still_step old step now mid element number live =
-    (let a : number < old.next = live.0 in let l = mid.next in omega arith, λ f at. pick f at (mid.becomes number))
+-- no step moves a column that a live index lists
+column_stays : (old : Version) (step : List Move) (now : Version) → Midway old step step now → (index column : ℕ) (i c : ElementDef) (type : _) → element_at old index ≡ Some i → Contains (listed i.kind) column → element_at old column ≡ Some c → c.kind ≡ Optional type → c.state ≡ Public → element_at now column ≡ Some c
+column_stays old step now mid index column i c type at_index lists at_column kind state = pick (mid.becomes column)
   where
-    pick : (f : ElementDef) → element_at now number ≡ Some f → Becomes old step step now.next number (element_at now number) → IsStill f element
-    pick f at (Stays same unmoved outside) = live.1 f (sym same ∙ at)
-    pick f at (Comes earlier later fresh split place before after are) = let a : number < old.next = live.0 in absurd (omega arith)
-    pick f at (Goes earlier later e to split before edge after are) =
-        let one : IsStill f e = still_turned e to f (sym after ∙ at) in
-        let two : IsStill e element = live.1 e before in
-        (one.0 ∙ two.0, one.1 ∙ two.1, one.2 ∙ two.2)
+    pick : Becomes old step step now.next column (element_at now column) → element_at now column ≡ Some c
+    pick (Stays same unmoved outside) = same ∙ at_column
+    pick (Comes earlier later fresh split place before after are) = absurd (not_both c (element_at old column) at_column before)
+    pick (Turns earlier later split may after) =
+        let one : Some may.element ≡ Some c = sym may.there ∙ at_column in
+        let is : may.element ≡ c = cc in
+        absurd (may.private (ap (λ (e : ElementDef). e.state) is ∙ state))
+    pick (Goes earlier later to split may after) =
+        let one : Some may.element ≡ Some c = sym may.there ∙ at_column in
+        let is : may.element ≡ c = cc in
+        let of_kind : may.element.kind ≡ Optional type = ap (λ (e : ElementDef). e.kind) is ∙ kind in
+        absurd (none_below old column (λ on least. may.free on (subst (λ k. DependsOn old step column k on) (sym of_kind) least)) (suc index) index (omega arith) (i, at_index, lists))
 
-still_along : (plan : List PlanStep) (old : Version) → IsOrdered old → AreAllowed old plan → (element : ElementDef) (number : ℕ) → IfLive element number old → AllAlong (IfLive element number) old plan
-still_along [] old numbered allowed element number live = live
-still_along (first ∷ rest) old numbered allowed element number live =
-    let mid : Midway old first.step first.step (after_step old first.step) = after_allowed old first.step numbered allowed.0 in
-    (live, still_along rest (after_step old first.step) mid.numbered allowed.2 element number (still_step old first.step _ mid element number live))
+-- the column is dropped behind the index
+pub two_dropped : (plan : List PlanStep) (old : Version) → IsOrdered old → AreAllowed old plan → (index column : ℕ) (i c : ElementDef) (type : _) → element_at old index ≡ Some i → Contains (listed i.kind) column → element_at old column ≡ Some c → c.kind ≡ Optional type → c.state ≡ Public
+    → element_at (after_plan old plan) index ≡ None → element_at (after_plan old plan) column ≡ None → distance (Some i) + distance (Some c) ≤ length plan
+two_dropped [] old numbered allowed index column i c type at_index lists at_column kind state no_index no_column = absurd (not_both i (element_at old index) at_index no_index)
+two_dropped (first ∷ rest) old numbered allowed index column i c type at_index lists at_column kind state no_index no_column =
+    pick (element_at (after_step old first.step) index) refl
+    (λ j at lists_j. two_dropped rest (after_step old first.step) (after_allowed old first.step numbered allowed.0).numbered allowed.2 index column j c type at lists_j
+    (column_stays old first.step (after_step old first.step) (after_allowed old first.step numbered allowed.0) index column i c type at_index lists at_column kind state) kind state no_index no_column)
+  where
+    mid : Midway old first.step first.step (after_step old first.step)
+    mid = after_allowed old first.step numbered allowed.0
 
-along_last : (P : Version → Type 0) (version : Version) (plan : List PlanStep) → AllAlong P version plan → P (after_plan version plan)
-along_last P version [] h = h
-along_last P version (first ∷ rest) h = along_last P (after_step version first.step) rest h.1
+    stays : element_at (after_step old first.step) column ≡ Some c
+    stays = column_stays old first.step (after_step old first.step) mid index column i c type at_index lists at_column kind state
 
-along_map : (P Q : Version → Type 0) → ((v : Version) → P v → Q v) → (version : Version) (plan : List PlanStep) → AllAlong P version plan → AllAlong Q version plan
-along_map P Q f version [] h = f version h
-along_map P Q f version (first ∷ rest) h = (f version h.0, along_map P Q f (after_step version first.step) rest h.1)
+    near : distance (Some i) ≤ distance (element_at (after_step old first.step) index) + 1
+    near = subst (λ o. distance o ≤ distance (element_at (after_step old first.step) index) + 1) at_index (distance_falls old first.step _ index _ (mid.becomes index))
 
--- a live element that is live in the end has kept its table, name and kind
-pub still_in_the_end : (plan : List PlanStep) (old : Version) → IsOrdered old → AreAllowed old plan → (number : ℕ) (before after : ElementDef) → element_at old number ≡ Some before → element_at (after_plan old plan) number ≡ Some after → IsStill after before
-still_in_the_end plan old numbered allowed number before after at_old at_new =
-    (along_last _ old plan (still_along plan old numbered allowed before number (numbered.below number before at_old, λ now at. let same : before ≡ now = cc in subst (λ x. IsStill x before) same (refl, refl, refl)))).1 after at_new
-
--- ---- (dropped) the index is live at first and lists the column
-
-pub two_dropped : (plan : List PlanStep) (old : Version) → IsOrdered old → AreAllowed old plan → (index column : ℕ) (element : ElementDef) → element_at old index ≡ Some element → Contains (listed element.kind) column → IsWithin (length plan) (heights index column old) (heights index column (after_plan old plan))
-two_dropped plan old numbered allowed index column element at lists =
-    two_elements_along plan old numbered allowed index column
-    (along_map (IfLive element index) (ListsIfLive index column) (λ v live now is. subst (λ kind. Contains (listed kind) column) (sym (live.1 now is).2) lists) old plan
-    (still_along plan old numbered allowed element index (numbered.below index element at, λ now is. let same : element ≡ now = cc in subst (λ x. IsStill x element) same (refl, refl, refl))))
-
--- ---- (added) the index is live in the end and lists the column
-
-lists_along : (plan : List PlanStep) (old : Version) → IsOrdered old → AreAllowed old plan → (index column : ℕ) (element : ElementDef) → element_at (after_plan old plan) index ≡ Some element → Contains (listed element.kind) column → AllAlong (ListsIfLive index column) old plan
-lists_along [] old numbered allowed index column element at lists = λ now is. let same : element ≡ now = cc in subst (λ (x : ElementDef). Contains (listed x.kind) column) same lists
-lists_along (first ∷ rest) old numbered allowed index column element at lists =
-    let mid : Midway old first.step first.step (after_step old first.step) = after_allowed old first.step numbered allowed.0 in (
-      λ now is. subst (λ kind. Contains (listed kind) column) (still_in_the_end (first ∷ rest) old numbered allowed index now element is at).2 lists,
-      lists_along rest (after_step old first.step) mid.numbered allowed.2 index column element at lists,
-    )
-
-pub two_added : (plan : List PlanStep) (old : Version) → IsOrdered old → AreAllowed old plan → (index column : ℕ) (element : ElementDef) → element_at (after_plan old plan) index ≡ Some element → Contains (listed element.kind) column → IsWithin (length plan) (heights index column old) (heights index column (after_plan old plan))
-two_added plan old numbered allowed index column element at lists = two_elements_along plan old numbered allowed index column (lists_along plan old numbered allowed index column element at lists)
+    pick : (o : Option ElementDef) → element_at (after_step old first.step) index ≡ o
+        → ((j : ElementDef) → element_at (after_step old first.step) index ≡ Some j → Contains (listed j.kind) column → distance (Some j) + distance (Some c) ≤ length rest) → distance (Some i) + distance (Some c) ≤ suc (length rest)
+    pick None at again =
+        let gone : distance (element_at (after_step old first.step) index) ≡ 0 = ap distance at in
+        let column_then : distance (element_at (after_step old first.step) column) ≡ distance (Some c) = ap distance stays in
+        let column_end : distance (element_at (after_plan (after_step old first.step) rest) column) ≡ 0 = ap distance no_column in
+        let far : distance (element_at (after_step old first.step) column) ≤ distance (element_at (after_plan (after_step old first.step) rest) column) + length rest = distance_over rest (after_step old first.step) mid.numbered allowed.2 column in
+        let n = near in
+        omega arith
+    pick (Some j) at again =
+        let same : distance (element_at (after_step old first.step) index) ≡ distance (Some j) = ap distance at in
+        let still = still_in_the_end (first ∷ []) old numbered (allowed.0, allowed.1, tt) index i j at_index at in
+        let far : distance (Some j) + distance (Some c) ≤ length rest = again j at (subst (λ k. Contains (listed k) column) (sym still.2) lists) in
+        let n = near in
+        omega arith

@@ -8,7 +8,7 @@ use Rattle.listed.specs.Refusal.{IsFirst}
 use Rattle.schema_version.specs.Names.{max_elements}
 use Rattle.schema_version.specs.Version.{Version}
 use Rattle.change_plan.specs.declared.change.Change.{Change}
-use Rattle.change_plan.specs.declared.change.Change.TheVariants.{AddIndex, DropIndex, AddColumn, DropColumn}
+use Rattle.change_plan.specs.declared.change.Change.TheVariants.{AddIndex, AddColumn}
 use Rattle.change_plan.specs.declared.fault.PlanFault.{PlanFault}
 use Rattle.change_plan.specs.declared.fault.PlanFault.TheVariants.{Limit}
 use Rattle.change_plan.specs.Batches.{lists_added}
@@ -94,9 +94,8 @@ early_or_late all (AddIndex table name columns) = by (lists_added all table colu
     by : (b : Bool) → ◌≡◌ {A = ℕ} (cond (if b then false else true) 1 0 + cond b 1 0) 1
     by true = refl
     by false = refl
-early_or_late all (DropIndex table name) = refl
 early_or_late all (AddColumn table name kind) = refl
-early_or_late all (DropColumn table name) = refl
+early_or_late all change = refl
 
 -- each addition enters early or late
 both_counts : (all changes : List Change) → count_by (is_early all) changes + count_by (is_late all) changes ≡ count_by is_addition changes
@@ -117,10 +116,8 @@ one_has_number old all earlier changes (AddColumn table name kind) split clear r
   | inl over ↦ absurd (clear earlier changes (AddColumn table name kind) Limit split (inr (inr over)))
   | inr room ↦ inl room
 ]
-one_has_number old all earlier changes (DropIndex table name) split clear (inl room) = inl room
-one_has_number old all earlier changes (DropIndex table name) split clear (inr rest) = inr (omega (arith, rest, first_of is_addition (DropIndex table name) changes))
-one_has_number old all earlier changes (DropColumn table name) split clear (inl room) = inl room
-one_has_number old all earlier changes (DropColumn table name) split clear (inr rest) = inr (omega (arith, rest, first_of is_addition (DropColumn table name) changes))
+one_has_number old all earlier changes change split clear (inl room) = inl room
+one_has_number old all earlier changes change split clear (inr rest) = inr (omega (arith, rest, first_of is_addition change changes))
 
 has_number : (old : Version) (all changes earlier : List Change) → all ≡ earlier ++ changes → IsPlannable old all → HasNumber old all changes
 unfolding HasNumber

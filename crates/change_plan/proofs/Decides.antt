@@ -18,8 +18,8 @@ use Rattle.schema_version.proofs.Lists.{any_says, any_from, some_same}
 use Rattle.schema_version.proofs.Live.{live_has, live_from}
 use Rattle.schema_version.proofs.Decides.{word, at_most, itself}
 use Rattle.change_plan.specs.declared.change.Change.{Change}
-use Rattle.change_plan.specs.declared.change.Change.TheVariants.{AddIndex, DropIndex, AddColumn, DropColumn}
-use Rattle.change_plan.specs.Batches.{named, named_index, named_column, adds, adds_column, drops_index, drops_column, lists}
+use Rattle.change_plan.specs.declared.change.Change.TheVariants.{AddIndex, DropIndex, AddColumn, DropColumn, Abandon}
+use Rattle.change_plan.specs.Batches.{named, named_index, named_column, named_entering, adds, adds_column, drops, drops_index, drops_column, lists}
 use Rattle.change_plan.specs.Refusals.{IsInChange, IsTaken, IsStillListed, AddsIndexOn, IsListed, adds_like, is_addition, IsOver, IsColumnList, ChangeFault}
 use Rattle.change_plan.specs.Deciding.{lacks_column, is_taken, is_in_change, still_lists, adds_index_on, is_listed, is_over, change_check}
 use Rattle.change_plan.proofs.Chain.{Says, chain_says}
@@ -89,7 +89,7 @@ over old all table index =
 
 -- ---- indexes on a column
 
-listing : (column : ℕ) (index : ElementDef) → Decides (lists column (Some index)) (Contains (listed index.kind) column)
+listing : (column : ℕ) (index : ElementDef) → Decides (lists column index) (Contains (listed index.kind) column)
 listing column index = (
   λ p. (let r = any_says (λ other. other == column) (listed index.kind) p in subst (Contains (listed index.kind)) ((Decides-eqb r.0 column).0 r.2) r.1),
   λ there. any_from (λ other. other == column) (listed index.kind) column there ((Decides-eqb column column).1 refl),
@@ -101,7 +101,7 @@ still old all column =
     (λ (index, has, (there, kept)). (let at = live_from old index has in (at.0, index, at.1, there, kept)))
     (λ (number, index, at, there, kept). (index, live_has old number index at, (there, kept)))
     (any (still_lists all column.number) (λ index. Contains (listed index.kind) column.number × (list_any (drops_index index.table index.name) all ≡ false)) (live old)
-    (λ index. Decides-and (lists column.number (Some index)) (not (list_any (drops_index index.table index.name) all)) (listing column.number index) (is_false (list_any (drops_index index.table index.name) all))))
+    (λ index. Decides-and (lists column.number index) (not (list_any (drops_index index.table index.name) all)) (listing column.number index) (is_false (list_any (drops_index index.table index.name) all))))
 
 adds_on : (table : ℕ) (name : List ℕ) (change : Change) → Decides (adds_index_on table name change) (AddsIndexOn table name change)
 adds_on table name (AddIndex other own columns) = Decides-and (other == table) (list_any (λ column. bytes_eq column name) columns) (Decides-eqb other table) (among columns)
@@ -111,9 +111,7 @@ adds_on table name (AddIndex other own columns) = Decides-and (other == table) (
       λ p. (let r = any_says (λ column. bytes_eq column name) columns p in subst (Contains columns) ((bytes_eq-Decides r.0 name).0 r.2) r.1),
       λ there. any_from (λ column. bytes_eq column name) columns name there ((bytes_eq-Decides name name).1 refl),
     )
-adds_on table name (DropIndex other own) = never
-adds_on table name (AddColumn other own kind) = never
-adds_on table name (DropColumn other own) = never
+adds_on table name change = never
 
 on_column : (old : Version) (all : List Change) (table : ℕ) (name : List ℕ) (o : Option ElementDef) → Decides (is_listed old all table name o) (IsListed old all table name o)
 on_column old all table name None = never
@@ -126,20 +124,20 @@ on_column old all table name (Some column) =
 pub change_says : (old : Version) (all earlier : List Change) (change : Change) → Says (ChangeFault old all earlier change) (change_check old all earlier change)
 change_says old all earlier (AddIndex table name columns) =
     chain_says (ChangeFault old all earlier (AddIndex table name columns)) (not (is_some (table_at old table)) || list_any (lacks_column old all table) columns) (is_taken old earlier table name)
-    (list_any (λ column. list_any (drops_column table column) all) columns) (list_any (λ column. is_in_change (named_column old table column)) columns) (not (is_name name) || (not (is_name_list columns) || is_over old all table true))
+    (list_any (λ column. list_any (drops_column old table column) all) columns) (list_any (λ column. is_in_change (named_column old table column)) columns) (not (is_name name) || (not (is_name_list columns) || is_over old all table true))
     (record {
       unknown = Decides-or (not (is_some (table_at old table))) (list_any (lacks_column old all table) columns) (is_false (is_some (table_at old table))) (lacking old all table columns);
       taken = taken old earlier table name;
-      indexed = any (λ column. list_any (drops_column table column) all) (λ column. IsTrue (list_any (drops_column table column) all)) columns (λ column. itself (list_any (drops_column table column) all));
+      indexed = any (λ column. list_any (drops_column old table column) all) (λ column. IsTrue (list_any (drops_column old table column) all)) columns (λ column. itself (list_any (drops_column old table column) all));
       moving = any (λ column. is_in_change (named_column old table column)) (λ column. IsInChange (named_column old table column)) columns (λ column. in_change (named_column old table column));
       over = Decides-or (not (is_name name)) (not (is_name_list columns) || is_over old all table true) (Decides-not (is_name name) (word name))
           (Decides-or (not (is_name_list columns)) (is_over old all table true) (Decides-not (is_name_list columns) (column_list columns)) (over old all table true));
       memory = λ h. h;
     })
 change_says old all earlier (DropIndex table name) =
-    chain_says (ChangeFault old all earlier (DropIndex table name)) (not (is_some (named_index old table name)) || list_any (drops_index table name) earlier) false false (is_in_change (named_index old table name)) false
+    chain_says (ChangeFault old all earlier (DropIndex table name)) (not (is_some (named_index old table name)) || list_any (drops table name) earlier) false false (is_in_change (named_index old table name)) false
     (record {
-      unknown = Decides-or (not (is_some (named_index old table name))) (list_any (drops_index table name) earlier) (is_false (is_some (named_index old table name))) (itself (list_any (drops_index table name) earlier));
+      unknown = Decides-or (not (is_some (named_index old table name))) (list_any (drops table name) earlier) (is_false (is_some (named_index old table name))) (itself (list_any (drops table name) earlier));
       taken = never;
       indexed = never;
       moving = in_change (named_index old table name);
@@ -157,12 +155,22 @@ change_says old all earlier (AddColumn table name kind) =
       memory = λ h. h;
     })
 change_says old all earlier (DropColumn table name) =
-    chain_says (ChangeFault old all earlier (DropColumn table name)) (not (is_some (named_column old table name)) || list_any (drops_column table name) earlier) false (is_listed old all table name (named_column old table name)) (is_in_change (named_column old table name)) false
+    chain_says (ChangeFault old all earlier (DropColumn table name)) (not (is_some (named_column old table name)) || list_any (drops table name) earlier) false (is_listed old all table name (named_column old table name)) (is_in_change (named_column old table name)) false
     (record {
-      unknown = Decides-or (not (is_some (named_column old table name))) (list_any (drops_column table name) earlier) (is_false (is_some (named_column old table name))) (itself (list_any (drops_column table name) earlier));
+      unknown = Decides-or (not (is_some (named_column old table name))) (list_any (drops table name) earlier) (is_false (is_some (named_column old table name))) (itself (list_any (drops table name) earlier));
       taken = never;
       indexed = on_column old all table name (named_column old table name);
       moving = in_change (named_column old table name);
+      over = never;
+      memory = λ h. h;
+    })
+change_says old all earlier (Abandon table name) =
+    chain_says (ChangeFault old all earlier (Abandon table name)) (not (is_some (named_entering old table name)) || list_any (drops table name) earlier) false (is_listed old all table name (named_column old table name)) false false
+    (record {
+      unknown = Decides-or (not (is_some (named_entering old table name))) (list_any (drops table name) earlier) (is_false (is_some (named_entering old table name))) (itself (list_any (drops table name) earlier));
+      taken = never;
+      indexed = on_column old all table name (named_column old table name);
+      moving = never;
       over = never;
       memory = λ h. h;
     })

@@ -12,6 +12,7 @@ use Rattle.std.proofs.lemmas.Bool.Decides.{Decides-eqb}
 use Rattle.std.proofs.lemmas.Slice.Eq.{bytes_eq-Decides}
 use Rattle.std.proofs.lemmas.List.Elements.{Contains-append_left, Contains-append_right, Contains-append_cases}
 use Rattle.schema_version.specs.declared.element.ElementState.TheVariants.{Public}
+use Rattle.schema_version.specs.declared.element.Way.TheVariants.{Adding}
 use Rattle.schema_version.specs.declared.element.Kind.{Kind}
 use Rattle.schema_version.specs.declared.element.Kind.TheVariants.{Index, Optional}
 use Rattle.schema_version.specs.declared.element.ElementDef.{ElementDef}
@@ -19,20 +20,21 @@ use Rattle.schema_version.specs.declared.element.NewElement.{NewElement}
 use Rattle.schema_version.specs.Version.{Version, table_at, element_at, is_index, listed, is_column}
 use Rattle.schema_version.specs.Sound.{IsSoundVersion}
 use Rattle.change_plan.specs.declared.change.Change.{Change}
-use Rattle.change_plan.specs.declared.change.Change.TheVariants.{AddIndex, DropIndex, AddColumn, DropColumn}
+use Rattle.change_plan.specs.declared.change.Change.TheVariants.{AddIndex, DropIndex, AddColumn, DropColumn, Abandon}
 use Rattle.change_plan.specs.declared.fault.PlanFault.{PlanFault}
 use Rattle.change_plan.specs.declared.fault.PlanFault.TheVariants.{Unknown, NameTaken, StillIndexed, InChange, Limit}
-use Rattle.change_plan.specs.Batches.{named, named_index, named_column, only_if, lists_added, is_under_dropped, drops_index, drops_column, adds, adds_column, lists, drops_index_on}
+use Rattle.change_plan.specs.Batches.{named, named_index, named_column, only_if, leaving, lists_added, drops_index, drops_column, adds, adds_column, lists}
 use Rattle.change_plan.specs.Refusals.{ChangeFault, IsPlannable, IsListed, IsTaken, is_addition, IsColumnList as IsNameList}
-use Rattle.change_plan.specs.declared.trip.Pace.{Pace}
-use Rattle.change_plan.specs.declared.trip.Pace.TheVariants.{ColumnIn, IndexInLate, IndexOut, ColumnOut, ColumnOutLate}
+use Rattle.change_plan.specs.declared.trip.Course.TheVariants.{ColumnIn}
 use Rattle.change_plan.specs.declared.trip.Trip.{Trip}
-use Rattle.change_plan.specs.Schedule.{trip_out, trip_of, trips_from, trips, is_early, is_late, column_number, added_number, number_or}
-use Rattle.change_plan.proofs.Named.{contains_first, contains_later, contains_cases, contains_none, contains_middle, split_at, any_element, same_name, named_there, not_named, and_true, ordered}
-use Rattle.change_plan.proofs.Least.{index_there, column_there, public_if_not_in_change, adds_column_is, column_type, none_if_not_some}
-use Rattle.change_plan.proofs.Trips.{find_trip, is_in, is_of_index, element_of}
+use Rattle.change_plan.specs.Schedule.{steps, course_out, duration, steps_on, wait_out, out_trip, trip_out, trip_of, trips_from, trips, is_early, is_late, column_number, added_number, number_or}
+use Rattle.change_plan.proofs.Steps.{not_both}
+use Rattle.change_plan.proofs.Named.{contains_first, contains_later, contains_cases, contains_none, contains_middle, split_at, any_element, same_name, same_name_is, both_true, named_there, not_named, and_true, ordered}
+use Rattle.change_plan.proofs.Leaving.{index_there, column_there, entering_there, abandoned, public_if_not_in_change, column_type, column_if, none_if_not_some, Departs, departs, clear}
+use Rattle.change_plan.proofs.Least.{adds_column_is}
+use Rattle.change_plan.proofs.Trips.{find_trip, is_in, suits, At, departure, here, element_of}
 use Rattle.change_plan.proofs.Lawful.{ColumnFits, Steady, Added, Dropped, IsAdded, AreTrips}
-use Rattle.change_plan.proofs.Batch.{out_trip, From, EarlyIndex, LateIndex, NewColumn, OldIndex, OldColumn, OldLateColumn, Placed, placed, any_middle, same_name_is, same_element, Role, IsEarly, IsLate, DropsIndex, DropsColumn, role, one_if, count_first, count_split, one_is, apart_is, number_is}
+use Rattle.change_plan.proofs.Batch.{From, EarlyIndex, LateIndex, NewColumn, Leaves, Placed, placed, any_middle, same_element, out_of, Role, IsEarly, IsLate, Goes, role, one_if, count_first, count_split, one_is, apart_is, number_is}
 
 -- ---- from a change to its trip
 
@@ -45,73 +47,57 @@ made old all (x ∷ xs) change has early late = elim (contains_cases x xs change
       (rest.0, rest.1, λ trip h. Contains-append_right (trip_of old all early late x) _ trip (rest.2 trip h))
 ]
 
-pub made_index : (old : Version) (all : List Change) (table : ℕ) (name : List ℕ) (e : ElementDef) → Contains all (DropIndex table name) → named_index old table name ≡ Some e → Contains (trips old all) (out_trip IndexOut e)
-made_index old all table name e has found =
-    let m = made old all all (DropIndex table name) has old.next (old.next + count_by (is_early all) all) in
-    m.2 (out_trip IndexOut e) (subst (λ o. Contains (trip_out o (λ x. IndexOut)) (out_trip IndexOut e)) (sym found) (contains_first (out_trip IndexOut e) []))
+-- what leaves has a trip
+made_out : (old : Version) (all : List Change) (early late : ℕ) (change : Change) (e : ElementDef) → leaving old change ≡ Some e → Contains (trip_of old all early late change) (out_trip old all e)
+made_out old all early late (AddIndex table name columns) e is = absurd (not_both e None is refl)
+made_out old all early late (AddColumn table name kind) e is = absurd (not_both e None is refl)
+made_out old all early late change e is = subst (λ o. Contains (trip_out old all o) (out_trip old all e)) (sym is) (contains_first (out_trip old all e) [])
 
-pub made_column : (old : Version) (all : List Change) (table : ℕ) (name : List ℕ) (e : ElementDef) → Contains all (DropColumn table name) → named_column old table name ≡ Some e → Contains (trips old all) (out_trip (if is_under_dropped old all e.number then ColumnOutLate else ColumnOut) e)
-made_column old all table name e has found =
-    let m = made old all all (DropColumn table name) has old.next (old.next + count_by (is_early all) all) in
-    m.2 (out_trip (if is_under_dropped old all e.number then ColumnOutLate else ColumnOut) e)
-    (subst (λ o. Contains (trip_out o (λ x. if is_under_dropped old all x.number then ColumnOutLate else ColumnOut)) (out_trip (if is_under_dropped old all e.number then ColumnOutLate else ColumnOut) e)) (sym found) (contains_first (out_trip (if is_under_dropped old all e.number then ColumnOutLate else ColumnOut) e) []))
+pub made_leaving : (old : Version) (all : List Change) (change : Change) (e : ElementDef) → Contains all change → leaving old change ≡ Some e → Contains (trips old all) (out_trip old all e)
+made_leaving old all change e has is =
+    let m = made old all all change has old.next (old.next + count_by (is_early all) all) in
+    m.2 (out_trip old all e) (made_out old all m.0 m.1 change e is)
 
 -- the trip of an added column, by the number that its indexes list
 pub made_added : (old : Version) (all changes : List Change) (table : ℕ) (name : List ℕ) (early late : ℕ) → list_any (adds_column table name) changes ≡ true
-    → (kind : Kind) × Contains (trips_from old all early late changes) (record { pace = ColumnIn; number = added_number all early table name changes; fresh = record { table = table; name = name; kind = kind } })
+    → (kind : Kind) × Contains (trips_from old all early late changes) (record { wait = 0; course = ColumnIn; number = added_number all early table name changes; fresh = record { table = table; name = name; kind = kind } })
 made_added old all [] table name early late e = absurd (true≢false (sym e))
 made_added old all (x ∷ xs) table name early late e = pick (λ t. made_added old all xs table name (if is_early all x then early + 1 else early) (if is_late all x then late + 1 else late) t) (adds_column table name x) refl
   where
-    pick : (list_any (adds_column table name) xs ≡ true → (kind : Kind) × Contains (trips_from old all (if is_early all x then early + 1 else early) (if is_late all x then late + 1 else late) xs) (record { pace = ColumnIn; number = added_number all (if is_early all x then early + 1 else early) table name xs; fresh = record { table = table; name = name; kind = kind } }))
-        → (b : Bool) → adds_column table name x ≡ b → (kind : Kind) × Contains (trips_from old all early late (x ∷ xs)) (record { pace = ColumnIn; number = added_number all early table name (x ∷ xs); fresh = record { table = table; name = name; kind = kind } })
+    pick : (list_any (adds_column table name) xs ≡ true → (kind : Kind) × Contains (trips_from old all (if is_early all x then early + 1 else early) (if is_late all x then late + 1 else late) xs) (record { wait = 0; course = ColumnIn; number = added_number all (if is_early all x then early + 1 else early) table name xs; fresh = record { table = table; name = name; kind = kind } }))
+        → (b : Bool) → adds_column table name x ≡ b → (kind : Kind) × Contains (trips_from old all early late (x ∷ xs)) (record { wait = 0; course = ColumnIn; number = added_number all early table name (x ∷ xs); fresh = record { table = table; name = name; kind = kind } })
     pick again true t =
         let is = adds_column_is table name x t in (
           is.0,
-          subst (λ n. Contains (trips_from old all early late (x ∷ xs)) (record { pace = ColumnIn; number = n; fresh = record { table = table; name = name; kind = is.0 } }))
+          subst (λ n. Contains (trips_from old all early late (x ∷ xs)) (record { wait = 0; course = ColumnIn; number = n; fresh = record { table = table; name = name; kind = is.0 } }))
               (sym (ap (λ b. if b then early else added_number all (if is_early all x then early + 1 else early) table name xs) t))
-              (Contains-append_left (trip_of old all early late x) _ _ (subst (λ c. Contains (trip_of old all early late c) (record { pace = ColumnIn; number = early; fresh = record { table = table; name = name; kind = is.0 } })) (sym is.1) (contains_first _ []))),
+              (Contains-append_left (trip_of old all early late x) _ _ (subst (λ c. Contains (trip_of old all early late c) (record { wait = 0; course = ColumnIn; number = early; fresh = record { table = table; name = name; kind = is.0 } })) (sym is.1) (contains_first _ []))),
         )
     pick again false t =
         let rest = again (subst (λ b. (b || list_any (adds_column table name) xs) ≡ true) t e) in (
           rest.0,
-          subst (λ n. Contains (trips_from old all early late (x ∷ xs)) (record { pace = ColumnIn; number = n; fresh = record { table = table; name = name; kind = rest.0 } }))
+          subst (λ n. Contains (trips_from old all early late (x ∷ xs)) (record { wait = 0; course = ColumnIn; number = n; fresh = record { table = table; name = name; kind = rest.0 } }))
               (sym (ap (λ b. if b then early else added_number all (if is_early all x then early + 1 else early) table name xs) t))
               (Contains-append_right (trip_of old all early late x) _ _ rest.1),
         )
 
 -- ---- elements of their own names
 
-pub index_named : (old : Version) → IsSoundVersion old → (number : ℕ) (index : ElementDef) → element_at old number ≡ Some index → is_index index.kind ≡ true → named_index old index.table index.name ≡ Some index
-index_named old sound number index at is_kind = pick (named old index.table index.name) refl
+pub own_name : (old : Version) → IsSoundVersion old → (number : ℕ) (e : ElementDef) → element_at old number ≡ Some e → named old e.table e.name ≡ Some e
+own_name old sound number e at = pick (named old e.table e.name) refl
   where
-    pick : (o : Option ElementDef) → named old index.table index.name ≡ o → named_index old index.table index.name ≡ Some index
-    pick None e = absurd (not_named old index.table index.name e number index at refl refl)
-    pick (Some g) e =
-        let there = named_there old (ordered sound) index.table index.name g e in
-        let at_own : element_at old index.number ≡ Some index = subst (λ n. element_at old n ≡ Some index) (sym ((ordered sound).numbered number index at)) at in
-        let same : g ≡ index = same_element old g index there.0 at_own (sound.names g.number index.number g index there.0 at_own there.1 there.2) in
-        ap (only_if is_index) (e ∙ ap Some same) ∙ ap (λ b. if b then Some index else None) is_kind
+    pick : (o : Option ElementDef) → named old e.table e.name ≡ o → named old e.table e.name ≡ Some e
+    pick None none = absurd (not_named old e.table e.name none number e at refl refl)
+    pick (Some g) is =
+        let there = named_there old (ordered sound) e.table e.name g is in
+        let at_own : element_at old e.number ≡ Some e = subst (λ n. element_at old n ≡ Some e) (sym ((ordered sound).numbered number e at)) at in
+        is ∙ ap Some (same_element old g e there.0 at_own (sound.names g.number e.number g e there.0 at_own there.1 there.2))
 
-pub column_if : (kind : Kind) → is_index kind ≡ false → is_column kind ≡ true
-column_if (Index columns) e = absurd (true≢false e)
-column_if (Optional type) e = refl
+pub index_named : (old : Version) → IsSoundVersion old → (number : ℕ) (index : ElementDef) → element_at old number ≡ Some index → is_index index.kind ≡ true → named_index old index.table index.name ≡ Some index
+index_named old sound number index at is_kind = ap (only_if is_index) (own_name old sound number index at) ∙ ap (λ b. if b then Some index else None) is_kind
 
 pub column_named : (old : Version) → IsSoundVersion old → (number : ℕ) (column : ElementDef) → element_at old number ≡ Some column → is_index column.kind ≡ false → named_column old column.table column.name ≡ Some column
-column_named old sound number column at is_kind = pick (named old column.table column.name) refl
-  where
-    pick : (o : Option ElementDef) → named old column.table column.name ≡ o → named_column old column.table column.name ≡ Some column
-    pick None e = absurd (not_named old column.table column.name e number column at refl refl)
-    pick (Some g) e =
-        let there = named_there old (ordered sound) column.table column.name g e in
-        let at_own : element_at old column.number ≡ Some column = subst (λ n. element_at old n ≡ Some column) (sym ((ordered sound).numbered number column at)) at in
-        let same : g ≡ column = same_element old g column there.0 at_own (sound.names g.number column.number g column there.0 at_own there.1 there.2) in
-        ap (only_if is_column) (e ∙ ap Some same) ∙ ap (λ b. if b then Some column else None) (column_if column.kind is_kind)
-
-drops_index_is : (table : ℕ) (name : List ℕ) (change : Change) → drops_index table name change ≡ true → change ≡ DropIndex table name
-drops_index_is table name (AddIndex other own columns) e = absurd (true≢false (sym e))
-drops_index_is table name (DropIndex other own) e = let same = same_name table name other own e in ap (λ t. DropIndex t own) (sym same.0) ∙ ap (λ n. DropIndex table n) (sym same.1)
-drops_index_is table name (AddColumn other own kind) e = absurd (true≢false (sym e))
-drops_index_is table name (DropColumn other own) e = absurd (true≢false (sym e))
+column_named old sound number column at is_kind = ap (only_if is_column) (own_name old sound number column at) ∙ ap (λ b. if b then Some column else None) (column_if column.kind is_kind)
 
 contains_each : {A B : Type 0} (f : A → B) (xs : List A) (y : B) → Contains (each f xs) y → (x : A) × Contains xs x × (y ≡ f x)
 contains_each f [] y h = absurd (contains_none y h)
@@ -136,9 +122,6 @@ is_true_if_not_false true h = refl
 is_true_if_not_false false h = absurd (h refl)
 
 module _ (old : Version) (sound : IsSoundVersion old) (all : List Change) (plannable : IsPlannable old all) where
-  pub clear : (change : Change) → Contains all change → (fault : PlanFault) → ((earlier : List Change) → ChangeFault old all earlier change fault) → ⊥
-  clear change has fault faulty = let split = split_at all change has in plannable split.0 split.1 change fault split.2 (faulty split.0)
-
   -- the place of a trip
   pub record Place (trip : Trip) : Type 0 where
     pub done : List Trip
@@ -155,9 +138,7 @@ module _ (old : Version) (sound : IsSoundVersion old) (all : List Change) (plann
   has_change trip p = subst (λ cs. Contains cs p.place.change) (sym p.place.split) (contains_middle p.place.before p.place.after p.place.change)
 
   -- a live element that a trip moves
-  pub moved_element : (trip : Trip) → Contains (trips old all) trip → (e : ElementDef) → element_at old e.number ≡ Some e → trip.number ≡ e.number
-      → ((table : ℕ) × (name : List ℕ) × Contains all (DropIndex table name) × (named_index old table name ≡ Some e) × (trip ≡ out_trip IndexOut e))
-      ⊎ ((table : ℕ) × (name : List ℕ) × Contains all (DropColumn table name) × (named_column old table name ≡ Some e) × (trip ≡ out_trip (if is_under_dropped old all e.number then ColumnOutLate else ColumnOut) e))
+  pub moved_element : (trip : Trip) → Contains (trips old all) trip → (e : ElementDef) → element_at old e.number ≡ Some e → trip.number ≡ e.number → (change : Change) × Contains all change × (leaving old change ≡ Some e) × (trip ≡ out_trip old all e)
   moved_element trip has e at same = pick p.place.from_change
     where
       p : Place trip
@@ -166,42 +147,49 @@ module _ (old : Version) (sound : IsSoundVersion old) (all : List Change) (plann
       small : e.number < old.next
       small = (ordered sound).below e.number e at
 
-      pick : From old all p.place.now_early p.place.now_late p.place.change trip
-          → ((table : ℕ) × (name : List ℕ) × Contains all (DropIndex table name) × (named_index old table name ≡ Some e) × (trip ≡ out_trip IndexOut e))
-          ⊎ ((table : ℕ) × (name : List ℕ) × Contains all (DropColumn table name) × (named_column old table name ≡ Some e) × (trip ≡ out_trip (if is_under_dropped old all e.number then ColumnOutLate else ColumnOut) e))
+      pick : From old all p.place.now_early p.place.now_late p.place.change trip → (change : Change) × Contains all change × (leaving old change ≡ Some e) × (trip ≡ out_trip old all e)
       pick (EarlyIndex table name columns change listed is) = let n : trip.number ≡ p.place.now_early = ap (λ (t : Trip). t.number) is in absurd (omega (arith, small, p.place.early_is, same))
       pick (LateIndex table name columns change listed is) = let n : trip.number ≡ p.place.now_late = ap (λ (t : Trip). t.number) is in absurd (omega (arith, small, p.place.late_is, same))
       pick (NewColumn table name kind change is) = let n : trip.number ≡ p.place.now_early = ap (λ (t : Trip). t.number) is in absurd (omega (arith, small, p.place.early_is, same))
-      pick (OldIndex table name g change found is) =
-          let there = index_there old (ordered sound) table name g found in
-          let one : g ≡ e = same_element old g e there.0 at (sym (ap (λ (t : Trip). t.number) is) ∙ same) in
-          inl (table, name, subst (Contains all) change (has_change trip p), found ∙ ap Some one, is ∙ ap (out_trip IndexOut) one)
-      pick (OldColumn table name g change found under is) =
-          let there = column_there old (ordered sound) table name g found in
-          let one : g ≡ e = same_element old g e there.0 at (sym (ap (λ (t : Trip). t.number) is) ∙ same) in
-          inr (table, name, subst (Contains all) change (has_change trip p), found ∙ ap Some one, is ∙ ap (λ b. out_trip (if b then ColumnOutLate else ColumnOut) g) (sym under) ∙ ap (λ (x : ElementDef). out_trip (if is_under_dropped old all x.number then ColumnOutLate else ColumnOut) x) one)
-      pick (OldLateColumn table name g change found under is) =
-          let there = column_there old (ordered sound) table name g found in
-          let one : g ≡ e = same_element old g e there.0 at (sym (ap (λ (t : Trip). t.number) is) ∙ same) in
-          inr (table, name, subst (Contains all) change (has_change trip p), found ∙ ap Some one, is ∙ ap (λ b. out_trip (if b then ColumnOutLate else ColumnOut) g) (sym under) ∙ ap (λ (x : ElementDef). out_trip (if is_under_dropped old all x.number then ColumnOutLate else ColumnOut) x) one)
+      pick (Leaves g found is) =
+          let d = departs old sound all plannable p.place.change (has_change trip p) g found in
+          let one : g ≡ e = same_element old g e d.there at (sym (ap (λ (t : Trip). t.number) is) ∙ same) in
+          (p.place.change, has_change trip p, found ∙ ap Some one, is ∙ ap (out_trip old all) one)
 
-  -- a column that isn't dropped has no trip
-  pub no_trip_of : (e : ElementDef) → element_at old e.number ≡ Some e → is_index e.kind ≡ false → ((table : ℕ) (name : List ℕ) → Contains all (DropColumn table name) → e.table ≡ table → e.name ≡ name → ⊥) → (trip : Trip) → Contains (trips old all) trip → trip.number ≢ e.number
-  no_trip_of e at is_column kept trip has same = elim (moved_element trip has e at same) [
-    | inl i ↦ let there = index_there old (ordered sound) i.0 i.1 e i.3 in true≢false (sym there.3 ∙ is_column)
-    | inr c ↦ let there = column_there old (ordered sound) c.0 c.1 e c.3 in kept c.0 c.1 c.2 there.1 there.2
-  ]
+  -- an element that isn't taken out has no trip
+  pub no_trip_of : (e : ElementDef) → element_at old e.number ≡ Some e → ((change : Change) → Contains all change → leaving old change ≢ Some e) → (trip : Trip) → Contains (trips old all) trip → trip.number ≢ e.number
+  no_trip_of e at kept trip has same = let moved = moved_element trip has e at same in kept moved.0 moved.1 moved.2
+
+  -- a column that an added index lists isn't taken out
+  pub stays : (table : ℕ) (name : List ℕ) (columns : List (List ℕ)) → Contains all (AddIndex table name columns) → (own : List ℕ) → Contains columns own → (e : ElementDef) → named_column old table own ≡ Some e → (change : Change) → Contains all change → leaving old change ≢ Some e
+  stays table name columns has own among e found change has_change is = pick change has_change is
+    where
+      there : (element_at old e.number ≡ Some e) × (e.table ≡ table) × (e.name ≡ own) × (is_index e.kind ≡ false)
+      there = column_there old (ordered sound) table own e found
+
+      pick : (change : Change) → Contains all change → leaving old change ≡ Some e → ⊥
+      pick (AddIndex t n cs) has_it is = not_both e None is refl
+      pick (AddColumn t n kind) has_it is = not_both e None is refl
+      pick (DropIndex t n) has_it is = true≢false (sym (index_there old (ordered sound) t n e is).3 ∙ there.3)
+      pick (DropColumn t n) has_it is =
+          let gone = column_there old (ordered sound) t n e is in
+          clear old sound all plannable (AddIndex table name columns) has StillIndexed (λ earlier. (own, among, any_of (drops_column old table own) all (DropColumn t n) has_it (same_name_is table t own n (sym there.1 ∙ gone.1) (sym there.2 ∙ gone.2))))
+      pick (Abandon t n) has_it is =
+          let gone = entering_there old (ordered sound) t n e is in
+          clear old sound all plannable (AddIndex table name columns) has StillIndexed
+          (λ earlier. (own, among, any_of (drops_column old table own) all (Abandon t n) has_it (both_true _ _ (same_name_is table t own n (sym there.1 ∙ gone.1) (sym there.2 ∙ gone.2)) (ap is_some found))))
 
   -- a column of an added index
-  added_fits : (table : ℕ) (name : List ℕ) (columns : List (List ℕ)) → Contains all (AddIndex table name columns) → (trip : Trip) → trip.fresh.table ≡ table → (lists_added all table columns ≡ true → trip.pace ≡ IndexInLate)
+  added_fits : (table : ℕ) (name : List ℕ) (columns : List (List ℕ)) → Contains all (AddIndex table name columns) → (trip : Trip) → trip.fresh.table ≡ table → is_in trip.course ≡ true → (lists_added all table columns ≡ true → trip.wait ≡ steps ColumnIn)
       → (own : List ℕ) → Contains columns own → ColumnFits old (trips old all) trip (column_number old all table own)
-  added_fits table name columns has trip is_table is_late own among = pick (named_column old table own) refl
+  added_fits table name columns has trip is_table new is_late own among = pick (named_column old table own) refl
     where
       pick : (o : Option ElementDef) → named_column old table own ≡ o → ColumnFits old (trips old all) trip (column_number old all table own)
       pick None none =
-          let added : list_any (adds_column table own) all ≡ true = is_true_if_not_false _ (λ f. clear (AddIndex table name columns) has Unknown (λ earlier. inr (own, among, ap is_some_test none, f))) in
+          let added : list_any (adds_column table own) all ≡ true = is_true_if_not_false _ (λ f. clear old sound all plannable (AddIndex table name columns) has Unknown (λ earlier. inr (own, among, ap is_some_test none, f))) in
           let m = made_added old all all table own old.next (old.next + count_by (is_early all) all) added in
-          Added _ m.1 (ap (λ o. number_or o (added_number all old.next table own all)) (sym none)) refl (is_late (any_of (λ n. list_any (adds_column table n) all) columns own among added)) (sym is_table)
+          let waits : trip.wait ≡ steps ColumnIn = is_late (any_of (λ n. list_any (adds_column table n) all) columns own among added) in
+          Added _ m.1 (ap (λ o. number_or o (added_number all old.next table own all)) (sym none)) refl new (omega arith) (sym is_table)
         where
           is_some_test : Option ElementDef → Bool
           is_some_test None = false
@@ -209,26 +197,56 @@ module _ (old : Version) (sound : IsSoundVersion old) (all : List Change) (plann
       pick (Some e) found =
           let there = column_there old (ordered sound) table own e found in
           let type = column_type e.kind there.3 in
-          let is_public : e.state ≡ Public = public_if_not_in_change (named_column old table own) (λ t. clear (AddIndex table name columns) has InChange (λ earlier. (own, among, t))) e found in
-          let kept : (t : ℕ) (n : List ℕ) → Contains all (DropColumn t n) → e.table ≡ t → e.name ≡ n → ⊥ = λ t n dropped is_t is_n. clear (AddIndex table name columns) has StillIndexed (λ earlier. (own, among, any_of (drops_column table own) all (DropColumn t n) dropped (same_name_is table t own n (sym there.1 ∙ is_t) (sym there.2 ∙ is_n)))) in
+          let is_public : e.state ≡ Public = public_if_not_in_change (named_column old table own) (λ t. clear old sound all plannable (AddIndex table name columns) has InChange (λ earlier. (own, among, t))) e found in
           subst (ColumnFits old (trips old all) trip) (ap (λ o. number_or o (added_number all old.next table own all)) (sym found))
-          (Steady (no_trip_of e there.0 there.3 kept) e type.0 there.0 (there.1 ∙ sym is_table) type.1 is_public)
+          (Steady (no_trip_of e there.0 (stays table name columns has own among e found)) e type.0 there.0 (there.1 ∙ sym is_table) type.1 is_public)
 
-  -- a column of a dropped index
-  dropped_fits : (table : ℕ) (name : List ℕ) (e : ElementDef) → Contains all (DropIndex table name) → named_index old table name ≡ Some e → (trip : Trip) → trip ≡ out_trip IndexOut e → (column : ℕ) → Contains (listed e.kind) column → ColumnFits old (trips old all) trip column
-  dropped_fits table name e has found trip is column among = elim (find_trip (trips old all) column) [
+  -- how long a column waits at least
+  waits_at_least : (changes : List Change) (change : Change) (index : ElementDef) (number : ℕ) → Contains changes change → leaving old change ≡ Some index → lists number index ≡ true → steps (course_out index.kind index.state) ≤ wait_out old number changes
+  waits_at_least [] change index number has is on = absurd (contains_none change has)
+  waits_at_least (x ∷ xs) change index number has is on = elim (contains_cases x xs change has) [
+    | inl same ↦
+        let one : steps_on number (leaving old x) ≡ steps (course_out index.kind index.state) = ap (λ c. steps_on number (leaving old c)) same ∙ ap (steps_on number) is ∙ ap (λ b. if b then steps (course_out index.kind index.state) else 0) on in
+        omega (arith, one)
+    | inr more ↦ let rest = waits_at_least xs change index number more is on in omega (arith, rest)
+  ]
+
+  none_waits : (changes : List Change) (number : ℕ) → ((n : ℕ) (index : ElementDef) → element_at old n ≡ Some index → Contains (listed index.kind) number → ⊥) → ((change : Change) → Contains changes change → Contains all change) → wait_out old number changes ≡ 0
+  none_waits [] number none among = refl
+  none_waits (x ∷ xs) number none among =
+      let rest : wait_out old number xs ≡ 0 = none_waits xs number none (λ c has. among c (contains_later x xs c has)) in
+      let one : steps_on number (leaving old x) ≡ 0 = pick (leaving old x) refl in
+      omega (arith, one, rest)
+    where
+      pick : (o : Option ElementDef) → leaving old x ≡ o → steps_on number (leaving old x) ≡ 0
+      pick None is = ap (steps_on number) is
+      pick (Some index) is = ap (steps_on number) is ∙ ap (λ b. if b then steps (course_out index.kind index.state) else 0) (not_listed (lists number index) refl)
+        where
+          not_listed : (b : Bool) → lists number index ≡ b → lists number index ≡ false
+          not_listed false t = t
+          not_listed true t =
+              let found = any_element (λ other. other == number) (listed index.kind) t in
+              absurd (none index.number index (departs old sound all plannable x (among x (contains_first x xs)) index is).there (subst (Contains (listed index.kind)) ((Decides-eqb found.0 number).0 found.2) found.1))
+
+  -- a column of an index that leaves
+  leaving_fits : (change : Change) → Contains all change → (e : ElementDef) → leaving old change ≡ Some e → (trip : Trip) → trip ≡ out_trip old all e → (column : ℕ) → Contains (listed e.kind) column → ColumnFits old (trips old all) trip column
+  leaving_fits change has e found trip is column among = elim (find_trip (trips old all) column) [
     | inr none ↦ Steady none f.0 f.1 f.2 (f.3 ∙ ap (λ (t : Trip). t.fresh.table) (sym is)) f.4 f.5
-    | inl other ↦ elim (moved_element other.0 other.1 f.0 at_own (other.2 ∙ sym own)) [
-      | inl i ↦ let there_i = index_there old (ordered sound) i.0 i.1 f.0 i.3 in absurd (true≢false (sym there_i.3 ∙ ap is_index f.4))
-      | inr c ↦ Dropped other.0 other.1 other.2 (ap (λ (t : Trip). t.pace) c.4 ∙ ap (λ b. if b then ColumnOutLate else ColumnOut) under) (ap (λ (t : Trip). t.pace) is)
-    ]
+    | inl other ↦
+        let moved = moved_element other.0 other.1 f.0 at_own (other.2 ∙ sym own) in
+        let d = departs old sound all plannable moved.0 moved.1 f.0 moved.2 in
+        let waits : steps (course_out e.kind e.state) ≤ wait_out old f.0.number all = waits_at_least all change e f.0.number has found (any_of (λ other. other == f.0.number) (listed e.kind) column among ((Decides-eqb column f.0.number).1 (sym own))) in
+        let other_waits : other.0.wait ≡ wait_out old f.0.number all = ap (λ (t : Trip). t.wait) moved.3 in
+        let at_once : wait_out old e.number all ≡ 0 = none_waits all e.number index_unlisted (λ c h. h) in
+        let long : duration trip ≡ wait_out old e.number all + steps (course_out e.kind e.state) = ap duration is in
+        Dropped other.0 other.1 other.2 (ap (λ (t : Trip). departure t.course) moved.3 ∙ public_start d) (ap (λ (t : Trip). is_in t.course) is ∙ (departs old sound all plannable change has e found).out) (omega arith)
   ]
     where
-      there : (element_at old e.number ≡ Some e) × (e.table ≡ table) × (e.name ≡ name) × (is_index e.kind ≡ true)
-      there = index_there old (ordered sound) table name e found
+      there : element_at old e.number ≡ Some e
+      there = (departs old sound all plannable change has e found).there
 
       f : (element : ElementDef) × (type : _) × (element_at old column ≡ Some element) × (element.table ≡ e.table) × (element.kind ≡ Optional type) × (element.state ≡ Public)
-      f = (sound.elements e.number e there.0).columns column among
+      f = (sound.elements e.number e there).columns column among
 
       own : f.0.number ≡ column
       own = (ordered sound).numbered column f.0 f.2
@@ -236,9 +254,16 @@ module _ (old : Version) (sound : IsSoundVersion old) (all : List Change) (plann
       at_own : element_at old f.0.number ≡ Some f.0
       at_own = subst (λ n. element_at old n ≡ Some f.0) (sym own) f.2
 
-      under : is_under_dropped old all f.0.number ≡ true
-      under = any_of (drops_index_on old f.0.number) all (DropIndex table name) has
-          (ap (lists f.0.number) found ∙ any_of (λ other. other == f.0.number) (listed e.kind) column among ((Decides-eqb column f.0.number).1 (sym own)))
+      -- no index lists an index
+      index_unlisted : (n : ℕ) (index : ElementDef) → element_at old n ≡ Some index → Contains (listed index.kind) e.number → ⊥
+      index_unlisted n index at lists_it =
+          let g = (sound.elements n index at).columns e.number lists_it in
+          let same : Some e ≡ Some g.0 = sym there ∙ g.2 in
+          let one : e ≡ g.0 = cc in
+          contains_none column (subst (λ k. Contains (listed k) column) (ap (λ (x : ElementDef). x.kind) one ∙ g.4) among)
+
+      public_start : {change : Change} → Departs old change f.0 → departure (course_out f.0.kind f.0.state) ≡ At Public Adding
+      public_start d = ap (λ s. departure (course_out f.0.kind s)) f.5 ∙ ap (λ k. departure (course_out k Public)) f.4
 
   none_listed : (kind : Kind) → is_index kind ≡ false → (column : ℕ) → Contains (listed kind) column → ⊥
   none_listed (Index columns) e column has = true≢false e
@@ -253,29 +278,48 @@ module _ (old : Version) (sound : IsSoundVersion old) (all : List Change) (plann
       pick : From old all p.place.now_early p.place.now_late p.place.change trip → ColumnFits old (trips old all) trip column
       pick (EarlyIndex table name columns change listed_added is) =
           let own = contains_each (column_number old all table) columns column (subst (λ (t : Trip). Contains (listed t.fresh.kind) column) is among) in
-          subst (ColumnFits old (trips old all) trip) (sym own.2) (added_fits table name columns (subst (Contains all) change (has_change trip p)) trip (ap (λ (t : Trip). t.fresh.table) is) (λ late. absurd (true≢false (sym late ∙ listed_added))) own.0 own.1)
+          subst (ColumnFits old (trips old all) trip) (sym own.2) (added_fits table name columns (subst (Contains all) change (has_change trip p)) trip (ap (λ (t : Trip). t.fresh.table) is) (ap (λ (t : Trip). is_in t.course) is) (λ late. absurd (true≢false (sym late ∙ listed_added))) own.0 own.1)
       pick (LateIndex table name columns change listed_added is) =
           let own = contains_each (column_number old all table) columns column (subst (λ (t : Trip). Contains (listed t.fresh.kind) column) is among) in
-          subst (ColumnFits old (trips old all) trip) (sym own.2) (added_fits table name columns (subst (Contains all) change (has_change trip p)) trip (ap (λ (t : Trip). t.fresh.table) is) (λ late. ap (λ (t : Trip). t.pace) is) own.0 own.1)
+          subst (ColumnFits old (trips old all) trip) (sym own.2) (added_fits table name columns (subst (Contains all) change (has_change trip p)) trip (ap (λ (t : Trip). t.fresh.table) is) (ap (λ (t : Trip). is_in t.course) is) (λ late. ap (λ (t : Trip). t.wait) is) own.0 own.1)
       pick (NewColumn table name kind change is) =
-          let is_column : is_index kind ≡ false = not_true (is_index kind) (λ t. clear (AddColumn table name kind) (subst (Contains all) change (has_change trip p)) Unknown (λ earlier. inr t)) in
+          let is_column : is_index kind ≡ false = not_true (is_index kind) (λ t. clear old sound all plannable (AddColumn table name kind) (subst (Contains all) change (has_change trip p)) Unknown (λ earlier. inr t)) in
           absurd (none_listed kind is_column column (subst (λ (t : Trip). Contains (listed t.fresh.kind) column) is among))
         where
           not_true : (b : Bool) → (b ≡ true → ⊥) → b ≡ false
           not_true true h = absurd (h refl)
           not_true false h = refl
-      pick (OldIndex table name e change found is) = dropped_fits table name e (subst (Contains all) change (has_change trip p)) found trip is column (subst (λ (t : Trip). Contains (listed t.fresh.kind) column) is among)
-      pick (OldColumn table name e change found under is) = absurd (none_listed e.kind (column_there old (ordered sound) table name e found).3 column (subst (λ (t : Trip). Contains (listed t.fresh.kind) column) is among))
-      pick (OldLateColumn table name e change found under is) = absurd (none_listed e.kind (column_there old (ordered sound) table name e found).3 column (subst (λ (t : Trip). Contains (listed t.fresh.kind) column) is among))
+      pick (Leaves e found is) = leaving_fits p.place.change (has_change trip p) e found trip is column (subst (λ (t : Trip). Contains (listed t.fresh.kind) column) is among)
 
-  -- every index that lists a dropped column is dropped
-  dropped_covered : (table : ℕ) (name : List ℕ) (e : ElementDef) → Contains all (DropColumn table name) → named_column old table name ≡ Some e → (number : ℕ) (index : ElementDef) → element_at old number ≡ Some index → Contains (listed index.kind) e.number → (other : Trip) × Contains (trips old all) other × (other.number ≡ number)
-  dropped_covered table name e has found number index at among =
-      let dropped : list_any (drops_index index.table index.name) all ≡ true = is_true_if_not_false _ (λ f. clear (DropColumn table name) has StillIndexed (λ earlier. subst (λ o. IsListed old all table name o) (sym found) (inl (number, index, at, among, f)))) in
-      let dropper = any_element (drops_index index.table index.name) all dropped in
-      let is_dropper = drops_index_is index.table index.name dropper.0 dropper.2 in
-      let found_index = index_named old sound number index at (is_index_if_lists index.kind among) in
-      (out_trip IndexOut index, made_index old all index.table index.name index (subst (Contains all) is_dropper dropper.1) found_index, (ordered sound).numbered number index at)
+  -- every index that lists a column which leaves does so too
+  -- (an index that a change takes out by its name)
+  index_dropped : (number : ℕ) (index : ElementDef) → element_at old number ≡ Some index → is_index index.kind ≡ true → (change : Change) → Contains all change → drops_index index.table index.name change ≡ true → leaving old change ≡ Some index
+  index_dropped number index at is_kind (DropIndex other own) has e =
+      let same = same_name index.table index.name other own e in
+      subst (λ t. named_index old t own ≡ Some index) same.0 (subst (λ n. named_index old index.table n ≡ Some index) same.1 (index_named old sound number index at is_kind))
+  index_dropped number index at is_kind (Abandon other own) has e =
+      let same = same_name index.table index.name other own e in
+      abandoned old sound all plannable other own has index (subst (λ t. named old t own ≡ Some index) same.0 (subst (λ n. named old index.table n ≡ Some index) same.1 (own_name old sound number index at)))
+  index_dropped number index at is_kind change has e = absurd (true≢false (sym e))
+
+  covers : (change : Change) → Contains all change → (e : ElementDef) → leaving old change ≡ Some e → is_index e.kind ≡ false → (number : ℕ) (index : ElementDef) → element_at old number ≡ Some index → Contains (listed index.kind) e.number → list_any (drops_index index.table index.name) all ≡ true
+  covers (AddIndex table name columns) has e is is_column number index at among = absurd (not_both e None is refl)
+  covers (AddColumn table name kind) has e is is_column number index at among = absurd (not_both e None is refl)
+  covers (DropIndex table name) has e is is_column number index at among = absurd (true≢false (sym (index_there old (ordered sound) table name e is).3 ∙ is_column))
+  covers (DropColumn table name) has e is is_column number index at among =
+      is_true_if_not_false _ (λ f. clear old sound all plannable (DropColumn table name) has StillIndexed (λ earlier. subst (λ o. IsListed old all table name o) (sym is) (inl (number, index, at, among, f))))
+  covers (Abandon table name) has e is is_column number index at among =
+      let there = entering_there old (ordered sound) table name e is in
+      let column = (sound.elements number index at).columns e.number among in
+      let one : Some e ≡ Some column.0 = sym there.0 ∙ column.2 in
+      let same : e ≡ column.0 = cc in
+      absurd (there.4 (ap (λ (x : ElementDef). x.state) same ∙ column.5))
+
+  leaving_covered : (change : Change) → Contains all change → (e : ElementDef) → leaving old change ≡ Some e → is_index e.kind ≡ false → (number : ℕ) (index : ElementDef) → element_at old number ≡ Some index → Contains (listed index.kind) e.number → (other : Trip) × Contains (trips old all) other × (other.number ≡ number)
+  leaving_covered change has e is is_column number index at among =
+      let dropper = any_element (drops_index index.table index.name) all (covers change has e is is_column number index at among) in
+      let is_dropped = index_dropped number index at (is_index_if_lists index.kind among) dropper.0 dropper.1 dropper.2 in
+      (out_trip old all index, made_leaving old all dropper.0 index dropper.1 is_dropped, (ordered sound).numbered number index at)
     where
       is_index_if_lists : (kind : Kind) → Contains (listed kind) e.number → is_index kind ≡ true
       is_index_if_lists (Index columns) h = refl
@@ -294,10 +338,7 @@ module _ (old : Version) (sound : IsSoundVersion old) (all : List Change) (plann
       pick (EarlyIndex table name columns change listed_added is) = let n : trip.number ≡ p.place.now_early = ap (λ (t : Trip). t.number) is in absurd (omega (arith, small, p.place.early_is))
       pick (LateIndex table name columns change listed_added is) = let n : trip.number ≡ p.place.now_late = ap (λ (t : Trip). t.number) is in absurd (omega (arith, small, p.place.late_is))
       pick (NewColumn table name kind change is) = let n : trip.number ≡ p.place.now_early = ap (λ (t : Trip). t.number) is in absurd (omega (arith, small, p.place.early_is))
-      pick (OldIndex table name e change found is) =
-          absurd (true≢false (sym (index_there old (ordered sound) table name e found).3 ∙ ap (λ (t : Trip). is_index t.fresh.kind) (sym is) ∙ is_column))
-      pick (OldColumn table name e change found under is) = dropped_covered table name e (subst (Contains all) change (has_change trip p)) found number index at (subst (λ (t : Trip). Contains (listed index.kind) t.number) is among)
-      pick (OldLateColumn table name e change found under is) = dropped_covered table name e (subst (Contains all) change (has_change trip p)) found number index at (subst (λ (t : Trip). Contains (listed index.kind) t.number) is among)
+      pick (Leaves e found is) = leaving_covered p.place.change (has_change trip p) e found (ap (λ (t : Trip). is_index t.fresh.kind) (sym is) ∙ is_column) number index at (subst (λ (t : Trip). Contains (listed index.kind) t.number) is among)
 
   -- ---- what an added element needs
 
@@ -306,59 +347,47 @@ module _ (old : Version) (sound : IsSoundVersion old) (all : List Change) (plann
   not_true false h = refl
 
   pub column_kind : (table : ℕ) (name : List ℕ) (kind : Kind) → Contains all (AddColumn table name kind) → is_index kind ≡ false
-  column_kind table name kind has = not_true (is_index kind) (λ t. clear (AddColumn table name kind) has Unknown (λ earlier. inr t))
+  column_kind table name kind has = not_true (is_index kind) (λ t. clear old sound all plannable (AddColumn table name kind) has Unknown (λ earlier. inr t))
 
-  pub kind_is : (trip : Trip) → Contains (trips old all) trip → is_index trip.fresh.kind ≡ is_of_index trip.pace
+  pub kind_is : (trip : Trip) → Contains (trips old all) trip → suits trip.course trip.fresh.kind ≡ true
   kind_is trip has = pick p.place.from_change
     where
       p : Place trip
       p = place_of trip has
 
-      pick : From old all p.place.now_early p.place.now_late p.place.change trip → is_index trip.fresh.kind ≡ is_of_index trip.pace
-      pick (EarlyIndex table name columns change listed_added is) = subst (λ (t : Trip). is_index t.fresh.kind ≡ is_of_index t.pace) (sym is) refl
-      pick (LateIndex table name columns change listed_added is) = subst (λ (t : Trip). is_index t.fresh.kind ≡ is_of_index t.pace) (sym is) refl
-      pick (NewColumn table name kind change is) = subst (λ (t : Trip). is_index t.fresh.kind ≡ is_of_index t.pace) (sym is) (column_kind table name kind (subst (Contains all) change (has_change trip p)))
-      pick (OldIndex table name e change found is) = subst (λ (t : Trip). is_index t.fresh.kind ≡ is_of_index t.pace) (sym is) (index_there old (ordered sound) table name e found).3
-      pick (OldColumn table name e change found under is) = subst (λ (t : Trip). is_index t.fresh.kind ≡ is_of_index t.pace) (sym is) (column_there old (ordered sound) table name e found).3
-      pick (OldLateColumn table name e change found under is) = subst (λ (t : Trip). is_index t.fresh.kind ≡ is_of_index t.pace) (sym is) (column_there old (ordered sound) table name e found).3
+      pick : From old all p.place.now_early p.place.now_late p.place.change trip → suits trip.course trip.fresh.kind ≡ true
+      pick (EarlyIndex table name columns change listed_added is) = ap (λ (t : Trip). suits t.course t.fresh.kind) is
+      pick (LateIndex table name columns change listed_added is) = ap (λ (t : Trip). suits t.course t.fresh.kind) is
+      pick (NewColumn table name kind change is) = ap (λ (t : Trip). suits t.course t.fresh.kind) is ∙ column_if kind (column_kind table name kind (subst (Contains all) change (has_change trip p)))
+      pick (Leaves e found is) = ap (λ (t : Trip). suits t.course t.fresh.kind) is ∙ (departs old sound all plannable p.place.change (has_change trip p) e found).fits
 
-  public_element : (pace : Pace) (e : ElementDef) → element_at old e.number ≡ Some e → e.state ≡ Public → element_at old e.number ≡ Some (element_of pace e.number (record { table = e.table; name = e.name; kind = e.kind }) Public)
-  public_element pace e at state =
-      at ∙ ap (λ s. Some (record { number = e.number; table = e.table; name = e.name; kind = e.kind; state = s; way = e.way })) state
-      ∙ ap (λ w. Some (record { number = e.number; table = e.table; name = e.name; kind = e.kind; state = Public; way = w })) ((sound.elements e.number e at).way state)
-
-  pub out_is : (trip : Trip) → Contains (trips old all) trip → is_in trip.pace ≡ false → element_at old trip.number ≡ Some (element_of trip.pace trip.number trip.fresh Public)
+  pub out_is : (trip : Trip) → Contains (trips old all) trip → is_in trip.course ≡ false → element_at old trip.number ≡ here trip.number trip.fresh (departure trip.course)
   out_is trip has out = pick p.place.from_change
     where
       p : Place trip
       p = place_of trip has
 
-      pick : From old all p.place.now_early p.place.now_late p.place.change trip → element_at old trip.number ≡ Some (element_of trip.pace trip.number trip.fresh Public)
-      pick (EarlyIndex table name columns change listed_added is) = absurd (true≢false (ap (λ (t : Trip). is_in t.pace) (sym is) ∙ out))
-      pick (LateIndex table name columns change listed_added is) = absurd (true≢false (ap (λ (t : Trip). is_in t.pace) (sym is) ∙ out))
-      pick (NewColumn table name kind change is) = absurd (true≢false (ap (λ (t : Trip). is_in t.pace) (sym is) ∙ out))
-      pick (OldIndex table name e change found is) = subst (λ (t : Trip). element_at old t.number ≡ Some (element_of t.pace t.number t.fresh Public)) (sym is)
-          (public_element IndexOut e (index_there old (ordered sound) table name e found).0 (public_if_not_in_change _ (λ t. clear (DropIndex table name) (subst (Contains all) change (has_change trip p)) InChange (λ earlier. t)) e found))
-      pick (OldColumn table name e change found under is) = subst (λ (t : Trip). element_at old t.number ≡ Some (element_of t.pace t.number t.fresh Public)) (sym is)
-          (public_element ColumnOut e (column_there old (ordered sound) table name e found).0 (public_if_not_in_change _ (λ t. clear (DropColumn table name) (subst (Contains all) change (has_change trip p)) InChange (λ earlier. t)) e found))
-      pick (OldLateColumn table name e change found under is) = subst (λ (t : Trip). element_at old t.number ≡ Some (element_of t.pace t.number t.fresh Public)) (sym is)
-          (public_element ColumnOutLate e (column_there old (ordered sound) table name e found).0 (public_if_not_in_change _ (λ t. clear (DropColumn table name) (subst (Contains all) change (has_change trip p)) InChange (λ earlier. t)) e found))
+      pick : From old all p.place.now_early p.place.now_late p.place.change trip → element_at old trip.number ≡ here trip.number trip.fresh (departure trip.course)
+      pick (EarlyIndex table name columns change listed_added is) = absurd (true≢false (ap (λ (t : Trip). is_in t.course) (sym is) ∙ out))
+      pick (LateIndex table name columns change listed_added is) = absurd (true≢false (ap (λ (t : Trip). is_in t.course) (sym is) ∙ out))
+      pick (NewColumn table name kind change is) = absurd (true≢false (ap (λ (t : Trip). is_in t.course) (sym is) ∙ out))
+      pick (Leaves e found is) =
+          let d = departs old sound all plannable p.place.change (has_change trip p) e found in
+          subst (λ (t : Trip). element_at old t.number ≡ here t.number t.fresh (departure t.course)) (sym is) (d.there ∙ sym d.stands)
 
   -- an added element's change, at its place
   data New (trip : Trip) (p : Place trip) : Type 0 where
     NewIndex : (table : ℕ) (name : List ℕ) (columns : List (List ℕ)) → p.place.change ≡ AddIndex table name columns → trip.fresh ≡ record { table = table; name = name; kind = Index (each (column_number old all table) columns) } → New trip p
     AColumn : (table : ℕ) (name : List ℕ) (kind : Kind) → p.place.change ≡ AddColumn table name kind → trip.fresh ≡ record { table = table; name = name; kind = kind } → New trip p
 
-  new_is : (trip : Trip) (p : Place trip) → is_in trip.pace ≡ true → New trip p
+  new_is : (trip : Trip) (p : Place trip) → is_in trip.course ≡ true → New trip p
   new_is trip p new = pick p.place.from_change
     where
       pick : From old all p.place.now_early p.place.now_late p.place.change trip → New trip p
       pick (EarlyIndex table name columns change listed_added is) = NewIndex table name columns change (ap (λ (t : Trip). t.fresh) is)
       pick (LateIndex table name columns change listed_added is) = NewIndex table name columns change (ap (λ (t : Trip). t.fresh) is)
       pick (NewColumn table name kind change is) = AColumn table name kind change (ap (λ (t : Trip). t.fresh) is)
-      pick (OldIndex table name e change found is) = absurd (true≢false (sym new ∙ ap (λ (t : Trip). is_in t.pace) is))
-      pick (OldColumn table name e change found under is) = absurd (true≢false (sym new ∙ ap (λ (t : Trip). is_in t.pace) is))
-      pick (OldLateColumn table name e change found under is) = absurd (true≢false (sym new ∙ ap (λ (t : Trip). is_in t.pace) is))
+      pick (Leaves e found is) = absurd (true≢false (sym new ∙ ap (λ (t : Trip). is_in t.course) is ∙ out_of e.kind e.state))
 
   -- the number of an added element, between those given and the limit
   additions : (changes : List Change) → count_by is_addition changes ≡ count_by (is_early all) changes + count_by (is_late all) changes
@@ -370,11 +399,10 @@ module _ (old : Version) (sound : IsSoundVersion old) (all : List Change) (plann
     where
       each_one : (x : Change) → ◌≡◌ {A = ℕ} (cond (is_addition x) 1 0) (cond (is_early all x) 1 0 + cond (is_late all x) 1 0)
       each_one (AddIndex table name columns) = elim (lists_added all table columns) as (λ b. ◌≡◌ {A = ℕ} 1 (cond (if b then false else true) 1 0 + cond b 1 0)) [ true ↦ refl | false ↦ refl ]
-      each_one (DropIndex table name) = refl
       each_one (AddColumn table name kind) = refl
-      each_one (DropColumn table name) = refl
+      each_one change = refl
 
-  new_number : (trip : Trip) (p : Place trip) → is_in trip.pace ≡ true → (old.next ≤ trip.number) × (trip.number < old.next + count_by is_addition all)
+  new_number : (trip : Trip) (p : Place trip) → is_in trip.course ≡ true → (old.next ≤ trip.number) × (trip.number < old.next + count_by is_addition all)
   new_number trip p new = pick (role old all p.place.now_early p.place.now_late p.place.change trip p.place.from_change)
     where
       early_all : count_by (is_early all) all ≡ count_by (is_early all) p.place.before + (cond (is_early all p.place.change) 1 0 + count_by (is_early all) p.place.after)
@@ -383,19 +411,16 @@ module _ (old : Version) (sound : IsSoundVersion old) (all : List Change) (plann
       late_all : count_by (is_late all) all ≡ count_by (is_late all) p.place.before + (cond (is_late all p.place.change) 1 0 + count_by (is_late all) p.place.after)
       late_all = count_split (is_late all) all p.place.before p.place.after p.place.change p.place.split
 
-      of_new : New trip p → (t : ℕ) (n : List ℕ) → (p.place.change ≡ DropIndex t n) ⊎ (p.place.change ≡ DropColumn t n) → ⊥
-      of_new (NewIndex table name columns is fresh) t n (inl d) = let e : AddIndex table name columns ≡ DropIndex t n = sym is ∙ d in cc
-      of_new (NewIndex table name columns is fresh) t n (inr d) = let e : AddIndex table name columns ≡ DropColumn t n = sym is ∙ d in cc
-      of_new (AColumn table name kind is fresh) t n (inl d) = let e : AddColumn table name kind ≡ DropIndex t n = sym is ∙ d in cc
-      of_new (AColumn table name kind is fresh) t n (inr d) = let e : AddColumn table name kind ≡ DropColumn t n = sym is ∙ d in cc
+      no_element : New trip p → (e : ElementDef) → leaving old p.place.change ≡ Some e → ⊥
+      no_element (NewIndex table name columns is fresh) e found = not_both e None (ap (leaving old) (sym is) ∙ found) refl
+      no_element (AColumn table name kind is fresh) e found = not_both e None (ap (leaving old) (sym is) ∙ found) refl
 
       pick : Role old all p.place.now_early p.place.now_late p.place.change trip → (old.next ≤ trip.number) × (trip.number < old.next + count_by is_addition all)
       pick (IsEarly e n) = (omega (arith, p.place.early_is, n), omega (arith, p.place.early_is, n, early_all, one_if (is_early all p.place.change) e, additions all))
       pick (IsLate e n) = (omega (arith, p.place.late_is, n), omega (arith, p.place.late_is, n, late_all, one_if (is_late all p.place.change) e, additions all))
-      pick (DropsIndex t n e is found m) = absurd (of_new (new_is trip p new) t n (inl is))
-      pick (DropsColumn t n e is found m) = absurd (of_new (new_is trip p new) t n (inr is))
+      pick (Goes e found n) = absurd (no_element (new_is trip p new) e found)
 
-  not_taken : (trip : Trip) (p : Place trip) → is_in trip.pace ≡ true → IsTaken old p.place.before trip.fresh.table trip.fresh.name → ⊥
+  not_taken : (trip : Trip) (p : Place trip) → is_in trip.course ≡ true → IsTaken old p.place.before trip.fresh.table trip.fresh.name → ⊥
   not_taken trip p new taken = pick (new_is trip p new)
     where
       pick : New trip p → ⊥
@@ -407,15 +432,13 @@ module _ (old : Version) (sound : IsSoundVersion old) (all : List Change) (plann
           (subst (λ c. ChangeFault old all p.place.before c NameTaken) (sym is) (subst (λ (f : NewElement). IsTaken old p.place.before f.table f.name) fresh taken))
 
   -- the change of an added element adds its name
-  from_adds : (early late : ℕ) (change : Change) (trip : Trip) → From old all early late change trip → is_in trip.pace ≡ true → (table : ℕ) (name : List ℕ) → trip.fresh.table ≡ table → trip.fresh.name ≡ name → adds table name change ≡ true
+  from_adds : (early late : ℕ) (change : Change) (trip : Trip) → From old all early late change trip → is_in trip.course ≡ true → (table : ℕ) (name : List ℕ) → trip.fresh.table ≡ table → trip.fresh.name ≡ name → adds table name change ≡ true
   from_adds early late change trip (EarlyIndex t n columns c listed_added is) new table name is_t is_n = ap (adds table name) c ∙ same_name_is table t name n (sym is_t ∙ ap (λ (x : Trip). x.fresh.table) is) (sym is_n ∙ ap (λ (x : Trip). x.fresh.name) is)
   from_adds early late change trip (LateIndex t n columns c listed_added is) new table name is_t is_n = ap (adds table name) c ∙ same_name_is table t name n (sym is_t ∙ ap (λ (x : Trip). x.fresh.table) is) (sym is_n ∙ ap (λ (x : Trip). x.fresh.name) is)
   from_adds early late change trip (NewColumn t n kind c is) new table name is_t is_n = ap (adds table name) c ∙ same_name_is table t name n (sym is_t ∙ ap (λ (x : Trip). x.fresh.table) is) (sym is_n ∙ ap (λ (x : Trip). x.fresh.name) is)
-  from_adds early late change trip (OldIndex t n e c found is) new table name is_t is_n = absurd (true≢false (sym new ∙ ap (λ (t : Trip). is_in t.pace) is))
-  from_adds early late change trip (OldColumn t n e c found under is) new table name is_t is_n = absurd (true≢false (sym new ∙ ap (λ (t : Trip). is_in t.pace) is))
-  from_adds early late change trip (OldLateColumn t n e c found under is) new table name is_t is_n = absurd (true≢false (sym new ∙ ap (λ (t : Trip). is_in t.pace) is))
+  from_adds early late change trip (Leaves e found is) new table name is_t is_n = absurd (true≢false (sym new ∙ ap (λ (t : Trip). is_in t.course) is ∙ out_of e.kind e.state))
 
-  earlier_same : (done rest : List Trip) (trip other : Trip) → trips old all ≡ done ++ trip ∷ rest → Contains done other → is_in trip.pace ≡ true → is_in other.pace ≡ true → other.fresh.table ≡ trip.fresh.table → other.fresh.name ≡ trip.fresh.name → ⊥
+  earlier_same : (done rest : List Trip) (trip other : Trip) → trips old all ≡ done ++ trip ∷ rest → Contains done other → is_in trip.course ≡ true → is_in other.course ≡ true → other.fresh.table ≡ trip.fresh.table → other.fresh.name ≡ trip.fresh.name → ⊥
   earlier_same done rest trip other split among new new_other is_t is_n = not_taken trip p new (inr (inr (any_middle (adds trip.fresh.table trip.fresh.name) p.place.before q.before q.after q.change q.split (from_adds _ _ q.change other q.from_change new_other _ _ is_t is_n))))
     where
       p : Place trip
@@ -427,7 +450,7 @@ module _ (old : Version) (sound : IsSoundVersion old) (all : List Change) (plann
       q : Placed old all old.next (old.next + count_by (is_early all) all) p.place.before s.0 other
       q = placed old all p.place.before old.next (old.next + count_by (is_early all) all) s.0 s.1 other (sym p.place.done_is ∙ s.2)
 
-  no_other_is : (trip other : Trip) → Contains (trips old all) trip → Contains (trips old all) other → is_in trip.pace ≡ true → is_in other.pace ≡ true → other.fresh.table ≡ trip.fresh.table → other.fresh.name ≡ trip.fresh.name → other.number ≡ trip.number
+  no_other_is : (trip other : Trip) → Contains (trips old all) trip → Contains (trips old all) other → is_in trip.course ≡ true → is_in other.course ≡ true → other.fresh.table ≡ trip.fresh.table → other.fresh.name ≡ trip.fresh.name → other.number ≡ trip.number
   no_other_is trip other has has_other new new_other is_t is_n = pick (Contains-append_cases s.0 (trip ∷ s.1) other (subst (λ ts. Contains ts other) s.2 has_other))
     where
       s : (before after : List Trip) × (trips old all ≡ before ++ trip ∷ after)
@@ -467,15 +490,15 @@ module _ (old : Version) (sound : IsSoundVersion old) (all : List Change) (plann
     stable_true _ (λ n. h (λ is. n is.2)),
   )
 
-  new_trip_number : (trip : Trip) → Contains (trips old all) trip → is_in trip.pace ≡ true → old.next ≤ trip.number
+  new_trip_number : (trip : Trip) → Contains (trips old all) trip → is_in trip.course ≡ true → old.next ≤ trip.number
   new_trip_number trip has new = (new_number trip (place_of trip has) new).0
 
   -- different names, different columns
   one_column : (table : ℕ) (name : List ℕ) (columns : List (List ℕ)) → Contains all (AddIndex table name columns) → (a b : List ℕ) → Contains columns a → Contains columns b → column_number old all table a ≡ column_number old all table b → a ≡ b
   one_column table name columns has a b in_a in_b same = pick (named_column old table a) (named_column old table b) refl refl
     where
-      added_at : (own : List ℕ) → Contains columns own → named_column old table own ≡ None → (kind : Kind) × Contains (trips old all) (record { pace = ColumnIn; number = added_number all old.next table own all; fresh = record { table = table; name = own; kind = kind } })
-      added_at own among none = made_added old all all table own old.next (old.next + count_by (is_early all) all) (is_true_if_not_false _ (λ f. clear (AddIndex table name columns) has Unknown (λ earlier. inr (own, among, ap is_some_test none, f))))
+      added_at : (own : List ℕ) → Contains columns own → named_column old table own ≡ None → (kind : Kind) × Contains (trips old all) (record { wait = 0; course = ColumnIn; number = added_number all old.next table own all; fresh = record { table = table; name = own; kind = kind } })
+      added_at own among none = made_added old all all table own old.next (old.next + count_by (is_early all) all) (is_true_if_not_false _ (λ f. clear old sound all plannable (AddIndex table name columns) has Unknown (λ earlier. inr (own, among, ap is_some_test none, f))))
         where
           is_some_test : Option ElementDef → Bool
           is_some_test None = false
@@ -533,7 +556,7 @@ module _ (old : Version) (sound : IsSoundVersion old) (all : List Change) (plann
   column_list_none (Index columns) e = absurd (true≢false e)
   column_list_none (Optional type) e = tt
 
-  added_is : (trip : Trip) → Contains (trips old all) trip → is_in trip.pace ≡ true → IsAdded old (trips old all) trip
+  added_is : (trip : Trip) → Contains (trips old all) trip → is_in trip.course ≡ true → IsAdded old (trips old all) trip
   added_is trip has new = record {
     unused = bounds.0;
     counted = counted (new_is trip p new);
@@ -553,32 +576,32 @@ module _ (old : Version) (sound : IsSoundVersion old) (all : List Change) (plann
 
       counted : New trip p → trip.number ≤ max_elements
       counted (NewIndex table name columns is fresh) = elim (cases_lt (max_elements + 1) (old.next + count_by is_addition all)) [
-        | inl over ↦ absurd (clear (AddIndex table name columns) (subst (Contains all) is (has_change trip p)) Limit (λ earlier. inr (inr (inr over))))
+        | inl over ↦ absurd (clear old sound all plannable (AddIndex table name columns) (subst (Contains all) is (has_change trip p)) Limit (λ earlier. inr (inr (inr over))))
         | inr within ↦ omega (arith, bounds.1)
       ]
       counted (AColumn table name kind is fresh) = elim (cases_lt (max_elements + 1) (old.next + count_by is_addition all)) [
-        | inl over ↦ absurd (clear (AddColumn table name kind) (subst (Contains all) is (has_change trip p)) Limit (λ earlier. inr (inr over)))
+        | inl over ↦ absurd (clear old sound all plannable (AddColumn table name kind) (subst (Contains all) is (has_change trip p)) Limit (λ earlier. inr (inr over)))
         | inr within ↦ omega (arith, bounds.1)
       ]
 
       no_table : table_at old trip.fresh.table ≡ None → New trip p → ⊥
-      no_table none (NewIndex table name columns is fresh) = clear (AddIndex table name columns) (subst (Contains all) is (has_change trip p)) Unknown (λ earlier. inl (none_is (ap (λ (f : NewElement). table_at old f.table) (sym fresh) ∙ none)))
+      no_table none (NewIndex table name columns is fresh) = clear old sound all plannable (AddIndex table name columns) (subst (Contains all) is (has_change trip p)) Unknown (λ earlier. inl (none_is (ap (λ (f : NewElement). table_at old f.table) (sym fresh) ∙ none)))
         where
           none_is : {A : Type 0} {o : Option A} → o ≡ None → IsNone o
           none_is e = ap is_some e
-      no_table none (AColumn table name kind is fresh) = clear (AddColumn table name kind) (subst (Contains all) is (has_change trip p)) Unknown (λ earlier. inl (none_is (ap (λ (f : NewElement). table_at old f.table) (sym fresh) ∙ none)))
+      no_table none (AColumn table name kind is fresh) = clear old sound all plannable (AddColumn table name kind) (subst (Contains all) is (has_change trip p)) Unknown (λ earlier. inl (none_is (ap (λ (f : NewElement). table_at old f.table) (sym fresh) ∙ none)))
         where
           none_is : {A : Type 0} {o : Option A} → o ≡ None → IsNone o
           none_is e = ap is_some e
 
       name_is : New trip p → IsName trip.fresh.name
-      name_is (NewIndex table name columns is fresh) = subst (λ (f : NewElement). IsName f.name) (sym fresh) (stable_name name (λ n. clear (AddIndex table name columns) (subst (Contains all) is (has_change trip p)) Limit (λ earlier. inl n)))
-      name_is (AColumn table name kind is fresh) = subst (λ (f : NewElement). IsName f.name) (sym fresh) (stable_name name (λ n. clear (AddColumn table name kind) (subst (Contains all) is (has_change trip p)) Limit (λ earlier. inl n)))
+      name_is (NewIndex table name columns is fresh) = subst (λ (f : NewElement). IsName f.name) (sym fresh) (stable_name name (λ n. clear old sound all plannable (AddIndex table name columns) (subst (Contains all) is (has_change trip p)) Limit (λ earlier. inl n)))
+      name_is (AColumn table name kind is fresh) = subst (λ (f : NewElement). IsName f.name) (sym fresh) (stable_name name (λ n. clear old sound all plannable (AddColumn table name kind) (subst (Contains all) is (has_change trip p)) Limit (λ earlier. inl n)))
 
       columns_is : New trip p → IsColumnList trip.fresh.kind
       columns_is (NewIndex table name columns is fresh) =
           let has_add : Contains all (AddIndex table name columns) = subst (Contains all) is (has_change trip p) in
-          let list : IsNameList columns = stable_list columns (λ n. clear (AddIndex table name columns) has_add Limit (λ earlier. inr (inl n))) in
+          let list : IsNameList columns = stable_list columns (λ n. clear old sound all plannable (AddIndex table name columns) has_add Limit (λ earlier. inr (inl n))) in
           subst (λ (f : NewElement). IsColumnList f.kind) (sym fresh) (
             subst (λ n. 1 ≤ n) (sym (length-map columns (column_number old all table))) list.0,
             subst (λ n. n ≤ max_listed) (sym (length-map columns (column_number old all table))) list.1,

@@ -1,8 +1,9 @@
 pub mod Steps
 pub mod Bounds
 pub mod Named
-pub mod Least
 pub mod Trips
+pub mod Leaving
+pub mod Least
 pub mod Lawful
 pub mod Batch
 pub mod Fitting

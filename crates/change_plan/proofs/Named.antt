@@ -60,6 +60,13 @@ same_name table name other own e =
     let parts = and_true (table == other) (bytes_eq name own) e in
     ((Decides-eqb table other).0 parts.0, (bytes_eq-Decides name own).0 parts.1)
 
+pub both_true : (a b : Bool) → a ≡ true → b ≡ true → (a && b) ≡ true
+both_true true b e f = f
+both_true false b e f = e
+
+pub same_name_is : (table other : ℕ) (name own : List ℕ) → table ≡ other → name ≡ own → is_same_name table name other own ≡ true
+same_name_is table other name own t n = both_true (table == other) (bytes_eq name own) ((Decides-eqb table other).1 t) ((bytes_eq-Decides name own).1 n)
+
 -- ---- elements by name
 
 found : {X : Type 0} (test : X → Bool) (xs : List X) (x : X) → find test xs ≡ Some x → Contains xs x × (test x ≡ true)
@@ -85,10 +92,6 @@ is_named_parts : (table : ℕ) (name : List ℕ) (e : ElementDef) → is_named t
 is_named_parts table name e h =
     let parts = and_true (e.table == table) (bytes_eq e.name name) h in
     ((Decides-eqb e.table table).0 parts.0, (bytes_eq-Decides e.name name).0 parts.1)
-
-both_true : (a b : Bool) → a ≡ true → b ≡ true → (a && b) ≡ true
-both_true true b e f = f
-both_true false b e f = e
 
 pub named_there : (v : Version) → IsOrdered v → (table : ℕ) (name : List ℕ) (e : ElementDef) → named v table name ≡ Some e → (element_at v e.number ≡ Some e) × (e.table ≡ table) × (e.name ≡ name)
 named_there v ordered table name e is =

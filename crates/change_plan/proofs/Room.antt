@@ -1,12 +1,13 @@
 -- There is room for each element of a batch that can be planned.
 use Rattle.std.specs.Prelude.{◌≡◌, ℕ, suc, ◌+◌, ◌<◌, List, [], ◌∷◌, Bool, true, false, ◌&&◌, ◌==◌, if◌then◌else◌, Option, Some, None, Contains, count_by, flat_map, cond, refl}
 use mathlib.Core.List.{map as each}
-use Rattle.std.proofs.Common.{sym, ap, subst, ◌∙◌, inl, inr, arith}
+use Rattle.std.proofs.Common.{sym, ap, subst, ◌∙◌, inl, inr, true≢false, arith}
 use Rattle.std.proofs.lemmas.Bool.{cases_lt}
 use Rattle.std.proofs.lemmas.Bool.Decides.{Decides-eqb}
 use Rattle.std.proofs.lemmas.Grind.{flat_map-append}
+use Rattle.std.proofs.lemmas.List.{append-nil}
+use Rattle.std.proofs.lemmas.List.Concat.{flat_map-cons}
 use Rattle.std.proofs.lemmas.List.Sums.{sum_by-append}
-use Rattle.schema_version.specs.declared.element.ElementState.TheVariants.{Absent, DeleteOnly}
 use Rattle.schema_version.specs.declared.element.Kind.TheVariants.{Index}
 use Rattle.schema_version.specs.declared.element.ElementDef.{ElementDef}
 use Rattle.schema_version.specs.declared.step.Move.{Move}
@@ -17,14 +18,17 @@ use Rattle.change_plan.specs.declared.change.Change.{Change}
 use Rattle.change_plan.specs.declared.change.Change.TheVariants.{AddIndex, DropIndex, AddColumn, DropColumn}
 use Rattle.change_plan.specs.declared.fault.PlanFault.TheVariants.{Limit}
 use Rattle.change_plan.specs.Plans.{IsLeast}
-use Rattle.change_plan.specs.Batches.{named_index, named_column, lists_added, is_under_dropped}
+use Rattle.change_plan.specs.Batches.{leaving, lists_added}
 use Rattle.change_plan.specs.Refusals.{IsPlannable, adds_like, IsOver}
-use Rattle.change_plan.specs.declared.trip.Pace.TheVariants.{IndexIn, IndexInLate, IndexOut, ColumnOut, ColumnOutLate}
+use Rattle.change_plan.specs.declared.trip.Act.TheVariants.{Appear}
+use Rattle.change_plan.specs.declared.trip.Course.TheVariants.{ColumnIn, IndexIn}
 use Rattle.change_plan.specs.declared.trip.Trip.{Trip}
-use Rattle.change_plan.specs.Schedule.{state_at, move_of, trip_out, trip_of, trips_from, trips, schedule, is_early, is_late, column_number}
+use Rattle.change_plan.specs.Schedule.{steps, act_at, move_of, out_trip, trip_out, trip_of, trips_from, trips, schedule, is_early, is_late, column_number}
+use Rattle.change_plan.proofs.Trips.{is_in, appears, no_entry}
+use Rattle.change_plan.proofs.Leaving.{column_if, clear}
 use Rattle.change_plan.proofs.Lawful.{HasRoom, entered_like}
-use Rattle.change_plan.proofs.Batch.{out_trip, From, EarlyIndex, LateIndex, NewColumn, OldIndex, OldColumn, OldLateColumn, Placed, placed, count_first, count_split, starts_column, starts_index, starts_late, never_starts_index, never_starts_column, never_starts_late}
-use Rattle.change_plan.proofs.Fitting.{clear, column_kind, column_if, Place, has_change}
+use Rattle.change_plan.proofs.Batch.{From, EarlyIndex, LateIndex, NewColumn, Leaves, out_of, Placed, placed, count_first, count_split}
+use Rattle.change_plan.proofs.Fitting.{column_kind, Place, has_change}
 use Rattle.change_plan.proofs.Target.{least_with_room}
 
 zero_and : (n : ℕ) → 0 + n ≡ n
@@ -52,37 +56,31 @@ module _ (old : Version) (all : List Change) (table : ℕ) (index : Bool) where
       ∙ ap (λ c. cond (test change) 1 0 + c) (counts time test h changes (if is_early all change then early + 1 else early) (if is_late all change then late + 1 else late))
       ∙ sym (count_first test change changes)
 
-  out_none : (time : ℕ) → ((e : ElementDef) → count_by (is_entry_like table index) (flat_map (move_of time) (out_trip IndexOut e ∷ [])) ≡ 0) → (o : Option ElementDef) → count_by (is_entry_like table index) (flat_map (move_of time) (trip_out o (λ e. IndexOut))) ≡ 0
-  out_none time h None = refl
-  out_none time h (Some e) = h e
-
-  column_none : (time : ℕ) → ((e : ElementDef) (b : Bool) → count_by (is_entry_like table index) (flat_map (move_of time) (out_trip (if b then ColumnOutLate else ColumnOut) e ∷ [])) ≡ 0) → (o : Option ElementDef) → count_by (is_entry_like table index) (flat_map (move_of time) (trip_out o (λ e. if is_under_dropped old all e.number then ColumnOutLate else ColumnOut))) ≡ 0
-  column_none time h None = refl
-  column_none time h (Some e) = h e (is_under_dropped old all e.number)
+  out_none : (time : ℕ) (o : Option ElementDef) → count_by (is_entry_like table index) (flat_map (move_of time) (trip_out old all o)) ≡ 0
+  out_none time None = refl
+  out_none time (Some e) =
+      ap (count_by (is_entry_like table index)) (flat_map-cons (move_of time) (out_trip old all e) [] ∙ append-nil (move_of time (out_trip old all e))) ∙ (no_entry time (out_trip old all e) (out_of e.kind e.state)).1 table index
 
   one_index : (own : ℕ) (columns : List ℕ) → ◌≡◌ {A = ℕ} (cond ((own == table) && is_like index (Index columns)) 1 0) (cond ((own == table) && index) 1 0)
   one_index own columns = ap (λ b. cond ((own == table) && b) 1 0) (of_index index columns)
 
   early_entries : (early late : ℕ) (change : Change) → count_by (is_entry_like table index) (flat_map (move_of 0) (trip_of old all early late change)) ≡ cond (early_like change) 1 0
   early_entries early late (AddIndex own name columns) =
-      elim (lists_added all own columns) as (λ b. count_by (is_entry_like table index) (flat_map (move_of 0) (record { pace = if b then IndexInLate else IndexIn; number = if b then late else early; fresh = record { table = own; name = name; kind = Index (each (column_number old all own) columns) } } ∷ [])) ≡ cond ((if b then false else true) && ((own == table) && index)) 1 0) [ true ↦ refl | false ↦ zero_and _ ∙ one_index own (each (column_number old all own) columns) ]
-  early_entries early late (DropIndex own name) = out_none 0 (λ e. refl) (named_index old own name)
+      elim (lists_added all own columns) as (λ b. count_by (is_entry_like table index) (flat_map (move_of 0) (record { wait = if b then steps ColumnIn else 0; course = IndexIn; number = if b then late else early; fresh = record { table = own; name = name; kind = Index (each (column_number old all own) columns) } } ∷ [])) ≡ cond ((if b then false else true) && ((own == table) && index)) 1 0) [ true ↦ refl | false ↦ zero_and _ ∙ one_index own (each (column_number old all own) columns) ]
   early_entries early late (AddColumn own name kind) = zero_and _
-  early_entries early late (DropColumn own name) = column_none 0 (λ e b. elim b as (λ b. count_by (is_entry_like table index) (flat_map (move_of 0) (out_trip (if b then ColumnOutLate else ColumnOut) e ∷ [])) ≡ 0) [ true ↦ refl | false ↦ refl ]) (named_column old own name)
+  early_entries early late change = out_none 0 (leaving old change)
 
   no_entries : (early late : ℕ) (change : Change) → count_by (is_entry_like table index) (flat_map (move_of 1) (trip_of old all early late change)) ≡ 0
   no_entries early late (AddIndex own name columns) =
-      elim (lists_added all own columns) as (λ b. count_by (is_entry_like table index) (flat_map (move_of 1) (record { pace = if b then IndexInLate else IndexIn; number = if b then late else early; fresh = record { table = own; name = name; kind = Index (each (column_number old all own) columns) } } ∷ [])) ≡ 0) [ true ↦ refl | false ↦ refl ]
-  no_entries early late (DropIndex own name) = out_none 1 (λ e. refl) (named_index old own name)
+      elim (lists_added all own columns) as (λ b. count_by (is_entry_like table index) (flat_map (move_of 1) (record { wait = if b then steps ColumnIn else 0; course = IndexIn; number = if b then late else early; fresh = record { table = own; name = name; kind = Index (each (column_number old all own) columns) } } ∷ [])) ≡ 0) [ true ↦ refl | false ↦ refl ]
   no_entries early late (AddColumn own name kind) = refl
-  no_entries early late (DropColumn own name) = column_none 1 (λ e b. elim b as (λ b. count_by (is_entry_like table index) (flat_map (move_of 1) (out_trip (if b then ColumnOutLate else ColumnOut) e ∷ [])) ≡ 0) [ true ↦ refl | false ↦ refl ]) (named_column old own name)
+  no_entries early late change = out_none 1 (leaving old change)
 
   late_entries : (early late : ℕ) (change : Change) → count_by (is_entry_like table index) (flat_map (move_of 2) (trip_of old all early late change)) ≡ cond (late_like change) 1 0
   late_entries early late (AddIndex own name columns) =
-      elim (lists_added all own columns) as (λ b. count_by (is_entry_like table index) (flat_map (move_of 2) (record { pace = if b then IndexInLate else IndexIn; number = if b then late else early; fresh = record { table = own; name = name; kind = Index (each (column_number old all own) columns) } } ∷ [])) ≡ cond (b && ((own == table) && index)) 1 0) [ true ↦ zero_and _ ∙ one_index own (each (column_number old all own) columns) | false ↦ refl ]
-  late_entries early late (DropIndex own name) = out_none 2 (λ e. refl) (named_index old own name)
+      elim (lists_added all own columns) as (λ b. count_by (is_entry_like table index) (flat_map (move_of 2) (record { wait = if b then steps ColumnIn else 0; course = IndexIn; number = if b then late else early; fresh = record { table = own; name = name; kind = Index (each (column_number old all own) columns) } } ∷ [])) ≡ cond (b && ((own == table) && index)) 1 0) [ true ↦ zero_and _ ∙ one_index own (each (column_number old all own) columns) | false ↦ refl ]
   late_entries early late (AddColumn own name kind) = refl
-  late_entries early late (DropColumn own name) = column_none 2 (λ e b. elim b as (λ b. count_by (is_entry_like table index) (flat_map (move_of 2) (out_trip (if b then ColumnOutLate else ColumnOut) e ∷ [])) ≡ 0) [ true ↦ refl | false ↦ refl ]) (named_column old own name)
+  late_entries early late change = out_none 2 (leaving old change)
 
   count_none : (changes : List Change) → count_by (λ (c : Change). false) changes ≡ 0
   count_none [] = refl
@@ -104,9 +102,8 @@ module _ (old : Version) (all : List Change) (table : ℕ) (index : Bool) where
 
       each_one : (x : Change) → ◌≡◌ {A = ℕ} (cond (adds_like table index x) 1 0) (cond (early_like x) 1 0 + cond (late_like x) 1 0)
       each_one (AddIndex own name columns) = split (lists_added all own columns) ((own == table) && index)
-      each_one (DropIndex own name) = refl
       each_one (AddColumn own name kind) = alone ((own == table) && is_like index kind)
-      each_one (DropColumn own name) = refl
+      each_one change = refl
 
   -- fewer have entered than the batch adds, before one of them enters
   early_room : (done : List Trip) (trip : Trip) → (p : Placed old all old.next (old.next + count_by (is_early all) all) all done trip) → early_like p.change ≡ true
@@ -130,8 +127,11 @@ same_table table = (Decides-eqb table table).1 refl
 
 module _ (old : Version) (sound : IsSoundVersion old) (all : List Change) (plannable : IsPlannable old all) where
   pub has_room : HasRoom old (trips old all)
-  has_room time now at done rest trip split absent delete_only = pick p.from_change
+  has_room time now at done rest trip split act = pick p.from_change
     where
+      first : (time ≡ trip.wait) × (is_in trip.course ≡ true)
+      first = appears trip time act
+
       p : Placed old all old.next (old.next + count_by (is_early all) all) all done trip
       p = placed old all all old.next (old.next + count_by (is_early all) all) done rest trip split
 
@@ -162,21 +162,19 @@ module _ (old : Version) (sound : IsSoundVersion old) (all : List Change) (plann
       pick : From old all p.now_early p.now_late p.change trip → count_like now (flat_map (move_of time) done) trip.fresh.table (is_index trip.fresh.kind) < max_like (is_index trip.fresh.kind)
       pick (EarlyIndex table name columns change listed_added is) =
           fits table true (ap (λ (t : Trip). t.fresh.table) is) (ap (λ (t : Trip). is_index t.fresh.kind) is)
-          (early_fits table true (starts_index time (subst (λ (t : Trip). state_at t.pace time ≡ Absent) is absent)) (ap (is_early all) change ∙ ap (λ b. if b then false else true) listed_added) (ap (adds_like table true) change ∙ ap (λ b. b && true) (same_table table)))
+          (early_fits table true (first.0 ∙ ap (λ (t : Trip). t.wait) is) (ap (is_early all) change ∙ ap (λ b. if b then false else true) listed_added) (ap (adds_like table true) change ∙ ap (λ b. b && true) (same_table table)))
           (λ over. clear old sound all plannable (AddIndex table name columns) (subst (Contains all) change (has_change old sound all plannable trip place)) Limit (λ earlier. inr (inr over)))
       pick (LateIndex table name columns change listed_added is) =
           fits table true (ap (λ (t : Trip). t.fresh.table) is) (ap (λ (t : Trip). is_index t.fresh.kind) is)
-          (late_fits table true (starts_late time (subst (λ (t : Trip). state_at t.pace time ≡ Absent) is absent) (subst (λ (t : Trip). state_at t.pace (suc time) ≡ DeleteOnly) is delete_only)) (ap (is_late all) change ∙ listed_added) (ap (adds_like table true) change ∙ ap (λ b. b && true) (same_table table)))
+          (late_fits table true (first.0 ∙ ap (λ (t : Trip). t.wait) is) (ap (is_late all) change ∙ listed_added) (ap (adds_like table true) change ∙ ap (λ b. b && true) (same_table table)))
           (λ over. clear old sound all plannable (AddIndex table name columns) (subst (Contains all) change (has_change old sound all plannable trip place)) Limit (λ earlier. inr (inr over)))
       pick (NewColumn table name kind change is) =
           let has : Contains all (AddColumn table name kind) = subst (Contains all) change (has_change old sound all plannable trip place) in
           let no_index : is_index kind ≡ false = column_kind old sound all plannable table name kind has in
           fits table false (ap (λ (t : Trip). t.fresh.table) is) (ap (λ (t : Trip). is_index t.fresh.kind) is ∙ no_index)
-          (early_fits table false (starts_column time (subst (λ (t : Trip). state_at t.pace time ≡ Absent) is absent)) (ap (is_early all) change) (ap (adds_like table false) change ∙ ap (λ b. b && is_column kind) (same_table table) ∙ column_if kind no_index))
+          (early_fits table false (first.0 ∙ ap (λ (t : Trip). t.wait) is) (ap (is_early all) change) (ap (adds_like table false) change ∙ ap (λ b. b && is_column kind) (same_table table) ∙ column_if kind no_index))
           (λ over. clear old sound all plannable (AddColumn table name kind) has Limit (λ earlier. inr over))
-      pick (OldIndex table name e change found is) = absurd (never_starts_index time (subst (λ (t : Trip). state_at t.pace (suc time) ≡ DeleteOnly) is delete_only) (subst (λ (t : Trip). state_at t.pace time ≡ Absent) is absent))
-      pick (OldColumn table name e change found under is) = absurd (never_starts_column time (subst (λ (t : Trip). state_at t.pace (suc time) ≡ DeleteOnly) is delete_only) (subst (λ (t : Trip). state_at t.pace time ≡ Absent) is absent))
-      pick (OldLateColumn table name e change found under is) = absurd (never_starts_late time (subst (λ (t : Trip). state_at t.pace (suc time) ≡ DeleteOnly) is delete_only) (subst (λ (t : Trip). state_at t.pace time ≡ Absent) is absent))
+      pick (Leaves e found is) = absurd (true≢false (sym first.1 ∙ ap (λ (t : Trip). is_in t.course) is ∙ out_of e.kind e.state))
 
 -- the schedule of a batch that can be planned is lawful, and least
 pub schedule_least : (old : Version) → IsSoundVersion old → (changes : List Change) → IsPlannable old changes → IsLeast old changes (schedule old changes)

@@ -21,17 +21,16 @@ use Rattle.schema_version.specs.declared.element.Kind.TheVariants.{Index, Option
 use Rattle.schema_version.specs.declared.element.ElementDef.{ElementDef}
 use Rattle.schema_version.specs.declared.element.NewElement.{NewElement}
 use Rattle.schema_version.specs.declared.step.Move.{Move}
-use Rattle.schema_version.specs.declared.step.Move.TheVariants.{Enter, Go}
+use Rattle.schema_version.specs.declared.step.Move.TheVariants.{Enter, Go, Turn}
 use Rattle.schema_version.specs.declared.step.StepFault.{StepFault}
-use Rattle.schema_version.specs.declared.step.StepFault.TheVariants.{Unknown, NotAdjacent, Dependent}
+use Rattle.schema_version.specs.declared.step.StepFault.TheVariants.{Unknown, NotAdjacent, WrongWay, Dependent}
 use mathlib.Core.List.{map as each}
-use Rattle.schema_version.specs.Edges.{edge, HasEdge}
 use Rattle.schema_version.specs.Version.{Version, element_at, listed, is_like, count_live}
-use Rattle.schema_version.proofs.Stepping.{some_edge}
 use Rattle.schema_version.proofs.Counts.{count_insert, count_change, count_remove}
 use Rattle.schema_version.proofs.Live.{element_at-lookup}
 use Rattle.schema_version.specs.Steps.{IsOrdered, in_state_or_none}
-use Rattle.schema_version.specs.Moves.{as_element, entered, moved, after_move, after_step, is_move_of, moves_element, HasNoEdge, is_unready, IsFirstSuch, DependsOn, GoFaultAt, MoveFault, IsAllowed, is_entry, is_entry_like}
+use Rattle.schema_version.specs.Edges.{edge}
+use Rattle.schema_version.specs.Moves.{as_element, turned_back, entered, moved, turned, after_move, after_step, is_move_of, moves_element, HasNoEdge, is_unready, IsFirstSuch, DependsOn, GoFaultAt, TurnFaultAt, MoveFault, IsAllowed, is_entry, is_entry_like}
 
 -- ---- one number of the map of elements is written
 
@@ -100,6 +99,10 @@ entered_apart v fresh to n ne = put_apart v.elements v.next _ n ne
 pub not_both : {A : Type 0} (v : A) (o : Option A) → o ≡ Some v → o ≡ None → ⊥
 not_both v o e f = cc
 
+some_way : (o : Option Way) → ¬ (o ≡ None) → (way : Way) × (o ≡ Some way)
+some_way None h = absurd (h refl)
+some_way (Some way) h = (way, refl)
+
 not_true : (b : Bool) → ¬ (IsTrue b) → b ≡ false
 not_true true h = absurd (h refl)
 not_true false h = refl
@@ -108,7 +111,8 @@ pub record MayGo (version : Version) (step earlier : List Move) (number : ℕ) (
   pub element : ElementDef
   pub there : element_at version number ≡ Some element
   pub first : moves_element earlier number ≡ false
-  pub joined : HasEdge element.kind element.state to
+  pub way : Way
+  pub along : edge element.kind element.way element.state to ≡ Some way
   pub free : (on : ℕ) → ¬ (DependsOn version step number element.kind on)
 
 pub may_go : (version : Version) (step earlier : List Move) (number : ℕ) (to : ElementState) → ((fault : StepFault) → ¬ (MoveFault version step earlier (Go number to) fault)) → MayGo version step earlier number to
@@ -117,7 +121,26 @@ may_go version step earlier number to h = pick (element_at version number) refl 
     pick : (o : Option ElementDef) → element_at version number ≡ o → ((fault : StepFault) → ¬ (GoFaultAt version step earlier number o to fault)) → MayGo version step earlier number to
     pick None at h = absurd (h Unknown refl)
     pick (Some e) at h =
-        record { element = e; there = at; first = not_true (moves_element earlier number) (λ t. h NotAdjacent (inr t)); joined = some_edge e.kind e.state to (λ none. h NotAdjacent (inl none)); free = λ on d. h (Dependent on) d }
+        let own : (way : Way) × (edge e.kind e.way e.state to ≡ Some way) = some_way (edge e.kind e.way e.state to) (λ none. h WrongWay none) in
+        record { element = e; there = at; first = not_true (moves_element earlier number) (λ t. h NotAdjacent (inr t)); way = own.0; along = own.1; free = λ on d. h (Dependent on) d }
+
+pub record MayTurn (version : Version) (earlier : List Move) (number : ℕ) : Type 0 where
+  pub element : ElementDef
+  pub there : element_at version number ≡ Some element
+  pub first : moves_element earlier number ≡ false
+  pub private : element.state ≢ Public
+  pub adding : element.way ≡ Adding
+
+pub may_turn : (version : Version) (step earlier : List Move) (number : ℕ) → ((fault : StepFault) → ¬ (MoveFault version step earlier (Turn number) fault)) → MayTurn version earlier number
+may_turn version step earlier number h = pick (element_at version number) refl h
+  where
+    is_adding : (way : Way) → ¬ (way ≡ Dropping) → way ≡ Adding
+    is_adding Adding h = refl
+    is_adding Dropping h = absurd (h refl)
+
+    pick : (o : Option ElementDef) → element_at version number ≡ o → ((fault : StepFault) → ¬ (TurnFaultAt earlier number o fault)) → MayTurn version earlier number
+    pick None at h = absurd (h Unknown refl)
+    pick (Some e) at h = record { element = e; there = at; first = not_true (moves_element earlier number) (λ t. h NotAdjacent (inr t)); private = λ public. h NotAdjacent (inl public); adding = is_adding e.way (λ dropping. h WrongWay dropping) }
 
 -- the list has no first such, so none of it is such
 pub none_such : (test : ℕ → Bool) (list : List ℕ) → ((found : ℕ) → ¬ (IsFirstSuch test list found)) → AllByRecursion (λ x. test x ≡ false) list
@@ -130,7 +153,7 @@ none_such test (x ∷ xs) h =
 abbrev pub AreReady : Version → List Move → Kind → Type 0
 AreReady version step kind = AllByRecursion (λ c. is_unready version step c ≡ false) (listed kind)
 
-ready_go : (version : Version) (step : List Move) (number : ℕ) (kind : Kind) → ((on : ℕ) → ¬ (DependsOn version step number kind on)) → AreReady version step kind
+pub ready_go : (version : Version) (step : List Move) (number : ℕ) (kind : Kind) → ((on : ℕ) → ¬ (DependsOn version step number kind on)) → AreReady version step kind
 ready_go version step number (Index columns) h = none_such (is_unready version step) columns h
 ready_go version step number (Optional type) h = tt
 
@@ -138,15 +161,18 @@ pub record MayEnter (version : Version) (step : List Move) (fresh : NewElement) 
   pub edge : to ≡ DeleteOnly
   pub ready : AreReady version step fresh.kind
 
-enters_delete_only : (kind : Kind) (way : Way) (to : ElementState) (next : Way) → edge kind way Absent to ≡ Some next → to ≡ DeleteOnly
-enters_delete_only (Index columns) Adding DeleteOnly next e = refl
-enters_delete_only (Optional type) Adding DeleteOnly next e = refl
-enters_delete_only kind way to next e = absurd cc
+enters_delete_only : (kind : Kind) (to : ElementState) → ¬ (HasNoEdge kind Absent to) → to ≡ DeleteOnly
+enters_delete_only kind DeleteOnly some = refl
+enters_delete_only (Index columns) Absent some = absurd (some (refl, refl))
+enters_delete_only (Index columns) WriteOnly some = absurd (some (refl, refl))
+enters_delete_only (Index columns) Public some = absurd (some (refl, refl))
+enters_delete_only (Optional type) Absent some = absurd (some (refl, refl))
+enters_delete_only (Optional type) WriteOnly some = absurd (some (refl, refl))
+enters_delete_only (Optional type) Public some = absurd (some (refl, refl))
 
 pub may_enter : (version : Version) (step earlier : List Move) (fresh : NewElement) (to : ElementState) → ((fault : StepFault) → ¬ (MoveFault version step earlier (Enter fresh to) fault)) → MayEnter version step fresh to
 may_enter version step earlier fresh to h =
-    let w = some_edge fresh.kind Absent to (λ none. h NotAdjacent none) in
-    record { edge = enters_delete_only fresh.kind w.0 to w.1 w.2; ready = none_such (is_unready version step) (listed fresh.kind) (λ on. h (Dependent on)) }
+    record { edge = enters_delete_only fresh.kind to (λ none. h NotAdjacent none); ready = none_such (is_unready version step) (listed fresh.kind) (λ on. h (Dependent on)) }
 
 -- ---- a step, move by move
 
@@ -154,7 +180,8 @@ may_enter version step earlier fresh to h =
 pub data Becomes (old : Version) (step earlier : List Move) (next number : ℕ) (now : Option ElementDef) : Type 0 where
   Stays : now ≡ element_at old number → moves_element earlier number ≡ false → ((number < old.next) ⊎ (next ≤ number)) → Becomes old step earlier next number now
   Comes : (before after : List Move) (fresh : NewElement) → step ≡ before ++ Enter fresh DeleteOnly ∷ after → number ≡ old.next + count_by is_entry before → element_at old number ≡ None → now ≡ Some (as_element number fresh DeleteOnly) → AreReady old step fresh.kind → Becomes old step earlier next number now
-  Goes : (before after : List Move) (element : ElementDef) (to : ElementState) → step ≡ before ++ Go number to ∷ after → element_at old number ≡ Some element → HasEdge element.kind element.state to → now ≡ in_state_or_none element to → AreReady old step element.kind → Becomes old step earlier next number now
+  Turns : (before after : List Move) → step ≡ before ++ Turn number ∷ after → (may : MayTurn old before number) → now ≡ Some (turned_back may.element) → Becomes old step earlier next number now
+  Goes : (before after : List Move) (to : ElementState) → step ≡ before ++ Go number to ∷ after → (may : MayGo old step before number to) → now ≡ in_state_or_none may.element to → Becomes old step earlier next number now
 
 -- the version behind the first moves of a step
 pub record Midway (old : Version) (step earlier : List Move) (now : Version) : Type 0 where
@@ -201,6 +228,9 @@ count_entry earlier fresh to = let e : count_by is_entry (earlier ++ Enter fresh
 
 count_go : (earlier : List Move) (number : ℕ) (to : ElementState) → count_by is_entry (earlier ++ Go number to ∷ []) ≡ count_by is_entry earlier
 count_go earlier number to = let e : count_by is_entry (earlier ++ Go number to ∷ []) ≡ count_by is_entry earlier + 0 = count_append earlier (Go number to ∷ []) in omega arith
+
+count_turn : (earlier : List Move) (number : ℕ) → count_by is_entry (earlier ++ Turn number ∷ []) ≡ count_by is_entry earlier
+count_turn earlier number = let e : count_by is_entry (earlier ++ Turn number ∷ []) ≡ count_by is_entry earlier + 0 = count_append earlier (Turn number ∷ []) in omega arith
 
 -- an element of the table that is an index, or else a column
 abbrev pub is_like_in : ℕ → Bool → ElementDef → Bool
@@ -269,7 +299,8 @@ module _ (old : Version) (step : List Move) (numbered : IsOrdered old) where
               strictly : now.next ≤ n → now.next + 1 ≤ n
               strictly above = elim (eq-or-lt_of_le above) [ inl is ↦ absurd (ne (sym is)) | inr more ↦ omega (arith, more) ]
           on n ne (Comes before after fresh split place at_old at_now ready) = Comes before after fresh split place at_old at_now ready
-          on n ne (Goes before after element to split at_old edge at_now ready) = Goes before after element to split at_old edge at_now ready
+          on n ne (Goes before after to split may at_now) = Goes before after to split may at_now
+          on n ne (Turns before after split may at_now) = Turns before after split may at_now
 
   mid_go : (earlier later : List Move) (now : Version) → Midway old step earlier now → (number : ℕ) (to : ElementState) → step ≡ earlier ++ Go number to ∷ later → MayGo old step earlier number to → Midway old step (earlier ++ Go number to ∷ []) (after_move now (Go number to))
   mid_go earlier later now mid number to split may = subst (λ (o : Option ElementDef). Midway old step (earlier ++ Go number to ∷ []) (moved now o to)) (sym at_now) (record {
@@ -325,17 +356,74 @@ module _ (old : Version) (step : List Move) (numbered : IsOrdered old) where
       becomes : (n : ℕ) → Becomes old step (earlier ++ Go number to ∷ []) (moved now (Some may.element) to).next n (element_at (moved now (Some may.element) to) n)
       becomes n = subst (λ next. Becomes old step (earlier ++ Go number to ∷ []) next n (element_at (moved now (Some may.element) to) n)) (sym (moved_next now may.element to)) (elim (same_or_apart n number) [
         | inl is ↦ subst (λ k. Becomes old step (earlier ++ Go number to ∷ []) now.next k (element_at (moved now (Some may.element) to) k)) (sym is)
-            (Goes earlier later may.element to split may.there may.joined here (ready_go old step number may.element.kind may.free))
+            (Goes earlier later to split may here)
         | inr ne ↦ subst (Becomes old step (earlier ++ Go number to ∷ []) now.next n) (sym (apart_at n ne)) (on n ne (mid.becomes n))
       ])
         where
           on : (n : ℕ) → n ≢ number → Becomes old step earlier now.next n (element_at now n) → Becomes old step (earlier ++ Go number to ∷ []) now.next n (element_at now n)
           on n ne (Stays same unmoved outside) = Stays same (moves_both earlier (Go number to) n unmoved (not_true (number == n) (λ t. ne (sym ((Decides-eqb number n).0 t))))) outside
           on n ne (Comes before after fresh split place at_old at_now ready) = Comes before after fresh split place at_old at_now ready
-          on n ne (Goes before after element to split at_old edge at_now ready) = Goes before after element to split at_old edge at_now ready
+          on n ne (Goes before after to split may at_now) = Goes before after to split may at_now
+          on n ne (Turns before after split may at_now) = Turns before after split may at_now
+
+  mid_turn : (earlier later : List Move) (now : Version) → Midway old step earlier now → (number : ℕ) → step ≡ earlier ++ Turn number ∷ later → MayTurn old earlier number → Midway old step (earlier ++ Turn number ∷ []) (after_move now (Turn number))
+  mid_turn earlier later now mid number split may = subst (λ (o : Option ElementDef). Midway old step (earlier ++ Turn number ∷ []) (turned now o)) (sym at_now) (record {
+    numbered = record { numbered = own; below = given };
+    next = mid.next ∙ ap (λ c. old.next + c) (sym (count_turn earlier number));
+    tables = mid.tables;
+    same = same;
+    becomes = becomes;
+    like = λ table index. omega (arith, mid.like table index, like_written table index now may.element (subst (λ k. element_at now k ≡ Some may.element) (sym is_own) at_now) (turned_back may.element) refl, count_likes table index earlier (Turn number));
+  })
+    where
+      below : number < old.next
+      below = numbered.below number may.element may.there
+
+      is_own : may.element.number ≡ number
+      is_own = numbered.numbered number may.element may.there
+
+      at_now : element_at now number ≡ Some may.element
+      at_now = mid.same number below may.first ∙ may.there
+
+      here : element_at (turned now (Some may.element)) number ≡ Some (turned_back may.element)
+      here = subst (λ k. element_at (turned now (Some may.element)) k ≡ Some (turned_back may.element)) is_own (put_here now.elements may.element.number (turned_back may.element))
+
+      apart_at : (n : ℕ) → n ≢ number → element_at (turned now (Some may.element)) n ≡ element_at now n
+      apart_at n ne = put_apart now.elements may.element.number (turned_back may.element) n (λ (is : n ≡ may.element.number). ne (is ∙ is_own))
+
+      own : (n : ℕ) (f : ElementDef) → element_at (turned now (Some may.element)) n ≡ Some f → f.number ≡ n
+      own n f at = elim (same_or_apart n number) [
+        | inl is ↦
+            let one : Some (turned_back may.element) ≡ Some f = sym here ∙ subst (λ k. element_at (turned now (Some may.element)) k ≡ Some f) is at in
+            let same : turned_back may.element ≡ f = cc in
+            ap (λ (x : ElementDef). x.number) (sym same) ∙ is_own ∙ sym is
+        | inr ne ↦ mid.numbered.numbered n f (sym (apart_at n ne) ∙ at)
+      ]
+
+      given : (n : ℕ) (f : ElementDef) → element_at (turned now (Some may.element)) n ≡ Some f → n < now.next
+      given n f at = elim (same_or_apart n number) [
+        | inl is ↦ let l : now.next ≡ old.next + count_by is_entry earlier = mid.next in let b : number < old.next = below in omega arith
+        | inr ne ↦ mid.numbered.below n f (sym (apart_at n ne) ∙ at)
+      ]
+
+      same : (n : ℕ) → n < old.next → moves_element (earlier ++ Turn number ∷ []) n ≡ false → element_at (turned now (Some may.element)) n ≡ element_at old n
+      same n small none = apart_at n (λ (is : n ≡ number). not_itself number (subst (λ k. (number == k) ≡ false) is (last_of earlier (Turn number) n none))) ∙ mid.same n small (before_last earlier _ n none)
+
+      becomes : (n : ℕ) → Becomes old step (earlier ++ Turn number ∷ []) now.next n (element_at (turned now (Some may.element)) n)
+      becomes n = elim (same_or_apart n number) [
+        | inl is ↦ subst (λ k. Becomes old step (earlier ++ Turn number ∷ []) now.next k (element_at (turned now (Some may.element)) k)) (sym is) (Turns earlier later split may here)
+        | inr ne ↦ subst (Becomes old step (earlier ++ Turn number ∷ []) now.next n) (sym (apart_at n ne)) (on n ne (mid.becomes n))
+      ]
+        where
+          on : (n : ℕ) → n ≢ number → Becomes old step earlier now.next n (element_at now n) → Becomes old step (earlier ++ Turn number ∷ []) now.next n (element_at now n)
+          on n ne (Stays same unmoved outside) = Stays same (moves_both earlier (Turn number) n unmoved (not_true (number == n) (λ t. ne (sym ((Decides-eqb number n).0 t))))) outside
+          on n ne (Comes before after fresh split place at_old at_now ready) = Comes before after fresh split place at_old at_now ready
+          on n ne (Goes before after to split may at_now) = Goes before after to split may at_now
+          on n ne (Turns before after split may at_now) = Turns before after split may at_now
 
   mid_move : (earlier later : List Move) (now : Version) → Midway old step earlier now → (move : Move) → step ≡ earlier ++ move ∷ later → ((fault : StepFault) → ¬ (MoveFault old step earlier move fault)) → Midway old step (earlier ++ move ∷ []) (after_move now move)
   mid_move earlier later now mid (Go number to) split h = mid_go earlier later now mid number to split (may_go old step earlier number to h)
+  mid_move earlier later now mid (Turn number) split h = mid_turn earlier later now mid number split (may_turn old step earlier number h)
   mid_move earlier later now mid (Enter fresh to) split h =
       let may : MayEnter old step fresh to = may_enter old step earlier fresh to h in
       subst (λ state. Midway old step (earlier ++ Enter fresh state ∷ []) (entered now fresh state)) (sym may.edge) (mid_enter earlier later now mid fresh (subst (λ state. step ≡ earlier ++ Enter fresh state ∷ later) may.edge split) may.ready)

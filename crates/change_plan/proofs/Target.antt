@@ -2,36 +2,39 @@
 use Rattle.std.specs.Prelude.{◌≡◌, ℕ, ◌+◌, ◌≤◌, max, List, [], ◌∷◌, length, Bool, true, false, if◌then◌else◌, Option, Some, None, Contains, count_by, refl}
 use Rattle.std.specs.List.{list_any, AllZip, AllByRecursion as All}
 use mathlib.Core.List.{map as each}
-use Rattle.std.proofs.Common.{sym, ap, subst, ◌∙◌, inl, inr, arith}
+use Rattle.std.proofs.Common.{sym, ap, subst, ◌∙◌, inl, inr, true≢false, arith}
 use Rattle.std.proofs.Math.Nat.{le-max_left, le-max_right}
 use Rattle.schema_version.specs.declared.element.ElementState.TheVariants.{Absent, Public}
-use Rattle.schema_version.specs.declared.element.Kind.TheVariants.{Index}
+use Rattle.schema_version.specs.declared.element.Way.TheVariants.{Adding}
+use Rattle.schema_version.specs.declared.element.Kind.{Kind}
+use Rattle.schema_version.specs.declared.element.Kind.TheVariants.{Index, Optional}
 use Rattle.schema_version.specs.declared.element.ElementDef.{ElementDef}
-use Rattle.schema_version.specs.Version.{Version, element_at, is_index}
+use Rattle.schema_version.specs.Version.{Version, element_at, is_index, is_column}
 use Rattle.schema_version.specs.Sound.{IsSoundVersion}
 use Rattle.change_plan.proofs.Steps.{not_both, not_given}
 use Rattle.change_plan.specs.declared.change.Change.{Change}
-use Rattle.change_plan.specs.declared.change.Change.TheVariants.{AddIndex, DropIndex, AddColumn, DropColumn}
-use Rattle.change_plan.specs.declared.fault.PlanFault.TheVariants.{Unknown, StillIndexed}
+use Rattle.change_plan.specs.declared.change.Change.TheVariants.{AddIndex, DropIndex, AddColumn, DropColumn, Abandon}
+use Rattle.change_plan.specs.declared.fault.PlanFault.TheVariants.{Unknown}
 use Rattle.change_plan.specs.Plans.{IsTarget, IsLeast, Drops, Adds, IsAddition, IsColumnNamed}
-use Rattle.change_plan.specs.Batches.{named_index, named_column, lists_added, is_under_dropped, adds_column, drops_column}
+use Rattle.change_plan.specs.Batches.{named, named_index, named_column, leaving, lists_added, adds_column}
 use Rattle.change_plan.specs.Refusals.{IsPlannable}
-use Rattle.change_plan.specs.declared.trip.Pace.{Pace}
-use Rattle.change_plan.specs.declared.trip.Pace.TheVariants.{ColumnIn, IndexIn, IndexInLate, IndexOut, ColumnOut, ColumnOutLate}
+use Rattle.change_plan.specs.declared.trip.Course.{Course}
+use Rattle.change_plan.specs.declared.trip.Course.TheVariants.{ColumnIn, IndexIn}
 use Rattle.change_plan.specs.declared.trip.Trip.{Trip}
-use Rattle.change_plan.specs.Schedule.{timetable, state_at, longest, trips, schedule, is_early, column_number, added_number, number_or}
+use Rattle.change_plan.specs.Schedule.{steps, duration, longest, out_trip, trips, schedule, is_early, column_number, added_number, number_or}
 use Rattle.change_plan.proofs.Named.{contains_first, contains_later, contains_cases, contains_none, ordered}
-use Rattle.change_plan.proofs.Least.{index_there, column_there, index_columns, column_type, schedule_short}
-use Rattle.change_plan.proofs.Trips.{find_trip, is_in, element_of, here, arrived_in, arrived_out}
-use Rattle.change_plan.proofs.Lawful.{IsAt, HasRoom, AreTrips, at_first, steps_allowed, after_steps}
-use Rattle.change_plan.proofs.Batch.{out_trip, From, EarlyIndex, LateIndex, NewColumn, OldIndex, OldColumn, OldLateColumn, same_name_is}
-use Rattle.change_plan.proofs.Fitting.{made, made_index, made_column, made_added, index_named, column_named, any_of, is_true_if_not_false, are_trips, moved_element, no_trip_of, place_of, has_change, Place, clear}
+use Rattle.change_plan.proofs.Leaving.{column_there, column_type, abandoned, departs, clear}
+use Rattle.change_plan.proofs.Least.{schedule_short}
+use Rattle.change_plan.proofs.Trips.{find_trip, is_in, suits, Away, At, element_of, here, at_destination}
+use Rattle.change_plan.proofs.Lawful.{IsAt, HasRoom, AreTrips, at_first, steps_allowed, after_steps, arrives_in, arrives_out}
+use Rattle.change_plan.proofs.Batch.{From, EarlyIndex, LateIndex, NewColumn, Leaves, out_of}
+use Rattle.change_plan.proofs.Fitting.{made, made_leaving, made_added, own_name, index_named, column_named, any_of, is_true_if_not_false, are_trips, moved_element, no_trip_of, stays, column_kind, place_of, has_change, Place}
 
-within_longest : (trips : List Trip) (trip : Trip) → Contains trips trip → length (timetable trip.pace) ≤ longest trips
+within_longest : (trips : List Trip) (trip : Trip) → Contains trips trip → duration trip ≤ longest trips
 within_longest [] trip has = absurd (contains_none trip has)
 within_longest (x ∷ xs) trip has = elim (contains_cases x xs trip has) [
-  | inl is ↦ let one : length (timetable x.pace) ≤ length (timetable trip.pace) = subst (λ (t : Trip). length (timetable x.pace) ≤ length (timetable t.pace)) is (omega arith) in subst (λ (t : Trip). length (timetable t.pace) ≤ max (length (timetable x.pace)) (longest xs)) is (le-max_left (length (timetable x.pace)) (longest xs))
-  | inr more ↦ let rest : length (timetable trip.pace) ≤ longest xs = within_longest xs trip more in omega (arith, le-max_right (length (timetable x.pace)) (longest xs))
+  | inl is ↦ let one : duration x ≤ duration trip = subst (λ (t : Trip). duration x ≤ duration t) is (omega arith) in subst (λ (t : Trip). duration t ≤ max (duration x) (longest xs)) is (le-max_left (duration x) (longest xs))
+  | inr more ↦ let rest : duration trip ≤ longest xs = within_longest xs trip more in omega (arith, le-max_right (duration x) (longest xs))
 ]
 
 zip_each : {A B : Type 0} (R : A → B → Type 0) (f : A → B) (xs : List A) → ((x : A) → Contains xs x → R x (f x)) → AllZip R xs (each f xs)
@@ -43,25 +46,20 @@ all_from P [] h = tt
 all_from P (x ∷ xs) h = (h x (contains_first x xs), all_from P xs (λ y has. h y (contains_later x xs y has)))
 
 module _ (old : Version) (sound : IsSoundVersion old) (all : List Change) (plannable : IsPlannable old all) (time : ℕ) (long : longest (trips old all) ≤ time) (new : Version) (at : IsAt old (trips old all) time new) where
-  arrives : (trip : Trip) → Contains (trips old all) trip → is_in trip.pace ≡ true → element_at new trip.number ≡ Some (element_of trip.pace trip.number trip.fresh Public)
+  arrives : (trip : Trip) → Contains (trips old all) trip → is_in trip.course ≡ true → element_at new trip.number ≡ Some (element_of trip.number trip.fresh Public Adding)
   arrives trip has is_new =
-      let within : length (timetable trip.pace) ≤ longest (trips old all) = within_longest (trips old all) trip has in
-      let public : state_at trip.pace time ≡ Public = arrived_in trip.pace time (omega arith) is_new in
-      at.trip trip has ∙ ap (here trip.pace trip.number trip.fresh) public
+      let within : duration trip ≤ longest (trips old all) = within_longest (trips old all) trip has in
+      at.trip trip has ∙ ap (here trip.number trip.fresh) (at_destination trip time (omega arith) ∙ arrives_in trip.course is_new)
 
-  leaves : (trip : Trip) → Contains (trips old all) trip → is_in trip.pace ≡ false → element_at new trip.number ≡ None
+  leaves : (trip : Trip) → Contains (trips old all) trip → is_in trip.course ≡ false → element_at new trip.number ≡ None
   leaves trip has is_out =
-      let within : length (timetable trip.pace) ≤ longest (trips old all) = within_longest (trips old all) trip has in
-      let absent : state_at trip.pace time ≡ Absent = arrived_out trip.pace time (omega arith) is_out in
-      at.trip trip has ∙ ap (here trip.pace trip.number trip.fresh) absent
+      let within : duration trip ≤ longest (trips old all) = within_longest (trips old all) trip has in
+      at.trip trip has ∙ ap (here trip.number trip.fresh) (at_destination trip time (omega arith) ∙ arrives_out trip.course is_out)
 
   kept : (number : ℕ) (element : ElementDef) → element_at old number ≡ Some element → ((change : Change) → Contains all change → ¬ (Drops element change)) → element_at new number ≡ Some element
   kept number e at_old not_dropped = elim (find_trip (trips old all) number) [
     | inr none ↦ at.rest number none ∙ at_old
-    | inl found ↦ elim (moved_element old sound all plannable found.0 found.1 e at_own (found.2 ∙ sym own)) [
-      | inl i ↦ let there = index_there old (ordered sound) i.0 i.1 e i.3 in let columns = index_columns e.kind there.3 in absurd (not_dropped (DropIndex i.0 i.1) i.2 (columns.0, there.1, there.2, columns.1))
-      | inr c ↦ let there = column_there old (ordered sound) c.0 c.1 e c.3 in let type = column_type e.kind there.3 in absurd (not_dropped (DropColumn c.0 c.1) c.2 (type.0, there.1, there.2, type.1))
-    ]
+    | inl found ↦ (let moved = moved_element old sound all plannable found.0 found.1 e at_own (found.2 ∙ sym own) in absurd (not_dropped moved.0 moved.1 (departs old sound all plannable moved.0 moved.1 e moved.2).taken))
   ]
     where
       own : e.number ≡ number
@@ -70,21 +68,16 @@ module _ (old : Version) (sound : IsSoundVersion old) (all : List Change) (plann
       at_own : element_at old e.number ≡ Some e
       at_own = subst (λ n. element_at old n ≡ Some e) (sym own) at_old
 
-  is_out_column : (b : Bool) → is_in (if b then ColumnOutLate else ColumnOut) ≡ false
-  is_out_column true = refl
-  is_out_column false = refl
+  -- what a change drops, it takes out
+  is_leaving : (number : ℕ) (e : ElementDef) (change : Change) → element_at old number ≡ Some e → Contains all change → Drops e change → leaving old change ≡ Some e
+  is_leaving number e (DropIndex table name) at_old has d = subst (λ t. named_index old t name ≡ Some e) d.1 (subst (λ n. named_index old e.table n ≡ Some e) d.2 (index_named old sound number e at_old (ap is_index d.3)))
+  is_leaving number e (DropColumn table name) at_old has d = subst (λ t. named_column old t name ≡ Some e) d.1 (subst (λ n. named_column old e.table n ≡ Some e) d.2 (column_named old sound number e at_old (ap is_index d.3)))
+  is_leaving number e (Abandon table name) at_old has d = abandoned old sound all plannable table name has e (subst (λ t. named old t name ≡ Some e) d.0 (subst (λ n. named old e.table n ≡ Some e) d.1 (own_name old sound number e at_old)))
+  is_leaving number e change at_old has d = absurd d
 
   dropped : (number : ℕ) (element : ElementDef) (change : Change) → element_at old number ≡ Some element → Contains all change → Drops element change → element_at new number ≡ None
-  dropped number e (DropIndex table name) at_old has d =
-      let is_kind : is_index e.kind ≡ true = ap is_index d.3 in
-      let found : named_index old table name ≡ Some e = subst (λ t. named_index old t name ≡ Some e) d.1 (subst (λ n. named_index old e.table n ≡ Some e) d.2 (index_named old sound number e at_old is_kind)) in
-      subst (λ n. element_at new n ≡ None) ((ordered sound).numbered number e at_old) (leaves (out_trip IndexOut e) (made_index old all table name e has found) refl)
-  dropped number e (DropColumn table name) at_old has d =
-      let is_kind : is_index e.kind ≡ false = ap is_index d.3 in
-      let found : named_column old table name ≡ Some e = subst (λ t. named_column old t name ≡ Some e) d.1 (subst (λ n. named_column old e.table n ≡ Some e) d.2 (column_named old sound number e at_old is_kind)) in
-      subst (λ n. element_at new n ≡ None) ((ordered sound).numbered number e at_old) (leaves (out_trip (if is_under_dropped old all e.number then ColumnOutLate else ColumnOut) e) (made_column old all table name e has found) (is_out_column (is_under_dropped old all e.number)))
-  dropped number e (AddIndex table name columns) at_old has d = absurd d
-  dropped number e (AddColumn table name kind) at_old has d = absurd d
+  dropped number e change at_old has d =
+      subst (λ n. element_at new n ≡ None) ((ordered sound).numbered number e at_old) (leaves (out_trip old all e) (made_leaving old all change e has (is_leaving number e change at_old has d)) (out_of e.kind e.state))
 
   -- a listed column of an added index, in the end
   column_in_end : (table : ℕ) (name : List ℕ) (columns : List (List ℕ)) → Contains all (AddIndex table name columns) → (own : List ℕ) → Contains columns own → IsColumnNamed new table own (column_number old all table own)
@@ -94,45 +87,42 @@ module _ (old : Version) (sound : IsSoundVersion old) (all : List Change) (plann
       is_some_test None = false
       is_some_test (Some x) = true
 
+      of_column : (kind : Kind) → is_column kind ≡ true → (type : _) × (kind ≡ Optional type)
+      of_column (Index columns) e = absurd (true≢false (sym e))
+      of_column (Optional type) e = (type, refl)
+
       pick : (o : Option ElementDef) → named_column old table own ≡ o → IsColumnNamed new table own (column_number old all table own)
       pick None none =
           let added : list_any (adds_column table own) all ≡ true = is_true_if_not_false _ (λ f. clear old sound all plannable (AddIndex table name columns) has Unknown (λ earlier. inr (own, among, ap is_some_test none, f))) in
           let m = made_added old all all table own old.next (old.next + count_by (is_early all) all) added in
-          let is_column = (are_trips old sound all plannable).trip _ m.1 in
-          let type = column_type m.0 is_column.kind in
+          let type = of_column m.0 ((are_trips old sound all plannable).trip _ m.1).kind in
           subst (IsColumnNamed new table own) (sym (ap (λ o. number_or o (added_number all old.next table own all)) none))
-          (element_of ColumnIn (added_number all old.next table own all) (record { table = table; name = own; kind = m.0 }) Public, type.0, arrives _ m.1 refl, refl, refl, type.1)
+          (element_of (added_number all old.next table own all) (record { table = table; name = own; kind = m.0 }) Public Adding, type.0, arrives _ m.1 refl, refl, refl, type.1)
       pick (Some e) found =
           let there = column_there old (ordered sound) table own e found in
           let type = column_type e.kind there.3 in
-          let stays : (t : ℕ) (n : List ℕ) → Contains all (DropColumn t n) → e.table ≡ t → e.name ≡ n → ⊥ = λ t n gone is_t is_n. clear old sound all plannable (AddIndex table name columns) has StillIndexed (λ earlier. (own, among, any_of (drops_column table own) all (DropColumn t n) gone (same_name_is table t own n (sym there.1 ∙ is_t) (sym there.2 ∙ is_n)))) in
           subst (IsColumnNamed new table own) (sym (ap (λ o. number_or o (added_number all old.next table own all)) found))
-          (e, type.0, at.rest e.number (no_trip_of old sound all plannable e there.0 there.3 stays) ∙ there.0, there.1, there.2, type.1)
+          (e, type.0, at.rest e.number (no_trip_of old sound all plannable e there.0 (stays old sound all plannable table name columns has own among e found)) ∙ there.0, there.1, there.2, type.1)
 
-  index_adds : (table : ℕ) (name : List ℕ) (columns : List (List ℕ)) → Contains all (AddIndex table name columns) → (pace : Pace) (number : ℕ) → Adds new (element_of pace number (record { table = table; name = name; kind = Index (each (column_number old all table) columns) }) Public) (AddIndex table name columns)
-  index_adds table name columns has pace number = (each (column_number old all table) columns, refl, refl, refl, zip_each (IsColumnNamed new table) (column_number old all table) columns (column_in_end table name columns has))
+  index_adds : (table : ℕ) (name : List ℕ) (columns : List (List ℕ)) → Contains all (AddIndex table name columns) → (number : ℕ) → Adds new (element_of number (record { table = table; name = name; kind = Index (each (column_number old all table) columns) }) Public Adding) (AddIndex table name columns)
+  index_adds table name columns has number = (each (column_number old all table) columns, refl, refl, refl, zip_each (IsColumnNamed new table) (column_number old all table) columns (column_in_end table name columns has))
 
-  not_yet : (trip : Trip) → Contains (trips old all) trip → is_in trip.pace ≡ true → element_at old trip.number ≡ None
+  not_yet : (trip : Trip) → Contains (trips old all) trip → is_in trip.course ≡ true → element_at old trip.number ≡ None
   not_yet trip has is_new = not_given old (ordered sound) trip.number (((are_trips old sound all plannable).trip trip has).added is_new).unused
-
-  is_in_index : (b : Bool) → is_in (if b then IndexInLate else IndexIn) ≡ true
-  is_in_index true = refl
-  is_in_index false = refl
 
   added_one : (change : Change) → Contains all change → IsAddition change → (number : ℕ) × (element : ElementDef) × (element_at old number ≡ None) × (element_at new number ≡ Some element) × (element.state ≡ Public) × Adds new element change
   added_one (AddIndex table name columns) has is =
       let m = made old all all (AddIndex table name columns) has old.next (old.next + count_by (is_early all) all) in
-      let trip : Trip = record { pace = if lists_added all table columns then IndexInLate else IndexIn; number = if lists_added all table columns then m.1 else m.0; fresh = record { table = table; name = name; kind = Index (each (column_number old all table) columns) } } in
+      let trip : Trip = record { wait = if lists_added all table columns then steps ColumnIn else 0; course = IndexIn; number = if lists_added all table columns then m.1 else m.0; fresh = record { table = table; name = name; kind = Index (each (column_number old all table) columns) } } in
       let among : Contains (trips old all) trip = m.2 trip (contains_first trip []) in
-      let is_new : is_in trip.pace ≡ true = is_in_index (lists_added all table columns) in
-      (trip.number, element_of trip.pace trip.number trip.fresh Public, not_yet trip among is_new, arrives trip among is_new, refl, index_adds table name columns has trip.pace trip.number)
+      let is_new : is_in trip.course ≡ true = refl in
+      (trip.number, element_of trip.number trip.fresh Public Adding, not_yet trip among is_new, arrives trip among is_new, refl, index_adds table name columns has trip.number)
   added_one (AddColumn table name kind) has is =
       let m = made old all all (AddColumn table name kind) has old.next (old.next + count_by (is_early all) all) in
-      let trip : Trip = record { pace = ColumnIn; number = m.0; fresh = record { table = table; name = name; kind = kind } } in
+      let trip : Trip = record { wait = 0; course = ColumnIn; number = m.0; fresh = record { table = table; name = name; kind = kind } } in
       let among : Contains (trips old all) trip = m.2 trip (contains_first trip []) in
-      (trip.number, element_of trip.pace trip.number trip.fresh Public, not_yet trip among refl, arrives trip among refl, refl, (refl, refl, refl))
-  added_one (DropIndex table name) has is = absurd is
-  added_one (DropColumn table name) has is = absurd is
+      (trip.number, element_of trip.number trip.fresh Public Adding, not_yet trip among refl, arrives trip among refl, refl, (refl, refl, refl))
+  added_one change has is = absurd is
 
   only : (number : ℕ) (element : ElementDef) → element_at old number ≡ None → element_at new number ≡ Some element → (change : Change) × Contains all change × (element.state ≡ Public) × Adds new element change
   only number e at_old at_new = elim (find_trip (trips old all) number) [
@@ -143,30 +133,28 @@ module _ (old : Version) (sound : IsSoundVersion old) (all : List Change) (plann
       of_trip : (trip : Trip) → Contains (trips old all) trip → trip.number ≡ number → Place old sound all plannable trip → (change : Change) × Contains all change × (e.state ≡ Public) × Adds new e change
       of_trip trip has is_number p = pick p.place.from_change
         where
-          is_element : is_in trip.pace ≡ true → element_of trip.pace trip.number trip.fresh Public ≡ e
-          is_element is_new = let same : Some (element_of trip.pace trip.number trip.fresh Public) ≡ Some e = sym (arrives trip has is_new) ∙ ap (element_at new) is_number ∙ at_new in some_same _ _ same
+          is_element : is_in trip.course ≡ true → element_of trip.number trip.fresh Public Adding ≡ e
+          is_element is_new = let same : Some (element_of trip.number trip.fresh Public Adding) ≡ Some e = sym (arrives trip has is_new) ∙ ap (element_at new) is_number ∙ at_new in some_same _ _ same
             where
               some_same : (a b : ElementDef) → Some a ≡ Some b → a ≡ b
               some_same a b s = cc
 
-          answer : is_in trip.pace ≡ true → (change : Change) → Contains all change → Adds new (element_of trip.pace trip.number trip.fresh Public) change → (c : Change) × Contains all c × (e.state ≡ Public) × Adds new e c
+          answer : is_in trip.course ≡ true → (change : Change) → Contains all change → Adds new (element_of trip.number trip.fresh Public Adding) change → (c : Change) × Contains all c × (e.state ≡ Public) × Adds new e c
           answer is_new change among adds = (change, among, ap (λ (x : ElementDef). x.state) (sym (is_element is_new)), subst (λ x. Adds new x change) (is_element is_new) adds)
 
-          gone : (pace : Pace) (g : ElementDef) → is_in pace ≡ false → trip ≡ out_trip pace g → ⊥
-          gone pace g is_out is = not_both e (element_at new number) at_new (sym (ap (element_at new) is_number) ∙ leaves trip has (ap (λ (t : Trip). is_in t.pace) is ∙ is_out))
+          gone : is_in trip.course ≡ false → ⊥
+          gone is_out = not_both e (element_at new number) at_new (sym (ap (element_at new) is_number) ∙ leaves trip has is_out)
 
           pick : From old all p.place.now_early p.place.now_late p.place.change trip → (change : Change) × Contains all change × (e.state ≡ Public) × Adds new e change
           pick (EarlyIndex table name columns change listed_added is) =
               let among : Contains all (AddIndex table name columns) = subst (Contains all) change (has_change old sound all plannable trip p) in
-              answer (ap (λ (t : Trip). is_in t.pace) is) (AddIndex table name columns) among (subst (λ (t : Trip). Adds new (element_of t.pace t.number t.fresh Public) (AddIndex table name columns)) (sym is) (index_adds table name columns among IndexIn p.place.now_early))
+              answer (ap (λ (t : Trip). is_in t.course) is) (AddIndex table name columns) among (subst (λ (t : Trip). Adds new (element_of t.number t.fresh Public Adding) (AddIndex table name columns)) (sym is) (index_adds table name columns among p.place.now_early))
           pick (LateIndex table name columns change listed_added is) =
               let among : Contains all (AddIndex table name columns) = subst (Contains all) change (has_change old sound all plannable trip p) in
-              answer (ap (λ (t : Trip). is_in t.pace) is) (AddIndex table name columns) among (subst (λ (t : Trip). Adds new (element_of t.pace t.number t.fresh Public) (AddIndex table name columns)) (sym is) (index_adds table name columns among IndexInLate p.place.now_late))
+              answer (ap (λ (t : Trip). is_in t.course) is) (AddIndex table name columns) among (subst (λ (t : Trip). Adds new (element_of t.number t.fresh Public Adding) (AddIndex table name columns)) (sym is) (index_adds table name columns among p.place.now_late))
           pick (NewColumn table name kind change is) =
-              answer (ap (λ (t : Trip). is_in t.pace) is) (AddColumn table name kind) (subst (Contains all) change (has_change old sound all plannable trip p)) (subst (λ (t : Trip). Adds new (element_of t.pace t.number t.fresh Public) (AddColumn table name kind)) (sym is) (refl, refl, refl))
-          pick (OldIndex table name g change found is) = absurd (gone IndexOut g refl is)
-          pick (OldColumn table name g change found under is) = absurd (gone ColumnOut g refl is)
-          pick (OldLateColumn table name g change found under is) = absurd (gone ColumnOutLate g refl is)
+              answer (ap (λ (t : Trip). is_in t.course) is) (AddColumn table name kind) (subst (Contains all) change (has_change old sound all plannable trip p)) (subst (λ (t : Trip). Adds new (element_of t.number t.fresh Public Adding) (AddColumn table name kind)) (sym is) (refl, refl, refl))
+          pick (Leaves g found is) = absurd (gone (ap (λ (t : Trip). is_in t.course) is ∙ out_of g.kind g.state))
 
   pub target : IsTarget old all new
   target = record { tables = at.tables; kept = kept; dropped = dropped; added = all_from _ all added_one; only = only }
@@ -178,7 +166,7 @@ least_with_room old sound changes plannable room = record {
     allowed = steps_allowed old (trips old changes) are room (longest (trips old changes)) 0 old first;
     target = target old sound changes plannable (0 + longest (trips old changes)) (omega arith) _ (after_steps old (trips old changes) are room (longest (trips old changes)) 0 old first);
   };
-  least = schedule_short old (ordered sound) changes plannable;
+  least = schedule_short old sound changes plannable;
 }
   where
     are : AreTrips old (trips old changes)

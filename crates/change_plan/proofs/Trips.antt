@@ -1,11 +1,11 @@
 -- Trips, one time after another.
-use Rattle.schema_version.specs.Steps.{in_state_or_none}
-use Rattle.std.specs.Prelude.{◌≡◌, ◌≢◌, ℕ, zero, suc, ◌≤◌, List, [], ◌∷◌, ◌++◌, length, Bool, true, false, ◌||◌, ◌==◌, Option, Some, None, Contains, ◌⊎◌, flat_map, refl}
-use Rattle.std.specs.Option.{unwrap_or}
+use Rattle.std.specs.Prelude.{◌≡◌, ◌≢◌, ℕ, zero, suc, ◌+◌, ◌-◌, ◌<◌, ◌≤◌, List, [], ◌∷◌, ◌++◌, length, nat_lt, count_by, Bool, true, false, if◌then◌else◌, ◌||◌, ◌==◌, not, Option, Some, None, Contains, ◌⊎◌, flat_map, refl}
 use Rattle.std.proofs.Common.{sym, ap, subst, ◌∙◌, inl, inr, true≢false, arith}
+use Rattle.std.proofs.lemmas.List.{append-nil}
 use Rattle.std.proofs.lemmas.List.Concat.{flat_map-cons}
 use Rattle.std.proofs.lemmas.List.Folds.{list_any-append}
-use Rattle.std.proofs.lemmas.Bool.Decides.{Decides-eqb}
+use Rattle.std.proofs.lemmas.Bool.{cases_lt}
+use Rattle.std.proofs.lemmas.Bool.Decides.{Decides-eqb, Decides-ltb}
 use Rattle.schema_version.specs.declared.element.ElementState.{ElementState}
 use Rattle.schema_version.specs.declared.element.ElementState.TheVariants.{Absent, DeleteOnly, WriteOnly, Public}
 use Rattle.schema_version.specs.declared.element.Way.{Way}
@@ -15,148 +15,276 @@ use Rattle.schema_version.specs.declared.element.Kind.TheVariants.{Index, Option
 use Rattle.schema_version.specs.declared.element.ElementDef.{ElementDef}
 use Rattle.schema_version.specs.declared.element.NewElement.{NewElement}
 use Rattle.schema_version.specs.declared.step.Move.{Move}
-use Rattle.schema_version.specs.declared.step.Move.TheVariants.{Enter, Go}
-use Rattle.schema_version.specs.Edges.{edge, needed}
-use Rattle.schema_version.specs.Version.{is_index}
-use Rattle.schema_version.specs.Moves.{is_move_of, moves_element}
+use Rattle.schema_version.specs.declared.step.Move.TheVariants.{Enter, Go, Turn}
+use Rattle.schema_version.specs.Version.{is_index, is_column}
+use Rattle.schema_version.specs.Moves.{is_move_of, moves_element, is_entry, is_entry_like}
+use Rattle.schema_version.specs.Steps.{in_state_or_none}
+use Rattle.std.specs.Option.{unwrap_or}
+use Rattle.schema_version.specs.Edges.{edge, has_state}
 use Rattle.change_plan.proofs.Steps.{same_or_apart}
-use Rattle.change_plan.specs.Plans.{reorgs}
-use Rattle.change_plan.specs.declared.trip.Pace.{Pace}
-use Rattle.change_plan.specs.declared.trip.Pace.TheVariants.{ColumnIn, IndexIn, IndexInLate, IndexOut, ColumnOut, ColumnOutLate}
+use Rattle.change_plan.specs.declared.trip.Act.{Act}
+use Rattle.change_plan.specs.declared.trip.Act.TheVariants.{Wait, Appear, Reach, Return}
+use Rattle.change_plan.specs.declared.trip.Course.{Course}
+use Rattle.change_plan.specs.declared.trip.Course.TheVariants.{ColumnIn, IndexIn, IndexOut, ColumnOut, DeleteOnlyBack, WriteOnlyBack}
 use Rattle.change_plan.specs.declared.trip.Trip.{Trip}
-use Rattle.change_plan.specs.Schedule.{departure, timetable, walk, state_at, move_between, work_between, move_of}
+use Rattle.change_plan.specs.Schedule.{acts, steps, course_out, nth_act, act_at, duration, move_by, move_of}
 use Rattle.change_plan.proofs.Named.{contains_first, contains_later, contains_cases, contains_none}
 
-abbrev pub is_in : Pace → Bool
+abbrev pub is_in : Course → Bool
 is_in ColumnIn = true
 is_in IndexIn = true
-is_in IndexInLate = true
 is_in IndexOut = false
 is_in ColumnOut = false
-is_in ColumnOutLate = false
+is_in DeleteOnlyBack = false
+is_in WriteOnlyBack = false
 
-abbrev pub is_of_index : Pace → Bool
-is_of_index ColumnIn = false
-is_of_index IndexIn = true
-is_of_index IndexInLate = true
-is_of_index IndexOut = true
-is_of_index ColumnOut = false
-is_of_index ColumnOutLate = false
+-- the elements that may take the course
+abbrev pub suits : Course → Kind → Bool
+suits ColumnIn kind = is_column kind
+suits IndexIn kind = is_index kind
+suits IndexOut kind = is_index kind
+suits ColumnOut kind = is_column kind
+suits DeleteOnlyBack kind = true
+suits WriteOnlyBack kind = has_state kind WriteOnly
 
-abbrev pub way_on : Bool → Way
-way_on true = Adding
-way_on false = Dropping
+-- ---- where a trip is
 
--- a public element is being added still
-abbrev pub way_in : Bool → ElementState → Way
-way_in adding Public = Adding
-way_in adding state = way_on adding
+-- not there, or in a state and on a way
+pub data Stop : Type 0 where
+  Away : Stop
+  At : ElementState → Way → Stop
 
--- a new element in a state and on a way
-abbrev pub on_way : ℕ → NewElement → ElementState → Way → ElementDef
-on_way number fresh state way = record { number = number; table = fresh.table; name = fresh.name; kind = fresh.kind; state = state; way = way }
+abbrev pub departure : Course → Stop
+departure ColumnIn = Away
+departure IndexIn = Away
+departure IndexOut = At Public Adding
+departure ColumnOut = At Public Adding
+departure DeleteOnlyBack = At DeleteOnly Adding
+departure WriteOnlyBack = At WriteOnly Adding
 
-abbrev pub element_of : Pace → ℕ → NewElement → ElementState → ElementDef
-element_of pace number fresh state = on_way number fresh state (way_in (is_in pace) state)
+-- behind each step
+abbrev pub stops : Course → List Stop
+stops ColumnIn = At DeleteOnly Adding ∷ At Public Adding ∷ []
+stops IndexIn = At DeleteOnly Adding ∷ At WriteOnly Adding ∷ At Public Adding ∷ []
+stops IndexOut = At WriteOnly Dropping ∷ At DeleteOnly Dropping ∷ Away ∷ []
+stops ColumnOut = At DeleteOnly Dropping ∷ Away ∷ []
+stops DeleteOnlyBack = At DeleteOnly Dropping ∷ Away ∷ []
+stops WriteOnlyBack = At WriteOnly Dropping ∷ At DeleteOnly Dropping ∷ Away ∷ []
 
-abbrev pub here : Pace → ℕ → NewElement → ElementState → Option ElementDef
-here pace number fresh Absent = None
-here pace number fresh state = Some (element_of pace number fresh state)
+abbrev pub destination : Course → Stop
+destination course = if is_in course then At Public Adding else Away
+
+abbrev pub walk : Stop → List Stop → ℕ → Stop
+walk now [] time = now
+walk now (next ∷ rest) zero = now
+walk now (next ∷ rest) (suc time) = walk next rest time
+
+abbrev pub stop_in : Course → ℕ → Stop
+stop_in course time = walk (departure course) (stops course) time
+
+-- behind this number of steps of the plan
+abbrev pub stop_at : Trip → ℕ → Stop
+stop_at trip time = stop_in trip.course (time - trip.wait)
+
+abbrev pub element_of : ℕ → NewElement → ElementState → Way → ElementDef
+element_of number fresh state way = record { number = number; table = fresh.table; name = fresh.name; kind = fresh.kind; state = state; way = way }
+
+abbrev pub here : ℕ → NewElement → Stop → Option ElementDef
+here number fresh Away = None
+here number fresh (At state way) = Some (element_of number fresh state way)
 
 -- ---- what a trip does at a time
 
-pub record IsRun (pace : Pace) (from to : ElementState) : Type 0 where
-  pub live : (number : ℕ) (fresh : NewElement) → here pace number fresh from ≡ Some (element_of pace number fresh from)
-  pub move : (number : ℕ) (fresh : NewElement) → move_between number fresh from to ≡ Go number to ∷ []
-  pub work : (number : ℕ) (kind : Kind) → work_between number kind from to ≡ reorgs number (needed kind to)
-  pub own : (kind : Kind) → is_index kind ≡ is_of_index pace → edge kind (way_in (is_in pace) from) from to ≡ Some (way_on (is_in pace))
-  pub turns : (number : ℕ) (fresh : NewElement) → is_index fresh.kind ≡ is_of_index pace → in_state_or_none (element_of pace number fresh from) to ≡ here pace number fresh to
+abbrev pub reached : ElementState → Way → Stop
+reached Absent way = Away
+reached state way = At state way
 
-pub data Leg (pace : Pace) (from to : ElementState) : Type 0 where
-  Rests : to ≡ from → Leg pace from to
-  Starts : from ≡ Absent → to ≡ DeleteOnly → is_in pace ≡ true → Leg pace from to
-  Runs : IsRun pace from to → Leg pace from to
+pub reaches : (number : ℕ) (fresh : NewElement) (state : ElementState) (way : Way) (to : ElementState) (after : Way) → edge fresh.kind way state to ≡ Some after → in_state_or_none (element_of number fresh state way) to ≡ here number fresh (reached to after)
+reaches number fresh state way Absent after e = refl
+reaches number fresh state way DeleteOnly after e = ap (λ o. Some (element_of number fresh DeleteOnly (unwrap_or o way))) e
+reaches number fresh state way WriteOnly after e = ap (λ o. Some (element_of number fresh WriteOnly (unwrap_or o way))) e
+reaches number fresh state way Public after e = ap (λ o. Some (element_of number fresh Public (unwrap_or o way))) e
+
+pub data Leg (course : Course) (act : Act) (from to : Stop) : Type 0 where
+  Rests : act ≡ Wait → to ≡ from → Leg course act from to
+  Starts : act ≡ Appear → from ≡ Away → to ≡ At DeleteOnly Adding → is_in course ≡ true → Leg course act from to
+  -- along an edge of its way, or out of public
+  Runs : (state : ElementState) (way : Way) (goal : ElementState) (after : Way) → act ≡ Reach goal → from ≡ At state way → ((kind : Kind) → suits course kind ≡ true → edge kind way state goal ≡ Some after) → to ≡ reached goal after → Leg course act from to
+  Turns : (state : ElementState) → act ≡ Return → from ≡ At state Adding → state ≢ Public → to ≡ At state Dropping → Leg course act from to
 
 index_only : {A : Type 0} (kind : Kind) → is_index kind ≡ true → ((columns : _) → kind ≡ Index columns → A) → A
 index_only (Index columns) e f = f columns refl
 index_only (Optional type) e f = absurd (true≢false (sym e))
 
-column_only : {A : Type 0} (kind : Kind) → is_index kind ≡ false → ((type : _) → kind ≡ Optional type → A) → A
-column_only (Index columns) e f = absurd (true≢false e)
+column_only : {A : Type 0} (kind : Kind) → is_column kind ≡ true → ((type : _) → kind ≡ Optional type → A) → A
+column_only (Index columns) e f = absurd (true≢false (sym e))
 column_only (Optional type) e f = f type refl
 
--- an edge gives the way of the state that it leads to
-taken_on : (pace : Pace) (number : ℕ) (fresh : NewElement) (from to : ElementState) → edge fresh.kind (way_in (is_in pace) from) from to ≡ Some (way_on (is_in pace)) → way_in (is_in pace) to ≡ way_on (is_in pace)
-    → in_state_or_none (element_of pace number fresh from) to ≡ here pace number fresh to
-taken_on pace number fresh from Absent own same = refl
-taken_on pace number fresh from DeleteOnly own same = ap (λ (o : Option Way). Some (on_way number fresh DeleteOnly (unwrap_or o (way_in (is_in pace) from)))) own ∙ ap (λ w. Some (on_way number fresh DeleteOnly w)) (sym same)
-taken_on pace number fresh from WriteOnly own same = ap (λ (o : Option Way). Some (on_way number fresh WriteOnly (unwrap_or o (way_in (is_in pace) from)))) own ∙ ap (λ w. Some (on_way number fresh WriteOnly w)) (sym same)
-taken_on pace number fresh from Public own same = ap (λ (o : Option Way). Some (on_way number fresh Public (unwrap_or o (way_in (is_in pace) from)))) own ∙ ap (λ w. Some (on_way number fresh Public w)) (sym same)
+gone : (kind : Kind) → edge kind Dropping DeleteOnly Absent ≡ Some Dropping
+gone (Index columns) = refl
+gone (Optional type) = refl
 
-run : (pace : Pace) (from to : ElementState) → ((number : ℕ) (fresh : NewElement) → here pace number fresh from ≡ Some (element_of pace number fresh from)) → ((number : ℕ) (fresh : NewElement) → move_between number fresh from to ≡ Go number to ∷ [])
-    → ((number : ℕ) (kind : Kind) → work_between number kind from to ≡ reorgs number (needed kind to)) → ((kind : Kind) → is_index kind ≡ is_of_index pace → edge kind (way_in (is_in pace) from) from to ≡ Some (way_on (is_in pace))) → way_in (is_in pace) to ≡ way_on (is_in pace) → IsRun pace from to
-run pace from to live move work own same = record { live = live; move = move; work = work; own = own; turns = λ number fresh is. taken_on pace number fresh from to (own fresh.kind is) same }
+back : (kind : Kind) → has_state kind WriteOnly ≡ true → edge kind Dropping WriteOnly DeleteOnly ≡ Some Dropping
+back (Index columns) e = refl
+back (Optional type) e = absurd (true≢false (sym e))
 
-pub leg : (pace : Pace) (time : ℕ) → Leg pace (state_at pace time) (state_at pace (suc time))
-leg ColumnIn zero = Starts refl refl refl
-leg ColumnIn (suc zero) = Runs (run ColumnIn DeleteOnly Public (λ n f. refl) (λ n f. refl) (λ n k. refl) (λ k e. column_only k e (λ type is. ap (λ k. edge k Adding DeleteOnly Public) is)) refl)
-leg ColumnIn (suc (suc time)) = Rests refl
-leg IndexIn zero = Starts refl refl refl
-leg IndexIn (suc zero) = Runs (run IndexIn DeleteOnly WriteOnly (λ n f. refl) (λ n f. refl) (λ n k. refl) (λ k e. index_only k e (λ columns is. ap (λ k. edge k Adding DeleteOnly WriteOnly) is)) refl)
-leg IndexIn (suc (suc zero)) = Runs (run IndexIn WriteOnly Public (λ n f. refl) (λ n f. refl) (λ n k. refl) (λ k e. index_only k e (λ columns is. ap (λ k. edge k Adding WriteOnly Public) is)) refl)
-leg IndexIn (suc (suc (suc time))) = Rests refl
-leg IndexInLate zero = Rests refl
-leg IndexInLate (suc zero) = Rests refl
-leg IndexInLate (suc (suc zero)) = Starts refl refl refl
-leg IndexInLate (suc (suc (suc zero))) = Runs (run IndexInLate DeleteOnly WriteOnly (λ n f. refl) (λ n f. refl) (λ n k. refl) (λ k e. index_only k e (λ columns is. ap (λ k. edge k Adding DeleteOnly WriteOnly) is)) refl)
-leg IndexInLate (suc (suc (suc (suc zero)))) = Runs (run IndexInLate WriteOnly Public (λ n f. refl) (λ n f. refl) (λ n k. refl) (λ k e. index_only k e (λ columns is. ap (λ k. edge k Adding WriteOnly Public) is)) refl)
-leg IndexInLate (suc (suc (suc (suc (suc time))))) = Rests refl
-leg IndexOut zero = Runs (run IndexOut Public WriteOnly (λ n f. refl) (λ n f. refl) (λ n k. refl) (λ k e. index_only k e (λ columns is. ap (λ k. edge k Adding Public WriteOnly) is)) refl)
-leg IndexOut (suc zero) = Runs (run IndexOut WriteOnly DeleteOnly (λ n f. refl) (λ n f. refl) (λ n k. refl) (λ k e. index_only k e (λ columns is. ap (λ k. edge k Dropping WriteOnly DeleteOnly) is)) refl)
-leg IndexOut (suc (suc zero)) = Runs (run IndexOut DeleteOnly Absent (λ n f. refl) (λ n f. refl) (λ n k. refl) (λ k e. index_only k e (λ columns is. ap (λ k. edge k Dropping DeleteOnly Absent) is)) refl)
-leg IndexOut (suc (suc (suc time))) = Rests refl
-leg ColumnOut zero = Runs (run ColumnOut Public DeleteOnly (λ n f. refl) (λ n f. refl) (λ n k. refl) (λ k e. column_only k e (λ type is. ap (λ k. edge k Adding Public DeleteOnly) is)) refl)
-leg ColumnOut (suc zero) = Runs (run ColumnOut DeleteOnly Absent (λ n f. refl) (λ n f. refl) (λ n k. refl) (λ k e. column_only k e (λ type is. ap (λ k. edge k Dropping DeleteOnly Absent) is)) refl)
-leg ColumnOut (suc (suc time)) = Rests refl
-leg ColumnOutLate zero = Rests refl
-leg ColumnOutLate (suc zero) = Rests refl
-leg ColumnOutLate (suc (suc zero)) = Rests refl
-leg ColumnOutLate (suc (suc (suc zero))) = Runs (run ColumnOutLate Public DeleteOnly (λ n f. refl) (λ n f. refl) (λ n k. refl) (λ k e. column_only k e (λ type is. ap (λ k. edge k Adding Public DeleteOnly) is)) refl)
-leg ColumnOutLate (suc (suc (suc (suc zero)))) = Runs (run ColumnOutLate DeleteOnly Absent (λ n f. refl) (λ n f. refl) (λ n k. refl) (λ k e. column_only k e (λ type is. ap (λ k. edge k Dropping DeleteOnly Absent) is)) refl)
-leg ColumnOutLate (suc (suc (suc (suc (suc time))))) = Rests refl
+leg_in : (course : Course) (time : ℕ) → Leg course (nth_act (acts course) time) (stop_in course time) (stop_in course (suc time))
+leg_in ColumnIn zero = Starts refl refl refl refl
+leg_in ColumnIn (suc zero) = Runs DeleteOnly Adding Public Adding refl refl (λ k e. column_only k e (λ type is. ap (λ k. edge k Adding DeleteOnly Public) is)) refl
+leg_in ColumnIn (suc (suc time)) = Rests refl refl
+leg_in IndexIn zero = Starts refl refl refl refl
+leg_in IndexIn (suc zero) = Runs DeleteOnly Adding WriteOnly Adding refl refl (λ k e. index_only k e (λ columns is. ap (λ k. edge k Adding DeleteOnly WriteOnly) is)) refl
+leg_in IndexIn (suc (suc zero)) = Runs WriteOnly Adding Public Adding refl refl (λ k e. index_only k e (λ columns is. ap (λ k. edge k Adding WriteOnly Public) is)) refl
+leg_in IndexIn (suc (suc (suc time))) = Rests refl refl
+leg_in IndexOut zero = Runs Public Adding WriteOnly Dropping refl refl (λ k e. index_only k e (λ columns is. ap (λ k. edge k Adding Public WriteOnly) is)) refl
+leg_in IndexOut (suc zero) = Runs WriteOnly Dropping DeleteOnly Dropping refl refl (λ k e. index_only k e (λ columns is. ap (λ k. edge k Dropping WriteOnly DeleteOnly) is)) refl
+leg_in IndexOut (suc (suc zero)) = Runs DeleteOnly Dropping Absent Dropping refl refl (λ k e. index_only k e (λ columns is. ap (λ k. edge k Dropping DeleteOnly Absent) is)) refl
+leg_in IndexOut (suc (suc (suc time))) = Rests refl refl
+leg_in ColumnOut zero = Runs Public Adding DeleteOnly Dropping refl refl (λ k e. column_only k e (λ type is. ap (λ k. edge k Adding Public DeleteOnly) is)) refl
+leg_in ColumnOut (suc zero) = Runs DeleteOnly Dropping Absent Dropping refl refl (λ k e. column_only k e (λ type is. ap (λ k. edge k Dropping DeleteOnly Absent) is)) refl
+leg_in ColumnOut (suc (suc time)) = Rests refl refl
 
-rest_move : (number : ℕ) (fresh : NewElement) (state : ElementState) → move_between number fresh state state ≡ []
-rest_move number fresh Absent = refl
-rest_move number fresh DeleteOnly = refl
-rest_move number fresh WriteOnly = refl
-rest_move number fresh Public = refl
+leg_in DeleteOnlyBack zero = Turns DeleteOnly refl refl (λ is. cc) refl
+leg_in DeleteOnlyBack (suc zero) = Runs DeleteOnly Dropping Absent Dropping refl refl (λ k e. gone k) refl
+leg_in DeleteOnlyBack (suc (suc time)) = Rests refl refl
+leg_in WriteOnlyBack zero = Turns WriteOnly refl refl (λ is. cc) refl
+leg_in WriteOnlyBack (suc zero) = Runs WriteOnly Dropping DeleteOnly Dropping refl refl (λ k e. back k e) refl
+leg_in WriteOnlyBack (suc (suc zero)) = Runs DeleteOnly Dropping Absent Dropping refl refl (λ k e. gone k) refl
+leg_in WriteOnlyBack (suc (suc (suc time))) = Rests refl refl
 
-rest_work : (number : ℕ) (kind : Kind) (state : ElementState) → work_between number kind state state ≡ []
-rest_work number kind Absent = refl
-rest_work number kind DeleteOnly = refl
-rest_work number kind WriteOnly = refl
-rest_work number kind Public = refl
+-- ---- waiting, and done
 
-pub rests_move : (number : ℕ) (fresh : NewElement) (from to : ElementState) → to ≡ from → move_between number fresh from to ≡ []
-rests_move number fresh from to same = ap (move_between number fresh from) same ∙ rest_move number fresh from
+pub waits : (trip : Trip) (time : ℕ) → time < trip.wait → act_at trip time ≡ Wait
+waits trip time early = ap (λ b. if b then Wait else nth_act (acts trip.course) (time - trip.wait)) ((Decides-ltb time trip.wait).1 early)
 
-pub rests_work : (number : ℕ) (kind : Kind) (from to : ElementState) → to ≡ from → work_between number kind from to ≡ []
-rests_work number kind from to same = ap (work_between number kind from) same ∙ rest_work number kind from
+on_course : (trip : Trip) (time : ℕ) → trip.wait ≤ time → act_at trip time ≡ nth_act (acts trip.course) (time - trip.wait)
+on_course trip time late = ap (λ b. if b then Wait else nth_act (acts trip.course) (time - trip.wait)) (is_false (nat_lt time trip.wait) (λ t. let early : time < trip.wait = (Decides-ltb time trip.wait).0 t in omega arith))
+  where
+    is_false : (b : Bool) → (b ≡ true → ⊥) → b ≡ false
+    is_false true h = absurd (h refl)
+    is_false false h = refl
 
-pub starts_move : (number : ℕ) (fresh : NewElement) (from to : ElementState) → from ≡ Absent → to ≡ DeleteOnly → move_between number fresh from to ≡ Enter fresh DeleteOnly ∷ []
-starts_move number fresh from to f t = ap (λ s. move_between number fresh s to) f ∙ ap (move_between number fresh Absent) t
+pub leg : (trip : Trip) (time : ℕ) → Leg trip.course (act_at trip time) (stop_at trip time) (stop_at trip (suc time))
+leg trip time = elim (cases_lt time trip.wait) [
+  | inl early ↦
+      let at_now : time - trip.wait ≡ 0 = omega (arith, early) in
+      let next : suc time - trip.wait ≡ 0 = omega (arith, early) in
+      Rests (waits trip time early) (ap (stop_in trip.course) (next ∙ sym at_now))
+  | inr late ↦
+      let next : suc (time - trip.wait) ≡ suc time - trip.wait = omega (arith, late) in
+      subst (λ a. Leg trip.course a (stop_at trip time) (stop_at trip (suc time))) (sym (on_course trip time late))
+      (subst (λ t. Leg trip.course (nth_act (acts trip.course) (time - trip.wait)) (stop_at trip time) (stop_in trip.course t)) next (leg_in trip.course (time - trip.wait)))
+]
 
-pub starts_work : (number : ℕ) (kind : Kind) (from to : ElementState) → from ≡ Absent → work_between number kind from to ≡ []
-starts_work number kind from to f = ap (λ s. work_between number kind s to) f
+nth_within : (list : List Act) (place : ℕ) → (nth_act list place ≡ Wait) ⊎ (place < length list)
+nth_within [] place = inl refl
+nth_within (act ∷ list) zero = inr (omega arith)
+nth_within (act ∷ list) (suc place) = elim (nth_within list place) [ inl none ↦ inl none | inr within ↦ inr (omega (arith, within)) ]
+
+-- it waits, or is on its way
+pub waits_or_moves : (trip : Trip) (time : ℕ) → (act_at trip time ≡ Wait) ⊎ ((trip.wait ≤ time) × (time < duration trip))
+waits_or_moves trip time = elim (cases_lt time trip.wait) [
+  | inl early ↦ inl (waits trip time early)
+  | inr late ↦ elim (nth_within (acts trip.course) (time - trip.wait)) [
+    | inl none ↦ inl (on_course trip time late ∙ none)
+    | inr within ↦ inr (late, omega (arith, late, within))
+  ]
+]
+
+pub waits_last : (trip : Trip) (time : ℕ) → duration trip ≤ time → act_at trip time ≡ Wait
+waits_last trip time done = elim (waits_or_moves trip time) [ inl none ↦ none | inr moves ↦ absurd (omega (arith, done, moves.1)) ]
+
+pub at_departure : (trip : Trip) (time : ℕ) → time ≤ trip.wait → stop_at trip time ≡ departure trip.course
+at_departure trip time early = let none : time - trip.wait ≡ 0 = omega arith in ap (stop_in trip.course) none ∙ first (departure trip.course) (stops trip.course)
+  where
+    first : (now : Stop) (rest : List Stop) → walk now rest 0 ≡ now
+    first now [] = refl
+    first now (next ∷ rest) = refl
+
+abbrev pub last_of : Stop → List Stop → Stop
+last_of now [] = now
+last_of now (next ∷ rest) = last_of next rest
+
+walked : (now : Stop) (rest : List Stop) (time : ℕ) → length rest ≤ time → walk now rest time ≡ last_of now rest
+walked now [] time h = refl
+walked now (next ∷ rest) zero h = absurd (let below : suc (length rest) ≤ 0 = h in omega arith)
+walked now (next ∷ rest) (suc time) h = walked next rest time (let below : suc (length rest) ≤ suc time = h in omega arith)
+
+ends : (course : Course) (time : ℕ) → steps course ≤ time → stop_in course time ≡ destination course
+ends ColumnIn time h = walked (departure ColumnIn) (stops ColumnIn) time h
+ends IndexIn time h = walked (departure IndexIn) (stops IndexIn) time h
+ends IndexOut time h = walked (departure IndexOut) (stops IndexOut) time h
+ends ColumnOut time h = walked (departure ColumnOut) (stops ColumnOut) time h
+ends DeleteOnlyBack time h = walked (departure DeleteOnlyBack) (stops DeleteOnlyBack) time h
+ends WriteOnlyBack time h = walked (departure WriteOnlyBack) (stops WriteOnlyBack) time h
+
+pub at_destination : (trip : Trip) (time : ℕ) → duration trip ≤ time → stop_at trip time ≡ destination trip.course
+at_destination trip time done = ends trip.course (time - trip.wait) (omega arith)
+
+-- an element enters at the first move
+appears_first : (course : Course) (time : ℕ) → nth_act (acts course) time ≡ Appear → (time ≡ 0) × (is_in course ≡ true)
+appears_first ColumnIn zero e = (refl, refl)
+appears_first ColumnIn (suc zero) e = cc
+appears_first ColumnIn (suc (suc time)) e = cc
+appears_first IndexIn zero e = (refl, refl)
+appears_first IndexIn (suc zero) e = cc
+appears_first IndexIn (suc (suc zero)) e = cc
+appears_first IndexIn (suc (suc (suc time))) e = cc
+appears_first IndexOut zero e = cc
+appears_first IndexOut (suc zero) e = cc
+appears_first IndexOut (suc (suc zero)) e = cc
+appears_first IndexOut (suc (suc (suc time))) e = cc
+appears_first ColumnOut zero e = cc
+appears_first ColumnOut (suc zero) e = cc
+appears_first ColumnOut (suc (suc time)) e = cc
+appears_first DeleteOnlyBack zero e = cc
+appears_first DeleteOnlyBack (suc zero) e = cc
+appears_first DeleteOnlyBack (suc (suc time)) e = cc
+appears_first WriteOnlyBack zero e = cc
+appears_first WriteOnlyBack (suc zero) e = cc
+appears_first WriteOnlyBack (suc (suc zero)) e = cc
+appears_first WriteOnlyBack (suc (suc (suc time))) e = cc
+
+pub appears : (trip : Trip) (time : ℕ) → act_at trip time ≡ Appear → (time ≡ trip.wait) × (is_in trip.course ≡ true)
+appears trip time e = elim (cases_lt time trip.wait) [
+  | inl early ↦ absurd (let none : Wait ≡ Appear = sym (waits trip time early) ∙ e in cc)
+  | inr late ↦
+      let first = appears_first trip.course (time - trip.wait) (sym (on_course trip time late) ∙ e) in
+      let none : time - trip.wait ≡ 0 = first.0 in
+      (omega (arith, late), first.1)
+]
+
+-- ---- its moves
+
+pub moved_by : (time : ℕ) (trip : Trip) (act : Act) → act_at trip time ≡ act → move_of time trip ≡ move_by trip.number trip.fresh act
+moved_by time trip act is = ap (move_by trip.number trip.fresh) is
 
 -- at most one move
 pub one_move : (time : ℕ) (trip : Trip) → (move_of time trip ≡ []) ⊎ ((move : Move) × (move_of time trip ≡ move ∷ []))
-one_move time trip = pick (leg trip.pace time)
+one_move time trip = pick (act_at trip time) refl
   where
-    pick : Leg trip.pace (state_at trip.pace time) (state_at trip.pace (suc time)) → (move_of time trip ≡ []) ⊎ ((move : Move) × (move_of time trip ≡ move ∷ []))
-    pick (Rests same) = inl (rests_move trip.number trip.fresh _ _ same)
-    pick (Starts from to is) = inr (Enter trip.fresh DeleteOnly, starts_move trip.number trip.fresh _ _ from to)
-    pick (Runs run) = inr (Go trip.number (state_at trip.pace (suc time)), run.move trip.number trip.fresh)
+    pick : (act : Act) → act_at trip time ≡ act → (move_of time trip ≡ []) ⊎ ((move : Move) × (move_of time trip ≡ move ∷ []))
+    pick Wait is = inl (moved_by time trip Wait is)
+    pick Appear is = inr (_, moved_by time trip Appear is)
+    pick (Reach to) is = inr (_, moved_by time trip (Reach to) is)
+    pick Return is = inr (_, moved_by time trip Return is)
+
+nil_cons : (x : Move) (xs : List Move) → [] ≡ x ∷ xs → ⊥
+nil_cons x xs e = cc
+
+-- who moves neither waits nor is done
+pub moving : (time : ℕ) (trip : Trip) (move : Move) → move_of time trip ≡ move ∷ [] → (trip.wait ≤ time) × (time < duration trip)
+moving time trip move is = elim (waits_or_moves trip time) [ inl none ↦ absurd (nil_cons move [] (sym (moved_by time trip Wait none) ∙ is)) | inr moves ↦ moves ]
+
+-- nothing enters where all leave
+pub no_entry : (time : ℕ) (trip : Trip) → is_in trip.course ≡ false → (count_by is_entry (move_of time trip) ≡ 0) × ((table : ℕ) (index : Bool) → count_by (is_entry_like table index) (move_of time trip) ≡ 0)
+no_entry time trip out = pick (act_at trip time) refl
+  where
+    pick : (act : Act) → act_at trip time ≡ act → (count_by is_entry (move_of time trip) ≡ 0) × ((table : ℕ) (index : Bool) → count_by (is_entry_like table index) (move_of time trip) ≡ 0)
+    pick Wait is = (ap (count_by is_entry) (moved_by time trip Wait is), λ table index. ap (count_by (is_entry_like table index)) (moved_by time trip Wait is))
+    pick Appear is = absurd (true≢false (sym (appears trip time is).1 ∙ out))
+    pick Return is = (ap (count_by is_entry) (moved_by time trip Return is), λ table index. ap (count_by (is_entry_like table index)) (moved_by time trip Return is))
+    pick (Reach to) is = (ap (count_by is_entry) (moved_by time trip (Reach to) is), λ table index. ap (count_by (is_entry_like table index)) (moved_by time trip (Reach to) is))
 
 -- ---- the trip of a move
 
@@ -167,9 +295,6 @@ pub record Source (time : ℕ) (trips : List Trip) (earlier : List Move) (move :
   pub split : trips ≡ done ++ trip ∷ rest
   pub move_is : move_of time trip ≡ move ∷ []
   pub earlier_is : earlier ≡ flat_map (move_of time) done
-
-nil_cons : (x : Move) (xs : List Move) → [] ≡ x ∷ xs → ⊥
-nil_cons x xs e = cc
 
 pub source : (time : ℕ) (trips : List Trip) (earlier later : List Move) (move : Move) → flat_map (move_of time) trips ≡ earlier ++ move ∷ later → Source time trips earlier move
 source time [] [] later move e = absurd (nil_cons _ _ e)
@@ -216,74 +341,27 @@ find_trip (trip ∷ trips) number = elim (same_or_apart trip.number number) [
 ]
 
 -- a number that no trip moves
-trip_quiet : (time : ℕ) (trip : Trip) (number : ℕ) → (trip.number ≢ number) ⊎ (move_of time trip ≡ []) → moves_element (move_of time trip) number ≡ false
-trip_quiet time trip number (inr none) = ap (λ moves. moves_element moves number) none
-trip_quiet time trip number (inl ne) = pick (leg trip.pace time)
+trip_quiet : (time : ℕ) (trip : Trip) (number : ℕ) → (trip.number ≢ number) ⊎ (act_at trip time ≡ Wait) → moves_element (move_of time trip) number ≡ false
+trip_quiet time trip number (inr none) = ap (λ moves. moves_element moves number) (moved_by time trip Wait none)
+trip_quiet time trip number (inl ne) = pick (act_at trip time) refl
   where
     not_true : (b : Bool) → (b ≡ true → ⊥) → b ≡ false
     not_true true h = absurd (h refl)
     not_true false h = refl
 
-    pick : Leg trip.pace (state_at trip.pace time) (state_at trip.pace (suc time)) → moves_element (move_of time trip) number ≡ false
-    pick (Rests same) = ap (λ moves. moves_element moves number) (rests_move trip.number trip.fresh _ _ same)
-    pick (Starts from to is) = ap (λ moves. moves_element moves number) (starts_move trip.number trip.fresh _ _ from to)
-    pick (Runs run) = ap (λ moves. moves_element moves number) (run.move trip.number trip.fresh) ∙ ap (λ b. b || false) (not_true (trip.number == number) (λ t. ne ((Decides-eqb trip.number number).0 t)))
+    another : (trip.number == number) ≡ false
+    another = not_true (trip.number == number) (λ t. ne ((Decides-eqb trip.number number).0 t))
 
-pub quiet : (time : ℕ) (trips : List Trip) (number : ℕ) → ((trip : Trip) → Contains trips trip → (trip.number ≢ number) ⊎ (move_of time trip ≡ [])) → moves_element (flat_map (move_of time) trips) number ≡ false
+    pick : (act : Act) → act_at trip time ≡ act → moves_element (move_of time trip) number ≡ false
+    pick Wait is = ap (λ moves. moves_element moves number) (moved_by time trip Wait is)
+    pick Appear is = ap (λ moves. moves_element moves number) (moved_by time trip Appear is)
+    pick (Reach to) is = ap (λ moves. moves_element moves number) (moved_by time trip (Reach to) is) ∙ ap (λ b. b || false) another
+    pick Return is = ap (λ moves. moves_element moves number) (moved_by time trip Return is) ∙ ap (λ b. b || false) another
+
+pub quiet : (time : ℕ) (trips : List Trip) (number : ℕ) → ((trip : Trip) → Contains trips trip → (trip.number ≢ number) ⊎ (act_at trip time ≡ Wait)) → moves_element (flat_map (move_of time) trips) number ≡ false
 quiet time [] number h = refl
 quiet time (trip ∷ trips) number h =
     ap (λ moves. moves_element moves number) (flat_map-cons (move_of time) trip trips)
     ∙ list_any-append (is_move_of number) (move_of time trip) (flat_map (move_of time) trips)
     ∙ ap (λ b. b || moves_element (flat_map (move_of time) trips) number) (trip_quiet time trip number (h trip (contains_first trip trips)))
     ∙ quiet time trips number (λ t has. h t (contains_later trip trips t has))
-
--- ---- which states the waiting ones see
-
-pub late_index_sees : (time : ℕ) (number : ℕ) (fresh : NewElement) (move : Move) → move_between number fresh (state_at IndexInLate time) (state_at IndexInLate (suc time)) ≡ move ∷ [] → (state_at ColumnIn time ≡ Public) × (state_at ColumnIn (suc time) ≡ Public)
-late_index_sees zero number fresh move e = absurd (nil_cons _ _ e)
-late_index_sees (suc zero) number fresh move e = absurd (nil_cons _ _ e)
-late_index_sees (suc (suc time)) number fresh move e = (refl, refl)
-
-pub leaving_index_sees : (time : ℕ) (number : ℕ) (fresh : NewElement) (move : Move) → move_between number fresh (state_at IndexOut time) (state_at IndexOut (suc time)) ≡ move ∷ [] → (state_at ColumnOutLate time ≡ Public) × (state_at ColumnOutLate (suc time) ≡ Public)
-leaving_index_sees zero number fresh move e = (refl, refl)
-leaving_index_sees (suc zero) number fresh move e = (refl, refl)
-leaving_index_sees (suc (suc zero)) number fresh move e = (refl, refl)
-leaving_index_sees (suc (suc (suc time))) number fresh move e = absurd (nil_cons _ _ e)
-
-pub new_column_sees : (time : ℕ) (number : ℕ) (fresh : NewElement) (move : Move) → move_between number fresh (state_at ColumnIn time) (state_at ColumnIn (suc time)) ≡ move ∷ [] → state_at IndexInLate time ≡ Absent
-new_column_sees zero number fresh move e = refl
-new_column_sees (suc zero) number fresh move e = refl
-new_column_sees (suc (suc time)) number fresh move e = absurd (nil_cons _ _ e)
-
-pub late_column_sees : (time : ℕ) (number : ℕ) (fresh : NewElement) (move : Move) → move_between number fresh (state_at ColumnOutLate time) (state_at ColumnOutLate (suc time)) ≡ move ∷ [] → state_at IndexOut time ≡ Absent
-late_column_sees zero number fresh move e = absurd (nil_cons _ _ e)
-late_column_sees (suc zero) number fresh move e = absurd (nil_cons _ _ e)
-late_column_sees (suc (suc zero)) number fresh move e = absurd (nil_cons _ _ e)
-late_column_sees (suc (suc (suc time))) number fresh move e = refl
-
--- ---- the end of a trip
-
-abbrev pub last_of : ElementState → List ElementState → ElementState
-last_of now [] = now
-last_of now (next ∷ rest) = last_of next rest
-
-walked : (now : ElementState) (rest : List ElementState) (time : ℕ) → length rest ≤ time → walk now rest time ≡ last_of now rest
-walked now [] time h = refl
-walked now (next ∷ rest) zero h = absurd (let below : suc (length rest) ≤ 0 = h in omega arith)
-walked now (next ∷ rest) (suc time) h = walked next rest time (let below : suc (length rest) ≤ suc time = h in omega arith)
-
-pub arrived_in : (pace : Pace) (time : ℕ) → length (timetable pace) ≤ time → is_in pace ≡ true → state_at pace time ≡ Public
-arrived_in ColumnIn time h e = walked (departure ColumnIn) (timetable ColumnIn) time h
-arrived_in IndexIn time h e = walked (departure IndexIn) (timetable IndexIn) time h
-arrived_in IndexInLate time h e = walked (departure IndexInLate) (timetable IndexInLate) time h
-arrived_in IndexOut time h e = absurd (true≢false (sym e))
-arrived_in ColumnOut time h e = absurd (true≢false (sym e))
-arrived_in ColumnOutLate time h e = absurd (true≢false (sym e))
-
-pub arrived_out : (pace : Pace) (time : ℕ) → length (timetable pace) ≤ time → is_in pace ≡ false → state_at pace time ≡ Absent
-arrived_out ColumnIn time h e = absurd (true≢false e)
-arrived_out IndexIn time h e = absurd (true≢false e)
-arrived_out IndexInLate time h e = absurd (true≢false e)
-arrived_out IndexOut time h e = walked (departure IndexOut) (timetable IndexOut) time h
-arrived_out ColumnOut time h e = walked (departure ColumnOut) (timetable ColumnOut) time h
-arrived_out ColumnOutLate time h e = walked (departure ColumnOutLate) (timetable ColumnOutLate) time h

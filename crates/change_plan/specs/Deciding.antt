@@ -9,10 +9,10 @@ use Rattle.schema_version.specs.Version.{Version, table_at, live, is_index, is_p
 use Rattle.schema_version.specs.Moves.{max_like}
 use Rattle.schema_version.specs.Deciding.{has_key_column}
 use Rattle.change_plan.specs.declared.change.Change.{Change}
-use Rattle.change_plan.specs.declared.change.Change.TheVariants.{AddIndex, DropIndex, AddColumn, DropColumn}
+use Rattle.change_plan.specs.declared.change.Change.TheVariants.{AddIndex, DropIndex, AddColumn, DropColumn, Abandon}
 use Rattle.change_plan.specs.declared.fault.PlanFault.{PlanFault}
 use Rattle.change_plan.specs.declared.fault.PlanFault.TheVariants.{Unknown, NameTaken, StillIndexed, InChange, Limit}
-use Rattle.change_plan.specs.Batches.{named, named_index, named_column, adds, adds_column, drops_index, drops_column, lists}
+use Rattle.change_plan.specs.Batches.{named, named_index, named_column, named_entering, adds, adds_column, drops, drops_index, drops_column, lists}
 use Rattle.change_plan.specs.Refusals.{adds_like, is_addition}
 
 abbrev pub Answer : Type 0
@@ -41,13 +41,11 @@ is_in_change (Some element) = not (is_public element.state)
 
 -- an index that lists the column of this number and that the batch doesn't drop
 abbrev pub still_lists : List Change → ℕ → ElementDef → Bool
-still_lists all column index = lists column (Some index) && not (list_any (drops_index index.table index.name) all)
+still_lists all column index = lists column index && not (list_any (drops_index index.table index.name) all)
 
 abbrev pub adds_index_on : ℕ → List ℕ → Change → Bool
 adds_index_on table name (AddIndex other own columns) = (other == table) && list_any (λ column. bytes_eq column name) columns
-adds_index_on table name (DropIndex other own) = false
-adds_index_on table name (AddColumn other own kind) = false
-adds_index_on table name (DropColumn other own) = false
+adds_index_on table name change = false
 
 abbrev pub is_listed : Version → List Change → ℕ → List ℕ → Option ElementDef → Bool
 is_listed old all table name None = false
@@ -61,13 +59,13 @@ abbrev pub add_index_check : Version → List Change → List Change → ℕ →
 add_index_check old all earlier table name columns =
     first_fault (not (is_some (table_at old table)) || list_any (lacks_column old all table) columns)
     (is_taken old earlier table name)
-    (list_any (λ column. list_any (drops_column table column) all) columns)
+    (list_any (λ column. list_any (drops_column old table column) all) columns)
     (list_any (λ column. is_in_change (named_column old table column)) columns)
     (not (is_name name) || (not (is_name_list columns) || is_over old all table true))
 
 abbrev pub drop_index_check : Version → List Change → ℕ → List ℕ → Answer
 drop_index_check old earlier table name =
-    first_fault (not (is_some (named_index old table name)) || list_any (drops_index table name) earlier) false false (is_in_change (named_index old table name)) false
+    first_fault (not (is_some (named_index old table name)) || list_any (drops table name) earlier) false false (is_in_change (named_index old table name)) false
 
 abbrev pub add_column_check : Version → List Change → List Change → ℕ → List ℕ → Kind → Answer
 add_column_check old all earlier table name kind =
@@ -75,13 +73,18 @@ add_column_check old all earlier table name kind =
 
 abbrev pub drop_column_check : Version → List Change → List Change → ℕ → List ℕ → Answer
 drop_column_check old all earlier table name =
-    first_fault (not (is_some (named_column old table name)) || list_any (drops_column table name) earlier) false (is_listed old all table name (named_column old table name)) (is_in_change (named_column old table name)) false
+    first_fault (not (is_some (named_column old table name)) || list_any (drops table name) earlier) false (is_listed old all table name (named_column old table name)) (is_in_change (named_column old table name)) false
+
+abbrev pub abandon_check : Version → List Change → List Change → ℕ → List ℕ → Answer
+abandon_check old all earlier table name =
+    first_fault (not (is_some (named_entering old table name)) || list_any (drops table name) earlier) false (is_listed old all table name (named_column old table name)) false false
 
 abbrev pub change_check : Version → List Change → List Change → Change → Answer
 change_check old all earlier (AddIndex table name columns) = add_index_check old all earlier table name columns
 change_check old all earlier (DropIndex table name) = drop_index_check old earlier table name
 change_check old all earlier (AddColumn table name kind) = add_column_check old all earlier table name kind
 change_check old all earlier (DropColumn table name) = drop_column_check old all earlier table name
+change_check old all earlier (Abandon table name) = abandon_check old all earlier table name
 
 -- the changes behind these earlier ones of the batch
 abbrev pub changes_check : Version → List Change → List Change → List Change → Answer

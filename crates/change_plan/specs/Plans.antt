@@ -9,12 +9,12 @@ use Rattle.schema_version.specs.declared.element.ElementDef.{ElementDef}
 use Rattle.schema_version.specs.declared.element.Work.{Work}
 use Rattle.schema_version.specs.declared.element.Work.TheVariants as work
 use Rattle.schema_version.specs.declared.step.Move.{Move}
-use Rattle.schema_version.specs.declared.step.Move.TheVariants.{Enter, Go}
+use Rattle.schema_version.specs.declared.step.Move.TheVariants.{Enter, Go, Turn}
 use Rattle.schema_version.specs.Version.{Version, element_at}
 use Rattle.schema_version.specs.Edges.{needed}
 use Rattle.schema_version.specs.Moves.{IsAllowed, after_step}
 use Rattle.change_plan.specs.declared.change.Change.{Change}
-use Rattle.change_plan.specs.declared.change.Change.TheVariants.{AddIndex, DropIndex, AddColumn, DropColumn}
+use Rattle.change_plan.specs.declared.change.Change.TheVariants.{AddIndex, DropIndex, AddColumn, DropColumn, Abandon}
 use Rattle.change_plan.specs.declared.least_plan.Reorg.{Reorg}
 use Rattle.change_plan.specs.declared.least_plan.Reorg.TheVariants.{Fill, Clear}
 use Rattle.change_plan.specs.declared.least_plan.PlanStep.{PlanStep}
@@ -33,6 +33,7 @@ work_of (Some element) to = reorgs element.number (needed element.kind to)
 abbrev pub work_before : Version → Move → List Reorg
 work_before version (Enter fresh to) = []
 work_before version (Go number to) = work_of (element_at version number) to
+work_before version (Turn number) = []
 
 -- the version that a plan's steps give
 abbrev pub after_plan : Version → List PlanStep → Version
@@ -48,10 +49,11 @@ abbrev pub AreAllowed : Version → List PlanStep → Type 0
 AreAllowed version [] = Unit {0}
 AreAllowed version (first ∷ rest) = IsAllowed version first.step × IsWorkBefore version first.step first.before × AreAllowed (after_step version first.step) rest
 
--- the change drops this element
+-- the change drops this element, or abandons it
 abbrev pub Drops : ElementDef → Change → Type 0
 Drops element (DropIndex table name) = (columns : _) × (element.table ≡ table) × (element.name ≡ name) × (element.kind ≡ Index columns)
 Drops element (DropColumn table name) = (type : _) × (element.table ≡ table) × (element.name ≡ name) × (element.kind ≡ Optional type)
+Drops element (Abandon table name) = (element.table ≡ table) × (element.name ≡ name)
 Drops element _ = ⊥
 
 -- this number is the table's column of this name

@@ -9,10 +9,10 @@ use Rattle.schema_version.specs.Names as names
 use Rattle.schema_version.specs.Names.{IsName, max_listed, max_elements}
 use Rattle.schema_version.specs.Moves.{max_like}
 use Rattle.change_plan.specs.declared.change.Change.{Change}
-use Rattle.change_plan.specs.declared.change.Change.TheVariants.{AddIndex, DropIndex, AddColumn, DropColumn}
+use Rattle.change_plan.specs.declared.change.Change.TheVariants.{AddIndex, DropIndex, AddColumn, DropColumn, Abandon}
 use Rattle.change_plan.specs.declared.fault.PlanFault.{PlanFault}
 use Rattle.change_plan.specs.declared.fault.PlanFault.TheVariants.{Unknown, NameTaken, StillIndexed, InChange, Limit, Memory}
-use Rattle.change_plan.specs.Batches.{named, named_index, named_column, adds, adds_column, drops_index, drops_column}
+use Rattle.change_plan.specs.Batches.{named, named_index, named_column, named_entering, adds, adds_column, drops, drops_index, drops_column}
 
 abbrev pub rank : PlanFault → ℕ
 rank Unknown = 1
@@ -50,9 +50,8 @@ IsListed old all table name (Some column) = IsStillListed old all column ⊎ ((c
 
 abbrev pub adds_like : ℕ → Bool → Change → Bool
 adds_like table index (AddIndex other own columns) = (other == table) && index
-adds_like table index (DropIndex other own) = false
 adds_like table index (AddColumn other own kind) = (other == table) && is_like index kind
-adds_like table index (DropColumn other own) = false
+adds_like table index change = false
 
 abbrev pub is_addition : Change → Bool
 is_addition (AddIndex table name columns) = true
@@ -74,17 +73,19 @@ ChangeFault old all earlier (AddIndex table name columns) Unknown =
     IsNone (table_at old table)
     ⊎ ((column : List ℕ) × Contains columns column × IsNone (named_column old table column) × (list_any (adds_column table column) all ≡ false))
 ChangeFault old all earlier (AddIndex table name columns) NameTaken = IsTaken old earlier table name
-ChangeFault old all earlier (AddIndex table name columns) StillIndexed = (column : List ℕ) × Contains columns column × IsTrue (list_any (drops_column table column) all)
+ChangeFault old all earlier (AddIndex table name columns) StillIndexed = (column : List ℕ) × Contains columns column × IsTrue (list_any (drops_column old table column) all)
 ChangeFault old all earlier (AddIndex table name columns) InChange = (column : List ℕ) × Contains columns column × IsInChange (named_column old table column)
 ChangeFault old all earlier (AddIndex table name columns) Limit = (¬ (IsName name)) ⊎ (¬ (IsColumnList columns)) ⊎ IsOver old all table true
-ChangeFault old all earlier (DropIndex table name) Unknown = IsNone (named_index old table name) ⊎ IsTrue (list_any (drops_index table name) earlier)
+ChangeFault old all earlier (DropIndex table name) Unknown = IsNone (named_index old table name) ⊎ IsTrue (list_any (drops table name) earlier)
 ChangeFault old all earlier (DropIndex table name) InChange = IsInChange (named_index old table name)
 ChangeFault old all earlier (AddColumn table name kind) Unknown = IsNone (table_at old table) ⊎ IsTrue (is_index kind)
 ChangeFault old all earlier (AddColumn table name kind) NameTaken = IsTaken old earlier table name
 ChangeFault old all earlier (AddColumn table name kind) Limit = (¬ (IsName name)) ⊎ IsOver old all table false
-ChangeFault old all earlier (DropColumn table name) Unknown = IsNone (named_column old table name) ⊎ IsTrue (list_any (drops_column table name) earlier)
+ChangeFault old all earlier (DropColumn table name) Unknown = IsNone (named_column old table name) ⊎ IsTrue (list_any (drops table name) earlier)
 ChangeFault old all earlier (DropColumn table name) StillIndexed = IsListed old all table name (named_column old table name)
 ChangeFault old all earlier (DropColumn table name) InChange = IsInChange (named_column old table name)
+ChangeFault old all earlier (Abandon table name) Unknown = IsNone (named_entering old table name) ⊎ IsTrue (list_any (drops table name) earlier)
+ChangeFault old all earlier (Abandon table name) StillIndexed = IsListed old all table name (named_column old table name)
 ChangeFault old all earlier change fault = ⊥
 
 -- every change can be planned

@@ -1,13 +1,13 @@
 //! Looking for changes of a batch by table and name.
 ghost use Rattle.std.specs.Prelude.{◌≡◌, ◌&&◌, ◌==◌, bytes_eq};
 ghost use Rattle.std.specs.List.{list_any};
-ghost use Rattle.change_plan.specs.Batches.{is_same_name as is_same_name_of, adds_column as adds_column_of, adds as adds_of, drops_index as drops_index_of, drops_column as drops_column_of, lists_added as lists_added_of, drops_index_on as drops_index_on_of, is_under_dropped as is_under_dropped_of};
+ghost use Rattle.change_plan.specs.Batches.{is_same_name as is_same_name_of, adds_column as adds_column_of, adds as adds_of, drops as drops_of, drops_index as drops_index_of, drops_column as drops_column_of, lists_added as lists_added_of};
 ghost use Rattle.change_plan.specs.Refusals.{adds_like as adds_like_of, is_addition as is_addition_of};
 ghost use Rattle.change_plan.specs.Deciding.{adds_index_on as adds_index_on_of};
 ghost use Rattle.change_plan.specs.Schedule.{is_early as is_early_of, is_late as is_late_of};
 
 use crate::change::Change;
-use crate::finding::{lists, named_index};
+use crate::finding::named_column;
 use keycode::Text;
 use schema_version::Schema;
 
@@ -27,7 +27,7 @@ pub(crate) fn adds_column(change: &Change, table: u32, name: &Text) -> bool
             name: own,
             ..
         } => is_same_name(table, name, *other, own),
-        Change::AddIndex { .. } | Change::DropIndex { .. } | Change::DropColumn { .. } => false,
+        _ => false,
     }
 }
 
@@ -46,11 +46,32 @@ fn adds(change: &Change, table: u32, name: &Text) -> bool
             name: own,
             ..
         } => is_same_name(table, name, *other, own),
-        Change::DropIndex { .. } | Change::DropColumn { .. } => false,
+        _ => false,
     }
 }
 
-// Whether the change drops the table's index of this name.
+// Whether the change takes an element of this name out of the table.
+fn drops(change: &Change, table: u32, name: &Text) -> bool
+    ensures { result ≡ drops_of table name.now change.now }
+{
+    match change {
+        Change::DropIndex {
+            table: other,
+            name: own,
+        } => is_same_name(table, name, *other, own),
+        Change::DropColumn {
+            table: other,
+            name: own,
+        } => is_same_name(table, name, *other, own),
+        Change::Abandon {
+            table: other,
+            name: own,
+        } => is_same_name(table, name, *other, own),
+        _ => false,
+    }
+}
+
+// Whether the change takes the table's index of this name out. Its elements have names of their own.
 fn drops_index(change: &Change, table: u32, name: &Text) -> bool
     ensures { result ≡ drops_index_of table name.now change.now }
 {
@@ -59,20 +80,28 @@ fn drops_index(change: &Change, table: u32, name: &Text) -> bool
             table: other,
             name: own,
         } => is_same_name(table, name, *other, own),
-        Change::AddIndex { .. } | Change::AddColumn { .. } | Change::DropColumn { .. } => false,
+        Change::Abandon {
+            table: other,
+            name: own,
+        } => is_same_name(table, name, *other, own),
+        _ => false,
     }
 }
 
-// Whether the change drops the table's column of this name.
-fn drops_column(change: &Change, table: u32, name: &Text) -> bool
-    ensures { result ≡ drops_column_of table name.now change.now }
+// Whether the change takes the table's column of this name out.
+fn drops_column(schema: &Schema, change: &Change, table: u32, name: &Text) -> bool
+    ensures { result ≡ drops_column_of schema.now table name.now change.now }
 {
     match change {
         Change::DropColumn {
             table: other,
             name: own,
         } => is_same_name(table, name, *other, own),
-        Change::AddIndex { .. } | Change::DropIndex { .. } | Change::AddColumn { .. } => false,
+        Change::Abandon {
+            table: other,
+            name: own,
+        } => is_same_name(table, name, *other, own) && named_column(schema, table, name).is_some(),
+        _ => false,
     }
 }
 
@@ -94,7 +123,7 @@ fn adds_index_on(change: &Change, table: u32, name: &Text) -> bool
             columns,
             ..
         } => *other == table && any_named(columns.as_slice(), name),
-        Change::DropIndex { .. } | Change::AddColumn { .. } | Change::DropColumn { .. } => false,
+        _ => false,
     }
 }
 
@@ -109,7 +138,7 @@ pub(crate) fn adds_like(change: &Change, table: u32, index: bool) -> bool
             kind,
             ..
         } => *other == table && kind.is_like(index),
-        Change::DropIndex { .. } | Change::DropColumn { .. } => false,
+        _ => false,
     }
 }
 
@@ -117,10 +146,7 @@ pub(crate) fn adds_like(change: &Change, table: u32, index: bool) -> bool
 pub(crate) fn is_addition(change: &Change) -> bool
     ensures { result ≡ is_addition_of change.now }
 {
-    match change {
-        Change::AddIndex { .. } | Change::AddColumn { .. } => true,
-        Change::DropIndex { .. } | Change::DropColumn { .. } => false,
-    }
+    matches!(change, Change::AddIndex { .. } | Change::AddColumn { .. })
 }
 
 /// Whether one of these adds the table's column of this name.
@@ -144,18 +170,25 @@ pub(crate) fn any_adds_index_on(changes: &[Change], table: u32, name: &Text) -> 
     changes.iter().any(|c| adds_index_on(c, table, name))
 }
 
-/// Whether one of these drops the table's index of this name.
+/// Whether one of these takes an element of this name out of the table.
+pub(crate) fn any_drops(changes: &[Change], table: u32, name: &Text) -> bool
+    ensures { result ≡ list_any (drops_of table name.now) changes.now }
+{
+    changes.iter().any(|c| drops(c, table, name))
+}
+
+/// Whether one of these takes the table's index of this name out.
 pub(crate) fn any_drops_index(changes: &[Change], table: u32, name: &Text) -> bool
     ensures { result ≡ list_any (drops_index_of table name.now) changes.now }
 {
     changes.iter().any(|c| drops_index(c, table, name))
 }
 
-/// Whether one of these drops the table's column of this name.
-pub(crate) fn any_drops_column(changes: &[Change], table: u32, name: &Text) -> bool
-    ensures { result ≡ list_any (drops_column_of table name.now) changes.now }
+/// Whether one of these takes the table's column of this name out.
+pub(crate) fn any_drops_column(schema: &Schema, changes: &[Change], table: u32, name: &Text) -> bool
+    ensures { result ≡ list_any (drops_column_of schema.now table name.now) changes.now }
 {
-    changes.iter().any(|c| drops_column(c, table, name))
+    changes.iter().any(|c| drops_column(schema, c, table, name))
 }
 
 /// Whether an index over these columns waits for one that the batch adds.
@@ -167,26 +200,6 @@ pub(crate) fn lists_added(changes: &[Change], table: u32, columns: &[Text]) -> b
         .any(|name| any_adds_column(changes, table, name))
 }
 
-// Whether the change drops an index that lists the column of this number.
-fn drops_index_on(schema: &Schema, column: u32, change: &Change) -> bool
-    ensures { result ≡ drops_index_on_of schema.now column change.now }
-{
-    match change {
-        Change::DropIndex { table, name } => match named_index(schema, *table, name) {
-            Some(index) => lists(index, column),
-            None => false,
-        },
-        Change::AddIndex { .. } | Change::AddColumn { .. } | Change::DropColumn { .. } => false,
-    }
-}
-
-/// Whether a column waits for a dropped index that lists it.
-pub(crate) fn is_under_dropped(schema: &Schema, changes: &[Change], column: u32) -> bool
-    ensures { result ≡ is_under_dropped_of schema.now changes.now column }
-{
-    changes.iter().any(|c| drops_index_on(schema, column, c))
-}
-
 /// Whether the change adds an element that enters in the first step.
 pub(crate) fn is_early(changes: &[Change], change: &Change) -> bool
     ensures { result ≡ is_early_of changes.now change.now }
@@ -196,7 +209,7 @@ pub(crate) fn is_early(changes: &[Change], change: &Change) -> bool
             !lists_added(changes, *table, columns.as_slice())
         }
         Change::AddColumn { .. } => true,
-        Change::DropIndex { .. } | Change::DropColumn { .. } => false,
+        _ => false,
     }
 }
 
@@ -208,6 +221,6 @@ pub(crate) fn is_late(changes: &[Change], change: &Change) -> bool
         Change::AddIndex { table, columns, .. } => {
             lists_added(changes, *table, columns.as_slice())
         }
-        Change::AddColumn { .. } | Change::DropIndex { .. } | Change::DropColumn { .. } => false,
+        _ => false,
     }
 }

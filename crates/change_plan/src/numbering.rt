@@ -1,19 +1,19 @@
 //! The numbers that added elements will have.
 ghost use Rattle.std.specs.Prelude.{◌≡◌, ◌+◌, ◌≤◌, [], ◌∷◌, if◌then◌else◌, IsTrue, count_by, IfOk, option_to_list};
+ghost use Rattle.std.specs.Option.{option_copied};
 ghost use mathlib.Core.List.{map as each};
 ghost use Rattle.schema_version.specs.Names.{max_elements};
 ghost use Rattle.change_plan.specs.declared.change.Change.TheVariants.{AddIndex};
-ghost use Rattle.change_plan.specs.declared.trip.Pace.TheVariants.{ColumnIn, IndexOut, ColumnOut, ColumnOutLate};
-ghost use Rattle.change_plan.specs.Batches.{named_index as named_index_of, named_column as named_column_of, is_under_dropped as is_under_dropped_of};
-ghost use Rattle.change_plan.specs.Schedule.{is_early as is_early_of, is_late as is_late_of, added_number as added_number_of, column_number as column_number_of, trip_out as trip_out_of, trip_of as trip_of_change, trips as trips_of_batch};
+ghost use Rattle.change_plan.specs.declared.trip.Course.TheVariants.{ColumnIn};
+ghost use Rattle.change_plan.specs.Schedule.{is_early as is_early_of, is_late as is_late_of, added_number as added_number_of, column_number as column_number_of, course_out as course_out_of, steps_on as steps_on_of, wait_out as wait_out_of, out_trip as out_trip_of, trip_out as trip_out_of, trip_of as trip_of_change, trips as trips_of_batch};
 
 use crate::change::Change;
-use crate::changes::{adds_column, is_early, is_late, is_under_dropped, lists_added};
-use crate::finding::{named_column, named_index};
-use crate::trip::{Pace, Trip};
+use crate::changes::{adds_column, is_early, is_late, lists_added};
+use crate::finding::{leaving, lists, named_column};
+use crate::trip::{Course, Trip, steps};
 use keycode::Text;
 use listed::Listed;
-use schema_version::{ElementDef, Kind, NewElement, Schema};
+use schema_version::{ElementDef, ElementState, Kind, NewElement, Schema};
 use std::alloc::{AllocError, Global};
 
 // How many of these enter in the first step.
@@ -70,12 +70,48 @@ fn column_numbers(
         .collect(alloc)
 }
 
-// The way out of a live element.
-fn trip_out(element: &ElementDef, pace: Pace) -> Result<Trip, AllocError>
-    ensures { IfOk result (λ trip. trip ∷ [] ≡ trip_out_of (Some element.now) (λ _. pace)) }
+// The way out of an element.
+fn course_out(kind: &Kind, state: ElementState) -> Course
+    ensures { result ≡ course_out_of kind.now state }
+{
+    match (state, kind) {
+        (ElementState::DeleteOnly, _) => Course::DeleteOnlyBack,
+        (ElementState::WriteOnly, _) => Course::WriteOnlyBack,
+        (_, Kind::Index(_)) => Course::IndexOut,
+        (_, Kind::Optional(_)) => Course::ColumnOut,
+    }
+}
+
+// The steps until an element that leaves has gone, where it is an index that lists this column.
+fn steps_on(column: u32, element: Option<&ElementDef>) -> u32
+    ensures { result ≡ steps_on_of column (option_copied element.entry) }
+{
+    match element {
+        Some(index) if lists(index, column) => steps(course_out(&index.kind, index.state)),
+        _ => 0,
+    }
+}
+
+// The steps until no index that these take out lists the element any more.
+fn wait_out(schema: &Schema, number: u32, changes: &[Change]) -> u32
+    ensures { result ≡ wait_out_of schema.now number changes.now }
+{
+    let mut most = 0;
+    for change in changes {
+        let steps = steps_on(number, leaving(schema, change));
+        if steps > most {
+            most = steps;
+        }
+    }
+    most
+}
+
+fn out_trip(schema: &Schema, all: &[Change], element: &ElementDef) -> Result<Trip, AllocError>
+    ensures { IfOk result (λ trip. trip ≡ out_trip_of schema.now all.now element.now) }
 {
     Ok(Trip {
-        pace,
+        wait: wait_out(schema, element.number, all),
+        course: course_out(&element.kind, element.state),
         number: element.number,
         fresh: NewElement {
             table: element.table,
@@ -83,6 +119,20 @@ fn trip_out(element: &ElementDef, pace: Pace) -> Result<Trip, AllocError>
             kind: element.kind.clone()?,
         },
     })
+}
+
+// The trip of an element that leaves; none where it isn't there.
+fn trip_out(
+    schema: &Schema,
+    all: &[Change],
+    element: Option<&ElementDef>,
+) -> Result<Option<Trip>, AllocError>
+    ensures { IfOk result (λ trip. option_to_list trip ≡ trip_out_of schema.now all.now (option_copied element.entry)) }
+{
+    match element {
+        Some(element) => Ok(Some(out_trip(schema, all, element)?)),
+        None => Ok(None),
+    }
 }
 
 // The next numbers of an element that enters in the first step, and of one that enters late.
@@ -109,11 +159,8 @@ fn index_trip(
     let waits = lists_added(all, table, columns);
     let listed = column_numbers(alloc, schema, next, all, table, columns)?;
     Ok(Trip {
-        pace: if waits {
-            Pace::IndexInLate
-        } else {
-            Pace::IndexIn
-        },
+        wait: if waits { steps(Course::ColumnIn) } else { 0 },
+        course: Course::IndexIn,
         number: if waits { numbers.late } else { numbers.early },
         fresh: NewElement {
             table,
@@ -124,10 +171,11 @@ fn index_trip(
 }
 
 fn column_trip(number: u32, table: u32, name: &Text, kind: &Kind) -> Result<Trip, AllocError>
-    ensures { IfOk result (λ trip. trip ≡ record { pace = ColumnIn; number = number; fresh = record { table = table; name = name.now; kind = kind.now } }) }
+    ensures { IfOk result (λ trip. trip ≡ record { wait = 0; course = ColumnIn; number = number; fresh = record { table = table; name = name.now; kind = kind.now } }) }
 {
     Ok(Trip {
-        pace: Pace::ColumnIn,
+        wait: 0,
+        course: Course::ColumnIn,
         number,
         fresh: NewElement {
             table,
@@ -135,43 +183,6 @@ fn column_trip(number: u32, table: u32, name: &Text, kind: &Kind) -> Result<Trip
             kind: kind.clone()?,
         },
     })
-}
-
-fn dropped_index(schema: &Schema, table: u32, name: &Text) -> Result<Option<Trip>, AllocError>
-    ensures { IfOk result (λ trip. option_to_list trip ≡ trip_out_of (named_index_of schema.now table name.now) (λ _. IndexOut)) }
-{
-    match named_index(schema, table, name) {
-        Some(index) => Ok(Some(trip_out(index, Pace::IndexOut)?)),
-        None => Ok(None),
-    }
-}
-
-// When a dropped column leaves.
-fn column_pace(schema: &Schema, all: &[Change], column: u32) -> Pace
-    ensures { result ≡ (if is_under_dropped_of schema.now all.now column then ColumnOutLate else ColumnOut) }
-{
-    if is_under_dropped(schema, all, column) {
-        Pace::ColumnOutLate
-    } else {
-        Pace::ColumnOut
-    }
-}
-
-fn dropped_column(
-    schema: &Schema,
-    all: &[Change],
-    table: u32,
-    name: &Text,
-) -> Result<Option<Trip>, AllocError>
-    ensures { IfOk result (λ trip. option_to_list trip ≡ trip_out_of (named_column_of schema.now table name.now) (λ e. if is_under_dropped_of schema.now all.now e.number then ColumnOutLate else ColumnOut)) }
-{
-    match named_column(schema, table, name) {
-        Some(column) => {
-            let pace = column_pace(schema, all, column.number);
-            Ok(Some(trip_out(column, pace)?))
-        }
-        None => Ok(None),
-    }
 }
 
 // The trip of a change; none where what it drops isn't there.
@@ -197,12 +208,11 @@ fn trip_of(
             let trip = index_trip(alloc, schema, next, all, numbers, *table, name, columns)?;
             Ok(Some(trip))
         }
-        Change::DropIndex { table, name } => dropped_index(schema, *table, name),
         Change::AddColumn { table, name, kind } => {
             let trip = column_trip(numbers.early, *table, name, kind)?;
             Ok(Some(trip))
         }
-        Change::DropColumn { table, name } => dropped_column(schema, all, *table, name),
+        _ => trip_out(schema, all, leaving(schema, change)),
     }
 }
 

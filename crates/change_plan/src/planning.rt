@@ -67,7 +67,8 @@ fn plan_from(
 /// whose end the batch's changes have been made. No plan that does so has fewer steps. A batch with no changes has a plan with no steps.
 ///
 /// - `schema`: the version from which the plan starts.
-/// - `changes`: the batch, which is brought about as one.
+/// - `changes`: the batch, which is brought about as one. What it abandons turns back in the first step, before which nothing of it needs
+///   to end.
 ///
 /// The changes are tried in order, each against the schema and the whole batch. The first faulty one decides by its lowest fault, in
 /// the order of `PlanFault`. Memory comes last: all is tried before the first growth. Nothing is changed by a refusal. Whether memory is

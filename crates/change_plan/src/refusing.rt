@@ -4,15 +4,15 @@ ghost use Rattle.std.specs.List.{list_any};
 ghost use Rattle.schema_version.specs.declared.element.ElementDef.{ElementDef as ElementDefinition};
 ghost use Rattle.change_plan.specs.Batches.{named_index as named_index_of, named_column as named_column_of, drops_column as drops_column_of};
 ghost use Rattle.change_plan.specs.Refusals.{adds_like as adds_like_of, is_addition as is_addition_of};
-ghost use Rattle.change_plan.specs.Deciding.{lacks_column as lacks_column_of, is_taken as is_taken_of, is_in_change as is_in_change_of, still_lists as still_lists_of, is_listed as is_listed_of, is_over as is_over_of, add_index_check, drop_index_check, add_column_check, drop_column_check, change_check, batch_check};
+ghost use Rattle.change_plan.specs.Deciding.{lacks_column as lacks_column_of, is_taken as is_taken_of, is_in_change as is_in_change_of, still_lists as still_lists_of, is_listed as is_listed_of, is_over as is_over_of, add_index_check, drop_index_check, add_column_check, drop_column_check, abandon_check, change_check, batch_check};
 
 use crate::change::Change;
 use crate::changes::{
-    adds_like, any_adds, any_adds_column, any_adds_index_on, any_drops_column, any_drops_index,
-    is_addition,
+    adds_like, any_adds, any_adds_column, any_adds_index_on, any_drops, any_drops_column,
+    any_drops_index, is_addition,
 };
 use crate::fault::PlanFault;
-use crate::finding::{lists, named_column, named_index};
+use crate::finding::{lists, named_column, named_entering, named_index};
 use keycode::Text;
 use schema_version::{
     ElementDef, Kind, MAX_COLUMNS, MAX_ELEMENTS, MAX_INDEXES, Schema, elements_like, is_name,
@@ -33,11 +33,13 @@ fn any_lacking(schema: &Schema, all: &[Change], table: u32, columns: &[Text]) ->
     columns.iter().any(|c| lacks_column(schema, all, table, c))
 }
 
-// Whether the batch drops one of these columns.
-fn any_dropped(all: &[Change], table: u32, columns: &[Text]) -> bool
-    ensures { result ≡ list_any (λ column. list_any (drops_column_of table column) all.now) columns.now }
+// Whether the batch takes one of these columns out.
+fn any_dropped(schema: &Schema, all: &[Change], table: u32, columns: &[Text]) -> bool
+    ensures { result ≡ list_any (λ column. list_any (drops_column_of schema.now table column) all.now) columns.now }
 {
-    columns.iter().any(|c| any_drops_column(all, table, c))
+    columns
+        .iter()
+        .any(|c| any_drops_column(schema, all, table, c))
 }
 
 // Whether a key column or a live element of the table has the name, or an earlier change adds it.
@@ -146,7 +148,7 @@ fn check_added_index(
     if is_taken(schema, earlier, table, name) {
         return Err(PlanFault::NameTaken);
     }
-    if any_dropped(all, table, columns) {
+    if any_dropped(schema, all, table, columns) {
         return Err(PlanFault::StillIndexed);
     }
     if any_in_change(schema, table, columns) {
@@ -169,7 +171,7 @@ fn check_dropped_index(
 ) -> Result<(), PlanFault>
     ensures { result ≡ drop_index_check schema.now earlier.now table name.now }
 {
-    if named_index(schema, table, name).is_none() || any_drops_index(earlier, table, name) {
+    if named_index(schema, table, name).is_none() || any_drops(earlier, table, name) {
         return Err(PlanFault::Unknown);
     }
     if is_index_in_change(schema, table, name) {
@@ -211,7 +213,7 @@ fn check_dropped_column(
 ) -> Result<(), PlanFault>
     ensures { result ≡ drop_column_check schema.now all.now earlier.now table name.now }
 {
-    if named_column(schema, table, name).is_none() || any_drops_column(earlier, table, name) {
+    if named_column(schema, table, name).is_none() || any_drops(earlier, table, name) {
         return Err(PlanFault::Unknown);
     }
     if is_listed(schema, all, table, name) {
@@ -219,6 +221,24 @@ fn check_dropped_column(
     }
     if is_column_in_change(schema, table, name) {
         return Err(PlanFault::InChange);
+    }
+    Ok(())
+}
+
+fn check_abandoned(
+    schema: &Schema,
+    all: &[Change],
+    earlier: &[Change],
+    table: u32,
+    name: &Text,
+) -> Result<(), PlanFault>
+    ensures { result ≡ abandon_check schema.now all.now earlier.now table name.now }
+{
+    if named_entering(schema, table, name).is_none() || any_drops(earlier, table, name) {
+        return Err(PlanFault::Unknown);
+    }
+    if is_listed(schema, all, table, name) {
+        return Err(PlanFault::StillIndexed);
     }
     Ok(())
 }
@@ -247,6 +267,7 @@ fn check_change(
         Change::DropColumn { table, name } => {
             check_dropped_column(schema, all, earlier, *table, name)
         }
+        Change::Abandon { table, name } => check_abandoned(schema, all, earlier, *table, name),
     }
 }
 

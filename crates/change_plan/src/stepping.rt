@@ -1,35 +1,29 @@
 //! The steps of a plan, made from what each element does at each time.
-ghost use Rattle.std.specs.Prelude.{◌≡◌, ◌<◌, IfOk, option_to_list, flat_map};
+ghost use Rattle.std.specs.Prelude.{◌≡◌, IfOk, option_to_list, flat_map};
 ghost use Rattle.change_plan.specs.Plans.{reorgs};
-ghost use Rattle.change_plan.specs.Schedule.{move_between as move_between_of, work_between as work_between_of, move_of as move_of_trip, work_of_trip, step_at as step_at_time, longest as longest_of, steps_from};
+ghost use Rattle.change_plan.specs.Schedule.{move_by as move_by_of, work_by as work_by_of, move_of as move_of_trip, work_of_trip, step_at as step_at_time, longest as longest_of, steps_from};
 
 use crate::least_plan::{PlanStep, Reorg};
-use crate::trip::{Trip, state_at, timetable};
+use crate::trip::{Act, Trip, act_at, duration};
 use listed::Listed;
 use schema_version::{ElementState, Kind, Move, NewElement, Work, needed};
 use std::alloc::{AllocError, Global};
 
-// The move of an element from one state to another.
-fn move_between(
-    number: u32,
-    fresh: &NewElement,
-    from: ElementState,
-    to: ElementState,
-) -> Result<Option<Move>, AllocError>
-    ensures { IfOk result (λ a. option_to_list a ≡ move_between_of number fresh.now from to) }
+// The move that does this with the element of this number.
+fn move_by(number: u32, fresh: &NewElement, act: Act) -> Result<Option<Move>, AllocError>
+    ensures { IfOk result (λ a. option_to_list a ≡ move_by_of number fresh.now act) }
 {
-    use ElementState::{Absent, DeleteOnly, Public, WriteOnly};
-    match (from, to) {
-        (Absent, Absent) | (DeleteOnly, DeleteOnly) | (WriteOnly, WriteOnly) | (Public, Public) =>
-            Ok(None),
-        (Absent, _) => Ok(Some(Move::Enter {
+    match act {
+        Act::Wait => Ok(None),
+        Act::Appear => Ok(Some(Move::Enter {
             fresh: fresh.clone()?,
-            to,
+            to: ElementState::DeleteOnly,
         })),
-        _ => Ok(Some(Move::Go {
+        Act::Reach(to) => Ok(Some(Move::Go {
             element: number,
             to,
         })),
+        Act::Return => Ok(Some(Move::Turn { element: number })),
     }
 }
 
@@ -44,38 +38,30 @@ fn reorg(number: u32, work: Option<Work>) -> Option<Reorg>
     }
 }
 
-// The reorganisation that must end before an element goes from one state to another.
-fn work_between(number: u32, kind: &Kind, from: ElementState, to: ElementState) -> Option<Reorg>
-    ensures { option_to_list result ≡ work_between_of number kind.now from to }
+// The reorganisation that must end before this is done.
+fn work_by(number: u32, kind: &Kind, act: Act) -> Option<Reorg>
+    ensures { option_to_list result ≡ work_by_of number kind.now act }
 {
-    use ElementState::{Absent, DeleteOnly, Public, WriteOnly};
-    match (from, to) {
-        (Absent, _) | (DeleteOnly, DeleteOnly) | (WriteOnly, WriteOnly) | (Public, Public) => None,
-        _ => reorg(number, needed(kind, to)),
+    match act {
+        Act::Reach(to) => reorg(number, needed(kind, to)),
+        Act::Wait | Act::Appear | Act::Return => None,
     }
 }
 
 // The trip's move in the step behind so many steps.
 fn move_of(trip: &Trip, time: usize) -> Result<Option<Move>, AllocError>
-    requires { time < usize.MAX }
     ensures { IfOk result (λ a. option_to_list a ≡ move_of_trip time trip.now) }
 {
-    let from = state_at(trip.pace, time);
-    let to = state_at(trip.pace, time + 1);
-    move_between(trip.number, &trip.fresh, from, to)
+    move_by(trip.number, &trip.fresh, act_at(trip, time))
 }
 
 fn work_of(trip: &Trip, time: usize) -> Option<Reorg>
-    requires { time < usize.MAX }
     ensures { option_to_list result ≡ work_of_trip time trip.now }
 {
-    let from = state_at(trip.pace, time);
-    let to = state_at(trip.pace, time + 1);
-    work_between(trip.number, &trip.fresh.kind, from, to)
+    work_by(trip.number, &trip.fresh.kind, act_at(trip, time))
 }
 
 fn moves_at(alloc: Global, trips: &[Trip], time: usize) -> Result<Vec<Move>, AllocError>
-    requires { time < usize.MAX }
     ensures { IfOk result (λ moves. moves.items ≡ flat_map (move_of_trip time) trips.now) }
 {
     let mut moves = Vec::new(alloc);
@@ -88,7 +74,6 @@ fn moves_at(alloc: Global, trips: &[Trip], time: usize) -> Result<Vec<Move>, All
 }
 
 fn work_at(alloc: Global, trips: &[Trip], time: usize) -> Result<Vec<Reorg>, AllocError>
-    requires { time < usize.MAX }
     ensures { IfOk result (λ work. work.items ≡ flat_map (work_of_trip time) trips.now) }
 {
     let mut work = Vec::new(alloc);
@@ -101,7 +86,6 @@ fn work_at(alloc: Global, trips: &[Trip], time: usize) -> Result<Vec<Reorg>, All
 }
 
 fn step_at(alloc: Global, trips: &[Trip], time: usize) -> Result<PlanStep, AllocError>
-    requires { time < usize.MAX }
     ensures { IfOk result (λ step. step ≡ step_at_time trips.now time) }
 {
     Ok(PlanStep {
@@ -116,7 +100,7 @@ fn longest(trips: &[Trip]) -> usize
 {
     let mut most = 0;
     for trip in trips {
-        let steps = timetable(trip.pace).len();
+        let steps = duration(trip);
         if steps > most {
             most = steps;
         }
@@ -124,7 +108,7 @@ fn longest(trips: &[Trip]) -> usize
     most
 }
 
-/// The steps of a plan in which all trips begin together.
+/// The steps of a plan in which all trips are made together.
 #[tactic(auto, using(crate::proofs::Growing::grown))]
 pub(crate) fn steps_of(alloc: Global, trips: &[Trip]) -> Result<Vec<PlanStep>, AllocError>
     ensures { IfOk result (λ steps. steps.items ≡ steps_from trips.now 0 (longest_of trips.now)) }

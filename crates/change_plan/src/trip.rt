@@ -1,69 +1,97 @@
-//! When an element takes which of its edges.
-ghost use Rattle.std.specs.Prelude.{◌≡◌};
-ghost use Rattle.change_plan.specs.Schedule.{departure as departure_of, timetable as timetable_of, walk as walk_of, state_at as state_at_of};
+//! When an element takes which of its moves.
+ghost use Rattle.std.specs.Prelude.{◌≡◌, length};
+ghost use Rattle.change_plan.specs.Schedule.{acts as acts_of, steps as steps_of_course, nth_act as nth_act_of, act_at as act_at_of, duration as duration_of};
 
 use schema_version::{ElementState, NewElement};
 
-/// When an element takes which of its edges. An added index waits for the columns that the batch adds, a dropped column for the
-/// dropped indexes that list it; all else begins at once, and no one waits on the way.
+/// What is done with an element in one step.
 #[derive(Clone, Copy, Debug, PartialEq, Eq)]
-pub(crate) enum Pace {
-    ColumnIn,
-    IndexIn,
-    IndexInLate,
-    IndexOut,
-    ColumnOut,
-    ColumnOutLate,
+pub(crate) enum Act {
+    Wait,
+    /// It enters as delete-only.
+    Appear,
+    /// It goes to this state.
+    Reach(ElementState),
+    /// It turns back.
+    Return,
 }
 
-/// An element that the batch adds or drops.
+/// The moves of an element, one per step.
+#[derive(Clone, Copy, Debug, PartialEq, Eq)]
+pub(crate) enum Course {
+    ColumnIn,
+    IndexIn,
+    IndexOut,
+    ColumnOut,
+    DeleteOnlyBack,
+    WriteOnlyBack,
+}
+
+/// An element that the batch adds or takes out.
 #[derive(Drop)]
 pub(crate) struct Trip {
-    pub pace: Pace,
+    /// The steps before its first move. An added index waits for the columns that the batch adds, a column that goes for the indexes
+    /// that list it; all else begins at once, and no one waits on the way.
+    pub wait: u32,
+    pub course: Course,
     /// Its number, which an added element gets as it enters.
     pub number: u32,
     /// What enters, or what there is.
     pub fresh: NewElement,
 }
 
-// The state before the first step.
-fn departure(pace: Pace) -> ElementState
-    ensures { result ≡ departure_of pace }
+/// What is done in each step of a course.
+fn acts(course: Course) -> &'static [Act]
+    ensures { result.now ≡ acts_of course }
 {
-    match pace {
-        Pace::ColumnIn | Pace::IndexIn | Pace::IndexInLate => ElementState::Absent,
-        Pace::IndexOut | Pace::ColumnOut | Pace::ColumnOutLate => ElementState::Public,
-    }
-}
-
-/// The states behind each step.
-pub(crate) fn timetable(pace: Pace) -> &'static [ElementState]
-    ensures { result.now ≡ timetable_of pace }
-{
+    use Act::{Appear, Reach, Return};
     use ElementState::{Absent, DeleteOnly, Public, WriteOnly};
-    match pace {
-        Pace::ColumnIn => &[DeleteOnly, Public],
-        Pace::IndexIn => &[DeleteOnly, WriteOnly, Public],
-        Pace::IndexInLate => &[Absent, Absent, DeleteOnly, WriteOnly, Public],
-        Pace::IndexOut => &[WriteOnly, DeleteOnly, Absent],
-        Pace::ColumnOut => &[DeleteOnly, Absent],
-        Pace::ColumnOutLate => &[Public, Public, Public, DeleteOnly, Absent],
+    match course {
+        Course::ColumnIn => &[Appear, Reach(Public)],
+        Course::IndexIn => &[Appear, Reach(WriteOnly), Reach(Public)],
+        Course::IndexOut => &[Reach(WriteOnly), Reach(DeleteOnly), Reach(Absent)],
+        Course::ColumnOut => &[Reach(DeleteOnly), Reach(Absent)],
+        Course::DeleteOnlyBack => &[Return, Reach(Absent)],
+        Course::WriteOnlyBack => &[Return, Reach(DeleteOnly), Reach(Absent)],
     }
 }
 
-// The state behind so many of these steps.
-fn walk(now: ElementState, steps: &[ElementState], time: usize) -> ElementState
-    ensures { result ≡ walk_of now steps.now time }
+/// How many steps a course has.
+pub(crate) fn steps(course: Course) -> u32
+    ensures { result ≡ steps_of_course course }
 {
-    match steps {
-        [next, rest @ ..] if time > 0 => walk(*next, rest, time - 1),
-        _ => now,
+    match course {
+        Course::IndexIn | Course::IndexOut | Course::WriteOnlyBack => 3,
+        Course::ColumnIn | Course::ColumnOut | Course::DeleteOnlyBack => 2,
     }
 }
 
-/// The state behind so many steps of the plan.
-pub(crate) fn state_at(pace: Pace, time: usize) -> ElementState
-    ensures { result ≡ state_at_of pace time }
+// The act of this place; none behind the last.
+fn nth_act(acts: &[Act], place: usize) -> Act
+    ensures { result ≡ nth_act_of acts.now place }
 {
-    walk(departure(pace), timetable(pace), time)
+    match acts {
+        [_, rest @ ..] if place > 0 => nth_act(rest, place - 1),
+        [first, ..] => *first,
+        [] => Act::Wait,
+    }
+}
+
+/// What is done in the step behind so many steps of the plan.
+pub(crate) fn act_at(trip: &Trip, time: usize) -> Act
+    ensures { result ≡ act_at_of trip.now time }
+{
+    let wait = trip.wait as usize;
+    if time < wait {
+        Act::Wait
+    } else {
+        nth_act(acts(trip.course), time - wait)
+    }
+}
+
+/// The steps of the plan up to the trip's last move.
+pub(crate) fn duration(trip: &Trip) -> usize
+    ensures { result ≡ duration_of trip.now }
+{
+    trip.wait as usize + steps(trip.course) as usize
 }

@@ -11,12 +11,12 @@ use Rattle.schema_version.specs.declared.element.Kind.{Kind}
 use Rattle.schema_version.specs.declared.element.Kind.TheVariants.{Index, Optional}
 use Rattle.schema_version.specs.declared.element.ElementDef.{ElementDef}
 use Rattle.schema_version.specs.declared.step.Move.{Move}
-use Rattle.schema_version.specs.declared.step.Move.TheVariants.{Enter, Go}
+use Rattle.schema_version.specs.declared.step.Move.TheVariants.{Enter, Go, Turn}
 use Rattle.schema_version.specs.Edges.{edge, HasEdge}
 use Rattle.schema_version.specs.Version.{Version, element_at}
-use Rattle.schema_version.specs.Moves.{moved, after_move, after_step}
-use Rattle.schema_version.specs.Steps.{in_state_or_none, StepOf, Same, New, Next}
-use Rattle.schema_version.proofs.Changes.{moved_next}
+use Rattle.schema_version.specs.Moves.{moved, turned, after_move, after_step}
+use Rattle.schema_version.specs.Steps.{in_state_or_none, StepOf, Same, New, Next, Back}
+use Rattle.schema_version.proofs.Changes.{moved_next, turned_next}
 use Rattle.element_state.specs.Core.{JoinedAt}
 use Rattle.element_state.specs.Laws.{IsLive}
 use Rattle.element_state.specs.Schemas.{Entry}
@@ -73,8 +73,11 @@ joined_def n next old new (New fresh to le has none is) =
 joined_def n next old new (Next x to way e was is) =
     subst (λ (o : Option ElementDef). JoinedAt the_kinds n (option_map entry_of o) (option_map entry_of new)) (sym was)
     (subst (λ (o : Option ElementDef). JoinedAt the_kinds n (Some (entry_of x)) (option_map entry_of o)) (sym is) (next_joined n x to way e))
+joined_def n next old new (Back x private way was is) =
+    subst (λ (o : Option ElementDef). JoinedAt the_kinds n (option_map entry_of o) (option_map entry_of new)) (sym was)
+    (subst (λ (o : Option ElementDef). JoinedAt the_kinds n (Some (entry_of x)) (option_map entry_of o)) (sym is) (refl, inl refl))
 
--- an element and what a step makes of it are of one kind and in states that an edge joins
+-- an element and what a step makes of it are of one kind, and in equal states or in states that an edge joins
 pub joined_step : (b : Bool) (n next : ℕ) (old new : Option ElementDef) → StepOf next n old new → JoinedAt the_kinds n (seen b old) (seen b new)
 joined_step true n next old new st = joined_itself n (Some row_entry)
 joined_step false n next old new st = joined_def n next old new st
@@ -94,9 +97,14 @@ moved_tables u (Some e) DeleteOnly = refl
 moved_tables u (Some e) WriteOnly = refl
 moved_tables u (Some e) Public = refl
 
+turned_tables : (u : Version) (o : Option ElementDef) → (turned u o).tables ≡ u.tables
+turned_tables u None = refl
+turned_tables u (Some e) = refl
+
 move_tables : (u : Version) (m : Move) → (after_move u m).tables ≡ u.tables
 move_tables u (Enter fresh to) = refl
 move_tables u (Go n to) = moved_tables u (element_at u n) to
+move_tables u (Turn n) = turned_tables u (element_at u n)
 
 -- no step changes the tables
 pub same_tables : (u : Version) (moves : List Move) → (after_step u moves).tables ≡ u.tables
@@ -106,6 +114,7 @@ same_tables u (m ∷ moves) = same_tables (after_move u m) moves ∙ move_tables
 move_next : (u : Version) (m : Move) → u.next ≤ (after_move u m).next
 move_next u (Enter fresh to) = omega arith
 move_next u (Go n to) = omega (arith, moved_next u (element_at u n) to)
+move_next u (Turn n) = omega (arith, turned_next u (element_at u n))
 
 -- numbers only rise
 pub next_rises : (u : Version) (moves : List Move) → u.next ≤ (after_step u moves).next

@@ -5,7 +5,6 @@ use Rattle.std.specs.List.{All, AllByRecursion}
 use Rattle.std.specs.Option.{unwrap_or}
 use Rattle.std.specs.FinMap as map
 use Rattle.std.proofs.lemmas.Bool.{lt-ltb}
-use Rattle.std.proofs.lemmas.Bool.Decides.{Decides-eqb}
 use Rattle.lease.specs.Timeline.{IsTimeline, IsValid, earliest, first_of, max_moment, after_publication}
 use Rattle.keycode.specs.declared.value.Value.{Value}
 use Rattle.row_map.specs.declared.shape.ColumnType.{ColumnType}
@@ -20,16 +19,17 @@ use Rattle.schema_version.specs.declared.element.Kind.{Kind}
 use Rattle.schema_version.specs.declared.element.Kind.TheVariants.{Index, Optional}
 use Rattle.schema_version.specs.declared.element.ElementDef.{ElementDef}
 use Rattle.schema_version.specs.declared.step.Move.{Move}
-use Rattle.schema_version.specs.declared.step.Move.TheVariants.{Enter, Go}
+use Rattle.schema_version.specs.declared.step.Move.TheVariants.{Enter, Go, Turn}
 use Rattle.schema_version.specs.declared.step.StepFault.TheVariants.{NotAdjacent}
 use Rattle.schema_version.specs.Edges.{edge, HasEdge}
 use Rattle.schema_version.specs.Version.{Version, table_at, element_at}
 use Rattle.schema_version.specs.Moves.{is_move_of, moves_element, in_state, after_step, IsAllowed}
 use Rattle.schema_version.specs.Sound.{IsSoundVersion}
-use Rattle.schema_version.specs.Steps.{Change, Stays, Enters, Goes, in_state_or_none, StepOf, Same, New, Next, IsOrdered}
+use Rattle.schema_version.specs.Steps.{Change, Stays, Enters, Goes, Turns, in_state_or_none, StepOf, Same, New, Next, Back, IsOrdered}
 use Rattle.schema_version.proofs.Lists.{any_from, not_both}
-use Rattle.schema_version.proofs.Stepping.{split_at, some_edge, adding_to_public, adding_before, clear, own_way, change_at, steps_keep_to_edges}
+use Rattle.schema_version.proofs.Stepping.{split_at, some_edge, adding_to_public, adding_before, own_way, may_turn, change_at, steps_keep_to_edges}
 use Rattle.schema_version.proofs.Along.{ordered_of}
+use Rattle.schema_version.proofs.Changes.{its_go, its_turn}
 use Rattle.schema_version.proofs.Served.{steps_stay_sound}
 use Rattle.element_state.specs.Consistent.{IsLawfulRow, AreLawfulRows}
 use Rattle.element_state.specs.Core.{Core, Invariant, NeverPublic}
@@ -179,6 +179,10 @@ module _ (facts : Facts) (step : List Move) (allowed : IsAllowed facts.newest st
   way_of : (n : ℕ) (to : ElementState) (x : ElementDef) → Contains step (Go n to) → element_at v n ≡ Some x → (way : Way) × (edge x.kind x.way x.state to ≡ Some way)
   way_of n to x there at = let p = split_at step (Go n to) there in own_way v step allowed p.0 p.1 n to x p.2 at
 
+  -- what turns back is not public
+  private_at : (n : ℕ) (x : ElementDef) → Contains step (Turn n) → element_at v n ≡ Some x → x.state ≢ Public
+  private_at n x there at = let p = split_at step (Turn n) there in (may_turn v step allowed p.0 p.1 n x p.2 at).0
+
   to_public : (n : ℕ) (x : ElementDef) (kind : Kind) → x.kind ≡ kind → Contains step (Go n Public) → element_at v n ≡ Some x → MayBePublic the_kinds w n (Of x.table x.kind)
   to_public n x (Index columns) is there at = Filled (filled n x at (needs_fill facts n x.kind columns is (finished n Public x there at)))
   to_public n x (Optional type) is there at =
@@ -196,6 +200,7 @@ module _ (facts : Facts) (step : List Move) (allowed : IsAllowed facts.newest st
       let goes = goes_to x d to (sym is ∙ at) in
       let target : to ≡ Public = ap (λ (e : ElementDef). e.state) (sym goes.0) ∙ public in
       subst (λ (e : ElementDef). MayBePublic the_kinds w n (Of e.table e.kind)) (sym goes.0) (to_public n x x.kind refl (subst (λ (q : ElementState). Contains step (Go n q)) target there) was)
+  public_def n d at b public (Turns x there was is) = absurd (private_at n x there was (ap (λ (e : ElementDef). e.state) (some_one (sym is ∙ at)) ∙ public))
 
   public_step : (n : ℕ) (e : Entry ElementKind) → map.get (schema_of s) n ≡ Some e → e.state ≡ Public → MayBePublic the_kinds w n e.kind
   public_step n e at public = by (is_zero n) refl (element_at s n) refl (sym (get_seen s n) ∙ at)
@@ -213,6 +218,7 @@ module _ (facts : Facts) (step : List Move) (allowed : IsAllowed facts.newest st
   absent_def n at b (Goes x to there was is) =
       let target : to ≡ Absent = goes_away x to (sym is ∙ at) in
       cleared n x was (needs_clear facts n x.kind (finished n Absent x (subst (λ (q : ElementState). Contains step (Go n q)) target there) was))
+  absent_def n at b (Turns x there was is) = none_some (sym at ∙ is)
 
   absent_step : (n : ℕ) → map.get (schema_of s) n ≡ None → MayBeAbsent the_kinds w n
   absent_step n at = by (is_zero n) refl (element_at s n) refl (sym (get_seen s n) ∙ at)
@@ -227,7 +233,8 @@ module _ (facts : Facts) (step : List Move) (allowed : IsAllowed facts.newest st
   still_def : (n : ℕ) (p : Progress) → progress_of facts.progress n ≡ Some p → moves_element step n ≡ false → Change step v.next n (element_at v n) (element_at s n) → element_at s n ≡ element_at v n
   still_def n p at still (Stays same) = same
   still_def n p at still (Enters fresh to there le none is) = none_some (sym none ∙ element_of n p at)
-  still_def n p at still (Goes x to there was is) = absurd (not_both (any_from (is_move_of n) step (Go n to) there ((Decides-eqb n n).1 refl)) still)
+  still_def n p at still (Goes x to there was is) = absurd (not_both (any_from (is_move_of n) step (Go n to) there (its_go n to)) still)
+  still_def n p at still (Turns x there was is) = absurd (not_both (any_from (is_move_of n) step (Turn n) there (its_turn n)) still)
 
   progress_kept : (n : ℕ) (c : core.Progress) → map.get (all_passed (filter (stays step) facts.progress)) n ≡ Some c → (map.get w.progress n ≡ Some c) × (map.get (schema_of s) n ≡ map.get w.newest n)
   progress_kept n c at =
@@ -247,7 +254,8 @@ module _ (facts : Facts) (step : List Move) (allowed : IsAllowed facts.newest st
       unmoved : (p : Progress) → element_at v p.element.number ≡ Some p.element → moves_element step p.element.number ≡ false → Change step v.next p.element.number (element_at v p.element.number) (element_at s p.element.number) → element_at s p.element.number ≡ Some p.element
       unmoved p at still (Stays same) = same ∙ at
       unmoved p at still (Enters fresh to there le none is) = none_some (sym none ∙ at)
-      unmoved p at still (Goes x to there was is) = absurd (not_both (any_from (is_move_of p.element.number) step (Go p.element.number to) there ((Decides-eqb p.element.number p.element.number).1 refl)) still)
+      unmoved p at still (Goes x to there was is) = absurd (not_both (any_from (is_move_of p.element.number) step (Go p.element.number to) there (its_go p.element.number to)) still)
+      unmoved p at still (Turns x there was is) = absurd (not_both (any_from (is_move_of p.element.number) step (Turn p.element.number) there (its_turn p.element.number)) still)
 
   fresh_def : (n : ℕ) → NeverPublic the_kinds s.next n (option_map entry_of (element_at s n)) → Change step v.next n (element_at v n) (element_at s n) → NeverPublic the_kinds v.next n (option_map entry_of (element_at v n))
   fresh_def n never (Stays same) = fresher (element_at v n) (subst (λ (o : Option ElementDef). NeverPublic the_kinds s.next n (option_map entry_of o)) same never)
@@ -269,6 +277,10 @@ module _ (facts : Facts) (step : List Move) (allowed : IsAllowed facts.newest st
       by DeleteOnly e = never_next n s.next x to way.0 way.1 (λ a. absurd cc) after_is
       by WriteOnly e = never_next n s.next x to way.0 way.1 (λ a. absurd cc) after_is
       by Public e = never_next n s.next x to way.0 way.1 (λ a. absurd cc) after_is
+  fresh_def n never (Turns x there was is) = dropped (subst (λ (o : Option ElementDef). NeverPublic the_kinds s.next n (option_map entry_of o)) is never).0
+    where
+      dropped : {B : Type 0} → false ≡ true → B
+      dropped e = absurd cc
 
   fresh_step : (n : ℕ) → NeverPublic the_kinds s.next n (map.get (schema_of s) n) → NeverPublic the_kinds v.next n (map.get w.newest n)
   fresh_step n never = subst (NeverPublic the_kinds v.next n) (sym (get_seen v n)) (by (is_zero n) refl (subst (NeverPublic the_kinds s.next n) (get_seen s n) never))
@@ -313,6 +325,8 @@ module _ (facts : Facts) (step : List Move) (allowed : IsAllowed facts.newest st
       none_some (sym ((kept_core.bare column never).0 key cells at) ∙ is)
   typed key cells at column element type value there kind is (Next x to way own was new) =
       (k.rows key cells at).types column x type value was (ap (λ (e : ElementDef). e.kind) (sym (goes_to x element to (sym new ∙ there)).0) ∙ kind) is
+  typed key cells at column element type value there kind is (Back x private way was new) =
+      (k.rows key cells at).types column x type value was (ap (λ (e : ElementDef). e.kind) (some_one (sym new ∙ there)) ∙ kind) is
 
   rows_after : AreLawfulRows s facts.rows
   rows_after key cells at =

@@ -81,7 +81,7 @@ is_of number progress = progress.element.number == number
 abbrev pub progress_of : List Progress → ℕ → Option Progress
 progress_of begun number = find (is_of number) begun
 
--- a reorganisation is over when its element moves on
+-- a reorganisation is over when its element moves on or turns back
 abbrev pub stays : List Move → Progress → Bool
 stays step progress = not (moves_element step progress.element.number)
 

@@ -8,10 +8,11 @@ use schema_version::{
 };
 use std::alloc::{AllocError, Global};
 
-/// A move of the table 1: an element goes to a state, a column of integers enters, or an index over these columns.
+/// A move of the table 1: an element goes to a state or turns back, a column of integers enters, or an index over these columns.
 #[derive(Clone, Copy)]
 pub enum Plain {
     Go(u32, ElementState),
+    Turn(u32),
     Column(&'static str),
     Index(&'static str, &'static [u32], ElementState),
 }
@@ -111,6 +112,7 @@ fn enters(alloc: Global, name: &str, kind: Kind, to: ElementState) -> Result<Mov
 fn made(alloc: Global, plain: Plain) -> Result<Move, AllocError> {
     match plain {
         Plain::Go(element, to) => Ok(Move::Go { element, to }),
+        Plain::Turn(element) => Ok(Move::Turn { element }),
         Plain::Column(name) => enters(alloc, name, Kind::Optional(ColumnType::Int), DeleteOnly),
         Plain::Index(name, columns, to) => {
             let columns = Listed::new(Vec::from_slice(alloc, columns)?);

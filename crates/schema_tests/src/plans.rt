@@ -1,5 +1,5 @@
 //! Plans of small batches, worked out from the edges of columns and indexes.
-use crate::making::Plain::{self, Column, Go, Index};
+use crate::making::Plain::{self, Column, Go, Index, Turn};
 use crate::making::{Path, TABLE_T, text, texts, version};
 use change_plan::Reorg::{Clear, Fill};
 use change_plan::{Change, PlanFault, PlanStep, Reorg, plan};
@@ -16,39 +16,40 @@ enum Verb {
     DropIndex,
     AddColumn,
     DropColumn,
+    Abandon,
 }
 
-use Verb::{AddColumn, AddIndex, DropColumn, DropIndex};
+use Verb::{Abandon, AddColumn, AddIndex, DropColumn, DropIndex};
 
 /// A change by the name of an element, and the columns of a new index, a byte each.
 type Asked = (Verb, &'static str, &'static [u8]);
 
-/// A step of one move, and the reorganisation before it.
-type PlainStep = (Option<Reorg>, Plain);
+/// The moves of a step, and the reorganisations before it.
+type PlainStep = (&'static [Reorg], &'static [Plain]);
 
 type Wanted = Result<&'static [PlainStep], PlanFault>;
 
 /// Steps from the table t, a batch of changes, and its plan.
 type Case = (Path, &'static [Asked], Wanted);
 
-static PLANS: [Case; 12] = [
+static PLANS: [Case; 15] = [
     (&[], &[], Ok(&[])),
     (
         &[],
         &[(AddIndex, "j", b"b")],
         Ok(&[
-            (None, Index("j", &[2], DeleteOnly)),
-            (None, Go(7, WriteOnly)),
-            (Some(Fill(7)), Go(7, Public)),
+            (&[], &[Index("j", &[2], DeleteOnly)]),
+            (&[], &[Go(7, WriteOnly)]),
+            (&[Fill(7)], &[Go(7, Public)]),
         ]),
     ),
     (
         &[],
         &[(DropIndex, "i", b"")],
         Ok(&[
-            (None, Go(6, WriteOnly)),
-            (None, Go(6, DeleteOnly)),
-            (Some(Clear(6)), Go(6, Absent)),
+            (&[], &[Go(6, WriteOnly)]),
+            (&[], &[Go(6, DeleteOnly)]),
+            (&[Clear(6)], &[Go(6, Absent)]),
         ]),
     ),
     // The name comes back under a new number.
@@ -56,9 +57,9 @@ static PLANS: [Case; 12] = [
         &[&[Go(6, WriteOnly)], &[Go(6, DeleteOnly)], &[Go(6, Absent)]],
         &[(AddIndex, "i", b"a")],
         Ok(&[
-            (None, Index("i", &[1], DeleteOnly)),
-            (None, Go(7, WriteOnly)),
-            (Some(Fill(7)), Go(7, Public)),
+            (&[], &[Index("i", &[1], DeleteOnly)]),
+            (&[], &[Go(7, WriteOnly)]),
+            (&[Fill(7)], &[Go(7, Public)]),
         ]),
     ),
     // A column stays until no index lists it.
@@ -66,11 +67,11 @@ static PLANS: [Case; 12] = [
         &[],
         &[(DropColumn, "a", b""), (DropIndex, "i", b"")],
         Ok(&[
-            (None, Go(6, WriteOnly)),
-            (None, Go(6, DeleteOnly)),
-            (Some(Clear(6)), Go(6, Absent)),
-            (None, Go(1, DeleteOnly)),
-            (Some(Clear(1)), Go(1, Absent)),
+            (&[], &[Go(6, WriteOnly)]),
+            (&[], &[Go(6, DeleteOnly)]),
+            (&[Clear(6)], &[Go(6, Absent)]),
+            (&[], &[Go(1, DeleteOnly)]),
+            (&[Clear(1)], &[Go(1, Absent)]),
         ]),
     ),
     // An index waits for its column.
@@ -78,13 +79,38 @@ static PLANS: [Case; 12] = [
         &[],
         &[(AddIndex, "j", b"f"), (AddColumn, "f", b"")],
         Ok(&[
-            (None, Column("f")),
-            (None, Go(7, Public)),
-            (None, Index("j", &[7], DeleteOnly)),
-            (None, Go(8, WriteOnly)),
-            (Some(Fill(8)), Go(8, Public)),
+            (&[], &[Column("f")]),
+            (&[], &[Go(7, Public)]),
+            (&[], &[Index("j", &[7], DeleteOnly)]),
+            (&[], &[Go(8, WriteOnly)]),
+            (&[Fill(8)], &[Go(8, Public)]),
         ]),
     ),
+    // What is abandoned turns back first, and a column stays until no such index lists it.
+    (
+        &[&[Column("f"), Index("j", &[2], DeleteOnly)]],
+        &[
+            (DropColumn, "b", b""),
+            (Abandon, "j", b""),
+            (Abandon, "f", b""),
+        ],
+        Ok(&[
+            (&[], &[Turn(8), Turn(7)]),
+            (&[Clear(8), Clear(7)], &[Go(8, Absent), Go(7, Absent)]),
+            (&[], &[Go(2, DeleteOnly)]),
+            (&[Clear(2)], &[Go(2, Absent)]),
+        ]),
+    ),
+    (
+        &[&[Index("j", &[2], DeleteOnly)], &[Go(7, WriteOnly)]],
+        &[(Abandon, "j", b""), (AddIndex, "k", b"c")],
+        Ok(&[
+            (&[], &[Turn(7), Index("k", &[3], DeleteOnly)]),
+            (&[], &[Go(7, DeleteOnly), Go(8, WriteOnly)]),
+            (&[Clear(7), Fill(8)], &[Go(7, Absent), Go(8, Public)]),
+        ]),
+    ),
+    (&[], &[(Abandon, "i", b"")], Err(PlanFault::Unknown)),
     (&[], &[(DropIndex, "y", b"")], Err(PlanFault::Unknown)),
     (&[], &[(AddColumn, "z", b"")], Err(PlanFault::NameTaken)),
     (&[], &[(AddColumn, "1b", b"")], Err(PlanFault::Limit)),
@@ -124,6 +150,7 @@ fn change(alloc: Global, asked: Asked) -> Result<Change, AllocError> {
             Ok(Change::AddColumn { table, name, kind })
         }
         DropColumn => Ok(Change::DropColumn { table, name }),
+        Abandon => Ok(Change::Abandon { table, name }),
     }
 }
 
@@ -146,6 +173,7 @@ fn is_entry(fresh: &NewElement, name: &str, columns: &[u32]) -> bool {
 fn is_move(got: &Move, want: Plain) -> bool {
     match (got, want) {
         (Move::Go { element, to }, Go(number, state)) => *element == number && *to == state,
+        (Move::Turn { element }, Turn(number)) => *element == number,
         (Move::Enter { fresh, to }, Column(name)) => {
             is_entry(fresh, name, &[]) && *to == DeleteOnly
         }
@@ -156,16 +184,18 @@ fn is_move(got: &Move, want: Plain) -> bool {
     }
 }
 
-fn is_step(got: &PlanStep, want: PlainStep) -> bool {
-    let before = match got.before.as_slice() {
-        [] => want.0.is_none(),
-        [only] => want.0 == Some(*only),
-        _ => false,
-    };
-    match got.step.as_slice() {
-        [only] => before && is_move(only, want.1),
+fn are_moves(got: &[Move], want: &[Plain]) -> bool {
+    match (got, want) {
+        ([], []) => true,
+        ([first, rest @ ..], [wanted, others @ ..]) => {
+            is_move(first, *wanted) && are_moves(rest, others)
+        }
         _ => false,
     }
+}
+
+fn is_step(got: &PlanStep, want: PlainStep) -> bool {
+    got.before.as_slice() == want.0 && are_moves(got.step.as_slice(), want.1)
 }
 
 fn are_steps(got: &[PlanStep], want: &[PlainStep]) -> bool {

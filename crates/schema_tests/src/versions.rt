@@ -1,5 +1,5 @@
 //! Declarations, steps and readers of a version.
-use crate::making::Plain::{Column, Go, Index};
+use crate::making::Plain::{Column, Go, Index, Turn};
 use crate::making::{FULL, Path, PlainTables, TABLE_T, declared, step, texts, version};
 use row_map::ColumnType::{self, Int};
 use row_map::TableShape;
@@ -113,7 +113,7 @@ type Case = (PlainTables, Path, Ask);
 
 const ONE: &[u32] = &[1];
 
-static REFUSED: [Case; 19] = [
+static REFUSED: [Case; 24] = [
     (
         TABLE_T,
         &[&[Index("j", ONE, Public)]],
@@ -139,6 +139,23 @@ static REFUSED: [Case; 19] = [
     (
         TABLE_T,
         &[&[Go(5, DeleteOnly)], &[Go(5, Public)]],
+        Refused(StepFault::WrongWay),
+    ),
+    (TABLE_T, &[&[Turn(7)]], Refused(StepFault::Unknown)),
+    (TABLE_T, &[&[Turn(5)]], Refused(StepFault::NotAdjacent)),
+    (
+        TABLE_T,
+        &[&[Column("f")], &[Go(7, Public), Turn(7)]],
+        Refused(StepFault::NotAdjacent),
+    ),
+    (
+        TABLE_T,
+        &[&[Column("f")], &[Turn(7)], &[Turn(7)]],
+        Refused(StepFault::WrongWay),
+    ),
+    (
+        TABLE_T,
+        &[&[Column("f")], &[Turn(7)], &[Go(7, Public)]],
         Refused(StepFault::WrongWay),
     ),
     (
@@ -207,9 +224,17 @@ const J_COMES_AND_GOES: Path = &[
     &[Go(7, Absent)],
 ];
 
+const J_TURNS_BACK: Path = &[
+    &[Index("j", ONE, DeleteOnly)],
+    &[Go(7, WriteOnly)],
+    &[Turn(7)],
+    &[Go(7, DeleteOnly)],
+    &[Go(7, Absent)],
+];
+
 const E_COMES_BACK: Path = &[&[Go(5, DeleteOnly)], &[Go(5, Absent)], &[Column("e")]];
 
-static ALLOWED: [Case; 12] = [
+static ALLOWED: [Case; 14] = [
     (TABLE_T, &[], Numbered("i", Some(6), Some(6), 7)),
     (
         TABLE_T,
@@ -232,6 +257,12 @@ static ALLOWED: [Case; 12] = [
     (TABLE_T, I_COMES_BACK, Number(6, Absent, "", "", "")),
     (TABLE_T, I_COMES_BACK, Number(7, DeleteOnly, "i", "", "")),
     (TABLE_T, J_COMES_AND_GOES, Numbered("j", None, Some(6), 8)),
+    (TABLE_T, J_TURNS_BACK, Numbered("j", None, Some(6), 8)),
+    (
+        TABLE_T,
+        &[&[Column("f")], &[Turn(7)]],
+        Number(7, DeleteOnly, "f", "", ""),
+    ),
     (
         TABLE_T,
         &[&[Go(5, DeleteOnly)]],

@@ -16,32 +16,28 @@ use Rattle.schema_version.specs.declared.element.Kind.TheVariants.{Index, Option
 use Rattle.schema_version.specs.declared.element.ElementDef.{ElementDef}
 use Rattle.schema_version.specs.declared.element.NewElement.{NewElement}
 use Rattle.schema_version.specs.declared.step.Move.{Move}
-use Rattle.schema_version.specs.declared.step.Move.TheVariants.{Enter, Go}
+use Rattle.schema_version.specs.declared.step.Move.TheVariants.{Enter, Go, Turn}
 use Rattle.schema_version.specs.declared.step.StepFault.TheVariants.{Unknown, NotAdjacent, Dependent, NameTaken, Limit}
 use Rattle.schema_version.specs.Version.{Version, table_at, element_at, state_of, state_or_absent, live, is_index, is_like, is_public, listed, IsLiveColumn, IsPublicColumn, count_live}
 use Rattle.schema_version.specs.Edges.{edge, HasEdge}
-use Rattle.schema_version.specs.Moves.{as_element, in_state, moved, after_move, after_step, is_move_of, moves_element, is_unready, is_entry, is_entry_like, count_like, IsFirstSuch, IsIndexOn, IsLeastIndexOn, DependsOn, IsWithinLimits, IsAllowed}
+use Rattle.schema_version.specs.Moves.{as_element, in_state, moved, turned_back, turned, after_move, after_step, is_move_of, moves_element, is_unready, is_entry, is_entry_like, count_like, IsFirstSuch, IsIndexOn, IsLeastIndexOn, DependsOn, IsWithinLimits, IsAllowed}
 use Rattle.schema_version.specs.Steps.{IsOrdered, in_state_or_none}
 use Rattle.schema_version.specs.Deciding.{Answer, step_check, lists, is_column_of, is_within_limits}
 use Rattle.schema_version.specs.Sound.{IsSoundVersion}
 use Rattle.schema_version.proofs.Entries.{tells}
 use Rattle.schema_version.proofs.Lists.{here, some_same, not_both, any_from, find_first, none_in}
 use Rattle.schema_version.proofs.Live.{none_passes, element_at-lookup}
-use Rattle.schema_version.proofs.Changes.{moved_here, moved_apart, moved_next, inserted_here, inserted_apart}
+use Rattle.schema_version.proofs.Changes.{moved_here, moved_apart, moved_next, turned_here, turned_apart, its_go, its_turn, inserted_here, inserted_apart}
 use Rattle.schema_version.proofs.Decides.{AreNumbered, least, listing, column_is, within}
 use Rattle.schema_version.proofs.Declared.{any_append}
 use Rattle.schema_version.proofs.Steps.{truly, step_allowed}
-use Rattle.schema_version.proofs.Stepping.{split_at, some_edge, adding_to_public, is_live, clear, own_way}
+use Rattle.schema_version.proofs.Stepping.{split_at, not_true, some_edge, adding_to_public, edge_to, is_live, clear, is_live_back, not_before, own_way, may_turn}
 use Rattle.schema_version.proofs.Counts.{count_insert}
-use Rattle.schema_version.proofs.Keeping.{MayEnter, enter_sound, moved_sound, moved_count}
+use Rattle.schema_version.proofs.Keeping.{MayEnter, enter_sound, moved_sound, moved_count, turned_sound, turned_count}
 
 or_false : (a b : Bool) → (a || b) ≡ false → (a ≡ false) × (b ≡ false)
 or_false false b e = (refl, e)
 or_false true b e = cc
-
-not_true : (b : Bool) → ¬ (b ≡ true) → b ≡ false
-not_true true h = absurd (h refl)
-not_true false h = refl
 
 some_there : {X : Type 0} (o : Option X) → ¬ (IsNone o) → (x : X) × (o ≡ Some x)
 some_there None h = absurd (h refl)
@@ -88,7 +84,7 @@ no_edge_to_absent (Optional type) (Dropping, next, e) = cc
 way_to : (e : ElementDef) (to : ElementState) (way : Way) → edge e.kind e.way e.state to ≡ Some way → to ≡ Public → (in_state e to).way ≡ Adding
 way_to e to way own is =
     ap (λ o. unwrap_or o e.way) own
-    ∙ (adding_to_public e.kind e.way e.state way (subst (λ s. edge e.kind e.way e.state s ≡ Some way) is own)).1
+    ∙ (adding_to_public e.kind e.way e.state way (subst (λ s. edge e.kind e.way e.state s ≡ Some way) is own)).2
 
 count_behind : (p : Move → Bool) (earlier : List Move) (m : Move) → count_by p (earlier ++ m ∷ []) ≡ count_by p earlier + cond (p m) 1 0
 count_behind p earlier m =
@@ -182,6 +178,7 @@ module _ (v : Version) (step : List Move) (sound : IsSoundVersion v) (allowed : 
       record {
         room = (let room = l.3 in let next = along.next in omega (arith, room, next));
         live = λ is. no_edge_to_absent fresh.kind (subst (HasEdge fresh.kind Absent) is has);
+        possible = edge_to fresh.kind has.0 has.1 Absent to has.2;
         named = l.0;
         placed = (there.0, tables_at ∙ there.1);
         apart = λ (table, type, at, key). allowed earlier later (Enter fresh to) NameTaken split (inl (table, type, sym tables_at ∙ at, key));
@@ -241,7 +238,7 @@ module _ (v : Version) (step : List Move) (sound : IsSoundVersion v) (allowed : 
       let unlisted = not_listed earlier later n to e split at u along now in
       let own : e.number ≡ n = (along.sound.elements n e now).own in
       record {
-        sound = moved_sound u n e along.sound now unlisted to (way_to e to own_edge.0 own_edge.1);
+        sound = moved_sound u n e along.sound now unlisted to (edge_to e.kind e.way own_edge.0 e.state to own_edge.1) (way_to e to own_edge.0 own_edge.1);
         tables = moved_tables u e to ∙ along.tables;
         next = (let same = moved_next u (Some e) to in let next = along.next in let more = count_behind is_entry earlier (Go n to) in omega (arith, same, next, more));
         from = λ m x at_m. elim (tells m n) [
@@ -260,13 +257,44 @@ module _ (v : Version) (step : List Move) (sound : IsSoundVersion v) (allowed : 
             omega (arith, so_far, fewer, behind);
       }
 
+  -- no index lists what turns back, since it is not public
+  along_turned : (earlier later : List Move) (n : ℕ) (e : ElementDef) → step ≡ earlier ++ Turn n ∷ later → element_at v n ≡ Some e → (u : Version) → Along v earlier u → element_at u n ≡ Some e
+      → Along v (earlier ++ Turn n ∷ []) (turned u (Some e))
+  along_turned earlier later n e split at u along now =
+      let private = (may_turn v step allowed earlier later n e split at).0 in
+      let own : e.number ≡ n = (along.sound.elements n e now).own in
+      let unlisted : (m : ℕ) (index : ElementDef) → element_at u m ≡ Some index → ¬ (Contains (listed index.kind) n)
+      = λ m index at_m there. (let column = (along.sound.elements m index at_m).columns n there in private (ap (λ (y : ElementDef). y.state) (some_same (sym now ∙ column.2)) ∙ column.5)) in
+      record {
+        sound = turned_sound u n e along.sound now unlisted private;
+        tables = along.tables;
+        next = (let next = along.next in let more = count_behind is_entry earlier (Turn n) in omega (arith, next, more));
+        from = λ m x at_m. elim (tells m n) [
+          | inl p ↦ (let same : turned_back e ≡ x = some_same (sym (turned_here u e n own) ∙ ap (element_at (turned u (Some e))) (sym p.1) ∙ at_m) in
+              Old e (ap (element_at v) p.1 ∙ at) (ap (λ (y : ElementDef). y.table) (sym same)) (ap (λ (y : ElementDef). y.name) (sym same)) (ap (λ (y : ElementDef). y.kind) (sym same)))
+          | inr p ↦ from_longer v earlier (Turn n) m x (along.from m x (sym (turned_apart u (Some e) n m (λ f same. ap (λ (y : ElementDef). y.number) (sym (some_same same)) ∙ own) p.1) ∙ at_m))
+        ];
+        kept = λ m d at_m still.
+            let two = unmoved earlier (Turn n) m still in
+            turned_apart u (Some e) n m (λ f same. ap (λ (y : ElementDef). y.number) (sym (some_same same)) ∙ own) (λ is. not_both ((Decides-eqb n m).1 (sym is)) two.1)
+            ∙ along.kept m d at_m two.0;
+        counts = λ table index.
+            let so_far = along.counts table index in
+            let fewer = turned_count u n e along.sound now unlisted table index in
+            let behind = count_behind (is_entry_like table index) earlier (Turn n) in
+            omega (arith, so_far, fewer, behind);
+      }
+
   along_more : (earlier later : List Move) (m : Move) → step ≡ earlier ++ m ∷ later → (u : Version) → Along v earlier u → Along v (earlier ++ m ∷ []) (after_move u m)
   along_more earlier later (Enter fresh to) split u along = along_entered earlier later fresh to split u along
   along_more earlier later (Go n to) split u along =
       let live = is_live v step allowed earlier later n to split (element_at v n) refl in
-      let still = not_true (moves_element earlier n) (λ twice. clear v step allowed earlier later n to live.0 NotAdjacent split live.1 (inr twice)) in
-      let now = along.kept n live.0 live.1 still in
+      let now = along.kept n live.0 live.1 (not_before v step allowed earlier later n (Go n to) split (its_go n to)) in
       subst (λ o. Along v (earlier ++ Go n to ∷ []) (moved u o to)) (sym now) (along_moved earlier later n to live.0 split live.1 u along now)
+  along_more earlier later (Turn n) split u along =
+      let live = is_live_back v step allowed earlier later n split (element_at v n) refl in
+      let now = along.kept n live.0 live.1 (not_before v step allowed earlier later n (Turn n) split (its_turn n)) in
+      subst (λ o. Along v (earlier ++ Turn n ∷ []) (turned u o)) (sym now) (along_turned earlier later n live.0 split live.1 u along now)
 
   along_all : (earlier moves : List Move) → step ≡ earlier ++ moves → (u : Version) → Along v earlier u → IsSoundVersion (after_step u moves)
   along_all earlier [] split u along = along.sound

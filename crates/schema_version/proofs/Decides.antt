@@ -16,14 +16,14 @@ use Rattle.schema_version.specs.declared.element.Kind.TheVariants.{Index, Option
 use Rattle.schema_version.specs.declared.element.ElementDef.{ElementDef}
 use Rattle.schema_version.specs.declared.element.NewElement.{NewElement}
 use Rattle.schema_version.specs.declared.step.Move.{Move}
-use Rattle.schema_version.specs.declared.step.Move.TheVariants.{Enter, Go}
+use Rattle.schema_version.specs.declared.step.Move.TheVariants.{Enter, Go, Turn}
 use Rattle.schema_version.specs.declared.step.StepFault.{StepFault}
 use Rattle.schema_version.specs.declared.step.StepFault.TheVariants.{Unknown}
 use Rattle.schema_version.specs.Names.{IsName, is_name, is_letter, is_word_byte, max_listed, max_elements}
 use Rattle.schema_version.specs.Version.{Version, Table, table_at, element_at, live, is_index, is_public, is_column, is_named, listed, IsLiveColumn}
-use Rattle.schema_version.specs.Moves.{moves_element, HasNoEdge, is_unready, is_distinct, count_like, max_like, is_entry, DependsOn, IsFirstSuch, IsLeastIndexOn, IsTaken, Enters, IsColumnList, IsWithinLimits, GoFault, GoFaultAt, MoveFault, rank}
+use Rattle.schema_version.specs.Moves.{moves_element, HasNoEdge, is_unready, is_distinct, count_like, max_like, is_entry, DependsOn, IsFirstSuch, IsLeastIndexOn, IsTaken, Enters, IsColumnList, IsWithinLimits, GoFault, GoFaultAt, TurnFault, TurnFaultAt, MoveFault, rank}
 use Rattle.schema_version.specs.Edges.{edge}
-use Rattle.schema_version.specs.Deciding.{has_no_edge, lists, stands_against, go_check, go_check_at, enter_check, move_check, is_column_of, are_columns_of, has_key_column, is_entry_named, is_taken, is_column_list, is_within_limits}
+use Rattle.schema_version.specs.Deciding.{has_no_edge, lists, stands_against, go_check, go_check_at, is_dropping, turn_check, turn_check_at, enter_check, move_check, is_column_of, are_columns_of, has_key_column, is_entry_named, is_taken, is_column_list, is_within_limits}
 use Rattle.schema_version.proofs.Lists.{any_says, any_from, all_says, all_fails, find_first, find_none, some_same, not_both}
 use Rattle.schema_version.proofs.Live.{IsLeast, first_is_least, none_passes, element_at-lookup, live_has, live_from}
 use Rattle.schema_version.proofs.Chain.{Finds, Says, chain_says}
@@ -88,6 +88,7 @@ named table name e = Decides-and (e.table == table) (bytes_eq e.name name) (Deci
 entry_named : (table : ℕ) (name : List ℕ) (m : Move) → Decides (is_entry_named table name m) (Enters table name m)
 entry_named table name (Enter fresh to) = Decides-and (fresh.table == table) (bytes_eq fresh.name name) (Decides-eqb fresh.table table) (bytes_eq-Decides fresh.name name)
 entry_named table name (Go element to) = never
+entry_named table name (Turn element) = never
 
 key_taken : (v : Version) (n : ℕ) (name : List ℕ) → Decides (has_key_column (table_at v n) name) ((table : Table) × (type : ColumnType) × (table_at v n ≡ Some table) × Contains table.key (name, type))
 key_taken v n name = by (table_at v n) refl
@@ -189,6 +190,29 @@ go_says v step earlier n e to numbered =
       memory = λ h. h;
     })
 
+public : (s : ElementState) → Decides (is_public s) (s ≡ Public)
+public Public = (λ e. refl, λ e. refl)
+public Absent = (λ e. cc, λ e. cc)
+public DeleteOnly = (λ e. cc, λ e. cc)
+public WriteOnly = (λ e. cc, λ e. cc)
+
+dropping : (w : Way) → Decides (is_dropping w) (w ≡ Dropping)
+dropping Adding = (λ e. cc, λ e. cc)
+dropping Dropping = (λ e. refl, λ e. refl)
+
+pub turn_says : (earlier : List Move) (n : ℕ) (e : ElementDef) → Says (TurnFault earlier n e) (turn_check earlier n e)
+turn_says earlier n e =
+    chain_says (TurnFault earlier n e) false (is_public e.state || moves_element earlier n) (is_dropping e.way) None false false
+    (record {
+      unknown = never;
+      not_adjacent = Decides-or (is_public e.state) (moves_element earlier n) (public e.state) (itself (moves_element earlier n));
+      wrong_way = dropping e.way;
+      dependent = λ on h. h;
+      taken = never;
+      limit = never;
+      memory = λ h. h;
+    })
+
 pub enter_says : (v : Version) (step earlier : List Move) (fresh : NewElement) (to : ElementState) → Says (MoveFault v step earlier (Enter fresh to)) (enter_check v step earlier fresh to)
 enter_says v step earlier fresh to =
     chain_says (MoveFault v step earlier (Enter fresh to)) (not (is_some (table_at v fresh.table)) || not (are_columns_of v fresh.table (listed fresh.kind))) (has_no_edge fresh.kind Absent to) false (find (is_unready v step) (listed fresh.kind)) (is_taken v earlier fresh.table fresh.name) (not (is_within_limits v earlier fresh))
@@ -212,3 +236,8 @@ move_says v step earlier (Go n to) numbered = by (element_at v n)
     by : (o : Option ElementDef) → Says (GoFaultAt v step earlier n o to) (go_check_at v step earlier n o to)
     by None = unknown_says (GoFaultAt v step earlier n None to) refl (λ f e. e)
     by (Some e) = go_says v step earlier n e to numbered
+move_says v step earlier (Turn n) numbered = by (element_at v n)
+  where
+    by : (o : Option ElementDef) → Says (TurnFaultAt earlier n o) (turn_check_at earlier n o)
+    by None = unknown_says (TurnFaultAt earlier n None) refl (λ f e. e)
+    by (Some e) = turn_says earlier n e

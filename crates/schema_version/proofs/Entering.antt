@@ -1,6 +1,6 @@
 -- What is true of every version stays true while the columns and indexes of a declared table enter.
 use Rattle.std.proofs.Common.{◌≡◌, ℕ, ◌+◌, ◌*◌, ◌<◌, ◌≤◌, Bool, true, false, cond, not, ◌&&◌, ◌||◌, ◌==◌, List, [], ◌∷◌, ◌++◌, length, Some, inl, inr, refl, sym, ap, subst, ◌∙◌, arith, Contains, if◌then◌else◌}
-use Rattle.std.specs.Prelude.{bytes_eq}
+use Rattle.std.specs.Prelude.{bytes_eq, IsTrue}
 use Rattle.std.specs.List.{list_any, list_all, AllByRecursion}
 use Rattle.std.proofs.lemmas.Bool.Decides.{Decides-eqb}
 use Rattle.std.proofs.lemmas.List.{length-map}
@@ -13,6 +13,7 @@ use Rattle.schema_version.specs.declared.element.Kind.TheVariants.{Index, Option
 use Rattle.schema_version.specs.declared.element.ElementDef.{ElementDef}
 use Rattle.schema_version.specs.declared.element.NewElement.{NewElement}
 use Rattle.schema_version.specs.declared.table.TableDef.{TableDef}
+use Rattle.schema_version.specs.Edges.{has_state}
 use Rattle.schema_version.specs.Names.{IsName, is_among, is_distinct, max_listed}
 use Rattle.schema_version.specs.Version.{Version, Table, table_at, element_at, is_index, is_like, listed, IsPublicColumn, count_live}
 use Rattle.schema_version.specs.Moves.{as_element, entered, IsColumnList, max_like, is_distinct as is_distinct_numbers}
@@ -89,6 +90,11 @@ none_like : (b : Bool) → ◌≡◌ {A = ℕ} (cond (b && false) 1 0) 0
 none_like true = refl
 none_like false = refl
 
+-- a public element of each kind
+public_is : (kind : Kind) → IsTrue (has_state kind Public)
+public_is (Index columns) = refl
+public_is (Optional type) = refl
+
 module _ (tables : List Table) (k : ℕ) (table : Table) (few_tables : k ≤ 16) (placed : (u : Version) → u.tables ≡ tables → table_at u k ≡ Some table) where
   module _ (u : Version) (name : List ℕ) (kind : Kind) (rest : List (List ℕ)) (c i : ℕ) (at : AtTable tables k (name ∷ rest) c i u) (fresh : IsFresh table.key name) (distinct : is_distinct (name ∷ rest) ≡ true)
       (list : IsColumnList kind) (columns : (column : ℕ) → Contains (listed kind) column → IsPublicColumn u k column) (some : 1 ≤ c + i) (few : count_live u k (is_index kind) < max_like (is_index kind)) where
@@ -98,6 +104,7 @@ module _ (tables : List Table) (k : ℕ) (table : Table) (few_tables : k ≤ 16)
         (record {
           room = (let next = at.next in omega (arith, next, some, few_tables));
           live = λ is. cc;
+          possible = public_is kind;
           named = fresh.named;
           placed = (table, placed u at.same);
           apart = λ (t, type, there, key). fresh.apart type (subst (λ (x : Table). Contains x.key (name, type)) (some_same (sym there ∙ placed u at.same)) key);
@@ -243,6 +250,11 @@ still_known : (columns : List (List ℕ × ColumnType)) (u : Version) (k first :
 still_known columns u k first f sound known name there =
     let c = known name there in
     named_stays (f ∷ []) u k (number_of first columns name) name (sound.elements (number_of first columns name) c.0 c.2).given c
+
+-- a public element of each kind
+public_is : (kind : Kind) → IsTrue (has_state kind Public)
+public_is (Index columns) = refl
+public_is (Optional type) = refl
 
 module _ (tables : List Table) (k : ℕ) (table : Table) (few_tables : k ≤ 16) (placed : (u : Version) → u.tables ≡ tables → table_at u k ≡ Some table) (def : TableDef) (first : ℕ) where
   -- all indexes enter

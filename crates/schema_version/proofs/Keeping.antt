@@ -1,5 +1,6 @@
 -- What is true of every version stays true when an element enters, goes to another state, or leaves.
 use Rattle.std.proofs.Common.{◌≡◌, ◌≢◌, ℕ, ◌+◌, ◌<◌, ◌≤◌, Bool, true, false, cond, ◌&&◌, ◌==◌, ◌⊎◌, Some, inl, inr, refl, sym, ap, subst, ◌∙◌, arith, Contains}
+use Rattle.std.specs.Prelude.{IsTrue}
 use Rattle.std.specs.Ordering.{nat_cmp}
 use Rattle.std.specs.FinMap as map
 use Rattle.schema_version.specs.declared.element.ElementState.{ElementState}
@@ -9,9 +10,10 @@ use Rattle.schema_version.specs.declared.element.Kind.{Kind}
 use Rattle.schema_version.specs.declared.element.Kind.TheVariants.{Index, Optional}
 use Rattle.schema_version.specs.declared.element.ElementDef.{ElementDef}
 use Rattle.schema_version.specs.declared.element.NewElement.{NewElement}
+use Rattle.schema_version.specs.Edges.{has_state}
 use Rattle.schema_version.specs.Names.{IsName, max_elements}
 use Rattle.schema_version.specs.Version.{Version, Table, table_at, element_at, live, is_like, is_index, listed, IsPublicColumn, IsKeyName, count_live}
-use Rattle.schema_version.specs.Moves.{as_element, in_state, entered, moved, IsColumnList, max_like}
+use Rattle.schema_version.specs.Moves.{as_element, in_state, turned_back, entered, moved, turned, IsColumnList, max_like}
 use Rattle.schema_version.specs.Sound.{IsSoundElement, HaveOwnNames, IsSoundVersion}
 use Rattle.schema_version.proofs.Entries.{tells}
 use Rattle.schema_version.proofs.Lists.{some_same}
@@ -25,6 +27,7 @@ use Rattle.std.proofs.lemmas.Bool.Decides.{Decides-eqb}
 pub record MayEnter (version : Version) (fresh : NewElement) (to : ElementState) : Type 0 where
   pub room : version.next ≤ max_elements
   pub live : to ≢ Absent
+  pub possible : IsTrue (has_state fresh.kind to)
   pub named : IsName fresh.name
   pub placed : (table : Table) × (table_at version fresh.table ≡ Some table)
   pub apart : ¬ (IsKeyName version fresh.table fresh.name)
@@ -59,6 +62,7 @@ module _ (u : Version) (fresh : NewElement) (to : ElementState) (sound : IsSound
         first = s.first;
         given = (let lt = s.given in omega (arith, lt));
         live = s.live;
+        possible = s.possible;
         way = s.way;
         named = s.named;
         placed = s.placed;
@@ -74,6 +78,7 @@ module _ (u : Version) (fresh : NewElement) (to : ElementState) (sound : IsSound
         first = sound.begun;
         given = omega arith;
         live = may.live;
+        possible = may.possible;
         way = λ _. refl;
         named = may.named;
         placed = may.placed;
@@ -149,6 +154,7 @@ pub record Follows (version : Version) (number : ℕ) (element : ElementDef) : T
   pub name : element.name ≡ old.name
   pub kind : element.kind ≡ old.kind
   pub live : element.state ≢ Absent
+  pub possible : IsTrue (has_state element.kind element.state)
   pub way : element.state ≡ Public → element.way ≡ Adding
 
 -- the same tables and elements but for one, which went on or left
@@ -171,11 +177,11 @@ module _ (u : Version) (after : map.FinMap nat_cmp ElementDef) (n : ℕ) (sound 
         | inr p ↦ (e, sym (same m p.1) ∙ at, refl, refl, refl, refl)
       ]
 
-  states : (m : ℕ) (e : ElementDef) → element_at then m ≡ Some e → (e.state ≢ Absent) × (e.state ≡ Public → e.way ≡ Adding)
+  states : (m : ℕ) (e : ElementDef) → element_at then m ≡ Some e → (e.state ≢ Absent) × IsTrue (has_state e.kind e.state) × (e.state ≡ Public → e.way ≡ Adding)
   states m e at =
       elim (tells m n) [
-        | inl p ↦ (let f = goes e (ap (map.get after) (sym p.1) ∙ at) in (f.live, f.way))
-        | inr p ↦ (let s = sound.elements m e (sym (same m p.1) ∙ at) in (s.live, s.way))
+        | inl p ↦ (let f = goes e (ap (map.get after) (sym p.1) ∙ at) in (f.live, f.possible, f.way))
+        | inr p ↦ (let s = sound.elements m e (sym (same m p.1) ∙ at) in (s.live, s.possible, s.way))
       ]
 
   still : (m : ℕ) (e : ElementDef) → element_at then m ≡ Some e → IsSoundElement then m e
@@ -189,7 +195,8 @@ module _ (u : Version) (after : map.FinMap nat_cmp ElementDef) (n : ℕ) (sound 
         first = s.first;
         given = s.given;
         live = st.0;
-        way = st.1;
+        possible = st.1;
+        way = st.2;
         named = subst IsName (sym w.4) s.named;
         placed = subst (λ t. (table : Table) × (table_at u t ≡ Some table)) (sym w.3) s.placed;
         apart = λ taken. s.apart (subst (λ name. IsKeyName u d.table name) w.4 (subst (λ t. IsKeyName u t e.name) w.3 taken));
@@ -220,24 +227,37 @@ module _ (u : Version) (after : map.FinMap nat_cmp ElementDef) (n : ℕ) (sound 
         counts = λ table index. (let few = fewer table index in let most = sound.counts table index in omega (arith, few, most));
       }
 
--- an element that goes to a state, where no live index lists it
+-- an element that goes to a state or turns back, where no live index lists it
 module _ (u : Version) (n : ℕ) (e : ElementDef) (sound : IsSoundVersion u) (at : element_at u n ≡ Some e)
     (unlisted : (m : ℕ) (index : ElementDef) → element_at u m ≡ Some index → ¬ (Contains (listed index.kind) n)) where
   own_number : e.number ≡ n
   own_number = (sound.elements n e at).own
 
-  changed_count : (to : ElementState) (table : ℕ) (index : Bool) → count_live (record u { elements = map.insert u.elements e.number (in_state e to) }) table index ≤ count_live u table index
-  changed_count to table index =
-      let same = count_change (λ (x : ElementDef). (x.table == table) && is_like index x.kind) u.elements e.number (in_state e to) e (sym (element_at-lookup u e.number) ∙ ap (element_at u) own_number ∙ at) refl in
+  -- another definition under its number, of its table and kind
+  changed_count : (x : ElementDef) → ((table : ℕ) (index : Bool) → ((x.table == table) && is_like index x.kind) ≡ ((e.table == table) && is_like index e.kind))
+      → (table : ℕ) (index : Bool) → count_live (record u { elements = map.insert u.elements e.number x }) table index ≤ count_live u table index
+  changed_count x alike table index =
+      let same = count_change (λ (y : ElementDef). (y.table == table) && is_like index y.kind) u.elements e.number x e (sym (element_at-lookup u e.number) ∙ ap (element_at u) own_number ∙ at) (alike table index) in
       omega (arith, same)
 
-  changed_sound : (to : ElementState) → to ≢ Absent → (to ≡ Public → (in_state e to).way ≡ Adding) → IsSoundVersion (record u { elements = map.insert u.elements e.number (in_state e to) })
-  changed_sound to live way =
-      kept_sound u (map.insert u.elements e.number (in_state e to)) n sound unlisted
-      (λ m apart. inserted_apart u.elements e.number m (in_state e to) (λ is. apart (is ∙ own_number)))
-      (λ x is. subst (Follows u n) (some_same (sym (inserted_here u.elements e.number n (in_state e to) (sym own_number)) ∙ is))
-      (record { old = e; at = at; own = refl; table = refl; name = refl; kind = refl; live = live; way = way }))
-      (changed_count to)
+  changed_sound : (x : ElementDef) → ((table : ℕ) (index : Bool) → ((x.table == table) && is_like index x.kind) ≡ ((e.table == table) && is_like index e.kind)) → Follows u n x → IsSoundVersion (record u { elements = map.insert u.elements e.number x })
+  changed_sound x alike follows =
+      kept_sound u (map.insert u.elements e.number x) n sound unlisted
+      (λ m apart. inserted_apart u.elements e.number m x (λ is. apart (is ∙ own_number)))
+      (λ y is. subst (Follows u n) (some_same (sym (inserted_here u.elements e.number n x (sym own_number)) ∙ is)) follows)
+      (changed_count x alike)
+
+  gone_sound : (to : ElementState) → to ≢ Absent → IsTrue (has_state e.kind to) → (to ≡ Public → (in_state e to).way ≡ Adding) → IsSoundVersion (record u { elements = map.insert u.elements e.number (in_state e to) })
+  gone_sound to live possible way =
+      changed_sound (in_state e to) (λ table index. refl) (record { old = e; at = at; own = refl; table = refl; name = refl; kind = refl; live = live; possible = possible; way = way })
+
+  pub turned_sound : e.state ≢ Public → IsSoundVersion (turned u (Some e))
+  turned_sound private =
+      changed_sound (turned_back e) (λ table index. refl)
+      (record { old = e; at = at; own = refl; table = refl; name = refl; kind = refl; live = (sound.elements n e at).live; possible = (sound.elements n e at).possible; way = λ public. absurd (private public) })
+
+  pub turned_count : (table : ℕ) (index : Bool) → count_live (turned u (Some e)) table index ≤ count_live u table index
+  turned_count table index = changed_count (turned_back e) (λ t i. refl) table index
 
   removed_sound : IsSoundVersion (record u { elements = map.remove u.elements e.number })
   removed_sound =
@@ -246,14 +266,14 @@ module _ (u : Version) (n : ℕ) (e : ElementDef) (sound : IsSoundVersion u) (at
       (λ x is. absurd (none_there x (map.get (map.remove u.elements e.number) n) (removed_here u.elements e.number n (sym own_number)) is))
       (λ table index. count_remove (λ (x : ElementDef). (x.table == table) && is_like index x.kind) u.elements e.number)
 
-  pub moved_sound : (to : ElementState) → (to ≡ Public → (in_state e to).way ≡ Adding) → IsSoundVersion (moved u (Some e) to)
-  moved_sound Absent way = removed_sound
-  moved_sound DeleteOnly way = changed_sound DeleteOnly (λ is. cc) way
-  moved_sound WriteOnly way = changed_sound WriteOnly (λ is. cc) way
-  moved_sound Public way = changed_sound Public (λ is. cc) way
+  pub moved_sound : (to : ElementState) → IsTrue (has_state e.kind to) → (to ≡ Public → (in_state e to).way ≡ Adding) → IsSoundVersion (moved u (Some e) to)
+  moved_sound Absent possible way = removed_sound
+  moved_sound DeleteOnly possible way = gone_sound DeleteOnly (λ is. cc) possible way
+  moved_sound WriteOnly possible way = gone_sound WriteOnly (λ is. cc) possible way
+  moved_sound Public possible way = gone_sound Public (λ is. cc) possible way
 
   pub moved_count : (to : ElementState) (table : ℕ) (index : Bool) → count_live (moved u (Some e) to) table index ≤ count_live u table index
   moved_count Absent table index = count_remove (λ (x : ElementDef). (x.table == table) && is_like index x.kind) u.elements e.number
-  moved_count DeleteOnly table index = changed_count DeleteOnly table index
-  moved_count WriteOnly table index = changed_count WriteOnly table index
-  moved_count Public table index = changed_count Public table index
+  moved_count DeleteOnly table index = changed_count (in_state e DeleteOnly) (λ t i. refl) table index
+  moved_count WriteOnly table index = changed_count (in_state e WriteOnly) (λ t i. refl) table index
+  moved_count Public table index = changed_count (in_state e Public) (λ t i. refl) table index

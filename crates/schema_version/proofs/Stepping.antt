@@ -10,14 +10,14 @@ use Rattle.schema_version.specs.declared.element.Kind.{Kind}
 use Rattle.schema_version.specs.declared.element.Kind.TheVariants.{Index, Optional}
 use Rattle.schema_version.specs.declared.element.ElementDef.{ElementDef}
 use Rattle.schema_version.specs.declared.step.Move.{Move}
-use Rattle.schema_version.specs.declared.step.Move.TheVariants.{Enter, Go}
+use Rattle.schema_version.specs.declared.step.Move.TheVariants.{Enter, Go, Turn}
 use Rattle.schema_version.specs.declared.step.StepFault.{StepFault}
 use Rattle.schema_version.specs.declared.step.StepFault.TheVariants.{Unknown, NotAdjacent, WrongWay}
 use Rattle.schema_version.specs.Version.{Version, element_at}
-use Rattle.schema_version.specs.Edges.{edge, HasEdge}
-use Rattle.schema_version.specs.Moves.{HasNoEdge, is_move_of, GoFaultAt, IsAllowed, after_step}
-use Rattle.schema_version.specs.Steps.{Change, Stays, Enters, Goes, StepOf, Same, New, Next, IsOrdered, StepsKeepToEdges}
-use Rattle.schema_version.proofs.Lists.{here, any_from}
+use Rattle.schema_version.specs.Edges.{edge, has_state, HasEdge}
+use Rattle.schema_version.specs.Moves.{HasNoEdge, is_move_of, moves_element, GoFaultAt, TurnFaultAt, IsAllowed, after_step}
+use Rattle.schema_version.specs.Steps.{Change, Stays, Enters, Goes, Turns, StepOf, Same, New, Next, Back, IsOrdered, StepsKeepToEdges}
+use Rattle.schema_version.proofs.Lists.{here, not_both, any_says, any_from}
 use Rattle.schema_version.proofs.Changes.{change_of, AreKnown, AreMovedOnce}
 
 pub split_at : {X : Type 0} (xs : List X) (x : X) → Contains xs x → (before after : List X) × (xs ≡ before ++ x ∷ after)
@@ -33,6 +33,10 @@ some_edge kind from to h = by (edge kind Adding from to) (edge kind Dropping fro
     by None (Some next) p q = (Dropping, next, q)
     by None None p q = absurd (h (p, q))
 
+pub not_true : (b : Bool) → ¬ (b ≡ true) → b ≡ false
+not_true true h = absurd (h refl)
+not_true false h = refl
+
 none_some : {A B : Type 0} {x : A} → None ≡ Some x → B
 none_some e = absurd cc
 
@@ -40,7 +44,23 @@ none_some e = absurd cc
 pub adding_to_public : (kind : Kind) (way : Way) (from : ElementState) (next : Way) → edge kind way from Public ≡ Some next → (way ≡ Adding) × (from ≢ Public) × (next ≡ Adding)
 adding_to_public (Index columns) Adding WriteOnly next e = (refl, λ p. absurd cc, cc)
 adding_to_public (Optional type) Adding DeleteOnly next e = (refl, λ p. absurd cc, cc)
+adding_to_public (Index columns) Dropping Absent next e = none_some e
+adding_to_public (Optional type) Dropping Absent next e = none_some e
 adding_to_public kind way from next e = none_some e
+
+-- an edge leads to a state of the kind
+pub edge_to : (kind : Kind) (way next : Way) (from to : ElementState) → edge kind way from to ≡ Some next → has_state kind to ≡ true
+edge_to (Index columns) Adding next Absent DeleteOnly e = refl
+edge_to (Index columns) Adding next DeleteOnly WriteOnly e = refl
+edge_to (Index columns) Adding next WriteOnly Public e = refl
+edge_to (Index columns) way next Public WriteOnly e = refl
+edge_to (Index columns) Dropping next WriteOnly DeleteOnly e = refl
+edge_to (Index columns) Dropping next DeleteOnly Absent e = refl
+edge_to (Optional type) Adding next Absent DeleteOnly e = refl
+edge_to (Optional type) Adding next DeleteOnly Public e = refl
+edge_to (Optional type) way next Public DeleteOnly e = refl
+edge_to (Optional type) Dropping next DeleteOnly Absent e = refl
+edge_to kind way next from to e = none_some e
 
 -- what is being added after an edge was so before it, and was not public
 pub adding_before : (kind : Kind) (way : Way) (from to : ElementState) → edge kind way from to ≡ Some Adding → (way ≡ Adding) × (from ≢ Public)
@@ -65,24 +85,46 @@ module _ (v : Version) (step : List Move) (allowed : IsAllowed v step) where
   pub clear : (earlier later : List Move) (n : ℕ) (to : ElementState) (e : ElementDef) (fault : StepFault) → step ≡ earlier ++ Go n to ∷ later → element_at v n ≡ Some e → ¬ (GoFaultAt v step earlier n (Some e) to fault)
   clear earlier later n to e fault split is h = allowed earlier later (Go n to) fault split (subst (λ o. GoFaultAt v step earlier n o to fault) (sym is) h)
 
+  -- so is a turn
+  pub is_live_back : (earlier later : List Move) (n : ℕ) → step ≡ earlier ++ Turn n ∷ later → (o : Option ElementDef) → element_at v n ≡ o → (e : ElementDef) × (o ≡ Some e)
+  is_live_back earlier later n split None is = absurd (allowed earlier later (Turn n) Unknown split (subst (λ o. TurnFaultAt earlier n o Unknown) (sym is) refl))
+  is_live_back earlier later n split (Some e) is = (e, refl)
+
+  pub clear_back : (earlier later : List Move) (n : ℕ) (e : ElementDef) (fault : StepFault) → step ≡ earlier ++ Turn n ∷ later → element_at v n ≡ Some e → ¬ (TurnFaultAt earlier n (Some e) fault)
+  clear_back earlier later n e fault split is h = allowed earlier later (Turn n) fault split (subst (λ o. TurnFaultAt earlier n o fault) (sym is) h)
+
+  live_move : (earlier later : List Move) (n : ℕ) (m : Move) → step ≡ earlier ++ m ∷ later → is_move_of n m ≡ true → (e : ElementDef) × (element_at v n ≡ Some e)
+  live_move earlier later n (Enter fresh to) split its = absurd (not_both its refl)
+  live_move earlier later n (Go k to) split its = subst (λ j. (e : ElementDef) × (element_at v j ≡ Some e)) ((Decides-eqb k n).0 its) (is_live earlier later k to split (element_at v k) refl)
+  live_move earlier later n (Turn k) split its = subst (λ j. (e : ElementDef) × (element_at v j ≡ Some e)) ((Decides-eqb k n).0 its) (is_live_back earlier later k split (element_at v k) refl)
+
   known : IsOrdered v → AreKnown v.next step
-  known ordered n to there =
-      let s = split_at step (Go n to) there in
-      let r = is_live s.0 s.1 n to s.2 (element_at v n) refl in
+  known ordered n m there its =
+      let s = split_at step m there in
+      let r = live_move s.0 s.1 n m s.2 its in
       ordered.below n r.0 r.1
+
+  -- what a move moves did not move before
+  pub not_before : (earlier later : List Move) (n : ℕ) (m : Move) → step ≡ earlier ++ m ∷ later → is_move_of n m ≡ true → moves_element earlier n ≡ false
+  not_before earlier later n (Enter fresh to) split its = absurd (not_both its refl)
+  not_before earlier later n (Go k to) split its =
+      let live = is_live earlier later k to split (element_at v k) refl in
+      subst (λ j. moves_element earlier j ≡ false) ((Decides-eqb k n).0 its) (not_true (moves_element earlier k) (λ twice. clear earlier later k to live.0 NotAdjacent split live.1 (inr twice)))
+  not_before earlier later n (Turn k) split its =
+      let live = is_live_back earlier later k split (element_at v k) refl in
+      subst (λ j. moves_element earlier j ≡ false) ((Decides-eqb k n).0 its) (not_true (moves_element earlier k) (λ twice. clear_back earlier later k live.0 NotAdjacent split live.1 (inr twice)))
 
   once_from : (earlier moves : List Move) → step ≡ earlier ++ moves → AreMovedOnce moves
   once_from earlier [] split = tt
-  once_from earlier (Enter fresh to ∷ moves) split = once_from (earlier ++ Enter fresh to ∷ []) moves (split ∙ sym (append_assoc earlier (Enter fresh to ∷ []) moves))
-  once_from earlier (Go n to ∷ moves) split = (
-    λ then there.
-        let s = split_at moves (Go n then) there in
-        let before : List Move = earlier ++ Go n to ∷ s.0 in
-        let whole : step ≡ before ++ Go n then ∷ s.1 = split ∙ ap (λ l. earlier ++ Go n to ∷ l) s.2 ∙ sym (append_assoc earlier (Go n to ∷ s.0) (Go n then ∷ s.1)) in
-        let r = is_live before s.1 n then whole (element_at v n) refl in
-        clear before s.1 n then r.0 NotAdjacent whole r.1
-        (inr (any_from (is_move_of n) before (Go n to) (Contains-append_right earlier (Go n to ∷ s.0) (Go n to) (here (Go n to) s.0)) ((Decides-eqb n n).1 refl))),
-    once_from (earlier ++ Go n to ∷ []) moves (split ∙ sym (append_assoc earlier (Go n to ∷ []) moves)),
+  once_from earlier (m ∷ moves) split = (
+    λ n its. not_true (moves_element moves n)
+        (λ twice.
+            let r = any_says (is_move_of n) moves twice in
+            let s = split_at moves r.0 r.1 in
+            let before : List Move = earlier ++ m ∷ s.0 in
+            let whole : step ≡ before ++ r.0 ∷ s.1 = split ∙ ap (λ l. earlier ++ m ∷ l) s.2 ∙ sym (append_assoc earlier (m ∷ s.0) (r.0 ∷ s.1)) in
+            not_both (any_from (is_move_of n) before m (Contains-append_right earlier (m ∷ s.0) m (here m s.0)) its) (not_before before s.1 n r.0 whole r.2)),
+    once_from (earlier ++ m ∷ []) moves (split ∙ sym (append_assoc earlier (m ∷ []) moves)),
   )
 
   pub own_way : (earlier later : List Move) (n : ℕ) (to : ElementState) (e : ElementDef) → step ≡ earlier ++ Go n to ∷ later → element_at v n ≡ Some e → (way : Way) × (edge e.kind e.way e.state to ≡ Some way)
@@ -91,6 +133,14 @@ module _ (v : Version) (step : List Move) (allowed : IsAllowed v step) where
       by : (o : Option Way) → edge e.kind e.way e.state to ≡ o → (way : Way) × (edge e.kind e.way e.state to ≡ Some way)
       by (Some way) p = (way, p)
       by None p = absurd (clear earlier later n to e WrongWay split is p)
+
+  -- what turns back is being added and not public
+  pub may_turn : (earlier later : List Move) (n : ℕ) (e : ElementDef) → step ≡ earlier ++ Turn n ∷ later → element_at v n ≡ Some e → (e.state ≢ Public) × (e.way ≡ Adding)
+  may_turn earlier later n e split is = (λ public. clear_back earlier later n e NotAdjacent split is (inl public), by e.way refl)
+    where
+      by : (w : Way) → e.way ≡ w → e.way ≡ Adding
+      by Adding p = p
+      by Dropping p = absurd (clear_back earlier later n e WrongWay split is p)
 
   step_of : (n : ℕ) (new : Option ElementDef) → Change step v.next n (element_at v n) new → StepOf v.next n (element_at v n) new
   step_of n new (Stays e) = Same e
@@ -101,6 +151,10 @@ module _ (v : Version) (step : List Move) (allowed : IsAllowed v step) where
       let s = split_at step (Go n to) there in
       let w = own_way s.0 s.1 n to x s.2 was in
       Next x to w.0 w.1 was e
+  step_of n new (Turns x there was e) =
+      let s = split_at step (Turn n) there in
+      let m = may_turn s.0 s.1 n x s.2 was in
+      Back x m.0 m.1 was e
 
   pub change_at : IsOrdered v → (n : ℕ) → Change step v.next n (element_at v n) (element_at (after_step v step) n)
   change_at ordered n = change_of v step v.next n ordered (omega arith) (known ordered) (once_from [] step refl)

@@ -3,7 +3,7 @@ use Rattle.std.proofs.Common.{◌≡◌, ◌+◌, ◌≤◌, List, [], ◌∷◌
 use Rattle.std.specs.Prelude.{OnOk, IfErr}
 use Rattle.std.specs.Bool.{Decides}
 use Rattle.std.proofs.lemmas.List.Sums.{sum_by-cons, sum_by-append}
-use Rattle.schema_version.specs.declared.step.Move.TheVariants.{Enter, Go}
+use Rattle.schema_version.specs.declared.step.Move.TheVariants.{Enter, Go, Turn}
 use Rattle.schema_version.specs.declared.step.StepFault.TheVariants.{Limit}
 use Rattle.schema_version.specs.Names.{max_elements}
 use Rattle.listed.specs.Answers.{◌>>>=◌}
@@ -91,6 +91,7 @@ step_refused v step fault numbered is =
 
 a_number : (v : Version) (step earlier : List Move) (m : Move) → ((fault : StepFault) → ¬ (MoveFault v step earlier m fault)) → v.next + count_by is_entry earlier ≤ max_elements + 1 → v.next + (count_by is_entry earlier + cond (is_entry m) 1 0) ≤ max_elements + 1
 a_number v step earlier (Go n to) clear few = omega arith
+a_number v step earlier (Turn n) clear few = omega arith
 a_number v step earlier (Enter fresh to) clear few =
     let limits : IsWithinLimits v earlier fresh = truly (is_within_limits v earlier fresh) (within v earlier fresh) (clear Limit) in
     let room : v.next + count_by is_entry earlier ≤ max_elements = limits.3 in

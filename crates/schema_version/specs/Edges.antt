@@ -1,5 +1,5 @@
 -- The edges between the states of an element, and what a move along one of them needs.
-use Rattle.std.specs.Prelude.{◌≡◌, Bool, Option, Some, None, is_some, if◌then◌else◌}
+use Rattle.std.specs.Prelude.{◌≡◌, Bool, true, false, Option, Some, None, is_some, if◌then◌else◌}
 use Rattle.schema_version.specs.declared.element.ElementState.{ElementState}
 use Rattle.schema_version.specs.declared.element.ElementState.TheVariants.{Absent, DeleteOnly, WriteOnly, Public}
 use Rattle.schema_version.specs.declared.element.Way.{Way}
@@ -23,6 +23,11 @@ edge (Optional type) Adding DeleteOnly Public = Some Adding
 edge (Optional type) way Public DeleteOnly = Some Dropping
 edge (Optional type) Dropping DeleteOnly Absent = Some Dropping
 edge kind way from to = None
+
+-- the states that an element of a kind may have: an optional column is never write-only
+abbrev pub has_state : Kind → ElementState → Bool
+has_state (Optional type) WriteOnly = false
+has_state kind state = true
 
 -- an edge joins the two states
 abbrev pub HasEdge : Kind → ElementState → ElementState → Type 0

@@ -6,6 +6,7 @@ use Rattle.schema_version.specs.declared.element.ElementState.TheVariants.{Absen
 use Rattle.schema_version.specs.declared.element.Way.TheVariants.{Adding}
 use Rattle.schema_version.specs.declared.element.ElementDef.{ElementDef}
 use Rattle.schema_version.specs.Names.{IsName, is_distinct, max_tables, max_key_columns, max_elements}
+use Rattle.schema_version.specs.Edges.{has_state}
 use Rattle.schema_version.specs.Version.{Version, Table, table_at, element_at, listed, IsPublicColumn, IsKeyName, count_live}
 use Rattle.schema_version.specs.Moves.{IsColumnList, max_like}
 
@@ -23,6 +24,7 @@ pub record IsSoundElement (version : Version) (number : ℕ) (element : ElementD
   pub first : 1 ≤ number
   pub given : number < version.next
   pub live : element.state ≢ Absent
+  pub possible : IsTrue (has_state element.kind element.state)
   pub way : element.state ≡ Public → element.way ≡ Adding
   pub named : IsName element.name
   pub placed : (table : Table) × (table_at version element.table ≡ Some table)

@@ -6,7 +6,7 @@ use Rattle.std.proofs.lemmas.List.Elements.{Contains-append_cases, Contains-appe
 use Rattle.schema_version.specs.declared.element.ElementState.{ElementState}
 use Rattle.schema_version.specs.declared.element.ElementDef.{ElementDef}
 use Rattle.schema_version.specs.declared.step.Move.{Move}
-use Rattle.schema_version.specs.declared.step.Move.TheVariants.{Enter, Go}
+use Rattle.schema_version.specs.declared.step.Move.TheVariants.{Enter, Go, Turn}
 use Rattle.schema_version.specs.Edges.{needed}
 use Rattle.schema_version.specs.Version.{element_at}
 use Rattle.schema_version.specs.declared.element.Work.{Work}
@@ -63,6 +63,7 @@ not_unfinished facts step number finished u = by u.move u.split u.lacks
   where
     by : (move : Move) → step ≡ u.earlier ++ move ∷ u.rest → Lacks facts move number → ⊥
     by (Enter fresh to) split lacks = lacks
+    by (Turn moving) split lacks = lacks
     by (Go moving to) split lacks = lacks.3 (finished moving to lacks.1 (subst (λ (ms : List Move). Contains ms (Go moving to)) (sym split) (there u.earlier)) lacks.2)
       where
         there : (earlier : List Move) → Contains (earlier ++ Go moving to ∷ u.rest) (Go moving to)

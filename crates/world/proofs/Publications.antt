@@ -10,10 +10,10 @@ use Rattle.lease.specs.Timeline.{Timeline, earliest, max_moment, newest as newes
 use Rattle.schema_version.specs.declared.element.ElementState.{ElementState}
 use Rattle.schema_version.specs.declared.element.ElementDef.{ElementDef}
 use Rattle.schema_version.specs.declared.step.Move.{Move}
-use Rattle.schema_version.specs.declared.step.Move.TheVariants.{Enter, Go}
+use Rattle.schema_version.specs.declared.step.Move.TheVariants.{Enter, Go, Turn}
 use Rattle.schema_version.specs.declared.step.StepFault.TheVariants.{Memory as StepMemory}
 use Rattle.schema_version.specs.declared.step.StepFault.{StepFault}
-use Rattle.schema_version.specs.Moves.{IsAllowed, IsRefused, MoveFault, GoFaultAt, after_step}
+use Rattle.schema_version.specs.Moves.{IsAllowed, IsRefused, MoveFault, GoFaultAt, TurnFaultAt, after_step}
 use Rattle.schema_version.specs.Version.{Version, element_at}
 use Rattle.reorganise.specs.declared.work.Progress.{Progress}
 use Rattle.replay.specs.declared.entry.Entry.{Entry}
@@ -44,9 +44,14 @@ memory_is_none version step r = by r.move r.lowest.0
     none_at earlier number None to = λ e. absurd cc
     none_at earlier number (Some element) to = λ e. e
 
+    none_back : (earlier : List Move) (number : ℕ) (o : Option ElementDef) → ¬ (TurnFaultAt earlier number o StepMemory)
+    none_back earlier number None = λ e. absurd cc
+    none_back earlier number (Some element) = λ e. e
+
     by : (move : Move) → MoveFault version step r.earlier move StepMemory → ⊥
     by (Enter fresh to) fault = fault
     by (Go number to) fault = none_at r.earlier number (element_at version number) to fault
+    by (Turn number) fault = none_back r.earlier number (element_at version number) fault
 
 pub may_clear : (s : State) (now : ℕ) (step : List Move) → MayPublish (facts_of s) now step → IsClear (PublishCondition s now step)
 may_clear s now step may publish_fault.MomentTooLarge = λ c. absurd (omega (arith, may.moment, c))
@@ -155,8 +160,13 @@ same_kind (Optional type) (Optional other) h = ap Optional h
 same_move : (move copy : Move) → MoveClone.by_variants move copy → copy ≡ move
 same_move (Enter fresh to) (Enter other state) h = λ i. Enter (record { table = h.0.0 i; name = h.0.1.0 i; kind = same_kind fresh.kind other.kind h.0.1.1 i }) (h.1 i)
 same_move (Enter fresh to) (Go other state) h = absurd h
+same_move (Enter fresh to) (Turn other) h = absurd h
 same_move (Go number to) (Enter other state) h = absurd h
 same_move (Go number to) (Go other state) h = λ i. Go (h.0 i) (h.1 i)
+same_move (Go number to) (Turn other) h = absurd h
+same_move (Turn number) (Enter other state) h = absurd h
+same_move (Turn number) (Go other state) h = absurd h
+same_move (Turn number) (Turn other) h = ap Turn h
 
 pub same_moves : (moves copies : List Move) → AllZip MoveClone.by_variants moves copies → copies ≡ moves
 same_moves [] [] h = refl

@@ -4,7 +4,7 @@ use Rattle.lease.specs.Timeline.{earliest, max_moment, newest as newest_number}
 use Rattle.listed.specs.Refusal.{IsRefusal, IsClear}
 use Rattle.schema_version.specs.declared.element.ElementDef.{ElementDef}
 use Rattle.schema_version.specs.declared.step.Move.{Move}
-use Rattle.schema_version.specs.declared.step.Move.TheVariants.{Enter, Go}
+use Rattle.schema_version.specs.declared.step.Move.TheVariants.{Enter, Go, Turn}
 use Rattle.schema_version.specs.Moves.{IsAllowed, IsRefused}
 use Rattle.schema_version.specs.Version.{element_at}
 use Rattle.replay.specs.declared.entry.What.TheVariants.{Publish}
@@ -21,14 +21,16 @@ max_versions = 1000000
 
 -- ---- the reorganisations that a step waits for
 
--- a move of a live element has what it needs
+-- a move of a live element has what it needs; to turn back needs nothing
 abbrev pub IsReady : Facts → Move → Type 0
 IsReady facts (Enter fresh to) = Unit {0}
+IsReady facts (Turn number) = Unit {0}
 IsReady facts (Go number to) = (element : ElementDef) → element_at facts.newest number ≡ Some element → Needs facts element.kind number to
 
 -- or lacks it
 abbrev pub Lacks : Facts → Move → ℕ → Type 0
 Lacks facts (Enter fresh to) number = ⊥
+Lacks facts (Turn moving) number = ⊥
 Lacks facts (Go moving to) number = (number ≡ moving) × (element : ElementDef) × (element_at facts.newest moving ≡ Some element) × (¬ (Needs facts element.kind moving to))
 
 -- the first element in the step's order that lacks it

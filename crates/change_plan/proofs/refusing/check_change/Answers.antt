@@ -16,3 +16,6 @@ returns-in-AddColumn c = c.check_added_column.ensures ∙ sym (ap (change_check 
 
 pub returns-in-DropColumn : goal.returns-in-DropColumn
 returns-in-DropColumn c = c.check_dropped_column.ensures ∙ sym (ap (change_check c.args.schema.now c.args.all.now c.args.earlier.now) c.in-DropColumn.is)
+
+pub returns-in-Abandon : goal.returns-in-Abandon
+returns-in-Abandon c = c.check_abandoned.ensures ∙ sym (ap (change_check c.args.schema.now c.args.all.now c.args.earlier.now) c.in-Abandon.is)
