@@ -2,7 +2,7 @@
 use Rattle.std.proofs.Common.{sym, subst}
 use Rattle.element_state.specs.Items.{ClearFacts}
 use Rattle.element_state.specs.Kinds.{kind_clear, kind_clears}
-use Rattle.element_state.specs.Reaches.{clear_piece_kept}
+use Rattle.element_state.proofs.Reaches.{clear_piece_kept}
 use Rattle.element_state.specs.Versions.{the_kinds, meaning_of, IsLawful, IsLawfulOf}
 use Rattle.element_state.specs.Kept.{ClearKeeps}
 

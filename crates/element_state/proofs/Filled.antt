@@ -15,8 +15,8 @@ use Rattle.element_state.specs.Apart.{not_none}
 use Rattle.element_state.specs.Exists.{row_key}
 use Rattle.element_state.specs.Items.{Between, row_items, ClearRange, ClearFacts, clear_writes, FillCovers, ClearLeavesNone}
 use Rattle.element_state.specs.Clears.{both_true, test_between, entry_kept, facts_kept}
-use Rattle.element_state.specs.Pieces.{AreRows, fill_puts-filled, fill_demand, fill_reaches, clear_gone, clear_shrinks}
-use Rattle.element_state.specs.Reaches.{rows_there}
+use Rattle.element_state.proofs.Pieces.{AreRows, fill_puts-filled, fill_demand, fill_reaches, clear_gone, clear_shrinks}
+use Rattle.element_state.proofs.Reaches.{rows_there}
 
 -- the rows of a piece are rows
 items_there : (m : Meaning) (R : Rows) (from to : Bytes) → AreRows R (row_items m.serves R from to)

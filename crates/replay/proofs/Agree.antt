@@ -14,7 +14,8 @@ use Rattle.schema_version.specs.Version.{Version, element_at}
 use Rattle.element_state.specs.Consistent.{IsConsistent, DemandOf, AreLawfulRows}
 use Rattle.element_state.specs.Core.{Meets, IsConsistent as Consistent}
 use Rattle.element_state.specs.Elements.{AreFormed}
-use Rattle.element_state.specs.Versions.{the_kinds, schema_of, get-schema_of, entry_of, row_entry, exists_exact}
+use Rattle.element_state.specs.Versions.{the_kinds, schema_of, entry_of, row_entry}
+use Rattle.element_state.proofs.Versions.{get-schema_of, exists_exact}
 use Rattle.replay.specs.Replay.{Facts, version_in, version_at, first_or, before_of}
 use Rattle.replay.specs.Kept.{IsKept, Agrees, used_before}
 

@@ -24,7 +24,7 @@ use Rattle.element_state.specs.Core.{Core, Invariant, MayRun}
 use Rattle.element_state.specs.Core as core
 use Rattle.element_state.specs.Schemas.{state_of as state_in}
 use Rattle.element_state.specs.Versions.{ElementKind, Of, the_kinds, meaning_of, schema_of, entry_of, IsLawfulOf}
-use Rattle.element_state.specs.Whole.{begin_kept, number_one}
+use Rattle.element_state.proofs.Whole.{begin_kept, number_one}
 use Rattle.schema_version.specs.declared.element.Work.{Work}
 use Rattle.schema_version.specs.declared.element.Work.TheVariants.{Fill, Clear}
 use Rattle.reorganise.specs.declared.work.Span.{Span}

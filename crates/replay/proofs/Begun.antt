@@ -11,7 +11,7 @@ use Rattle.byte_map.proofs.Written.{tied, apart}
 use Rattle.schema_version.specs.declared.step.Move.{Move}
 use Rattle.schema_version.specs.Moves.{moves_element}
 use Rattle.element_state.specs.Core as core
-use Rattle.element_state.specs.Whole.{number_one}
+use Rattle.element_state.proofs.Whole.{number_one}
 use Rattle.reorganise.specs.declared.work.Progress.{Progress}
 use Rattle.row_map.specs.Rows.{Bytes}
 use Rattle.replay.specs.Replay.{is_of, progress_of, stays, come_to, moved_to}

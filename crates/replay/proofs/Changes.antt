@@ -17,7 +17,8 @@ use Rattle.schema_version.specs.Version.{Version}
 use Rattle.element_state.specs.Elements.{Change, rows_after}
 use Rattle.element_state.specs.Schemas.{Entry, state_of, version_writes}
 use Rattle.element_state.specs.Whole.{rows_after_all, all_writes}
-use Rattle.element_state.specs.Versions.{ElementKind, the_kinds, schema_of, get-schema_of, entry_of, row_entry}
+use Rattle.element_state.specs.Versions.{ElementKind, the_kinds, schema_of, entry_of, row_entry}
+use Rattle.element_state.proofs.Versions.{get-schema_of}
 use Rattle.row_write.specs.declared.op.RowOp.{RowOp}
 use Rattle.row_write.specs.declared.fault.RowFault.{RowFault}
 use Rattle.row_write.specs.Plain.{cell_of, with_cells, change, go_on, applied}

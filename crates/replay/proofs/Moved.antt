@@ -20,7 +20,8 @@ use Rattle.schema_version.proofs.Changes.{moved_next, turned_next}
 use Rattle.element_state.specs.Core.{JoinedAt}
 use Rattle.element_state.specs.Laws.{IsLive}
 use Rattle.element_state.specs.Schemas.{Entry}
-use Rattle.element_state.specs.Versions.{ElementKind, Of, the_kinds, meaning_of, schema_of, get-schema_of, entry_of, row_entry}
+use Rattle.element_state.specs.Versions.{ElementKind, Of, the_kinds, meaning_of, schema_of, entry_of, row_entry}
+use Rattle.element_state.proofs.Versions.{get-schema_of}
 use Rattle.replay.proofs.Time.{joined_itself}
 
 no_way : {B : Type 0} {next : Way} → None ≡ Some next → B

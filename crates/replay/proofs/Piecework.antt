@@ -28,8 +28,9 @@ use Rattle.element_state.specs.Kinds.{kind_meaning, kind_clear, kind_clears}
 use Rattle.element_state.specs.Pieces.{moved}
 use Rattle.element_state.specs.Reaches as reaches
 use Rattle.element_state.specs.Tables.{within}
-use Rattle.element_state.specs.Versions.{ElementKind, Of, the_kinds, meaning_of, schema_of, entry_of, IsLawfulOf, exists_exact}
-use Rattle.element_state.specs.Whole.{number_one}
+use Rattle.element_state.specs.Versions.{ElementKind, Of, the_kinds, meaning_of, schema_of, entry_of, IsLawfulOf}
+use Rattle.element_state.proofs.Versions.{exists_exact}
+use Rattle.element_state.proofs.Whole.{number_one}
 use Rattle.schema_version.specs.declared.element.Work.{Work}
 use Rattle.schema_version.specs.declared.element.Work.TheVariants.{Fill, Clear}
 use Rattle.reorganise.specs.declared.work.Span.{Span}

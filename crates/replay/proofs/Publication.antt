@@ -38,10 +38,12 @@ use Rattle.element_state.specs.Laws.{IsLive}
 use Rattle.element_state.specs.Items.{HasRange}
 use Rattle.element_state.specs.Kinds.{kind_clear, kind_clears}
 use Rattle.element_state.specs.Ended as ended
-use Rattle.element_state.specs.Publishing.{MayBePublic, Was, Filled, Unfilled, MayBeAbsent, Was_not, Cleared, FillEnded, Steps, publish_kept}
-use Rattle.element_state.specs.Reaches.{fill_ended, clear_ended}
+use Rattle.element_state.specs.Publishing.{MayBePublic, Was, Filled, Unfilled, MayBeAbsent, Was_not, Cleared, FillEnded, Steps}
+use Rattle.element_state.proofs.Publishing.{publish_kept}
+use Rattle.element_state.proofs.Reaches.{fill_ended, clear_ended}
 use Rattle.element_state.specs.Schemas.{Entry, state_of}
-use Rattle.element_state.specs.Versions.{ElementKind, Of, the_kinds, meaning_of, schema_of, entry_of, is_adding, laws, one_table, IsLawfulOf}
+use Rattle.element_state.specs.Versions.{ElementKind, Of, the_kinds, meaning_of, schema_of, entry_of, is_adding, laws, IsLawfulOf}
+use Rattle.element_state.proofs.Versions.{one_table}
 use Rattle.schema_version.specs.declared.element.Work.{Work}
 use Rattle.schema_version.specs.declared.element.Work.TheVariants.{Fill, Clear}
 use Rattle.reorganise.specs.declared.work.Progress.{Progress}

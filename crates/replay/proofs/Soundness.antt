@@ -13,7 +13,8 @@ use Rattle.schema_version.specs.Sound.{IsSoundTable, IsSoundElement, IsSoundVers
 use Rattle.schema_version.specs.Version.{Version, Table, element_at}
 use Rattle.element_state.specs.Kinds.{IsLawfulKind}
 use Rattle.element_state.specs.Schemas.{Entry, AreLawful}
-use Rattle.element_state.specs.Versions.{ElementKind, the_kinds, schema_of, get-schema_of, entry_of, row_entry, IsLawful}
+use Rattle.element_state.specs.Versions.{ElementKind, the_kinds, schema_of, entry_of, row_entry, IsLawful}
+use Rattle.element_state.proofs.Versions.{get-schema_of}
 use Rattle.replay.specs.Small.{AreTablesSmall, AreNumbersFit}
 
 none_some : {A B : Type 0} (v : A) → None ≡ Some v → B

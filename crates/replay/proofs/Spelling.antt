@@ -28,7 +28,8 @@ use Rattle.element_state.specs.Apart.{not_none}
 use Rattle.element_state.specs.Kinds.{kind_meaning}
 use Rattle.element_state.specs.Laws.{Laws}
 use Rattle.element_state.specs.Tables.{within, some_in}
-use Rattle.element_state.specs.Versions.{the_kinds, schema_of, get-schema_of, entry_of, row_entry, row_there, row_missing}
+use Rattle.element_state.specs.Versions.{the_kinds, schema_of, entry_of, row_entry}
+use Rattle.element_state.proofs.Versions.{get-schema_of, row_there, row_missing}
 use Rattle.row_write.specs.declared.op.RowOp.{RowOp}
 use Rattle.row_write.specs.Plain.{table_of, key_of, row_of}
 use Rattle.row_write.specs.Reads.{IsPublicColumn, IsRead}

@@ -22,7 +22,8 @@ use Rattle.element_state.specs.Effects.{row_here, row_apart, key_one}
 use Rattle.element_state.specs.Elements.{Change, rows_after, cell}
 use Rattle.element_state.specs.Schemas.{state_of}
 use Rattle.element_state.specs.Versions.{Of, the_kinds, schema_of, entry_of}
-use Rattle.element_state.specs.Whole.{RunsAll, all_writes, rows_after_all, commit_all_kept}
+use Rattle.element_state.specs.Whole.{RunsAll, all_writes, rows_after_all}
+use Rattle.element_state.proofs.Whole.{commit_all_kept}
 use Rattle.row_write.specs.declared.op.RowOp.{RowOp}
 use Rattle.row_write.specs.declared.op.RowOutcome.{RowOutcome}
 use Rattle.row_write.specs.declared.op.RowOutcome.TheVariants.{Done, Refused}

@@ -1,6 +1,6 @@
 -- A lease that nothing stands against is on one of the last two versions.
 use Rattle.std.proofs.Common.{ℕ, ◌+◌, refl, inl, inr, arith}
-use Rattle.element_state.specs.Whole.{number_one}
+use Rattle.element_state.proofs.Whole.{number_one}
 use Rattle.lease.specs.declared.lease.Lease.{Lease}
 use Rattle.lease.specs.Timeline.{Timeline, IsHonest, IsInForce, IsLastTwo, newest}
 use Rattle.lease.proofs.Uses.{usable_last}

@@ -11,10 +11,12 @@ use Rattle.schema_version.specs.declared.element.ElementState.TheVariants.{Absen
 use Rattle.element_state.specs.Elements.{Change, rows_after, Fits, ChangesPublicOnly, cell, HasForm, owner_named}
 use Rattle.element_state.specs.Laws.{pairs_after, Operates, Laws}
 use Rattle.element_state.specs.Effects.{row_here, row_apart, key_one, none_where, both_storable, storable_after}
-use Rattle.element_state.specs.Schemas.{Entry, Schema, state_of, Kinds, AreLawful, version_writes, at_own, formed_writes}
+use Rattle.element_state.specs.Schemas.{Entry, Schema, state_of, Kinds, AreLawful, version_writes}
+use Rattle.element_state.proofs.Schemas.{at_own, formed_writes}
 use Rattle.schema_version.specs.declared.element.Work.{Work}
 use Rattle.schema_version.specs.declared.element.Work.TheVariants.{Fill, Clear}
-use Rattle.element_state.specs.Core.{Span, Progress, Core, NoCell, JoinedAt, Runs, Passed, MayRun, Reached, NeverPublic, Invariant, used_lawful, committed, meets_after}
+use Rattle.element_state.specs.Core.{Span, Progress, Core, NoCell, JoinedAt, Runs, Passed, MayRun, Reached, NeverPublic, Invariant, committed}
+use Rattle.element_state.proofs.Core.{used_lawful, meets_after}
 use Rattle.element_state.specs.Apart.{not_none, hidden_not_public, none_some, some_one}
 
 absent_not_public : Absent ≢ Public
