@@ -119,11 +119,11 @@ module _ (v : Version) (step : List Move) (allowed : IsAllowed v step) where
   once_from earlier (m ∷ moves) split = (
     λ n its. not_true (moves_element moves n)
         (λ twice.
-            let r = any_says (is_move_of n) moves twice in
-            let s = split_at moves r.0 r.1 in
-            let before : List Move = earlier ++ m ∷ s.0 in
-            let whole : step ≡ before ++ r.0 ∷ s.1 = split ∙ ap (λ l. earlier ++ m ∷ l) s.2 ∙ sym (append_assoc earlier (m ∷ s.0) (r.0 ∷ s.1)) in
-            not_both (any_from (is_move_of n) before m (Contains-append_right earlier (m ∷ s.0) m (here m s.0)) its) (not_before before s.1 n r.0 whole r.2)),
+        let r = any_says (is_move_of n) moves twice in
+        let s = split_at moves r.0 r.1 in
+        let before : List Move = earlier ++ m ∷ s.0 in
+        let whole : step ≡ before ++ r.0 ∷ s.1 = split ∙ ap (λ l. earlier ++ m ∷ l) s.2 ∙ sym (append_assoc earlier (m ∷ s.0) (r.0 ∷ s.1)) in
+        not_both (any_from (is_move_of n) before m (Contains-append_right earlier (m ∷ s.0) m (here m s.0)) its) (not_before before s.1 n r.0 whole r.2)),
     once_from (earlier ++ m ∷ []) moves (split ∙ sym (append_assoc earlier (m ∷ []) moves)),
   )
 
