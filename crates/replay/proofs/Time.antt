@@ -11,7 +11,7 @@ use Rattle.schema_version.specs.Sound.{IsSoundVersion}
 use Rattle.schema_version.specs.Version.{Version}
 use Rattle.element_state.specs.Consistent.{AreLawfulRows}
 use Rattle.element_state.specs.Core.{Core, Invariant, JoinedAt, NeverPublic}
-use Rattle.element_state.specs.Opening.{opened_holds}
+use Rattle.element_state.proofs.Opening.{opened_holds}
 use Rattle.element_state.specs.Schemas.{Entry, state_of}
 use Rattle.element_state.specs.Versions.{ElementKind, the_kinds, schema_of}
 use Rattle.replay.specs.declared.entry.What.TheVariants.{Lease as Granted}
