@@ -27,6 +27,7 @@ use Rattle.element_state.specs.Items.{IsBound, RowsOf, HasRange, fill_puts, clea
 use Rattle.element_state.specs.Kinds.{kind_meaning, kind_clear, kind_clears}
 use Rattle.element_state.specs.Pieces.{moved}
 use Rattle.element_state.specs.Reaches as reaches
+use Rattle.element_state.proofs.Reaches.{fill_puts_kept, clear_piece_kept}
 use Rattle.element_state.specs.Tables.{within}
 use Rattle.element_state.specs.Versions.{ElementKind, Of, the_kinds, meaning_of, schema_of, entry_of, IsLawfulOf}
 use Rattle.element_state.proofs.Versions.{exists_exact}
@@ -186,7 +187,7 @@ module _ (facts : Facts) (now number : ℕ) (read : Reading) (later : facts.mome
       (subst (λ (low : Bytes). After (written_all facts.pairs (fill_puts (meaning_of number (Of p.element.table p.element.kind)) (row_items (meaning_of number (Of p.element.table p.element.kind)).serves facts.rows low to)))) cursor_is
       (subst (λ (u : Work). Invariant the_kinds (moved the_kinds w number (let c : core.Progress = record { work = u; spans = reaches.with_cursor read.piece to (passed_by p.pieces) } in c)
       (written_all facts.pairs (fill_puts (meaning_of number (Of p.element.table p.element.kind)) (row_items (meaning_of number (Of p.element.table p.element.kind)).serves facts.rows (reaches.cursor_at read.piece (passed_by p.pieces)) to))))) (sym is)
-      (reaches.fill_puts_kept the_kinds w number (entry_of p.element) (passed_by p.pieces) read.piece to k.core_kept entry
+      (fill_puts_kept the_kinds w number (entry_of p.element) (passed_by p.pieces) read.piece to k.core_kept entry
       (passed_p ∙ ap (λ (u : Work). Some (let c : core.Progress = record { work = u; spans = passed_by p.pieces } in c)) is))))))
   core_by Clear is =
       let bound = subst (λ (u : Work). IsBound (bounds_of p.element u) to) is bound_to in
@@ -200,7 +201,7 @@ module _ (facts : Facts) (now number : ℕ) (read : Reading) (later : facts.mome
       (subst (λ (low : Bytes). After (written_all facts.pairs (clear_writes ((kind_clear p.element.table number p.element.kind).items facts.rows facts.pairs low to)))) cursor_is
       (subst (λ (u : Work). Invariant the_kinds (moved the_kinds w number (let c : core.Progress = record { work = u; spans = reaches.with_cursor read.piece to (passed_by p.pieces) } in c)
       (written_all facts.pairs (clear_writes ((kind_clear p.element.table number p.element.kind).items facts.rows facts.pairs (reaches.cursor_at read.piece (passed_by p.pieces)) to))))) (sym is)
-      (reaches.clear_piece_kept the_kinds w number (entry_of p.element) (passed_by p.pieces) read.piece to (kind_clear p.element.table number p.element.kind) (kind_clears p.element.table number p.element.kind own.lawful own.range) k.core_kept entry
+      (clear_piece_kept the_kinds w number (entry_of p.element) (passed_by p.pieces) read.piece to (kind_clear p.element.table number p.element.kind) (kind_clears p.element.table number p.element.kind own.lawful own.range) k.core_kept entry
       (passed_p ∙ ap (λ (u : Work). Some (let c : core.Progress = record { work = u; spans = passed_by p.pieces } in c)) is)
       (subst (λ (n : ℕ). IsBound (kind_clear p.element.table n p.element.kind).bounds (reaches.cursor_at read.piece (passed_by p.pieces))) begun_p.1 (subst (IsBound (bounds_of p.element Clear)) (sym (cursor_stands p.pieces read.piece next.span next.piece)) from))
       (subst (λ (n : ℕ). IsBound (kind_clear p.element.table n p.element.kind).bounds to) begun_p.1 bound))))))
