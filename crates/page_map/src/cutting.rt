@@ -15,12 +15,12 @@ const BYTES_LIMIT: usize = 16 * 1024;
 pub(crate) fn cut(alloc: Global, pairs: FlatPairs, rising: bool) -> Result<Vec<Page>, AllocError>
     ensures { IfOk result (λ pages. joined pages.items ≡ pairs) }
 {
-    let mut pages = Vec::new(alloc);
     let len = pairs.len();
     if len == 0 {
-        return Ok(pages);
+        return Ok(Vec::new(alloc));
     }
-    if fitting(&pairs, 0) == len {
+    if len <= PAGE_LIMIT && pairs.size() <= BYTES_LIMIT {
+        let mut pages = Vec::with_capacity(alloc, 1)?;
         pages.push(Page::new(alloc, pairs)?)?;
         return Ok(pages);
     }
