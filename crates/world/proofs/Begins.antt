@@ -16,7 +16,7 @@ use Rattle.world.specs.declared.world.World.TheInside.{Inside}
 use Rattle.world.specs.Beginning.{wanted_at, IsSettled, Begins}
 use Rattle.world.specs.Inside.{state_of as state_in, IsHeld}
 use Rattle.world.specs.State.{State, facts_of, effect}
-use Rattle.world.proofs.Holding.{IsLogged, state_logged, appended, held_after}
+use Rattle.world.proofs.Holding.{IsLogged, state_logged, held_after}
 
 -- ---- what an element wants
 

@@ -1,5 +1,5 @@
 -- A piece that is committed, over the fields of a World.
-use Rattle.std.proofs.Common.{◌≡◌, ℕ, ◌+◌, ◌<◌, ◌≤◌, [], ◌∷◌, ◌++◌, length, Option, Some, None, Ok, Err, refl, sym, ap, subst, ◌∙◌, inl, inr, Vec, Global, arith}
+use Rattle.std.proofs.Common.{◌≡◌, ℕ, ◌<◌, ◌≤◌, Option, Some, None, Ok, Err, refl, sym, ap, subst, ◌∙◌, inl, inr, Vec, Global, arith}
 use Rattle.std.specs.Prelude.{◌≢◌, Bool, slice_get}
 use Rattle.std.specs.Bool.{Decides}
 use mathlib.Core.List.{map as each}

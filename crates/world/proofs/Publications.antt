@@ -1,5 +1,5 @@
 -- A publication over the fields of a World: the relation that it meets, and what is true of the fields afterwards.
-use Rattle.std.proofs.Common.{◌≡◌, ℕ, ◌+◌, ◌<◌, ◌≤◌, List, [], ◌∷◌, ◌++◌, length, Option, Some, None, Ok, Err, refl, sym, ap, subst, ◌∙◌, inl, inr, Vec, Global, arith, filter}
+use Rattle.std.proofs.Common.{◌≡◌, ℕ, ◌+◌, ◌<◌, ◌≤◌, List, [], ◌∷◌, length, Option, Some, None, Ok, Err, refl, sym, ap, subst, ◌∙◌, inl, inr, Vec, Global, arith, filter}
 use Rattle.std.specs.List.{AllZip}
 use Rattle.listed.specs.Refusal.{IsClear, IsRefusal}
 use Rattle.schema_version.specs.contracts.step.MoveClone.TheImpl as MoveClone

@@ -1,4 +1,4 @@
--- How a state of the core is told apart from another, and what a snapshot is of from what another is of.
+-- How an entry, a state of the core, and what a snapshot is of, is told apart from another.
 use Rattle.std.specs.Prelude.{List, refl}
 use Rattle.std.specs.FinMap as map
 use Rattle.std.specs.Coded.{Coded, code_by, coded×, coded_list, coded_ℕ}
@@ -13,9 +13,12 @@ use Rattle.replay.specs.contracts.entry.Entry as entry
 use Rattle.world.specs.Snapshots.{Taken}
 use Rattle.world.specs.State.{State}
 
+abbrev pub entry_code : Coded Entry
+entry_code = entry.the_row.coded
+
 abbrev pub state_code : Coded State
 state_code =
-    code_by (Opening × (List Entry × Pairs)) (coded× opening_code (coded× (coded_list entry.the_row.coded) (map.code {R = bytes_cmp} (coded_list coded_ℕ) (coded_list coded_ℕ))))
+    code_by (Opening × (List Entry × Pairs)) (coded× opening_code (coded× (coded_list entry_code) (map.code {R = bytes_cmp} (coded_list coded_ℕ) (coded_list coded_ℕ))))
     (λ s. (s.opening, (s.log, s.pairs)))
     (λ t. record { opening = t.0; log = t.1.0; pairs = t.1.1 })
     (λ _. refl)

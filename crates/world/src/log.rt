@@ -2,7 +2,6 @@
 //! comes first, so that a call enters its entry when nothing can fail any more.
 ghost use Rattle.std.specs.Prelude.{◌≡◌, ◌<◌, ◌+◌, ◌++◌, ◌∷◌, [], length, IfOk, OnOk};
 ghost use Rattle.std.specs.Vec.{vec_len, vec_capacity};
-ghost use Rattle.world.specs.Inside.{HasRoom};
 
 use crate::entry::Receipt;
 use listed::Counted;
@@ -27,11 +26,11 @@ pub(crate) struct Draft {
 impl Model for Draft {
     ghost use Rattle.std.specs.Prelude.{◌≡◌};
     ghost use Rattle.replay.specs.declared.entry.Entry.{Entry as EntryOf};
-    ghost use Rattle.replay.specs.contracts.entry.Entry as entry;
+    ghost use Rattle.world.specs.Code.{entry_code};
 
     ghost Value = { EntryOf };
 
-    ghost coded = { entry.the_row.coded };
+    ghost coded = { entry_code };
 
     ghost view = { λ d. d.entry };
 
@@ -87,7 +86,7 @@ impl Log {
         what: What,
     ) -> Result<Draft, AllocError>
         ensures draft { IfOk result (λ draft. draft ≡ record { moment = moment; what = what }) }
-        ensures room { OnOk result (HasRoom self.new) }
+        ensures room { OnOk result (vec_len self.new.entries < vec_capacity self.new.entries) }
         ensures entries { self.new.entries.items ≡ self.old.entries.items }
         ensures moment { self.new.moment ≡ self.old.moment }
     {
@@ -98,7 +97,7 @@ impl Log {
 
     /// Enters what is ready, and gives the receipt for it.
     pub(crate) fn enter(&mut self, draft: Draft) -> Receipt
-        requires { HasRoom self.old }
+        requires { vec_len self.old.entries < vec_capacity self.old.entries }
         ensures entries { self.new.entries.items ≡ self.old.entries.items ++ draft ∷ [] }
         ensures moment { self.new.moment ≡ draft.moment }
         ensures receipt { result ≡ record { place = length self.old.entries.items + 1; entry = draft } }
