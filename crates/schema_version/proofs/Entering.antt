@@ -251,11 +251,6 @@ still_known columns u k first f sound known name there =
     let c = known name there in
     named_stays (f ∷ []) u k (number_of first columns name) name (sound.elements (number_of first columns name) c.0 c.2).given c
 
--- a public element of each kind
-public_is : (kind : Kind) → IsTrue (has_state kind Public)
-public_is (Index columns) = refl
-public_is (Optional type) = refl
-
 module _ (tables : List Table) (k : ℕ) (table : Table) (few_tables : k ≤ 16) (placed : (u : Version) → u.tables ≡ tables → table_at u k ≡ Some table) (def : TableDef) (first : ℕ) where
   -- all indexes enter
   pub indexes_in : (indexes : List (List ℕ × List (List ℕ))) (u : Version) → AtTable tables k (each (λ i. i.0) indexes) 0 (length indexes) u → is_distinct (each (λ i. i.0) indexes) ≡ true
