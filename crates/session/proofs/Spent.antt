@@ -20,7 +20,7 @@ use Rattle.session.specs.declared.session.Pending.TheVariants.{Txn, Piece}
 use Rattle.session.specs.declared.session.Session.TheVariants.{Running}
 use Rattle.reorganise.specs.declared.reading.Reading.{Reading}
 use Rattle.replies.specs.Pieces.{piece_name, piece_text}
-use Rattle.session.specs.Answering.{CommitOf, Ends, kept, taken}
+use Rattle.session.specs.Answering.{CommitOf, Ends, kept, left_in, taken}
 use Rattle.session.specs.Session.{Session}
 use Rattle.replies.specs.Texts.{line, refused}
 use Rattle.replies.specs.Transactions.{committed_text, commit_name}
@@ -62,11 +62,6 @@ nothing_prepared old rest name key moment text bad new key_is found rest_is next
     subst (λ (o : Option Pending). CommitOf old o name moment text bad new) (sym none)
     ((told, good), next ∙ ap (λ (m : map.FinMap bytes_cmp Pending). let s : Session = Running (record old { pending = m }) in s) (rest_is ∙ ap (map.remove old.pending) key_is ∙ none_taken old.pending name none))
 
--- what stands once what is left was put back
-abbrev pub left_in : Opened → List ℕ → Option Pending → Opened
-left_in rest name None = rest
-left_in rest name (Some p) = kept rest name p
-
 -- what was taken out and committed
 ended : (old : Opened) (name : List ℕ) (moment : ℕ) (p : Pending) (text : List ℕ) (left : Option Pending) (world : State) (bad : Bool)
     → map.get old.pending name ≡ Some p → Ends old.world moment p text left world → bad ≡ false → CommitOf old (Some p) name moment text bad (Running (left_in (record (taken old name) { world = world }) name left))
@@ -93,11 +88,15 @@ ended old name moment (Piece p) text left world bad found (Err refusal, step, is
   ),
 )
 
-pub commits : (old : Opened) (rest : map.FinMap bytes_cmp Pending) (name key : List ℕ) (moment : ℕ) (p : Pending) (text : List ℕ) (left : Option Pending) (world : State) (bad : Bool)
-    → key ≡ name → Some p ≡ map.get old.pending key → rest ≡ map.remove old.pending key → Ends old.world moment p text left world → bad ≡ false
-    → CommitOf old (map.get old.pending name) name moment text bad (Running (left_in (record old { world = world; pending = rest }) name left))
-commits old rest name key moment p text left world bad key_is found rest_is done good =
+pub commits : (old next : Opened) (rest : map.FinMap bytes_cmp Pending) (name key : List ℕ) (moment : ℕ) (p : Pending) (text reply : List ℕ) (left : Option Pending) (world : State) (bad : Bool)
+    → key ≡ name → Some p ≡ map.get old.pending key → rest ≡ map.remove old.pending key → Ends old.world moment p text left world → reply ≡ text → bad ≡ false
+    → next ≡ left_in (record old { world = world; pending = rest }) name left
+    → CommitOf old (map.get old.pending name) name moment reply bad (Running next)
+commits old next rest name key moment p text reply left world bad key_is found rest_is done told good next_is =
     let here : map.get old.pending name ≡ Some p = ap (map.get old.pending) (sym key_is) ∙ sym found in
-    subst (λ (o : Option Pending). CommitOf old o name moment text bad (Running (left_in (record old { world = world; pending = rest }) name left))) (sym here)
-    (subst (λ (m : map.FinMap bytes_cmp Pending). CommitOf old (Some p) name moment text bad (Running (left_in (record old { world = world; pending = m }) name left))) (sym (rest_is ∙ ap (map.remove old.pending) key_is))
-    (ended old name moment p text left world bad here done good))
+    let gone : rest ≡ map.remove old.pending name = rest_is ∙ ap (map.remove old.pending) key_is in
+    let after : next ≡ left_in (record (taken old name) { world = world }) name left = next_is ∙ ap (λ (m : map.FinMap bytes_cmp Pending). left_in (record old { world = world; pending = m }) name left) gone in
+    subst (λ (o : Option Pending). CommitOf old o name moment reply bad (Running next)) (sym here)
+    (subst (λ (n : Opened). CommitOf old (Some p) name moment reply bad (Running n)) (sym after)
+    (subst (λ (t : List ℕ). CommitOf old (Some p) name moment t bad (Running (left_in (record (taken old name) { world = world }) name left))) (sym told)
+    (ended old name moment p text left world bad here done good)))

@@ -111,6 +111,11 @@ abbrev pub PieceEnds : Opened → List ℕ → ℕ → Reading → List ℕ → 
 PieceEnds old name moment read reply bad new =
     (result : Result PieceDone (PieceFault × Reading)) × (world : State) × PieceStep old.world moment read result world × PieceLeaves old name result world reply bad new
 
+-- what is left is kept under the name
+abbrev pub left_in : Opened → List ℕ → Option Pending → Opened
+left_in old name None = old
+left_in old name (Some prepared) = kept old name prepared
+
 -- the reply to the commit of a transaction, and what is left of the transaction
 abbrev pub txn_reply : Result Committed (CommitFault × PreparedTxn) → List ℕ × Option Pending
 txn_reply (Ok done) = (line (committed_text done), None)

@@ -1,7 +1,7 @@
 //! What is prepared in one line and committed in another.
 ghost use Rattle.std.specs.Prelude.{◌≡◌, IfOk, string_bytes};
 ghost use Rattle.grammar.specs.declared.command.Command.TheVariants as command;
-ghost use Rattle.session.specs.Answering.{Answers, Ends, kept};
+ghost use Rattle.session.specs.Answering.{Answers, Ends, kept, left_in};
 ghost use Rattle.session.specs.declared.session.Session.TheVariants.{Running};
 
 use crate::preparing::{Preparation, prepare_for, prepared_line};
@@ -70,6 +70,16 @@ fn committed(
     }
 }
 
+// What is left of what was prepared under this name is kept there.
+fn put_back(opened: &mut Opened, name: Text, left: Option<Pending>) -> Result<(), AllocError>
+    ensures { IfOk result (λ done. opened.new ≡ left_in opened.old name left) }
+{
+    match left {
+        None => Ok(()),
+        Some(prepared) => keep(opened, name, prepared),
+    }
+}
+
 /// `commit`: what was prepared under the name is committed and is then spent, unless the world refuses it.
 pub(crate) fn commit(
     alloc: Global,
@@ -79,12 +89,12 @@ pub(crate) fn commit(
 ) -> Result<Answer, AllocError>
     ensures { IfOk result (λ a. Answers opened.old (command.Commit name moment) (string_bytes a.text) a.is_bad (Running opened.new)) }
 {
-    let Some(pending) = opened.pending.take(name.as_bytes()) else {
-        return refusal(alloc, "NoWork");
-    };
-    let (text, left) = committed(alloc, &mut opened.world, moment, pending)?;
-    if let Some(prepared) = left {
-        keep(opened, name, prepared)?;
+    match opened.pending.take(name.as_bytes()) {
+        None => refusal(alloc, "NoWork"),
+        Some(pending) => {
+            let (text, left) = committed(alloc, &mut opened.world, moment, pending)?;
+            put_back(opened, name, left)?;
+            Ok(reply(text))
+        }
     }
-    Ok(reply(text))
 }
