@@ -8,10 +8,10 @@ ghost use Rattle.reorganise.specs.Moving.{come_on, IsSpanOf};
 ghost use Rattle.reorganise.specs.Pieces.{are_ended};
 
 use crate::prepared::PreparedPiece;
-use crate::work::{Progress, Span, Work};
+use crate::work::{Progress, Span};
 use byte_map::Bytes;
 use listed::Listed;
-use schema_version::ElementDef;
+use schema_version::{ElementDef, Work};
 use std::alloc::AllocError;
 
 /// A copy of a reorganisation.
