@@ -143,7 +143,6 @@ leg_in IndexOut (suc (suc (suc time))) = Rests refl refl
 leg_in ColumnOut zero = Runs Public Adding DeleteOnly Dropping refl refl (λ k e. column_only k e (λ type is. ap (λ k. edge k Adding Public DeleteOnly) is)) refl
 leg_in ColumnOut (suc zero) = Runs DeleteOnly Dropping Absent Dropping refl refl (λ k e. column_only k e (λ type is. ap (λ k. edge k Dropping DeleteOnly Absent) is)) refl
 leg_in ColumnOut (suc (suc time)) = Rests refl refl
-
 leg_in DeleteOnlyBack zero = Turns DeleteOnly refl refl (λ is. cc) refl
 leg_in DeleteOnlyBack (suc zero) = Runs DeleteOnly Dropping Absent Dropping refl refl (λ k e. gone k) refl
 leg_in DeleteOnlyBack (suc (suc time)) = Rests refl refl
