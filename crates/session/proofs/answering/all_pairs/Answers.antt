@@ -1,6 +1,6 @@
 use Rattle.std.proofs.Common.{refl}
 use Rattle.session.proofs.Pairs.{from_start, told_more, told_all, counted_more, counted_all}
-use Rattle.session.proofs.running.all_pairs.Goals as goal
+use Rattle.session.proofs.answering.all_pairs.Goals as goal
 
 pub loop-key-init : goal.loop-key-init
 loop-key-init c = from_start c.args.world.now.pairs _ _ c.new-text.ensures.bytes c.walk-walk.ensures

@@ -2,7 +2,7 @@ use Rattle.std.proofs.Common.{◌≡◌, ◌+◌, ◌++◌, length, string_bytes
 use Rattle.std.specs.FinMap as map
 use Rattle.std.specs.List.{flat_map}
 use Rattle.replies.specs.Texts.{pair_line}
-use Rattle.session.proofs.running.all_pairs.Given as goal
+use Rattle.session.proofs.answering.all_pairs.Given as goal
 
 -- what was told and what is left are all
 abbrev pub invariant-loop-key : goal.invariant-loop-key

@@ -1,7 +1,7 @@
 use Rattle.std.proofs.Common.{sym, ap, ◌∙◌}
 use Rattle.std.specs.FinMap as map
 use Rattle.session.proofs.UnderLease.{txn_under}
-use Rattle.session.proofs.running.txn.Goals as goal
+use Rattle.session.proofs.answering.txn.Goals as goal
 
 pub returns : goal.returns
 returns c =

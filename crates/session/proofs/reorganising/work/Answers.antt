@@ -1,6 +1,6 @@
 use Rattle.std.proofs.Common.{◌∙◌}
 use Rattle.session.proofs.Elements.{worked_under}
-use Rattle.session.proofs.working.work.Goals as goal
+use Rattle.session.proofs.reorganising.work.Goals as goal
 
 pub returns : goal.returns
 returns c =
