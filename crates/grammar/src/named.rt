@@ -2,7 +2,9 @@
 ghost use Rattle.tokens.specs.Productions.{Gives};
 ghost use Rattle.grammar.specs.Changes.{enter_of, go_of, move_of, add_of, drop_of, change_of};
 
-use crate::element::{ElementName, New, element, fresh, named_on, optional_to_state, to_state, whole_element};
+use crate::element::{
+    ElementName, New, element, fresh, named_on, optional_to_state, to_state, whole_element,
+};
 use schema_version::ElementState;
 use std::alloc::Global;
 use tokens::{LineFault, Production, Token, at_end, is_word};
