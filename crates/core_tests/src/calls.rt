@@ -224,51 +224,42 @@ fn accepted(replies: &[Reply]) -> Option<usize> {
     if is_short { Some(accepted) } else { None }
 }
 
-/// What comes of a run: it is as asked, memory was short and no event that was refused has an entry, or neither.
-#[derive(Clone, Copy, PartialEq)]
-enum Ran {
-    AsAsked,
-    Short,
-    Wrong,
-}
-
-// One reply for each event, and three entries.
-fn judged(world: &World, replies: &[Reply]) -> Ran {
+// Whether there is one reply for each event, and three entries; none where memory was short and no event that was refused has an entry.
+fn judged(world: &World, replies: &[Reply]) -> Option<bool> {
     let entries = world.log().len();
-    if are_as_asked(replies) && entries == 3 {
-        Ran::AsAsked
-    } else if replies.len() == 4 && accepted(replies) == Some(entries) {
-        Ran::Short
-    } else {
-        Ran::Wrong
+    if replies.len() == 4 && accepted(replies) == Some(entries) {
+        return None;
     }
+    Some(are_as_asked(replies) && entries == 3)
 }
 
 // The events come back where there was no memory for the replies.
-fn runs_four(alloc: Global, world: &mut World, events: Vec<Event>) -> Ran {
-    let told = match world.run(alloc, events) {
-        Err((AllocError, events)) if world.log().len() == 0 => world.run(alloc, events),
-        told => told,
+fn runs_four(alloc: Global, world: &mut World, events: Vec<Event>) -> Option<bool> {
+    let events = match world.run(alloc, events) {
+        Ok(replies) => return judged(world, replies.as_slice()),
+        Err((AllocError, events)) => events,
     };
-    match told {
+    match world.run(alloc, events) {
         Ok(replies) => judged(world, replies.as_slice()),
-        Err(_) => Ran::Wrong,
+        Err(_) => Some(false),
     }
 }
 
-fn four_run(alloc: Global) -> Ran {
-    match (opened(alloc), four(alloc)) {
-        (Ok(mut world), Some(events)) => runs_four(alloc, &mut world, events),
-        (Ok(_), None) => Ran::Short,
-        _ => Ran::Wrong,
+fn four_run(alloc: Global) -> Option<bool> {
+    match opened(alloc) {
+        Ok(mut world) => {
+            let events = four(alloc)?;
+            runs_four(alloc, &mut world, events)
+        }
+        Err(_) => Some(false),
     }
 }
 
 // The events, in another world alike where memory was short.
 fn all_run(alloc: Global) -> bool {
     match four_run(alloc) {
-        Ran::Short => four_run(alloc) == Ran::AsAsked,
-        told => told == Ran::AsAsked,
+        Some(is_right) => is_right,
+        None => four_run(alloc) == Some(true),
     }
 }
 

@@ -103,8 +103,7 @@ fn prepared(alloc: Global, ops: Vec<RowOp>, view: ReadView) -> Result<Prepared, 
     let count = ops.len();
     match prepare(alloc, schema, LEASE, Listed::new(ops), view) {
         Ok(prepared) => Ok(prepared),
-        Err((PrepareFault::Memory, ops)) if ops.len() != count => Err(NoTable),
-        Err((fault, _)) => Err(fault),
+        Err((fault, ops)) => Err(if ops.len() == count { fault } else { NoTable }),
     }
 }
 
