@@ -61,7 +61,7 @@ struct Sets {
     none: Batch,
 }
 
-fn sets(alloc: Global, first: u16) -> Result<Sets, AllocError> {
+fn all_sets(alloc: Global, first: u16) -> Result<Sets, AllocError> {
     let nothing = Expect {
         points: KeyMap::new(alloc),
         stretch: None,
@@ -97,8 +97,8 @@ fn counts(alloc: Global, sets: &Sets) -> Option<(usize, usize, usize)> {
 #[test]
 fn under_refusal_pages_are_cut_and_a_snapshot_stays(rt: HostRuntime) -> Result<(), Fail> {
     let alloc = rt.alloc();
-    let at_once = sets(alloc, 0).ok().ok_or("memory is there")?;
-    let behind = sets(alloc, 64).ok().ok_or("memory is there")?;
+    let at_once = all_sets(alloc, 0).ok().ok_or("memory is there")?;
+    let behind = all_sets(alloc, 64).ok().ok_or("memory is there")?;
     assert!(rt; mark(&rt));
     assert!(rt; counts(alloc, &at_once) == Some((65, 0, 65)));
     assert!(rt; counts(alloc, &behind) == Some((65, 0, 65)));
