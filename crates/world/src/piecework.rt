@@ -27,7 +27,7 @@ use std::alloc::{AllocError, Global};
 fn copied(alloc: Global, bytes: &[u8]) -> Result<Bytes, AllocError>
     ensures { IfOk result (λ copy. copy ≡ bytes.now) }
 {
-    Bytes::new(Vec::from_slice(alloc, bytes)?)
+    Bytes::from_slice(alloc, bytes)
 }
 
 /// A copy of a reorganisation.

@@ -14,7 +14,7 @@ fn value_of(alloc: Global, store: &Store, key: &Bytes) -> Result<Option<Bytes>, 
 {
     match store.get(key.as_slice()) {
         None => Ok(None),
-        Some(value) => Ok(Some(Bytes::new(Vec::from_slice(alloc, value)?)?)),
+        Some(value) => Ok(Some(Bytes::from_slice(alloc, value)?)),
     }
 }
 
