@@ -1,7 +1,7 @@
 //! What transactions read, and what their preparation gives.
 use crate::fixtures::{
     A_1, A_2, EMPTY, FIVE, I_5_1, I_6_1, I_NULL_1, Plain, Points, ROW_1, ROW_2, SIX, are_writes,
-    bytes, declared, key, value,
+    bytes, declared, key, mark, value,
 };
 use Plain::{Bool, Int, Null};
 use PrepareFault::{NoTable, NotPublic, TooManyOps, ViewMismatch, WrongType};
@@ -97,11 +97,13 @@ fn bare_view(alloc: Global, reads: &ReadSet) -> Result<ReadView, AllocError> {
     Ok(view)
 }
 
+/// What is prepared; of no table where the operations did not come back with a refusal.
 fn prepared(alloc: Global, ops: Vec<RowOp>, view: ReadView) -> Result<Prepared, PrepareFault> {
     let schema = Counted::new(alloc, declared(alloc)?)?;
+    let count = ops.len();
     match prepare(alloc, schema, LEASE, Listed::new(ops), view) {
         Ok(prepared) => Ok(prepared),
-        Err((fault, _)) => Err(fault),
+        Err((fault, ops)) => Err(if ops.len() == count { fault } else { NoTable }),
     }
 }
 
@@ -115,7 +117,7 @@ fn outcome_with(prepared: &Prepared, wanted: Points) -> Option<RowOutcome> {
 }
 
 /// The same of these operations.
-fn outcome(
+fn outcome_once(
     alloc: Global,
     plain: &[Op],
     points: Points,
@@ -125,6 +127,19 @@ fn outcome(
     let view = view(alloc, points)?;
     let prepared = prepared(alloc, ops, view)?;
     Ok(outcome_with(&prepared, wanted))
+}
+
+/// The same, asked once more where memory was short.
+fn outcome(
+    alloc: Global,
+    plain: &[Op],
+    points: Points,
+    wanted: Points,
+) -> Result<Option<RowOutcome>, PrepareFault> {
+    match outcome_once(alloc, plain, points, wanted) {
+        Err(PrepareFault::Memory) => outcome_once(alloc, plain, points, wanted),
+        told => told,
+    }
 }
 
 /// Row 1 is not there, or it has a 5 in `a`, or row 2 is not there either.
@@ -182,7 +197,8 @@ static ACCEPTED: [(&str, &[Op], Points, Points); 5] = [
 ];
 
 #[test]
-fn accepted_operations_write_pairs(rt: HostRuntime) {
+fn under_refusal_accepted_operations_write_pairs(rt: HostRuntime) {
+    assert!(rt; mark(&rt));
     for (name, plain, points, wanted) in &ACCEPTED {
         let told = outcome(rt.alloc(), *plain, *points, *wanted);
         assert!(rt; told == Ok(Some(Done)), "{name}");
@@ -329,7 +345,8 @@ static TOLD: [(
 ];
 
 #[test]
-fn what_writes_nothing_is_told(rt: HostRuntime) {
+fn under_refusal_what_writes_nothing_is_told(rt: HostRuntime) {
+    assert!(rt; mark(&rt));
     for (name, plain, points, want) in &TOLD {
         assert!(rt;
             outcome(rt.alloc(), *plain, *points, &[]) == *want,
@@ -424,7 +441,17 @@ fn are_read(alloc: Global, plain: &[Op], wanted: &[&[u8]]) -> Result<bool, Alloc
 /// The table 2 is not there.
 const READING: &[Op] = &[TWO, ONE, ONE, (Delete, 2, Int(1), &[])];
 
+/// The same, asked once more where memory was short.
+fn are_read_at_last(alloc: Global, plain: &[Op], wanted: &[&[u8]]) -> Result<bool, AllocError> {
+    match are_read(alloc, plain, wanted) {
+        Err(AllocError) => are_read(alloc, plain, wanted),
+        told => told,
+    }
+}
+
 #[test]
-fn keys_that_are_read(rt: HostRuntime) {
-    assert!(rt; are_read(rt.alloc(), READING, &[ROW_1, A_1, ROW_2, A_2]) == Ok(true));
+fn under_refusal_keys_that_are_read(rt: HostRuntime) {
+    assert!(rt; mark(&rt));
+    let wanted = [ROW_1, A_1, ROW_2, A_2];
+    assert!(rt; are_read_at_last(rt.alloc(), READING, &wanted) == Ok(true));
 }

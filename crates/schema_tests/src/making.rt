@@ -35,6 +35,11 @@ pub const FULL: PlainTables = (
     b"A",
 );
 
+/// Prints the line from which on the step for refusals counts allocations.
+pub fn mark<R: Print>(rt: &R) -> bool {
+    rt.println("from here on").is_ok()
+}
+
 pub fn text(alloc: Global, name: &str) -> Result<Text, AllocError> {
     Ok(Text::new(String::from_str(alloc, name)?))
 }

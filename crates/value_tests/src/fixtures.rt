@@ -1,8 +1,14 @@
 //! What several tests make of plain literals.
 use byte_map::{Bytes, KeyMap};
 use keycode::{Text, Value};
-use row_map::Write;
+use row_map::{Batch, Expect, PairView, Write};
 use std::alloc::{AllocError, Global};
+use txn_store::{SetFault, Store};
+
+/// Prints the line from which on the step for refusals counts allocations.
+pub fn mark<R: Print>(rt: &R) -> bool {
+    rt.println("from here on").is_ok()
+}
 
 /// A value as a literal.
 #[derive(Clone, Copy)]
@@ -55,6 +61,44 @@ pub fn written(alloc: Global, content: &[(u8, Option<u8>)]) -> Result<KeyMap<Byt
     let mut map = KeyMap::new(alloc);
     map.write_all(writes(alloc, content)?)?;
     Ok(map)
+}
+
+/// The number that these bytes and their order make of another.
+fn mixed(sum: u64, bytes: &[u8]) -> u64 {
+    let mut sum = sum.wrapping_mul(31).wrapping_add(7);
+    for byte in bytes {
+        sum = sum.wrapping_mul(31).wrapping_add(u64::from(*byte));
+    }
+    sum
+}
+
+/// A number that all pairs make, so that other pairs hardly make the same.
+pub fn sum_of<P: PairView>(pairs: &P) -> u64 {
+    let mut sum = 0u64;
+    let mut walk = pairs.walk();
+    for _i in 0..u64::MAX {
+        let Some((key, value)) = walk.next() else {
+            return sum;
+        };
+        sum = mixed(mixed(sum, key), value);
+    }
+    sum
+}
+
+/// Sets a store, once more where memory was short and the pairs are as before.
+pub fn set(
+    alloc: Global,
+    store: &mut Store,
+    expected: &Expect,
+    batch: &Batch,
+) -> Result<(), SetFault> {
+    let before = sum_of(store);
+    match store.test_and_set(alloc, expected, batch) {
+        Err(SetFault::Memory) if sum_of(store) == before => {
+            store.test_and_set(alloc, expected, batch)
+        }
+        told => told,
+    }
 }
 
 /// Whether the byte string is this byte alone.

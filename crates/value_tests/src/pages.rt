@@ -1,127 +1,35 @@
-//! Stores of many pages: beside a plain sorted list, and beside what a snapshot keeps.
-use crate::fixtures::{byte, bytes};
-use byte_map::{Bytes, KeyMap};
+//! Stores of more than a page, beside what a snapshot keeps.
+use crate::fixtures::{byte, bytes, mark, set};
+use byte_map::KeyMap;
 use row_map::{Batch, Expect, PairView};
 use std::alloc::{AllocError, Global};
 use std::test::*;
-use txn_store::{SetFault, Store};
+use txn_store::{PairSnapshot, Store};
 
-/// A run of keys that one batch puts, or removes where there is no value.
-#[derive(Clone, Copy)]
-struct Run {
-    start: u16,
-    step: u16,
-    count: u16,
-    value: Option<u8>,
-}
-
-/// The run that a number stands for: up to 510 keys of 4,096, side by side, scattered or falling, two of three put.
-fn run_of(number: u32) -> Run {
-    let [a, b, c, d] = number.to_be_bytes();
-    let step = match a % 4 {
-        0 => 1,
-        1 => 7,
-        2 => 1031,
-        _ => 4095,
-    };
-    Run {
-        start: u16::from_be_bytes([b, a]),
-        step,
-        count: u16::from(c).saturating_mul(2),
-        value: if d % 3 == 0 { None } else { Some(d) },
-    }
-}
-
-/// The key of a place in a run, of two bytes.
-fn key_at(alloc: Global, run: Run, at: u16) -> Result<Bytes, AllocError> {
-    let number = run.start.wrapping_add(run.step.wrapping_mul(at)) & 0x0fff;
-    bytes(alloc, number.to_be_bytes().as_slice())
-}
-
-fn set_store(alloc: Global, store: &mut Store, run: Run) -> Result<(), SetFault> {
+/// A batch that puts or removes the keys from 0 to below this one, of two bytes.
+fn batch(alloc: Global, count: u16, is_put: bool) -> Result<Batch, AllocError> {
     let mut batch = Batch::new(alloc);
-    for at in 0..run.count {
-        let key = key_at(alloc, run, at)?;
-        match run.value {
-            None => batch.remove(key)?,
-            Some(value) => batch.put(key, byte(alloc, value)?)?,
+    for number in 0..count {
+        let key = bytes(alloc, number.to_be_bytes().as_slice())?;
+        if is_put {
+            batch.put(key, byte(alloc, 1)?)?;
+        } else {
+            batch.remove(key)?;
         }
     }
-    let nothing = Expect {
-        points: KeyMap::new(alloc),
-        stretch: None,
-    };
-    store.test_and_set(alloc, &nothing, &batch)
-}
-
-fn set_list(alloc: Global, list: &mut KeyMap<Bytes>, run: Run) -> Result<(), AllocError> {
-    for at in 0..run.count {
-        let key = key_at(alloc, run, at)?;
-        match run.value {
-            None => {
-                list.take(key.as_slice());
-            }
-            Some(value) => list.insert(key, byte(alloc, value)?)?,
-        }
-    }
-    Ok(())
-}
-
-/// Whether the store has the pairs of the list, in their order, and no others.
-fn is_same(store: &Store, list: &KeyMap<Bytes>) -> bool {
-    let high = [255];
-    let mut range = store.range([].as_slice(), high.as_slice());
-    for (key, value) in list.entries() {
-        match range.next() {
-            None => return false,
-            Some((found, content)) => {
-                if key.compare(found).is_ne() || value.compare(content).is_ne() {
-                    return false;
-                }
-            }
-        }
-    }
-    range.next().is_none() && store.len() == list.len()
-}
-
-/// The first of so many runs after which the store and the list differ, if there is one.
-fn first_difference(alloc: Global, runs: u32) -> Result<Option<u32>, SetFault> {
-    let mut store = Store::new(alloc);
-    let mut list = KeyMap::new(alloc);
-    let mut number = 1u32;
-    for at in 0..runs {
-        number = number.wrapping_mul(1_664_525).wrapping_add(1_013_904_223);
-        let run = run_of(number);
-        set_store(alloc, &mut store, run)?;
-        set_list(alloc, &mut list, run)?;
-        if !is_same(&store, &list) {
-            return Ok(Some(at));
-        }
-    }
-    Ok(None)
-}
-
-#[test]
-fn batches_are_those_of_a_sorted_list(rt: HostRuntime) -> Result<(), Fail> {
-    let told = first_difference(rt.alloc(), 300)
-        .ok()
-        .ok_or("memory is there")?;
-    assert!(rt; told.is_none());
-    Ok(())
+    Ok(batch)
 }
 
 /// How many pairs a view gives, one after another from the least key on.
-fn walked<P: PairView>(alloc: Global, view: &P) -> Result<usize, AllocError> {
-    let mut from = Vec::new(alloc);
+fn walked<P: PairView>(view: &P) -> usize {
+    let mut from = 0u16;
     for count in 0..200 {
-        let Some((key, _)) = view.next_at(from.as_slice()) else {
-            return Ok(count);
-        };
-        from = Vec::new(alloc);
-        from.extend_from_slice(key)?;
-        from.push(0)?;
+        match view.next_at(from.to_be_bytes().as_slice()) {
+            Some(([high, low], _)) => from = u16::from_be_bytes([*high, *low]).wrapping_add(1),
+            _ => return count,
+        }
     }
-    Ok(200)
+    200
 }
 
 /// How many pairs a range gives.
@@ -136,26 +44,63 @@ fn ranged(store: &Store) -> usize {
     200
 }
 
-/// Of 65 keys that one batch puts and, behind a snapshot, one batch removes: how many a range gives between the two,
-/// how many are left, and how many are found by walking over the snapshot.
-fn put_and_removed(alloc: Global) -> Result<(usize, usize, usize), SetFault> {
-    let all = Run {
-        start: 0,
-        step: 1,
-        count: 65,
-        value: Some(1),
-    };
-    let mut store = Store::new(alloc);
-    set_store(alloc, &mut store, all)?;
-    let given = ranged(&store);
-    let snapshot = store.snapshot()?;
-    set_store(alloc, &mut store, Run { value: None, ..all })?;
-    Ok((given, store.len(), walked(alloc, &snapshot)?))
+/// A snapshot, taken once more where memory was short.
+fn snapshot(store: &Store) -> Option<PairSnapshot> {
+    match store.snapshot() {
+        Ok(taken) => Some(taken),
+        Err(AllocError) => store.snapshot().ok(),
+    }
 }
 
+/// What is done in turn: keys from 0 on are put, then all 65, then, behind a snapshot, all are removed. Nothing is expected.
+#[derive(Drop)]
+struct Sets {
+    nothing: Expect,
+    first: Batch,
+    all: Batch,
+    none: Batch,
+}
+
+fn all_sets(alloc: Global, first: u16) -> Result<Sets, AllocError> {
+    let nothing = Expect {
+        points: KeyMap::new(alloc),
+        stretch: None,
+    };
+    let first = batch(alloc, first, true)?;
+    let all = batch(alloc, 65, true)?;
+    let none = batch(alloc, 65, false)?;
+    Ok(Sets {
+        nothing,
+        first,
+        all,
+        none,
+    })
+}
+
+/// How many pairs a range gives before the snapshot, how many are left, and how many a walk over the snapshot finds.
+fn counts(alloc: Global, sets: &Sets) -> Option<(usize, usize, usize)> {
+    let mut store = Store::new(alloc);
+    if set(alloc, &mut store, &sets.nothing, &sets.first).is_err()
+        || set(alloc, &mut store, &sets.nothing, &sets.all).is_err()
+    {
+        return None;
+    }
+    let given = ranged(&store);
+    let snapshot = snapshot(&store)?;
+    if set(alloc, &mut store, &sets.nothing, &sets.none).is_err() {
+        return None;
+    }
+    Some((given, store.len(), walked(&snapshot)))
+}
+
+/// A page has 64 pairs: 65 that are put at once take two, and a 65th that comes behind 64 cuts their page.
 #[test]
-fn a_snapshot_stays(rt: HostRuntime) -> Result<(), Fail> {
-    let counts = put_and_removed(rt.alloc()).ok().ok_or("memory is there")?;
-    assert!(rt; counts == (65, 0, 65));
+fn under_refusal_pages_are_cut_and_a_snapshot_stays(rt: HostRuntime) -> Result<(), Fail> {
+    let alloc = rt.alloc();
+    let at_once = all_sets(alloc, 0).ok().ok_or("memory is there")?;
+    let behind = all_sets(alloc, 64).ok().ok_or("memory is there")?;
+    assert!(rt; mark(&rt));
+    assert!(rt; counts(alloc, &at_once) == Some((65, 0, 65)));
+    assert!(rt; counts(alloc, &behind) == Some((65, 0, 65)));
     Ok(())
 }
