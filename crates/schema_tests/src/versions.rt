@@ -1,6 +1,6 @@
 //! Declarations, steps and readers of a version.
 use crate::making::Plain::{Column, Go, Index, Turn};
-use crate::making::{FULL, Path, PlainTables, TABLE_T, declared, mark, step, texts, version};
+use crate::making::{FULL, Path, PlainTables, TABLE_T, declared, mark, texts, version};
 use row_map::ColumnType::{self, Int};
 use row_map::TableShape;
 use schema_version::ElementState::{self, Absent, DeleteOnly, Public, WriteOnly};

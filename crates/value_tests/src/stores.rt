@@ -198,12 +198,3 @@ fn under_refusal_writes_are_made_or_the_least_conflict_is_told(rt: HostRuntime) 
         );
     }
 }
-
-/// A pair whose key and value are one byte each.
-fn plain(found: Option<(&[u8], &[u8])>) -> Option<(u8, u8)> {
-    match found {
-        Some(([key], [value])) => Some((*key, *value)),
-        Some(_) => Some((0, 0)),
-        None => None,
-    }
-}
