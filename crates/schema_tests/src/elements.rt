@@ -195,9 +195,8 @@ fn writes_again(
         }
         noted => noted,
     };
-    let (first, second) = batch
-        .writes()
-        .split_at(case.5.len().min(batch.writes().len()));
+    let writes = batch.writes();
+    let (first, second) = writes.split_at(case.5.len().min(writes.len()));
     noted.is_ok() && are_writes(first, case.5) && are_writes(second, case.5)
 }
 

@@ -1,46 +1,16 @@
 //! Declarations, steps and readers of a version.
 use crate::making::Plain::{Column, Go, Index, Turn};
-use crate::making::{FULL, Path, PlainTables, TABLE_T, declared, mark, texts, version};
+use crate::making::{FULL, Path, PlainTables, TABLE_T, declared, mark, version};
 use row_map::ColumnType::{self, Int};
 use row_map::TableShape;
 use schema_version::ElementState::{self, Absent, DeleteOnly, Public, WriteOnly};
-use schema_version::{DeclareFault, ElementDef, Schema, StepFault, is_name, is_name_list};
+use schema_version::{DeclareFault, ElementDef, Schema, StepFault};
 use std::alloc::{AllocError, Global};
 use std::test::*;
 
 const LONGEST_NAME: &str = "n2345678901234567890123456789012";
 
 const LONG_NAME: &str = "n23456789012345678901234567890123";
-
-/// Bytes, whether they are a name, and whether they are a list of names of one letter each.
-static NAMES: [(&[u8], bool, bool); 10] = [
-    (b"", false, false),
-    (b"a", true, true),
-    (b"abcd", true, true),
-    (b"abcde", true, false),
-    (b"aba", true, false),
-    (b"Z_9", true, true),
-    (b"_z", false, true),
-    (b"b-c", false, true),
-    (b"n2345678901234567890123456789012", true, false),
-    (b"n23456789012345678901234567890123", false, false),
-];
-
-fn is_lawful(alloc: Global, names: &[u8]) -> Result<(bool, bool), AllocError> {
-    let list = texts(alloc, names)?;
-    Ok((is_name(names), is_name_list(list.as_slice())))
-}
-
-#[test]
-fn names(rt: HostRuntime) {
-    for row in 0..NAMES.len() {
-        let (names, name, list) = NAMES[row];
-        assert!(rt;
-            is_lawful(rt.alloc(), names) == Ok((name, list)),
-            "row {row}"
-        );
-    }
-}
 
 /// The numbers of the table P, of the element w of the table 1, and of the next element.
 type Numbers = (Option<u32>, Option<u32>, u32);
@@ -110,15 +80,41 @@ enum Ask {
     Number(u32, ElementState, &'static str, &'static str, &'static str),
     /// Whether it has the columns of a table.
     Shape(u32, Option<&'static [(u32, ColumnType)]>),
-    /// Whether it is the same as the version of other tables after other steps.
-    Same(PlainTables, Path, bool),
 }
 
-use Ask::{Number, Numbers as Numbered, Refused, Same, Shape};
+use Ask::{Number, Numbers as Numbered, Refused, Shape};
 
 type Case = (PlainTables, Path, Ask);
 
 const ONE: &[u32] = &[1];
+
+const I_LEAVES: Path = &[&[Go(6, WriteOnly)], &[Go(6, DeleteOnly)], &[Go(6, Absent)]];
+
+const I_COMES_BACK: Path = &[
+    &[Go(6, WriteOnly)],
+    &[Go(6, DeleteOnly)],
+    &[Go(6, Absent)],
+    &[Index("i", ONE, DeleteOnly)],
+];
+
+const J_COMES_AND_GOES: Path = &[
+    &[Index("j", ONE, DeleteOnly)],
+    &[Go(7, WriteOnly)],
+    &[Go(7, Public)],
+    &[Go(7, WriteOnly)],
+    &[Go(7, DeleteOnly)],
+    &[Go(7, Absent)],
+];
+
+const J_TURNS_BACK: Path = &[
+    &[Index("j", ONE, DeleteOnly)],
+    &[Go(7, WriteOnly)],
+    &[Turn(7)],
+    &[Go(7, DeleteOnly)],
+    &[Go(7, Absent)],
+];
+
+const E_COMES_BACK: Path = &[&[Go(5, DeleteOnly)], &[Go(5, Absent)], &[Column("e")]];
 
 static REFUSED: [Case; 24] = [
     (
@@ -213,35 +209,7 @@ static REFUSED: [Case; 24] = [
     ),
 ];
 
-const I_LEAVES: Path = &[&[Go(6, WriteOnly)], &[Go(6, DeleteOnly)], &[Go(6, Absent)]];
-
-const I_COMES_BACK: Path = &[
-    &[Go(6, WriteOnly)],
-    &[Go(6, DeleteOnly)],
-    &[Go(6, Absent)],
-    &[Index("i", ONE, DeleteOnly)],
-];
-
-const J_COMES_AND_GOES: Path = &[
-    &[Index("j", ONE, DeleteOnly)],
-    &[Go(7, WriteOnly)],
-    &[Go(7, Public)],
-    &[Go(7, WriteOnly)],
-    &[Go(7, DeleteOnly)],
-    &[Go(7, Absent)],
-];
-
-const J_TURNS_BACK: Path = &[
-    &[Index("j", ONE, DeleteOnly)],
-    &[Go(7, WriteOnly)],
-    &[Turn(7)],
-    &[Go(7, DeleteOnly)],
-    &[Go(7, Absent)],
-];
-
-const E_COMES_BACK: Path = &[&[Go(5, DeleteOnly)], &[Go(5, Absent)], &[Column("e")]];
-
-static ALLOWED: [Case; 14] = [
+static ALLOWED: [Case; 18] = [
     (TABLE_T, &[], Numbered("i", Some(6), Some(6), 7)),
     (
         TABLE_T,
@@ -281,15 +249,7 @@ static ALLOWED: [Case; 14] = [
         Number(5, Absent, "", "", ""),
     ),
     (TABLE_T, E_COMES_BACK, Numbered("e", Some(7), Some(7), 8)),
-];
-
-static READ: [Case; 15] = [
-    (TABLE_T, &[], Number(0, Absent, "", "a", "")),
     (TABLE_T, &[], Number(1, Public, "a", "b", "t")),
-    (TABLE_T, &[], Number(2, Public, "b", "c", "")),
-    (TABLE_T, &[], Number(5, Public, "e", "i", "")),
-    (TABLE_T, &[], Number(6, Public, "i", "", "")),
-    (TABLE_T, &[], Number(7, Absent, "", "", "")),
     (
         TABLE_T,
         &[],
@@ -301,21 +261,6 @@ static READ: [Case; 15] = [
         Shape(1, Some(&[(1, Int), (2, Int), (3, Int), (4, Int)])),
     ),
     (TABLE_T, &[], Shape(2, None)),
-    (TABLE_T, &[], Same(TABLE_T, &[], true)),
-    (TABLE_T, &[], Same((b"u", b"abcde", b"i", b"a"), &[], false)),
-    (
-        TABLE_T,
-        &[&[Go(6, WriteOnly)]],
-        Same(TABLE_T, &[&[Go(6, WriteOnly)]], true),
-    ),
-    (
-        TABLE_T,
-        &[&[Go(6, WriteOnly)]],
-        Same(TABLE_T, &[&[Go(6, WriteOnly)], &[Go(6, DeleteOnly)]], false),
-    ),
-    (TABLE_T, I_LEAVES, Same(TABLE_T, I_LEAVES, true)),
-    // They differ in the next number alone.
-    (TABLE_T, &[], Same(TABLE_T, J_COMES_AND_GOES, false)),
 ];
 
 fn name_of(element: Option<&ElementDef>) -> &str {
@@ -344,14 +289,6 @@ fn has_shape(
     }
 }
 
-fn is_same(schema: &Schema, other: Result<Schema, StepFault>, same: bool) -> Answer {
-    match other {
-        Ok(other) => Ok(schema.is_same(&other) == same),
-        Err(StepFault::Memory) => Err(AllocError),
-        Err(_) => Ok(false),
-    }
-}
-
 /// Whether the answer is the one that is wanted, or that memory was short.
 type Answer = Result<bool, AllocError>;
 
@@ -370,7 +307,6 @@ fn answers(alloc: Global, schema: &Schema, ask: Ask) -> Answer {
                 && schema.table_name(number).unwrap_or("") == table,
         ),
         Shape(table, columns) => has_shape(alloc, schema, table, columns),
-        Same(tables, path, same) => is_same(schema, version(alloc, &tables, path), same),
     }
 }
 
@@ -406,13 +342,5 @@ fn under_refusal_allowed_steps(rt: HostRuntime) {
     assert!(rt; mark(&rt));
     for row in 0..ALLOWED.len() {
         assert!(rt; holds(rt.alloc(), &ALLOWED[row]), "row {row}");
-    }
-}
-
-#[test]
-fn under_refusal_readers(rt: HostRuntime) {
-    assert!(rt; mark(&rt));
-    for row in 0..READ.len() {
-        assert!(rt; holds(rt.alloc(), &READ[row]), "row {row}");
     }
 }
