@@ -1,73 +1,16 @@
 //! Declarations, steps and readers of a version.
 use crate::making::Plain::{Column, Go, Index, Turn};
-use crate::making::{FULL, Path, PlainTables, TABLE_T, declared, mark, version};
+use crate::making::{FULL, Path, PlainTable, TABLE_T, mark, version};
 use row_map::ColumnType::{self, Int};
 use row_map::TableShape;
 use schema_version::ElementState::{self, Absent, DeleteOnly, Public, WriteOnly};
-use schema_version::{DeclareFault, ElementDef, Schema, StepFault};
+use schema_version::{ElementDef, Schema, StepFault};
 use std::alloc::{AllocError, Global};
 use std::test::*;
 
 const LONGEST_NAME: &str = "n2345678901234567890123456789012";
 
 const LONG_NAME: &str = "n23456789012345678901234567890123";
-
-/// The numbers of the table P, of the element w of the table 1, and of the next element.
-type Numbers = (Option<u32>, Option<u32>, u32);
-
-const BAD: Result<Numbers, DeclareFault> = Err(DeclareFault::BadTable);
-
-static DECLARED: [(PlainTables, Result<Numbers, DeclareFault>); 10] = [
-    (FULL, Ok((None, Some(48), 49))),
-    ((b"t", b"ABCDEFGHIJKLMNOPQRSTUVWXYZabcdefg", b"", b""), BAD),
-    ((b"t", b"a", b"hijklmnopqrstuvwx", b"a"), BAD),
-    ((b"t", b"a", b"a", b"a"), BAD),
-    ((b"t", b"a", b"i", b"z"), BAD),
-    ((b"t", b"a", b"i", b"aa"), BAD),
-    ((b"", b"a", b"", b""), BAD),
-    ((b"tt", b"a", b"", b""), BAD),
-    (
-        (b"ABCDEFGHIJKLMNOP", b"", b"", b""),
-        Ok((Some(16), None, 1)),
-    ),
-    ((b"ABCDEFGHIJKLMNOPQ", b"", b"", b""), BAD),
-];
-
-fn number_of(element: Option<&ElementDef>) -> Option<u32> {
-    match element {
-        Some(element) => Some(element.number),
-        None => None,
-    }
-}
-
-fn numbers(schema: &Schema) -> Numbers {
-    let element = number_of(schema.by_name(1, "w"));
-    (schema.table("P"), element, schema.next_number())
-}
-
-fn declared_numbers(alloc: Global, tables: &PlainTables) -> Result<Numbers, DeclareFault> {
-    match declared(alloc, tables) {
-        Ok(schema) => Ok(numbers(&schema)),
-        Err(fault) => Err(fault),
-    }
-}
-
-/// The same, asked once more where memory was short.
-fn numbers_told(alloc: Global, tables: &PlainTables) -> Result<Numbers, DeclareFault> {
-    match declared_numbers(alloc, tables) {
-        Err(DeclareFault::Memory) => declared_numbers(alloc, tables),
-        told => told,
-    }
-}
-
-#[test]
-fn under_refusal_declarations(rt: HostRuntime) {
-    assert!(rt; mark(&rt));
-    for row in 0..DECLARED.len() {
-        let (tables, want) = DECLARED[row];
-        assert!(rt; numbers_told(rt.alloc(), &tables) == want, "row {row}");
-    }
-}
 
 /// What is asked of a version, with the answer.
 #[derive(Clone, Copy)]
@@ -84,7 +27,7 @@ enum Ask {
 
 use Ask::{Number, Numbers as Numbered, Refused, Shape};
 
-type Case = (PlainTables, Path, Ask);
+type Case = (PlainTable, Path, Ask);
 
 const ONE: &[u32] = &[1];
 
@@ -263,6 +206,13 @@ static ALLOWED: [Case; 18] = [
     (TABLE_T, &[], Shape(2, None)),
 ];
 
+fn number_of(element: Option<&ElementDef>) -> Option<u32> {
+    match element {
+        Some(element) => Some(element.number),
+        None => None,
+    }
+}
+
 fn name_of(element: Option<&ElementDef>) -> &str {
     match element {
         Some(element) => element.name.as_str(),
@@ -289,30 +239,37 @@ fn has_shape(
     }
 }
 
+/// Whether these are the number of the element of a name, that of the sixth live element, and the next one.
+fn are_numbers(schema: &Schema, name: &str, numbers: (Option<u32>, Option<u32>, u32)) -> bool {
+    number_of(schema.by_name(1, name)) == numbers.0
+        && number_of(schema.live(5)) == numbers.1
+        && schema.next_number() == numbers.2
+}
+
+/// Whether these are the names of an element, of the live element at its place, and of a table of its number.
+fn are_names(schema: &Schema, number: u32, names: (&str, &str, &str)) -> bool {
+    name_of(schema.element(number)) == names.0
+        && name_of(schema.live(number as usize)) == names.1
+        && schema.table_name(number).unwrap_or("") == names.2
+}
+
 /// Whether the answer is the one that is wanted, or that memory was short.
 type Answer = Result<bool, AllocError>;
 
-fn answers(alloc: Global, schema: &Schema, ask: Ask) -> Answer {
-    match ask {
+fn answers(alloc: Global, schema: &Schema, ask: &Ask) -> Answer {
+    match *ask {
         Refused(_) => Ok(false),
-        Numbered(name, number, sixth, next) => Ok(
-            number_of(schema.by_name(1, name)) == number
-                && number_of(schema.live(5)) == sixth
-                && schema.next_number() == next,
-        ),
-        Number(number, state, name, at_place, table) => Ok(
-            schema.state(number) == state
-                && name_of(schema.element(number)) == name
-                && name_of(schema.live(number as usize)) == at_place
-                && schema.table_name(number).unwrap_or("") == table,
-        ),
+        Numbered(name, number, sixth, next) => Ok(are_numbers(schema, name, (number, sixth, next))),
+        Number(number, state, name, at_place, table) => {
+            Ok(schema.state(number) == state && are_names(schema, number, (name, at_place, table)))
+        }
         Shape(table, columns) => has_shape(alloc, schema, table, columns),
     }
 }
 
 fn holds_once(alloc: Global, case: &Case) -> Answer {
     match version(alloc, &case.0, case.1) {
-        Ok(schema) => answers(alloc, &schema, case.2),
+        Ok(schema) => answers(alloc, &schema, &case.2),
         Err(StepFault::Memory) => Err(AllocError),
         Err(got) => match case.2 {
             Refused(fault) => Ok(got == fault),
