@@ -1,20 +1,31 @@
 //! An index enters beside a row and is filled, and a column of rows is cleared. A world is asked by reference: one that is alive across a `?` is dear to prove.
 
-use crate::fixtures::{counts, entering, gives, going, has_row, opened};
-use reorganise::{PreparedPiece, Progress, Work, prepare_piece};
+use crate::fixtures::{counts, either, entering, gives, going, has_row, mark, opened, seen};
+use reorganise::{PieceView, PreparedPiece, Progress, ViewFault, Work, prepare_piece};
 use schema_version::ElementState::{DeleteOnly, Public, WriteOnly};
-use std::alloc::Global;
-use world::{BeginFault, PieceFault, PublishFault, World};
+use std::alloc::{AllocError, Global};
+use world::{BeginFault, PieceDone, PieceFault, PublishFault, ReadFault, World};
 
 fn is_begin_refused(alloc: Global, world: &mut World, pieces: u32, fault: BeginFault) -> bool {
     world.begin_reorg(alloc, 30, 2, pieces).err() == Some(fault)
+}
+
+// Whether a reorganisation of an element in one piece begins.
+fn is_begun(alloc: Global, world: &mut World, moment: u64, element: u32) -> bool {
+    let before = seen(world);
+    match world.begin_reorg(alloc, moment, element, 1) {
+        Err(BeginFault::Memory) => {
+            seen(world) == before && world.begin_reorg(alloc, moment, element, 1).is_ok()
+        }
+        told => told.is_ok(),
+    }
 }
 
 // The refusals stand in their order: a bad count comes before a fill that has begun only where none has.
 fn begins(alloc: Global, world: &mut World) -> bool {
     is_begin_refused(alloc, world, 0, BeginFault::BadCount)
         && is_begin_refused(alloc, world, 65, BeginFault::BadCount)
-        && world.begin_reorg(alloc, 30, 2, 1).is_ok()
+        && is_begun(alloc, world, 30, 2)
         && is_begin_refused(alloc, world, 65, BeginFault::Begun)
 }
 
@@ -26,17 +37,44 @@ fn is_filling(alloc: Global, world: &mut World, name: &str) -> bool {
         && begins(alloc, world)
 }
 
+// What is prepared of a piece that was read, which comes back where memory was short.
+fn piece_of(alloc: Global, view: PieceView) -> Option<PreparedPiece> {
+    match prepare_piece(alloc, view) {
+        Ok(piece) => Some(piece),
+        Err((AllocError, view)) => prepare_piece(alloc, view).ok(),
+    }
+}
+
 fn piece(alloc: Global, world: &World) -> Option<PreparedPiece> {
-    match world.read_piece(alloc, 2, 0, 10) {
-        Ok(view) => prepare_piece(alloc, view).ok(),
-        Err(_) => None,
+    let view = match world.read_piece(alloc, 2, 0, 10) {
+        Err(ReadFault::View(ViewFault::Memory)) => world.read_piece(alloc, 2, 0, 10),
+        told => told,
+    };
+    piece_of(alloc, view.ok()?)
+}
+
+// The answer to a commit of a piece, which comes back where memory was short.
+fn committed(
+    alloc: Global,
+    world: &mut World,
+    piece: PreparedPiece,
+) -> Result<PieceDone, (PieceFault, PreparedPiece)> {
+    let before = seen(world);
+    match world.commit_piece(alloc, 30, piece) {
+        Err((PieceFault::Memory, piece)) => {
+            if seen(world) != before {
+                return Err((PieceFault::Memory, piece));
+            }
+            world.commit_piece(alloc, 30, piece)
+        }
+        told => told,
     }
 }
 
 fn is_worked(alloc: Global, world: &mut World, piece: Option<PreparedPiece>, place: u64) -> bool {
     match piece {
         None => false,
-        Some(piece) => match world.commit_piece(alloc, 30, piece) {
+        Some(piece) => match committed(alloc, world, piece) {
             Ok(done) => done.receipt.place == place && done.ended,
             Err(_) => false,
         },
@@ -46,7 +84,7 @@ fn is_worked(alloc: Global, world: &mut World, piece: Option<PreparedPiece>, pla
 fn fault_of(alloc: Global, world: &mut World, piece: Option<PreparedPiece>) -> Option<PieceFault> {
     match piece {
         None => None,
-        Some(piece) => match world.commit_piece(alloc, 30, piece) {
+        Some(piece) => match committed(alloc, world, piece) {
             Ok(_) => None,
             Err((fault, _)) => Some(fault),
         },
@@ -55,10 +93,10 @@ fn fault_of(alloc: Global, world: &mut World, piece: Option<PreparedPiece>) -> O
 
 fn is_unfinished(alloc: Global, world: &mut World) -> bool {
     match going(alloc, 2, Public) {
-        Ok(step) => {
+        Some(step) => {
             world.publish(alloc, 30, &step).err() == Some(PublishFault::Unfinished { element: 2 })
         }
-        Err(_) => false,
+        None => false,
     }
 }
 
@@ -114,18 +152,28 @@ fn is_index_filled(alloc: Global) -> bool {
 }
 
 #[test]
-fn fills(rt: HostRuntime) {
-    assert!(rt; is_index_filled(rt.alloc()));
+fn under_refusal_fills(rt: HostRuntime) {
+    assert!(rt; mark(&rt) && is_index_filled(rt.alloc()));
+}
+
+fn progress_by_hand(alloc: Global, world: &World, kind: Work) -> Result<Progress, AllocError> {
+    match world.newest().get().element(1) {
+        Some(element) => Progress::begin(alloc, element.clone()?, kind, world, 1),
+        None => Err(AllocError),
+    }
 }
 
 // A piece of work on column a, made by hand from the world's own definition of it and the world's own pairs.
 fn piece_by_hand(alloc: Global, world: &World, kind: Work) -> Option<PreparedPiece> {
-    let element = world.newest().get().element(1)?.clone().ok()?;
-    let progress = Progress::begin(alloc, element, kind, world, 1).ok()?;
-    match progress.read_piece(alloc, world, 0, 10) {
-        Ok(view) => prepare_piece(alloc, view).ok(),
-        Err(_) => None,
-    }
+    let progress = either(
+        progress_by_hand(alloc, world, kind),
+        progress_by_hand(alloc, world, kind),
+    )?;
+    let view = match progress.read_piece(alloc, world, 0, 10) {
+        Err(ViewFault::Memory) => progress.read_piece(alloc, world, 0, 10),
+        told => told,
+    };
+    piece_of(alloc, view.ok()?)
 }
 
 fn is_fill_refused(alloc: Global, world: &mut World) -> bool {
@@ -145,7 +193,7 @@ fn is_clear_done(alloc: Global, world: &mut World) -> bool {
 /// of its pieces; a clear that is made by hand in the same way is.
 pub(crate) fn clears_column(alloc: Global, world: &mut World) -> bool {
     gives(alloc, world, 10, going(alloc, 1, DeleteOnly), (2, 6))
-        && world.begin_reorg(alloc, 20, 1, 1).is_ok()
+        && is_begun(alloc, world, 20, 1)
         && is_fill_refused(alloc, world)
         && world.log().len() == 7
         && is_clear_done(alloc, world)

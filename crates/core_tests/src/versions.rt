@@ -1,6 +1,6 @@
 //! Which versions are lent, and work that was prepared under another schema than its lease's.
 
-use crate::fixtures::{add_row, entering, gives, going, opened, prepared};
+use crate::fixtures::{add_row, entering, gives, going, leased, mark, opened, prepared};
 use row_write::Prepared;
 use schema_version::ElementState;
 use schema_version::ElementState::{DeleteOnly, WriteOnly};
@@ -47,14 +47,14 @@ fn lends_two(alloc: Global, world: &mut World) -> bool {
 }
 
 fn serves_old(alloc: Global, world: &mut World) -> bool {
-    match world.lease(alloc, 9) {
-        Ok(grant) => {
+    match leased(alloc, world, 9) {
+        Some(grant) => {
             let lease = (grant.lease.version, grant.lease.granted, grant.lease.until);
             (lease, grant.receipt.place) == ((1, 9, 19), 1)
                 && keeps_lease(alloc, world, &grant)
                 && lends_two(alloc, world)
         }
-        Err(_) => false,
+        None => false,
     }
 }
 
@@ -66,6 +66,6 @@ fn are_two_served(alloc: Global) -> bool {
 }
 
 #[test]
-fn two_versions(rt: HostRuntime) {
-    assert!(rt; are_two_served(rt.alloc()));
+fn under_refusal_two_versions(rt: HostRuntime) {
+    assert!(rt; mark(&rt) && are_two_served(rt.alloc()));
 }

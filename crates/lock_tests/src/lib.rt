@@ -8,8 +8,6 @@ mod counts;
 #[cfg(test)]
 mod fixtures;
 #[cfg(test)]
-mod one_handle;
-#[cfg(test)]
 mod snapshots;
 #[cfg(test)]
 mod two_threads;

@@ -1,14 +1,14 @@
 //! Pieces over stores that are put together by hand.
 use crate::fixtures::{
     A_1, A_2, EMPTY, FIVE, I_5_1, I_6_2, I_7_3, I_NULL_1, I_NULL_2, Pairs, Points, ROW_1, ROW_2,
-    ROW_3, ROW_4, ROW_5, are_writes, store, text,
+    ROW_3, ROW_4, ROW_5, are_writes, mark, store, text,
 };
 use Of::{Column, Index};
 use Work::{Clear, Fill};
 use byte_map::{Bytes, KeyMap};
 use listed::Listed;
 use reorganise::{PieceView, PreparedPiece, Progress, Span, ViewFault, Work, prepare_piece};
-use row_map::{ColumnType, Expect};
+use row_map::ColumnType;
 use schema_version::{ElementDef, ElementState, Kind, Way};
 use std::alloc::{AllocError, Global};
 
@@ -85,6 +85,20 @@ fn divided(
     Ok(stand(progress.pieces.as_slice(), bounds))
 }
 
+/// The same, asked once more where memory was short.
+fn divided_at_last(
+    alloc: Global,
+    what: (Of, Work),
+    pairs: Pairs,
+    pieces: u32,
+    bounds: Pairs,
+) -> Result<bool, AllocError> {
+    match divided(alloc, what, pairs, pieces, bounds) {
+        Err(AllocError) => divided(alloc, what, pairs, pieces, bounds),
+        told => told,
+    }
+}
+
 const FIVE_ROWS: Pairs<'static> = &[
     (ROW_1, EMPTY),
     (ROW_2, EMPTY),
@@ -133,52 +147,12 @@ static PIECES: [(&str, (Of, Work), Pairs, u32, Pairs); 4] = [
 ];
 
 #[test]
-fn pieces_have_as_many_items(rt: HostRuntime) {
+fn under_refusal_pieces_have_as_many_items(rt: HostRuntime) {
+    assert!(rt; mark(&rt));
     for (name, what, pairs, pieces, bounds) in &PIECES {
         assert!(rt;
-            divided(rt.alloc(), *what, *pairs, *pieces, *bounds) == Ok(true),
+            divided_at_last(rt.alloc(), *what, *pairs, *pieces, *bounds) == Ok(true),
             "{name}"
-        );
-    }
-}
-
-/// What a piece is refused with.
-fn fault_of(
-    alloc: Global,
-    progress: &Progress,
-    store: &KeyMap<Bytes>,
-    piece: u32,
-    limit: u32,
-) -> Option<ViewFault> {
-    match progress.read_piece(alloc, store, piece, limit) {
-        Ok(_) => None,
-        Err(fault) => Some(fault),
-    }
-}
-
-/// The same of two pieces over no row, of which the second has ended.
-fn refused(alloc: Global, piece: u32, limit: u32) -> Result<Option<ViewFault>, AllocError> {
-    let store = KeyMap::new(alloc);
-    let progress = begun(alloc, (Index, Fill), &store, 2)?;
-    Ok(fault_of(alloc, &progress, &store, piece, limit))
-}
-
-/// A piece, a limit and the fault.
-static FAULTS: [(u32, u32, Option<ViewFault>); 6] = [
-    (2, 0, Some(ViewFault::BadPiece)),
-    (1, 0, Some(ViewFault::Spent)),
-    (0, 0, Some(ViewFault::BadLimit)),
-    (0, 1, None),
-    (0, 1000, None),
-    (0, 1001, Some(ViewFault::BadLimit)),
-];
-
-#[test]
-fn the_first_fault_of_a_piece_is_told(rt: HostRuntime) {
-    for (piece, limit, want) in &FAULTS {
-        assert!(rt;
-            refused(rt.alloc(), *piece, *limit) == Ok(*want),
-            "limit {limit} of piece {piece}"
         );
     }
 }
@@ -190,6 +164,18 @@ fn read(alloc: Global, what: (Of, Work), pairs: Pairs, limit: u32) -> Result<Pie
     progress.read_piece(alloc, &store, 0, limit)
 }
 
+/// A piece of what was read, which comes back where memory was short: then it is prepared once more.
+fn piece_of(alloc: Global, view: PieceView) -> Result<PreparedPiece, ViewFault> {
+    let told = match prepare_piece(alloc, view) {
+        Ok(piece) => return Ok(piece),
+        Err((AllocError, view)) => prepare_piece(alloc, view),
+    };
+    match told {
+        Ok(piece) => Ok(piece),
+        Err(_) => Err(ViewFault::BadLimit),
+    }
+}
+
 /// The same, prepared.
 fn prepared(
     alloc: Global,
@@ -198,85 +184,11 @@ fn prepared(
     limit: u32,
 ) -> Result<PreparedPiece, ViewFault> {
     let view = read(alloc, what, pairs, limit)?;
-    match prepare_piece(alloc, view) {
-        Ok(piece) => Ok(piece),
-        Err(_) => Err(ViewFault::Memory),
-    }
+    piece_of(alloc, view)
 }
 
 /// The row 1 with a 5 in `a`, and the row 2 without a value.
 const TWO_ROWS: Pairs<'static> = &[(ROW_1, EMPTY), (A_1, FIVE), (ROW_2, EMPTY)];
-
-/// The element, what is done, the piece and how many pairs were read, where the piece is the whole table and comes from
-/// its front to row 2.
-type First = Option<(u32, Work, u32, usize)>;
-
-fn is_first(bounds: (&[u8], &[u8]), cursors: (&[u8], &[u8])) -> bool {
-    bounds.0 == TABLE && bounds.1 == NEXT_TABLE && cursors.0 == TABLE && cursors.1 == ROW_2
-}
-
-fn first_read(view: &PieceView) -> First {
-    if is_first(view.bounds(), view.cursors()) {
-        Some((
-            view.element().number,
-            view.kind(),
-            view.piece(),
-            view.pairs().len(),
-        ))
-    } else {
-        None
-    }
-}
-
-fn first_prepared(piece: &PreparedPiece) -> First {
-    if is_first(piece.bounds(), piece.cursors()) {
-        Some((
-            piece.element().number,
-            piece.kind(),
-            piece.piece(),
-            piece.pairs().len(),
-        ))
-    } else {
-        None
-    }
-}
-
-/// Whether just the pairs from the front of the table to row 2 are expected, which are two.
-fn is_expected(expect: &Expect) -> bool {
-    match &expect.stretch {
-        Some(range) => {
-            range.low.as_slice() == TABLE
-                && range.high.as_slice() == ROW_2
-                && range.pairs.len() == 2
-                && expect.points.len() == 0
-        }
-        None => false,
-    }
-}
-
-/// What is read of two rows with a limit of 1, what is then prepared, and whether that is expected.
-fn one_row(alloc: Global, what: (Of, Work)) -> Result<(First, First, bool), ViewFault> {
-    let view = read(alloc, what, TWO_ROWS, 1)?;
-    let seen = first_read(&view);
-    match prepare_piece(alloc, view) {
-        Ok(piece) => Ok((seen, first_prepared(&piece), is_expected(piece.expect()))),
-        Err(_) => Err(ViewFault::Memory),
-    }
-}
-
-/// What is done, and what is read of it.
-static FIRSTS: [(&str, (Of, Work), (u32, Work, u32, usize)); 2] = [
-    ("a fill of the index", (Index, Fill), (2, Fill, 0, 2)),
-    ("a clear of the column", (Column, Clear), (1, Clear, 0, 2)),
-];
-
-#[test]
-fn a_limit_stops_before_the_next_row(rt: HostRuntime) {
-    for (name, what, want) in &FIRSTS {
-        let wanted = (Some(*want), Some(*want), true);
-        assert!(rt; one_row(rt.alloc(), *what) == Ok(wanted), "{name}");
-    }
-}
 
 /// Whether a piece makes just these writes in this order, and whether it comes to this key.
 fn writes(piece: &PreparedPiece, wanted: Points, cursor: &[u8]) -> (bool, bool) {
@@ -287,7 +199,7 @@ fn writes(piece: &PreparedPiece, wanted: Points, cursor: &[u8]) -> (bool, bool) 
 }
 
 /// The same of what is prepared with a limit.
-fn written(
+fn written_once(
     alloc: Global,
     what: (Of, Work),
     pairs: Pairs,
@@ -297,6 +209,21 @@ fn written(
 ) -> Result<(bool, bool), ViewFault> {
     let piece = prepared(alloc, what, pairs, limit)?;
     Ok(writes(&piece, wanted, cursor))
+}
+
+/// The same, asked once more where memory was short.
+fn written(
+    alloc: Global,
+    what: (Of, Work),
+    pairs: Pairs,
+    limit: u32,
+    wanted: Points,
+    cursor: &[u8],
+) -> Result<(bool, bool), ViewFault> {
+    match written_once(alloc, what, pairs, limit, wanted, cursor) {
+        Err(ViewFault::Memory) => written_once(alloc, what, pairs, limit, wanted, cursor),
+        told => told,
+    }
 }
 
 /// What is done over which pairs with which limit, what is written, and where the piece comes to. 05 begins no value,
@@ -353,35 +280,10 @@ static WRITTEN: [(&str, (Of, Work), Pairs, u32, Points, &[u8]); 6] = [
 ];
 
 #[test]
-fn pieces_write_pairs(rt: HostRuntime) {
+fn under_refusal_pieces_write_pairs(rt: HostRuntime) {
+    assert!(rt; mark(&rt));
     for (name, what, pairs, limit, wanted, cursor) in &WRITTEN {
         let done = written(rt.alloc(), *what, *pairs, *limit, *wanted, *cursor);
         assert!(rt; done == Ok((true, true)), "{name}");
     }
-}
-
-/// The pieces, with each cursor moved to its bound.
-fn ended(alloc: Global, pieces: &[Span]) -> Result<Listed<Span>, AllocError> {
-    let mut ended = Vec::new(alloc);
-    for piece in pieces {
-        let low = piece.low.clone()?;
-        let high = piece.high.clone()?;
-        let cursor = piece.high.clone()?;
-        ended.push(Span { low, high, cursor })?;
-    }
-    Ok(Listed::new(ended))
-}
-
-/// Whether all pieces have ended, at the begin and once each cursor was moved to its bound.
-fn finished(alloc: Global) -> Result<(bool, bool), AllocError> {
-    let store = store(alloc, &[(ROW_1, EMPTY)])?;
-    let mut progress = begun(alloc, (Index, Fill), &store, 2)?;
-    let before = progress.finished();
-    progress.pieces = ended(alloc, progress.pieces.as_slice())?;
-    Ok((before, progress.finished()))
-}
-
-#[test]
-fn finished_once_all_pieces_have_ended(rt: HostRuntime) {
-    assert!(rt; finished(rt.alloc()) == Ok((false, true)));
 }

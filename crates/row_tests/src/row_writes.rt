@@ -1,10 +1,10 @@
 //! What transactions read, and what their preparation gives.
 use crate::fixtures::{
     A_1, A_2, EMPTY, FIVE, I_5_1, I_6_1, I_NULL_1, Plain, Points, ROW_1, ROW_2, SIX, are_writes,
-    bytes, declared, key, value,
+    bytes, declared, key, mark, value,
 };
 use Plain::{Bool, Int, Null};
-use PrepareFault::{NoTable, NotPublic, TooManyOps, ViewMismatch, WrongType};
+use PrepareFault::{NoTable, NotPublic, ViewMismatch, WrongType};
 use RowOutcome::{Done, Refused};
 use Verb::{Delete, Insert, Update};
 use byte_map::{Bytes, KeyMap};
@@ -58,15 +58,6 @@ fn operations(alloc: Global, plain: &[Op]) -> Result<Vec<RowOp>, AllocError> {
     Ok(ops)
 }
 
-/// Inserts of so many rows without a value.
-fn inserts(alloc: Global, count: i64) -> Result<Vec<RowOp>, AllocError> {
-    let mut ops = Vec::new(alloc);
-    for id in 0..count {
-        ops.push(operation(alloc, (Insert, 1, Int(id), &[]))?)?;
-    }
-    Ok(ops)
-}
-
 fn point(alloc: Global, value: Option<&[u8]>) -> Result<Option<Bytes>, AllocError> {
     match value {
         Some(value) => Ok(Some(bytes(alloc, value)?)),
@@ -88,20 +79,13 @@ fn read_set(alloc: Global, ops: &[RowOp]) -> Result<ReadSet, AllocError> {
     reads_of(alloc, &schema, ops)
 }
 
-/// The view in which these keys have no pair.
-fn bare_view(alloc: Global, reads: &ReadSet) -> Result<ReadView, AllocError> {
-    let mut view = KeyMap::new(alloc);
-    for (key, _) in reads.entries() {
-        view.insert(key.clone()?, None)?;
-    }
-    Ok(view)
-}
-
+/// What is prepared; of no table where the operations did not come back with a refusal.
 fn prepared(alloc: Global, ops: Vec<RowOp>, view: ReadView) -> Result<Prepared, PrepareFault> {
     let schema = Counted::new(alloc, declared(alloc)?)?;
+    let count = ops.len();
     match prepare(alloc, schema, LEASE, Listed::new(ops), view) {
         Ok(prepared) => Ok(prepared),
-        Err((fault, _)) => Err(fault),
+        Err((fault, ops)) => Err(if ops.len() == count { fault } else { NoTable }),
     }
 }
 
@@ -115,7 +99,7 @@ fn outcome_with(prepared: &Prepared, wanted: Points) -> Option<RowOutcome> {
 }
 
 /// The same of these operations.
-fn outcome(
+fn outcome_once(
     alloc: Global,
     plain: &[Op],
     points: Points,
@@ -125,6 +109,19 @@ fn outcome(
     let view = view(alloc, points)?;
     let prepared = prepared(alloc, ops, view)?;
     Ok(outcome_with(&prepared, wanted))
+}
+
+/// The same, asked once more where memory was short.
+fn outcome(
+    alloc: Global,
+    plain: &[Op],
+    points: Points,
+    wanted: Points,
+) -> Result<Option<RowOutcome>, PrepareFault> {
+    match outcome_once(alloc, plain, points, wanted) {
+        Err(PrepareFault::Memory) => outcome_once(alloc, plain, points, wanted),
+        told => told,
+    }
 }
 
 /// Row 1 is not there, or it has a 5 in `a`, or row 2 is not there either.
@@ -182,7 +179,8 @@ static ACCEPTED: [(&str, &[Op], Points, Points); 5] = [
 ];
 
 #[test]
-fn accepted_operations_write_pairs(rt: HostRuntime) {
+fn under_refusal_accepted_operations_write_pairs(rt: HostRuntime) {
+    assert!(rt; mark(&rt));
     for (name, plain, points, wanted) in &ACCEPTED {
         let told = outcome(rt.alloc(), *plain, *points, *wanted);
         assert!(rt; told == Ok(Some(Done)), "{name}");
@@ -329,80 +327,14 @@ static TOLD: [(
 ];
 
 #[test]
-fn what_writes_nothing_is_told(rt: HostRuntime) {
+fn under_refusal_what_writes_nothing_is_told(rt: HostRuntime) {
+    assert!(rt; mark(&rt));
     for (name, plain, points, want) in &TOLD {
         assert!(rt;
             outcome(rt.alloc(), *plain, *points, &[]) == *want,
             "{name}"
         );
     }
-}
-
-/// The outcome, and the number of writes.
-fn told(prepared: &Prepared) -> (RowOutcome, usize) {
-    (prepared.outcome(), prepared.batch().writes().len())
-}
-
-/// The same of so many inserts.
-fn inserted(alloc: Global, count: i64) -> Result<(RowOutcome, usize), PrepareFault> {
-    let ops = inserts(alloc, count)?;
-    let reads = read_set(alloc, ops.as_slice())?;
-    let view = bare_view(alloc, &reads)?;
-    let prepared = prepared(alloc, ops, view)?;
-    Ok(told(&prepared))
-}
-
-/// An insert without a value puts its `exists` pair and its pair of the index.
-#[test]
-fn at_most_64_operations(rt: HostRuntime) {
-    assert!(rt; inserted(rt.alloc(), 64) == Ok((Done, 128)));
-    assert!(rt; inserted(rt.alloc(), 65) == Err(TooManyOps));
-}
-
-fn is_one(key: &[Value]) -> bool {
-    match key {
-        [Value::Int(id)] => *id == 1,
-        _ => false,
-    }
-}
-
-/// Whether this is a delete of row 1 alone.
-fn is_delete(ops: &[RowOp]) -> bool {
-    match ops {
-        [RowOp::Delete { table, key }] => *table == 1 && is_one(key.as_slice()),
-        _ => false,
-    }
-}
-
-/// How many keys a transaction expects to find again, whether no range, the number of t in its schema, and whether its
-/// lease, its operations and a copy of them are those of a delete.
-fn parts(prepared: &Prepared) -> (usize, bool, Option<u32>, bool, bool, bool) {
-    let expect = prepared.expect();
-    let copied = match prepared.ops_copied() {
-        Ok(copy) => is_delete(copy.as_slice()),
-        Err(_) => false,
-    };
-    (
-        expect.points.len(),
-        expect.stretch.is_none(),
-        prepared.schema().get().table("t"),
-        *prepared.lease() == LEASE,
-        is_delete(prepared.ops()),
-        copied,
-    )
-}
-
-/// The same of a delete of row 1.
-fn kept(alloc: Global) -> Result<(usize, bool, Option<u32>, bool, bool, bool), PrepareFault> {
-    let ops = operations(alloc, &[(Delete, 1, Int(1), &[])])?;
-    let view = view(alloc, NO_ROW)?;
-    let prepared = prepared(alloc, ops, view)?;
-    Ok(parts(&prepared))
-}
-
-#[test]
-fn what_is_prepared_is_kept(rt: HostRuntime) {
-    assert!(rt; kept(rt.alloc()) == Ok((2, true, Some(1), true, true, true)));
 }
 
 fn are_keys(entries: &[(Bytes, ())], wanted: &[&[u8]]) -> bool {
@@ -424,7 +356,17 @@ fn are_read(alloc: Global, plain: &[Op], wanted: &[&[u8]]) -> Result<bool, Alloc
 /// The table 2 is not there.
 const READING: &[Op] = &[TWO, ONE, ONE, (Delete, 2, Int(1), &[])];
 
+/// The same, asked once more where memory was short.
+fn are_read_at_last(alloc: Global, plain: &[Op], wanted: &[&[u8]]) -> Result<bool, AllocError> {
+    match are_read(alloc, plain, wanted) {
+        Err(AllocError) => are_read(alloc, plain, wanted),
+        told => told,
+    }
+}
+
 #[test]
-fn keys_that_are_read(rt: HostRuntime) {
-    assert!(rt; are_read(rt.alloc(), READING, &[ROW_1, A_1, ROW_2, A_2]) == Ok(true));
+fn under_refusal_keys_that_are_read(rt: HostRuntime) {
+    assert!(rt; mark(&rt));
+    let wanted = [ROW_1, A_1, ROW_2, A_2];
+    assert!(rt; are_read_at_last(rt.alloc(), READING, &wanted) == Ok(true));
 }

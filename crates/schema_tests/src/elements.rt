@@ -3,6 +3,7 @@
 ghost use Rattle.std.specs.Prelude.{◌≡◌, IfOk, [], ◌∷◌};
 ghost use Rattle.keycode.specs.declared.value.Value.TheVariants.{Int};
 
+use crate::making::mark;
 use Operation::{Delete, Insert, Update};
 use byte_map::Bytes;
 use element_state::{
@@ -160,33 +161,90 @@ fn are_writes(writes: &[Write], want: &[Wrote]) -> bool {
     }
 }
 
-fn writes(alloc: Global, element: &AnyElement, case: &Case, old: &Row, new: &Row) -> bool
+fn note(
+    alloc: Global,
+    element: &AnyElement,
+    case: &Case,
+    old: &Row,
+    new: &Row,
+    batch: &mut Batch,
+) -> Result<(), AllocError>
+    requires { old.now.key ≡ new.now.key }
+{
+    match case.2 {
+        Insert => element.on_insert(alloc, case.1, new, batch),
+        Update => element.on_update(alloc, case.1, old, new, batch),
+        Delete => element.on_delete(alloc, case.1, old, batch),
+    }
+}
+
+/// Whether a batch that has the writes of the case has them twice then; asked once more where memory was short and it has them once.
+fn writes_again(
+    alloc: Global,
+    element: &AnyElement,
+    case: &Case,
+    old: &Row,
+    new: &Row,
+    batch: &mut Batch,
+) -> bool
+    requires { old.now.key ≡ new.now.key }
+{
+    let noted = match note(alloc, element, case, old, new, batch) {
+        Err(AllocError) if are_writes(batch.writes(), case.5) => {
+            note(alloc, element, case, old, new, batch)
+        }
+        noted => noted,
+    };
+    let writes = batch.writes();
+    let (first, second) = writes.split_at(case.5.len().min(writes.len()));
+    noted.is_ok() && are_writes(first, case.5) && are_writes(second, case.5)
+}
+
+/// Whether an empty batch gets the writes of the case, and then once more. It stays empty where memory was short.
+fn writes(
+    alloc: Global,
+    element: &AnyElement,
+    case: &Case,
+    old: &Row,
+    new: &Row,
+) -> Result<bool, AllocError>
     requires { old.now.key ≡ new.now.key }
 {
     let mut batch = Batch::new(alloc);
-    let noted = match case.2 {
-        Insert => element.on_insert(alloc, case.1, new, &mut batch),
-        Update => element.on_update(alloc, case.1, old, new, &mut batch),
-        Delete => element.on_delete(alloc, case.1, old, &mut batch),
-    };
-    noted.is_ok() && are_writes(batch.writes(), case.5)
+    match note(alloc, element, case, old, new, &mut batch) {
+        Ok(()) => Ok(
+            are_writes(batch.writes(), case.5)
+                && writes_again(alloc, element, case, old, new, &mut batch),
+        ),
+        Err(AllocError) if batch.writes().is_empty() => Err(AllocError),
+        Err(AllocError) => Ok(false),
+    }
 }
 
 fn writes_of_rows(alloc: Global, element: &AnyElement, case: &Case) -> Result<bool, AllocError> {
     let old = row(alloc, 1, case.3)?;
     let new = row(alloc, 1, case.4)?;
-    Ok(writes(alloc, element, case, &old, &new))
+    writes(alloc, element, case, &old, &new)
 }
 
-fn holds(alloc: Global, case: &Case) -> Result<bool, AllocError> {
+fn holds_once(alloc: Global, case: &Case) -> Result<bool, AllocError> {
     let element = element(alloc, case.0)?;
     writes_of_rows(alloc, &element, case)
 }
 
+/// The same, asked once more where memory was short.
+fn holds(alloc: Global, case: &Case) -> bool {
+    match holds_once(alloc, case) {
+        Err(AllocError) => holds_once(alloc, case) == Ok(true),
+        told => told == Ok(true),
+    }
+}
+
 #[test]
-fn operations(rt: HostRuntime) {
+fn under_refusal_operations(rt: HostRuntime) {
+    assert!(rt; mark(&rt));
     for row in 0..WRITES.len() {
-        assert!(rt; holds(rt.alloc(), &WRITES[row]) == Ok(true), "row {row}");
+        assert!(rt; holds(rt.alloc(), &WRITES[row]), "row {row}");
     }
 }
 
@@ -205,27 +263,39 @@ fn has_cells(row: &Row) -> bool {
     matches!(cell(row, 1), Some(Value::Int(5))) && cell(row, 2).is_none()
 }
 
-fn fills(alloc: Global, element: &AnyElement, row: &Row) -> bool {
-    match element.fill_of(alloc, row) {
-        Ok(Some(pair)) => {
-            element.number() == 2 && pair.0.as_slice() == AT_FIVE && pair.1.is_empty()
+fn fills(alloc: Global, element: &AnyElement, row: &Row) -> Result<bool, AllocError> {
+    match element.fill_of(alloc, row)? {
+        Some(pair) => {
+            Ok(element.number() == 2 && pair.0.as_slice() == AT_FIVE && pair.1.is_empty())
         }
-        Ok(None) => element.number() == 1,
-        Err(_) => false,
+        None => Ok(element.number() == 1),
     }
+}
+
+fn fills_row(alloc: Global, element: &AnyElement) -> Result<bool, AllocError> {
+    let row = row(alloc, 1, Some(5))?;
+    Ok(has_cells(&row) && fills(alloc, element, &row)?)
 }
 
 /// The element's own number is told, a row's cells are found, and only an index is filled.
 fn reads(alloc: Global, number: u32) -> Result<bool, AllocError> {
     let element = element(alloc, number)?;
     are_lawful(&element);
-    let row = row(alloc, 1, Some(5))?;
-    Ok(element.number() == number && has_cells(&row) && fills(alloc, &element, &row))
+    Ok(element.number() == number && fills_row(alloc, &element)?)
+}
+
+/// The same, asked once more where memory was short.
+fn reads_at_last(alloc: Global, number: u32) -> bool {
+    match reads(alloc, number) {
+        Err(AllocError) => reads(alloc, number) == Ok(true),
+        told => told == Ok(true),
+    }
 }
 
 #[test]
-fn fills_and_cells(rt: HostRuntime) {
+fn under_refusal_fills_and_cells(rt: HostRuntime) {
+    assert!(rt; mark(&rt));
     for number in [1, 2] {
-        assert!(rt; reads(rt.alloc(), number) == Ok(true), "element {number}");
+        assert!(rt; reads_at_last(rt.alloc(), number), "element {number}");
     }
 }

@@ -1,6 +1,6 @@
 //! Plans of small batches, worked out from the edges of columns and indexes.
 use crate::making::Plain::{self, Column, Go, Index, Turn};
-use crate::making::{Path, TABLE_T, text, texts, version};
+use crate::making::{Path, TABLE_T, mark, text, texts, version};
 use change_plan::Reorg::{Clear, Fill};
 use change_plan::{Change, PlanFault, PlanStep, Reorg, plan};
 use row_map::ColumnType;
@@ -208,30 +208,44 @@ fn are_steps(got: &[PlanStep], want: &[PlainStep]) -> bool {
     }
 }
 
-fn is_planned(alloc: Global, schema: &Schema, changes: &[Change], want: Wanted) -> bool {
+/// Whether the plan is the one that is wanted, or that memory was short.
+fn is_planned(
+    alloc: Global,
+    schema: &Schema,
+    changes: &[Change],
+    want: Wanted,
+) -> Result<bool, AllocError> {
     match (plan(alloc, schema, changes), want) {
-        (Ok(got), Ok(steps)) => are_steps(got.steps.as_slice(), steps),
-        (Err(got), Err(fault)) => got == fault,
-        _ => false,
+        (Err(PlanFault::Memory), _) => Err(AllocError),
+        (Ok(got), Ok(steps)) => Ok(are_steps(got.steps.as_slice(), steps)),
+        (Err(got), Err(fault)) => Ok(got == fault),
+        _ => Ok(false),
     }
 }
 
-fn is_batch_planned(alloc: Global, schema: &Schema, case: &Case) -> bool {
-    match batch(alloc, case.1) {
-        Ok(changes) => is_planned(alloc, schema, &changes, case.2),
-        Err(_) => false,
-    }
+fn is_batch_planned(alloc: Global, schema: &Schema, case: &Case) -> Result<bool, AllocError> {
+    let changes = batch(alloc, case.1)?;
+    is_planned(alloc, schema, &changes, case.2)
 }
 
-fn holds(alloc: Global, case: &Case) -> bool {
+fn holds_once(alloc: Global, case: &Case) -> Result<bool, AllocError> {
     match version(alloc, &TABLE_T, case.0) {
         Ok(schema) => is_batch_planned(alloc, &schema, case),
-        Err(_) => false,
+        Err(_) => Err(AllocError),
+    }
+}
+
+/// The same, asked once more where memory was short.
+fn holds(alloc: Global, case: &Case) -> bool {
+    match holds_once(alloc, case) {
+        Err(AllocError) => holds_once(alloc, case) == Ok(true),
+        told => told == Ok(true),
     }
 }
 
 #[test]
-fn plans(rt: HostRuntime) {
+fn under_refusal_plans(rt: HostRuntime) {
+    assert!(rt; mark(&rt));
     for row in 0..PLANS.len() {
         assert!(rt; holds(rt.alloc(), &PLANS[row]), "row {row}");
     }

@@ -1,96 +1,16 @@
 //! Declarations, steps and readers of a version.
 use crate::making::Plain::{Column, Go, Index, Turn};
-use crate::making::{FULL, Path, PlainTables, TABLE_T, declared, step, texts, version};
+use crate::making::{FULL, Path, PlainTable, TABLE_T, mark, version};
 use row_map::ColumnType::{self, Int};
 use row_map::TableShape;
 use schema_version::ElementState::{self, Absent, DeleteOnly, Public, WriteOnly};
-use schema_version::{
-    DeclareFault, ElementDef, Schema, StepFault, is_name, is_name_list, moves_element,
-};
+use schema_version::{ElementDef, Schema, StepFault};
 use std::alloc::{AllocError, Global};
 use std::test::*;
 
 const LONGEST_NAME: &str = "n2345678901234567890123456789012";
 
 const LONG_NAME: &str = "n23456789012345678901234567890123";
-
-/// Bytes, whether they are a name, and whether they are a list of names of one letter each.
-static NAMES: [(&[u8], bool, bool); 10] = [
-    (b"", false, false),
-    (b"a", true, true),
-    (b"abcd", true, true),
-    (b"abcde", true, false),
-    (b"aba", true, false),
-    (b"Z_9", true, true),
-    (b"_z", false, true),
-    (b"b-c", false, true),
-    (b"n2345678901234567890123456789012", true, false),
-    (b"n23456789012345678901234567890123", false, false),
-];
-
-fn is_lawful(alloc: Global, names: &[u8]) -> Result<(bool, bool), AllocError> {
-    let list = texts(alloc, names)?;
-    Ok((is_name(names), is_name_list(list.as_slice())))
-}
-
-#[test]
-fn names(rt: HostRuntime) {
-    for row in 0..NAMES.len() {
-        let (names, name, list) = NAMES[row];
-        assert!(rt;
-            is_lawful(rt.alloc(), names) == Ok((name, list)),
-            "row {row}"
-        );
-    }
-}
-
-/// The numbers of the table P, of the element w of the table 1, and of the next element.
-type Numbers = (Option<u32>, Option<u32>, u32);
-
-const BAD: Result<Numbers, DeclareFault> = Err(DeclareFault::BadTable);
-
-static DECLARED: [(PlainTables, Result<Numbers, DeclareFault>); 10] = [
-    (FULL, Ok((None, Some(48), 49))),
-    ((b"t", b"ABCDEFGHIJKLMNOPQRSTUVWXYZabcdefg", b"", b""), BAD),
-    ((b"t", b"a", b"hijklmnopqrstuvwx", b"a"), BAD),
-    ((b"t", b"a", b"a", b"a"), BAD),
-    ((b"t", b"a", b"i", b"z"), BAD),
-    ((b"t", b"a", b"i", b"aa"), BAD),
-    ((b"", b"a", b"", b""), BAD),
-    ((b"tt", b"a", b"", b""), BAD),
-    (
-        (b"ABCDEFGHIJKLMNOP", b"", b"", b""),
-        Ok((Some(16), None, 1)),
-    ),
-    ((b"ABCDEFGHIJKLMNOPQ", b"", b"", b""), BAD),
-];
-
-fn number_of(element: Option<&ElementDef>) -> Option<u32> {
-    match element {
-        Some(element) => Some(element.number),
-        None => None,
-    }
-}
-
-fn numbers(schema: &Schema) -> Numbers {
-    let element = number_of(schema.by_name(1, "w"));
-    (schema.table("P"), element, schema.next_number())
-}
-
-fn declared_numbers(alloc: Global, tables: &PlainTables) -> Result<Numbers, DeclareFault> {
-    match declared(alloc, tables) {
-        Ok(schema) => Ok(numbers(&schema)),
-        Err(fault) => Err(fault),
-    }
-}
-
-#[test]
-fn declarations(rt: HostRuntime) {
-    for row in 0..DECLARED.len() {
-        let (tables, want) = DECLARED[row];
-        assert!(rt; declared_numbers(rt.alloc(), &tables) == want, "row {row}");
-    }
-}
 
 /// What is asked of a version, with the answer.
 #[derive(Clone, Copy)]
@@ -103,15 +23,41 @@ enum Ask {
     Number(u32, ElementState, &'static str, &'static str, &'static str),
     /// Whether it has the columns of a table.
     Shape(u32, Option<&'static [(u32, ColumnType)]>),
-    /// Whether it is the same as the version of other tables after other steps.
-    Same(PlainTables, Path, bool),
 }
 
-use Ask::{Number, Numbers as Numbered, Refused, Same, Shape};
+use Ask::{Number, Numbers as Numbered, Refused, Shape};
 
-type Case = (PlainTables, Path, Ask);
+type Case = (PlainTable, Path, Ask);
 
 const ONE: &[u32] = &[1];
+
+const I_LEAVES: Path = &[&[Go(6, WriteOnly)], &[Go(6, DeleteOnly)], &[Go(6, Absent)]];
+
+const I_COMES_BACK: Path = &[
+    &[Go(6, WriteOnly)],
+    &[Go(6, DeleteOnly)],
+    &[Go(6, Absent)],
+    &[Index("i", ONE, DeleteOnly)],
+];
+
+const J_COMES_AND_GOES: Path = &[
+    &[Index("j", ONE, DeleteOnly)],
+    &[Go(7, WriteOnly)],
+    &[Go(7, Public)],
+    &[Go(7, WriteOnly)],
+    &[Go(7, DeleteOnly)],
+    &[Go(7, Absent)],
+];
+
+const J_TURNS_BACK: Path = &[
+    &[Index("j", ONE, DeleteOnly)],
+    &[Go(7, WriteOnly)],
+    &[Turn(7)],
+    &[Go(7, DeleteOnly)],
+    &[Go(7, Absent)],
+];
+
+const E_COMES_BACK: Path = &[&[Go(5, DeleteOnly)], &[Go(5, Absent)], &[Column("e")]];
 
 static REFUSED: [Case; 24] = [
     (
@@ -206,35 +152,7 @@ static REFUSED: [Case; 24] = [
     ),
 ];
 
-const I_LEAVES: Path = &[&[Go(6, WriteOnly)], &[Go(6, DeleteOnly)], &[Go(6, Absent)]];
-
-const I_COMES_BACK: Path = &[
-    &[Go(6, WriteOnly)],
-    &[Go(6, DeleteOnly)],
-    &[Go(6, Absent)],
-    &[Index("i", ONE, DeleteOnly)],
-];
-
-const J_COMES_AND_GOES: Path = &[
-    &[Index("j", ONE, DeleteOnly)],
-    &[Go(7, WriteOnly)],
-    &[Go(7, Public)],
-    &[Go(7, WriteOnly)],
-    &[Go(7, DeleteOnly)],
-    &[Go(7, Absent)],
-];
-
-const J_TURNS_BACK: Path = &[
-    &[Index("j", ONE, DeleteOnly)],
-    &[Go(7, WriteOnly)],
-    &[Turn(7)],
-    &[Go(7, DeleteOnly)],
-    &[Go(7, Absent)],
-];
-
-const E_COMES_BACK: Path = &[&[Go(5, DeleteOnly)], &[Go(5, Absent)], &[Column("e")]];
-
-static ALLOWED: [Case; 14] = [
+static ALLOWED: [Case; 18] = [
     (TABLE_T, &[], Numbered("i", Some(6), Some(6), 7)),
     (
         TABLE_T,
@@ -274,15 +192,7 @@ static ALLOWED: [Case; 14] = [
         Number(5, Absent, "", "", ""),
     ),
     (TABLE_T, E_COMES_BACK, Numbered("e", Some(7), Some(7), 8)),
-];
-
-static READ: [Case; 15] = [
-    (TABLE_T, &[], Number(0, Absent, "", "a", "")),
     (TABLE_T, &[], Number(1, Public, "a", "b", "t")),
-    (TABLE_T, &[], Number(2, Public, "b", "c", "")),
-    (TABLE_T, &[], Number(5, Public, "e", "i", "")),
-    (TABLE_T, &[], Number(6, Public, "i", "", "")),
-    (TABLE_T, &[], Number(7, Absent, "", "", "")),
     (
         TABLE_T,
         &[],
@@ -294,22 +204,14 @@ static READ: [Case; 15] = [
         Shape(1, Some(&[(1, Int), (2, Int), (3, Int), (4, Int)])),
     ),
     (TABLE_T, &[], Shape(2, None)),
-    (TABLE_T, &[], Same(TABLE_T, &[], true)),
-    (TABLE_T, &[], Same((b"u", b"abcde", b"i", b"a"), &[], false)),
-    (
-        TABLE_T,
-        &[&[Go(6, WriteOnly)]],
-        Same(TABLE_T, &[&[Go(6, WriteOnly)]], true),
-    ),
-    (
-        TABLE_T,
-        &[&[Go(6, WriteOnly)]],
-        Same(TABLE_T, &[&[Go(6, WriteOnly)], &[Go(6, DeleteOnly)]], false),
-    ),
-    (TABLE_T, I_LEAVES, Same(TABLE_T, I_LEAVES, true)),
-    // They differ in the next number alone.
-    (TABLE_T, &[], Same(TABLE_T, J_COMES_AND_GOES, false)),
 ];
+
+fn number_of(element: Option<&ElementDef>) -> Option<u32> {
+    match element {
+        Some(element) => Some(element.number),
+        None => None,
+    }
+}
 
 fn name_of(element: Option<&ElementDef>) -> &str {
     match element {
@@ -329,107 +231,73 @@ fn has_shape(
     schema: &Schema,
     table: u32,
     want: Option<&[(u32, ColumnType)]>,
-) -> bool {
-    match (schema.shape(alloc, table), want) {
-        (Ok(Some(shape)), Some(columns)) => is_shape(&shape, columns),
-        (Ok(None), None) => true,
-        _ => false,
+) -> Result<bool, AllocError> {
+    match (schema.shape(alloc, table)?, want) {
+        (Some(shape), Some(columns)) => Ok(is_shape(&shape, columns)),
+        (None, None) => Ok(true),
+        _ => Ok(false),
     }
 }
 
-fn is_same(schema: &Schema, other: Result<Schema, StepFault>, same: bool) -> bool {
-    match other {
-        Ok(other) => schema.is_same(&other) == same,
-        Err(_) => false,
-    }
+/// Whether these are the number of the element of a name, that of the sixth live element, and the next one.
+fn are_numbers(schema: &Schema, name: &str, numbers: (Option<u32>, Option<u32>, u32)) -> bool {
+    number_of(schema.by_name(1, name)) == numbers.0
+        && number_of(schema.live(5)) == numbers.1
+        && schema.next_number() == numbers.2
 }
 
-fn answers(alloc: Global, schema: &Schema, ask: Ask) -> bool {
-    match ask {
-        Refused(_) => false,
-        Numbered(name, number, sixth, next) => {
-            number_of(schema.by_name(1, name)) == number
-                && number_of(schema.live(5)) == sixth
-                && schema.next_number() == next
-        }
+/// Whether these are the names of an element, of the live element at its place, and of a table of its number.
+fn are_names(schema: &Schema, number: u32, names: (&str, &str, &str)) -> bool {
+    name_of(schema.element(number)) == names.0
+        && name_of(schema.live(number as usize)) == names.1
+        && schema.table_name(number).unwrap_or("") == names.2
+}
+
+/// Whether the answer is the one that is wanted, or that memory was short.
+type Answer = Result<bool, AllocError>;
+
+fn answers(alloc: Global, schema: &Schema, ask: &Ask) -> Answer {
+    match *ask {
+        Refused(_) => Ok(false),
+        Numbered(name, number, sixth, next) => Ok(are_numbers(schema, name, (number, sixth, next))),
         Number(number, state, name, at_place, table) => {
-            schema.state(number) == state
-                && name_of(schema.element(number)) == name
-                && name_of(schema.live(number as usize)) == at_place
-                && schema.table_name(number).unwrap_or("") == table
+            Ok(schema.state(number) == state && are_names(schema, number, (name, at_place, table)))
         }
         Shape(table, columns) => has_shape(alloc, schema, table, columns),
-        Same(tables, path, same) => is_same(schema, version(alloc, &tables, path), same),
     }
 }
 
-fn holds(alloc: Global, case: &Case) -> bool {
+fn holds_once(alloc: Global, case: &Case) -> Answer {
     match version(alloc, &case.0, case.1) {
-        Ok(schema) => answers(alloc, &schema, case.2),
+        Ok(schema) => answers(alloc, &schema, &case.2),
+        Err(StepFault::Memory) => Err(AllocError),
         Err(got) => match case.2 {
-            Refused(fault) => got == fault,
-            _ => false,
+            Refused(fault) => Ok(got == fault),
+            _ => Ok(false),
         },
     }
 }
 
+/// The same, asked once more where memory was short.
+fn holds(alloc: Global, case: &Case) -> bool {
+    match holds_once(alloc, case) {
+        Err(AllocError) => holds_once(alloc, case) == Ok(true),
+        told => told == Ok(true),
+    }
+}
+
 #[test]
-fn refused_steps(rt: HostRuntime) {
+fn under_refusal_refused_steps(rt: HostRuntime) {
+    assert!(rt; mark(&rt));
     for row in 0..REFUSED.len() {
         assert!(rt; holds(rt.alloc(), &REFUSED[row]), "row {row}");
     }
 }
 
 #[test]
-fn allowed_steps(rt: HostRuntime) {
+fn under_refusal_allowed_steps(rt: HostRuntime) {
+    assert!(rt; mark(&rt));
     for row in 0..ALLOWED.len() {
         assert!(rt; holds(rt.alloc(), &ALLOWED[row]), "row {row}");
     }
-}
-
-#[test]
-fn readers(rt: HostRuntime) {
-    for row in 0..READ.len() {
-        assert!(rt; holds(rt.alloc(), &READ[row]), "row {row}");
-    }
-}
-
-fn has_lists(schema: &Schema) -> bool {
-    schema.known();
-    let ordered = match schema.elements() {
-        [first, _, _, _, _, last] => first.number == 1 && last.number == 6,
-        _ => false,
-    };
-    let key = match schema.key_of(1) {
-        Some([column]) => column.0.as_str() == "z" && column.1 == Int,
-        _ => false,
-    };
-    ordered && key && schema.key_of(0).is_none() && schema.key_of(2).is_none()
-}
-
-fn has_only_its_names(schema: &Schema) -> bool {
-    schema.table("t") == Some(1) && schema.table("u").is_none() && schema.by_name(2, "i").is_none()
-}
-
-fn lists_hold(alloc: Global) -> bool {
-    match declared(alloc, &TABLE_T) {
-        Ok(schema) => has_lists(&schema) && has_only_its_names(&schema),
-        Err(_) => false,
-    }
-}
-
-#[test]
-fn lists_and_names(rt: HostRuntime) {
-    assert!(rt; lists_hold(rt.alloc()));
-}
-
-fn moves_its_own(alloc: Global) -> Result<bool, AllocError> {
-    let step = step(alloc, &[Go(2, WriteOnly), Column("b"), Go(5, Public)])?;
-    let moves = step.as_slice();
-    Ok(moves_element(moves, 2) && moves_element(moves, 5) && !moves_element(moves, 1))
-}
-
-#[test]
-fn moved_elements(rt: HostRuntime) {
-    assert!(rt; moves_its_own(rt.alloc()) == Ok(true));
 }

@@ -1,6 +1,7 @@
 //! The counter under one seat and under two threads.
 ghost use Rattle.std.specs.Prelude.{◌≡◌};
 
+use crate::table::mark;
 use claims::{ClaimFault, ClaimSeat, Claims, Drawing, Opened};
 use std::alloc::Global;
 use std::marker::Brand;
@@ -26,13 +27,23 @@ fn alone<T: Drawing>(alloc: Global, opened: Opened) -> Result<[Option<usize>; 4]
     Ok([first, second, third, Some(next)])
 }
 
+fn drawn_once(alloc: Global) -> Result<[Option<usize>; 4], ClaimFault> {
+    let opened = Opened::new(alloc, 2, 1)?;
+    alone::<Brand>(alloc, opened)
+}
+
+// The same, asked once more where memory was short.
+fn drawn(alloc: Global) -> Result<[Option<usize>; 4], ClaimFault> {
+    match drawn_once(alloc) {
+        Err(ClaimFault::Memory) => drawn_once(alloc),
+        told => told,
+    }
+}
+
 #[test]
-fn one_seat_draws_in_turn(rt: HostRuntime) {
-    let Ok(opened) = Opened::new(rt.alloc(), 2, 1) else {
-        panic!(rt; "no counter");
-    };
-    let drawn = alone::<Brand>(rt.alloc(), opened);
-    assert!(rt; drawn == Ok([Some(0), Some(1), None, Some(3)]));
+fn under_refusal_one_seat_draws_in_turn(rt: HostRuntime) {
+    assert!(rt; mark(&rt));
+    assert!(rt; drawn(rt.alloc()) == Ok([Some(0), Some(1), None, Some(3)]));
 }
 
 // How many numbers this seat draws in 1,000 turns.

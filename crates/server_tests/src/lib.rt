@@ -8,4 +8,6 @@ mod gates;
 #[cfg(test)]
 mod one_request;
 #[cfg(test)]
+mod refusals;
+#[cfg(test)]
 mod table;

@@ -9,6 +9,11 @@ use server::Request;
 use std::alloc::{AllocError, Global};
 use world::{Config, OpenFault, World};
 
+/// Prints the line from which on the step for refusals counts allocations.
+pub(crate) fn mark<R: Print>(rt: &R) -> bool {
+    rt.println("from here on").is_ok()
+}
+
 /// The text of a name.
 pub(crate) fn named(alloc: Global, name: &str) -> Result<Text, AllocError> {
     Ok(Text::new(String::from_str(alloc, name)?))

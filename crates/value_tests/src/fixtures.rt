@@ -1,26 +1,12 @@
 //! What several tests make of plain literals.
 use byte_map::{Bytes, KeyMap};
-use keycode::{Text, Value};
-use row_map::Write;
+use row_map::{Batch, Expect, PairView, Write};
 use std::alloc::{AllocError, Global};
+use txn_store::{SetFault, Store};
 
-/// A value as a literal.
-#[derive(Clone, Copy)]
-pub enum Plain {
-    Null,
-    Int(i64),
-    Text(&'static str),
-    Bool(bool),
-}
-
-/// The value of a literal.
-pub fn value(alloc: Global, plain: Plain) -> Result<Value, AllocError> {
-    match plain {
-        Plain::Null => Ok(Value::Null),
-        Plain::Int(n) => Ok(Value::Int(n)),
-        Plain::Text(t) => Ok(Value::Text(Text::new(String::from_str(alloc, t)?))),
-        Plain::Bool(b) => Ok(Value::Bool(b)),
-    }
+/// Prints the line from which on the step for refusals counts allocations.
+pub fn mark<R: Print>(rt: &R) -> bool {
+    rt.println("from here on").is_ok()
 }
 
 pub fn bytes(alloc: Global, content: &[u8]) -> Result<Bytes, AllocError> {
@@ -57,20 +43,40 @@ pub fn written(alloc: Global, content: &[(u8, Option<u8>)]) -> Result<KeyMap<Byt
     Ok(map)
 }
 
-/// Whether the byte string is this byte alone.
-pub fn is_byte(found: &Bytes, wanted: u8) -> bool {
-    found.compare([wanted].as_slice()).is_eq()
+/// The number that these bytes and their order make of another.
+fn mixed(sum: u64, bytes: &[u8]) -> u64 {
+    let mut sum = sum.wrapping_mul(31).wrapping_add(7);
+    for byte in bytes {
+        sum = sum.wrapping_mul(31).wrapping_add(u64::from(*byte));
+    }
+    sum
 }
 
-/// Whether these are the entries, in their order.
-pub fn are(entries: &[(Bytes, Bytes)], wanted: &[(u8, u8)]) -> bool {
-    if entries.len() != wanted.len() {
-        return false;
+/// A number that all pairs make, so that other pairs hardly make the same.
+pub fn sum_of<P: PairView>(pairs: &P) -> u64 {
+    let mut sum = 0u64;
+    let mut walk = pairs.walk();
+    for _i in 0..u64::MAX {
+        let Some((key, value)) = walk.next() else {
+            return sum;
+        };
+        sum = mixed(mixed(sum, key), value);
     }
-    for i in 0..entries.len() {
-        if !is_byte(&entries[i].0, wanted[i].0) || !is_byte(&entries[i].1, wanted[i].1) {
-            return false;
+    sum
+}
+
+/// Sets a store, once more where memory was short and the pairs are as before.
+pub fn set(
+    alloc: Global,
+    store: &mut Store,
+    expected: &Expect,
+    batch: &Batch,
+) -> Result<(), SetFault> {
+    let before = sum_of(store);
+    match store.test_and_set(alloc, expected, batch) {
+        Err(SetFault::Memory) if sum_of(store) == before => {
+            store.test_and_set(alloc, expected, batch)
         }
+        told => told,
     }
-    true
 }

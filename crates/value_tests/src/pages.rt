@@ -1,127 +1,39 @@
-//! Stores of many pages: beside a plain sorted list, and beside what a snapshot keeps.
-use crate::fixtures::{byte, bytes};
-use byte_map::{Bytes, KeyMap};
+//! Stores of more than a page, beside what a snapshot keeps.
+use crate::fixtures::{byte, bytes, mark, set};
+use byte_map::KeyMap;
 use row_map::{Batch, Expect, PairView};
 use std::alloc::{AllocError, Global};
-use std::test::*;
-use txn_store::{SetFault, Store};
+use txn_store::{PairSnapshot, Store};
 
-/// A run of keys that one batch puts, or removes where there is no value.
-#[derive(Clone, Copy)]
-struct Run {
-    start: u16,
-    step: u16,
-    count: u16,
-    value: Option<u8>,
-}
-
-/// The run that a number stands for: up to 510 keys of 4,096, side by side, scattered or falling, two of three put.
-fn run_of(number: u32) -> Run {
-    let [a, b, c, d] = number.to_be_bytes();
-    let step = match a % 4 {
-        0 => 1,
-        1 => 7,
-        2 => 1031,
-        _ => 4095,
-    };
-    Run {
-        start: u16::from_be_bytes([b, a]),
-        step,
-        count: u16::from(c).saturating_mul(2),
-        value: if d % 3 == 0 { None } else { Some(d) },
+/// Notes that a key of two bytes is put or removed.
+fn note(alloc: Global, batch: &mut Batch, number: u16, is_put: bool) -> Result<(), AllocError> {
+    let key = bytes(alloc, number.to_be_bytes().as_slice())?;
+    if is_put {
+        batch.put(key, byte(alloc, 1)?)
+    } else {
+        batch.remove(key)
     }
 }
 
-/// The key of a place in a run, of two bytes.
-fn key_at(alloc: Global, run: Run, at: u16) -> Result<Bytes, AllocError> {
-    let number = run.start.wrapping_add(run.step.wrapping_mul(at)) & 0x0fff;
-    bytes(alloc, number.to_be_bytes().as_slice())
-}
-
-fn set_store(alloc: Global, store: &mut Store, run: Run) -> Result<(), SetFault> {
+/// A batch that puts or removes the keys from 0 to below this one.
+fn batch(alloc: Global, count: u16, is_put: bool) -> Result<Batch, AllocError> {
     let mut batch = Batch::new(alloc);
-    for at in 0..run.count {
-        let key = key_at(alloc, run, at)?;
-        match run.value {
-            None => batch.remove(key)?,
-            Some(value) => batch.put(key, byte(alloc, value)?)?,
-        }
+    for number in 0..count {
+        note(alloc, &mut batch, number, is_put)?;
     }
-    let nothing = Expect {
-        points: KeyMap::new(alloc),
-        stretch: None,
-    };
-    store.test_and_set(alloc, &nothing, &batch)
-}
-
-fn set_list(alloc: Global, list: &mut KeyMap<Bytes>, run: Run) -> Result<(), AllocError> {
-    for at in 0..run.count {
-        let key = key_at(alloc, run, at)?;
-        match run.value {
-            None => {
-                list.take(key.as_slice());
-            }
-            Some(value) => list.insert(key, byte(alloc, value)?)?,
-        }
-    }
-    Ok(())
-}
-
-/// Whether the store has the pairs of the list, in their order, and no others.
-fn is_same(store: &Store, list: &KeyMap<Bytes>) -> bool {
-    let high = [255];
-    let mut range = store.range([].as_slice(), high.as_slice());
-    for (key, value) in list.entries() {
-        match range.next() {
-            None => return false,
-            Some((found, content)) => {
-                if key.compare(found).is_ne() || value.compare(content).is_ne() {
-                    return false;
-                }
-            }
-        }
-    }
-    range.next().is_none() && store.len() == list.len()
-}
-
-/// The first of so many runs after which the store and the list differ, if there is one.
-fn first_difference(alloc: Global, runs: u32) -> Result<Option<u32>, SetFault> {
-    let mut store = Store::new(alloc);
-    let mut list = KeyMap::new(alloc);
-    let mut number = 1u32;
-    for at in 0..runs {
-        number = number.wrapping_mul(1_664_525).wrapping_add(1_013_904_223);
-        let run = run_of(number);
-        set_store(alloc, &mut store, run)?;
-        set_list(alloc, &mut list, run)?;
-        if !is_same(&store, &list) {
-            return Ok(Some(at));
-        }
-    }
-    Ok(None)
-}
-
-#[test]
-fn batches_are_those_of_a_sorted_list(rt: HostRuntime) -> Result<(), Fail> {
-    let told = first_difference(rt.alloc(), 300)
-        .ok()
-        .ok_or("memory is there")?;
-    assert!(rt; told.is_none());
-    Ok(())
+    Ok(batch)
 }
 
 /// How many pairs a view gives, one after another from the least key on.
-fn walked<P: PairView>(alloc: Global, view: &P) -> Result<usize, AllocError> {
-    let mut from = Vec::new(alloc);
+fn walked<P: PairView>(view: &P) -> usize {
+    let mut from = 0u16;
     for count in 0..200 {
-        let Some((key, _)) = view.next_at(from.as_slice()) else {
-            return Ok(count);
-        };
-        from = Vec::new(alloc);
-        from.extend_from_slice(key)?;
-        from.push(0)?;
+        match view.next_at(from.to_be_bytes().as_slice()) {
+            Some(([high, low], _)) => from = u16::from_be_bytes([*high, *low]).wrapping_add(1),
+            _ => return count,
+        }
     }
-    Ok(200)
+    200
 }
 
 /// How many pairs a range gives.
@@ -136,26 +48,60 @@ fn ranged(store: &Store) -> usize {
     200
 }
 
-/// Of 65 keys that one batch puts and, behind a snapshot, one batch removes: how many a range gives between the two,
-/// how many are left, and how many are found by walking over the snapshot.
-fn put_and_removed(alloc: Global) -> Result<(usize, usize, usize), SetFault> {
-    let all = Run {
-        start: 0,
-        step: 1,
-        count: 65,
-        value: Some(1),
-    };
-    let mut store = Store::new(alloc);
-    set_store(alloc, &mut store, all)?;
-    let given = ranged(&store);
-    let snapshot = store.snapshot()?;
-    set_store(alloc, &mut store, Run { value: None, ..all })?;
-    Ok((given, store.len(), walked(alloc, &snapshot)?))
+/// A snapshot, taken once more where memory was short.
+fn snapshot(store: &Store) -> Option<PairSnapshot> {
+    match store.snapshot() {
+        Ok(taken) => Some(taken),
+        Err(AllocError) => store.snapshot().ok(),
+    }
 }
 
+/// Puts or removes the keys from 0 to below this one, and tells whether that was done.
+fn is_set(alloc: Global, store: &mut Store, count: u16, is_put: bool) -> Result<bool, AllocError> {
+    let batch = batch(alloc, count, is_put)?;
+    let nothing = Expect {
+        points: KeyMap::new(alloc),
+        stretch: None,
+    };
+    Ok(set(alloc, store, &nothing, &batch).is_ok())
+}
+
+/// How many pairs a walk over a snapshot finds once 65 keys were removed; none where a call could not be made.
+fn found_behind(alloc: Global, store: &mut Store) -> Result<usize, AllocError> {
+    let Some(snapshot) = snapshot(store) else {
+        return Ok(0);
+    };
+    let is_removed = is_set(alloc, store, 65, false)?;
+    Ok(if is_removed { walked(&snapshot) } else { 0 })
+}
+
+/// Whether 65 keys could be put behind the first ones, how many pairs a range gives then, how many a snapshot has, and how many are left once
+/// they are removed.
+fn counts(alloc: Global, first: u16) -> Result<(bool, usize, usize, usize), AllocError> {
+    let mut store = Store::new(alloc);
+    let is_begun = is_set(alloc, &mut store, first, true)?;
+    let is_put = is_set(alloc, &mut store, 65, true)?;
+    let given = ranged(&store);
+    let found = found_behind(alloc, &mut store)?;
+    Ok((is_begun && is_put, given, found, store.len()))
+}
+
+/// The same, once more where there was no memory for what is handed in.
+fn counts_at_last(alloc: Global, first: u16) -> Result<(bool, usize, usize, usize), AllocError> {
+    match counts(alloc, first) {
+        Err(AllocError) => counts(alloc, first),
+        told => told,
+    }
+}
+
+/// A page has 64 pairs: 65 that are put at once take two, and a 65th that comes behind 64 cuts their page.
 #[test]
-fn a_snapshot_stays(rt: HostRuntime) -> Result<(), Fail> {
-    let counts = put_and_removed(rt.alloc()).ok().ok_or("memory is there")?;
-    assert!(rt; counts == (65, 0, 65));
-    Ok(())
+fn under_refusal_pages_are_cut_and_a_snapshot_stays(rt: HostRuntime) {
+    assert!(rt; mark(&rt));
+    for first in [0, 64] {
+        assert!(rt;
+            counts_at_last(rt.alloc(), first) == Ok((true, 65, 65, 0)),
+            "behind {first}"
+        );
+    }
 }

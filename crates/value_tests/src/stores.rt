@@ -1,7 +1,7 @@
 //! What a store writes, and what it refuses.
-use crate::fixtures::{are, byte, byte_or_none, writes, written};
-use byte_map::{KeyMap, sorted};
-use row_map::{Batch, Expect, PairView, ReadView, Stretch};
+use crate::fixtures::{byte, byte_or_none, mark, set, writes, written};
+use byte_map::KeyMap;
+use row_map::{Batch, Expect, ReadView, Stretch};
 use std::alloc::{AllocError, Global};
 use txn_store::{Range, SetFault, Store};
 
@@ -47,9 +47,17 @@ fn batch(alloc: Global, made: Writes) -> Result<Batch, AllocError> {
     Ok(batch)
 }
 
-/// Makes writes to a store where these points and this range are as expected, and gives the key of the conflict, or
-/// none.
-fn set(
+/// Sets a store, and gives the key of the conflict, or none; 0 where a call that found no memory changed something.
+fn told(alloc: Global, store: &mut Store, expected: &Expect, batch: &Batch) -> Option<u8> {
+    match set(alloc, store, expected, batch) {
+        Ok(()) => None,
+        Err(SetFault::Conflict { key }) => key.as_slice().first().copied(),
+        Err(SetFault::Memory) => Some(0),
+    }
+}
+
+/// The same where these points and this range are expected, and these writes are made.
+fn conflict_of(
     alloc: Global,
     store: &mut Store,
     wanted: Writes,
@@ -58,17 +66,13 @@ fn set(
 ) -> Result<Option<u8>, AllocError> {
     let expected = expect(alloc, wanted, within)?;
     let batch = batch(alloc, made)?;
-    match store.test_and_set(alloc, &expected, &batch) {
-        Ok(()) => Ok(None),
-        Err(SetFault::Conflict { key }) => Ok(key.as_slice().first().copied()),
-        Err(SetFault::Memory) => Err(AllocError),
-    }
+    Ok(told(alloc, store, &expected, &batch))
 }
 
 /// A store of the three pairs.
 fn three(alloc: Global) -> Result<Store, AllocError> {
     let mut store = Store::new(alloc);
-    set(alloc, &mut store, [].as_slice(), NO_RANGE, THREE)?;
+    conflict_of(alloc, &mut store, [].as_slice(), NO_RANGE, THREE)?;
     Ok(store)
 }
 
@@ -78,7 +82,7 @@ fn go_over(mut range: Range, wanted: &[(u8, u8)]) -> bool {
         match range.next() {
             None => return false,
             Some((found, content)) => {
-                if plain(Some((found, content))) != Some((*key, *value)) {
+                if found != [*key].as_slice() || content != [*value].as_slice() {
                     return false;
                 }
             }
@@ -87,19 +91,30 @@ fn go_over(mut range: Range, wanted: &[(u8, u8)]) -> bool {
     range.next().is_none()
 }
 
+/// A conflict's key, if there is one, the number of pairs, whether there is none, and whether they are those that were wanted.
+type Left = Result<(Option<u8>, usize, bool, bool), AllocError>;
+
 /// The key of the conflict, if there is one, where such writes are made to the three pairs, how many pairs are left,
 /// whether there is none, and whether these are they.
-fn sets(
+fn sets(alloc: Global, wanted: Writes, within: Within, made: Writes, left: &[(u8, u8)]) -> Left {
+    let mut store = three(alloc)?;
+    let told = conflict_of(alloc, &mut store, wanted, within, made)?;
+    let are = go_over(store.range([0].as_slice(), [255].as_slice()), left);
+    Ok((told, store.len(), store.is_empty(), are))
+}
+
+/// The same, once more where there was no memory for what is handed in.
+fn sets_at_last(
     alloc: Global,
     wanted: Writes,
     within: Within,
     made: Writes,
     left: &[(u8, u8)],
-) -> Result<(Option<u8>, usize, bool, bool), AllocError> {
-    let mut store = three(alloc)?;
-    let told = set(alloc, &mut store, wanted, within, made)?;
-    let are = go_over(store.range([0].as_slice(), [255].as_slice()), left);
-    Ok((told, store.len(), store.is_empty(), are))
+) -> Left {
+    match sets(alloc, wanted, within, made, left) {
+        Err(AllocError) => sets(alloc, wanted, within, made, left),
+        told => told,
+    }
 }
 
 /// Points and a range that are expected, the writes, and the conflict with the pairs that are left.
@@ -177,109 +192,13 @@ const SETS: &[(
 ];
 
 #[test]
-fn writes_are_made_or_the_least_conflict_is_told(rt: HostRuntime) {
+fn under_refusal_writes_are_made_or_the_least_conflict_is_told(rt: HostRuntime) {
+    assert!(rt; mark(&rt));
     for (wanted, within, made, told, left) in SETS {
         let want = (*told, left.len(), left.is_empty(), true);
         assert!(rt;
-            sets(rt.alloc(), wanted, *within, made, left) == Ok(want),
+            sets_at_last(rt.alloc(), wanted, *within, made, left) == Ok(want),
             "{wanted:?} {within:?}"
-        );
-    }
-}
-
-/// A pair whose key and value are one byte each.
-fn plain(found: Option<(&[u8], &[u8])>) -> Option<(u8, u8)> {
-    match found {
-        Some(([key], [value])) => Some((*key, *value)),
-        Some(_) => Some((0, 0)),
-        None => None,
-    }
-}
-
-/// The value of a key, the first pair from it on, and that pair if it is below another.
-type Found = (Option<u8>, Option<(u8, u8)>, Option<(u8, u8)>);
-
-fn found<P: PairView>(view: &P, key: &[u8], high: &[u8]) -> Found {
-    let value = match view.get(key) {
-        None => None,
-        Some(value) => value.first().copied(),
-    };
-    (
-        value,
-        plain(view.next_at(key)),
-        plain(view.walk_within(key, high).next()),
-    )
-}
-
-/// What is found of the three pairs in a map and in a store, the place of the key among them, and whether these are the
-/// pairs from it to below another, in the map and in the store.
-fn looked_up(
-    alloc: Global,
-    key: &[u8],
-    high: &[u8],
-    wanted: &[(u8, u8)],
-) -> Result<(Found, Found, Result<usize, usize>, bool, bool), AllocError> {
-    let store = three(alloc)?;
-    let map = written(alloc, THREE)?;
-    Ok((
-        found(&map, key, high),
-        found(&store, key, high),
-        sorted::place(map.entries(), key),
-        are(map.range(key, high), wanted),
-        go_over(store.range(key, high), wanted),
-    ))
-}
-
-const KEYS: &[(&[u8], &[u8], Found, Result<usize, usize>, &[(u8, u8)])] = &[
-    (&[], &[1], (None, Some((1, 10)), None), Err(0), &[]),
-    (
-        &[1],
-        &[3],
-        (Some(10), Some((1, 10)), Some((1, 10))),
-        Ok(0),
-        &[(1, 10)],
-    ),
-    (
-        &[1],
-        &[5],
-        (Some(10), Some((1, 10)), Some((1, 10))),
-        Ok(0),
-        &[(1, 10), (3, 30)],
-    ),
-    (&[1, 0], &[3], (None, Some((3, 30)), None), Err(1), &[]),
-    (
-        &[2],
-        &[3, 0],
-        (None, Some((3, 30)), Some((3, 30))),
-        Err(1),
-        &[(3, 30)],
-    ),
-    (
-        &[2],
-        &[6],
-        (None, Some((3, 30)), Some((3, 30))),
-        Err(1),
-        &[(3, 30), (5, 50)],
-    ),
-    (
-        &[3],
-        &[9],
-        (Some(30), Some((3, 30)), Some((3, 30))),
-        Ok(1),
-        &[(3, 30), (5, 50)],
-    ),
-    (&[3, 0], &[5], (None, Some((5, 50)), None), Err(2), &[]),
-    (&[5], &[1], (Some(50), Some((5, 50)), None), Ok(2), &[]),
-    (&[6], &[9], (None, None, None), Err(3), &[]),
-];
-
-#[test]
-fn pairs_are_looked_up(rt: HostRuntime) {
-    for (key, high, found, place, pairs) in KEYS {
-        let want = (*found, *found, *place, true, true);
-        assert!(rt;
-            looked_up(rt.alloc(), key, high, pairs) == Ok(want),
-            "{key:?} to {high:?}"
         );
     }
 }

@@ -1,5 +1,5 @@
 use Rattle.std.specs.Prelude.{length}
-use Rattle.lock_tests.proofs.snapshots.a_snapshot_outlives_a_delete.Given as goal
+use Rattle.lock_tests.proofs.snapshots.deletes_once.Given as goal
 
 abbrev pub ghosts-deletes-L-Ledger : goal.ghosts-deletes-L-Ledger
 ghosts-deletes-L-Ledger g a = record { name = a.blank.name; parts = a.blank.parts }
