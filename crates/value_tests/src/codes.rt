@@ -2,7 +2,8 @@
 //! and 00 01, with each 00 as 00 FF, a truth value 04 and its byte.
 use crate::fixtures::mark;
 use keycode::{KeyFault, Value, decode, encode};
-use std::alloc::Global;
+use row_map::{ColumnType, read_only_value, read_typed_value};
+use std::alloc::{AllocError, Global};
 
 /// A value as a literal.
 #[derive(Clone, Copy)]
@@ -105,6 +106,60 @@ fn under_refusal_lists_are_read_and_spelled_so(rt: HostRuntime) {
         assert!(rt;
             told(rt.alloc(), bytes, *count, plain) == *want,
             "{count} of {bytes:?}"
+        );
+    }
+}
+
+fn is_found(found: &Option<Value>, plain: Option<Plain>) -> bool {
+    match (found, plain) {
+        (None, None) => true,
+        (Some(value), Some(plain)) => is_value(value, plain),
+        _ => false,
+    }
+}
+
+/// Bytes, the one value that they spell, a type, and the value where it is of this type.
+type Spelling = (&'static [u8], Option<Plain>, ColumnType, Option<Plain>);
+
+fn is_read(alloc: Global, spelling: &Spelling) -> Result<bool, AllocError> {
+    let (bytes, plain, kind, typed) = *spelling;
+    let one = read_only_value(alloc, bytes)?;
+    let other = read_typed_value(alloc, kind, bytes)?;
+    Ok(is_found(&one, plain) && is_found(&other, typed))
+}
+
+/// The same, asked once more where memory was short.
+fn is_read_at_last(alloc: Global, spelling: &Spelling) -> Result<bool, AllocError> {
+    match is_read(alloc, spelling) {
+        Err(AllocError) => is_read(alloc, spelling),
+        told => told,
+    }
+}
+
+const FIVE: &[u8] = b"\x02\x80\0\0\0\0\0\0\x05";
+
+const SPELLINGS: &[Spelling] = &[
+    (FIVE, Some(Int(5)), ColumnType::Int, Some(Int(5))),
+    (FIVE, Some(Int(5)), ColumnType::Bool, None),
+    (
+        b"\x03a\0\x01",
+        Some(Text("a")),
+        ColumnType::Text,
+        Some(Text("a")),
+    ),
+    (b"\x01", Some(Null), ColumnType::Int, None),
+    (b"\x04\x01\x04\x01", None, ColumnType::Bool, None),
+    (b"\x05", None, ColumnType::Int, None),
+];
+
+#[test]
+fn under_refusal_bytes_spell_one_value(rt: HostRuntime) {
+    assert!(rt; mark(&rt));
+    for spelling in SPELLINGS {
+        let (bytes, _, _, _) = *spelling;
+        assert!(rt;
+            is_read_at_last(rt.alloc(), spelling) == Ok(true),
+            "{bytes:?}"
         );
     }
 }
