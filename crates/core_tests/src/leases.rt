@@ -1,11 +1,11 @@
 //! All leases of small numbers, honest and forged, at each state of a run: a commit is answered as the definition of a lease in force says.
 
-use crate::fixtures::{entering, gives, going, opened};
+use crate::fixtures::{entering, going, is_published, opened};
 use byte_map::KeyMap;
 use lease::Lease;
 use listed::{Counted, Listed};
 use row_write::{Prepared, prepare};
-use schema_version::ElementState::{DeleteOnly, WriteOnly};
+use schema_version::ElementState::WriteOnly;
 use schema_version::Schema;
 use std::alloc::Global;
 use world::{CommitFault, Committed, World};
@@ -103,10 +103,10 @@ fn are_answered(alloc: Global, world: &mut World, published: &[u64], moments: (u
 fn are_all_answered(alloc: Global, world: &mut World) -> bool {
     are_answered(alloc, world, &[0], (0, 0))
         && are_answered(alloc, world, &[0], (10, 10))
-        && gives(alloc, world, 10, entering(alloc, "i", DeleteOnly), (2, 12))
+        && is_published(alloc, world, 10, entering(alloc, "i"))
         && are_answered(alloc, world, &[0, 10], (0, 10))
         && are_answered(alloc, world, &[0, 10], (20, 20))
-        && gives(alloc, world, 20, going(alloc, 2, WriteOnly), (3, 24))
+        && is_published(alloc, world, 20, going(alloc, 2, WriteOnly))
         && are_answered(alloc, world, &[0, 10, 20], (3, 20))
         && are_answered(alloc, world, &[0, 10, 20], (30, 30))
         && are_answered(alloc, world, &[0, 10, 20], (MAX_MOMENT + 1, MAX_MOMENT + 1))

@@ -2,12 +2,18 @@
 #![tactic(auto)]
 
 #[cfg(test)]
-mod calls;
+mod acts;
 #[cfg(test)]
-mod changes;
+mod events;
 #[cfg(test)]
 mod fixtures;
 #[cfg(test)]
 mod leases;
 #[cfg(test)]
-mod versions;
+mod pieces;
+#[cfg(test)]
+mod told;
+#[cfg(test)]
+mod transactions;
+#[cfg(test)]
+mod walks;

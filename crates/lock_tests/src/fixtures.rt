@@ -1,19 +1,20 @@
-//! The worked table, its operations, the query of all of it, and work through a handle, each call of which is asked once more where
-//! memory was short.
+//! The worked table, its operations, the query of all of it, and the index that enters.
 
 use keycode::{Text, Value};
 use lease::Lease;
-use listed::{Counted, Listed};
-use locked_store::{Handle, Room, Shared, SharedFault};
-use row_map::{ColumnType, ReadView, Row};
-use row_query::{Query, QueryFault};
-use row_write::{PrepareFault, Prepared, RowOp, RowOps, prepare, reads_of};
-use schema_version::{Schema, TableDef};
+use listed::Listed;
+use row_map::{ColumnType, Row};
+use row_query::Query;
+use row_write::{RowOp, RowOps};
+use schema_version::{ElementState, Kind, Move, NewElement, Step, TableDef};
 use std::alloc::{AllocError, Global};
-use std::sync::Wait;
-use world::{
-    CommitFault, Committed, Config, Grant, GrantFault, OpenFault, QueryRefusal, Receipt, Snapshot,
-    SnapshotFault, World,
+use world::{Config, OpenFault, World};
+
+/// The lease that is granted at 0 on version 1.
+pub(crate) const FIRST: Lease = Lease {
+    version: 1,
+    granted: 0,
+    until: 10,
 };
 
 /// Prints the line from which on the step for refusals counts allocations.
@@ -21,31 +22,27 @@ pub(crate) fn mark<R: Print>(rt: &R) -> bool {
     rt.println("from here on").is_ok()
 }
 
-/// The first where it was made, else the second: at most one of two that are made alike meets the one refusal of a run.
-pub(crate) fn either<T: Drop>(
-    first: Result<T, AllocError>,
-    second: Result<T, AllocError>,
-) -> Option<T> {
-    match first {
-        Ok(made) => Some(made),
-        Err(AllocError) => second.ok(),
-    }
-}
-
-/// The text of a name.
-pub(crate) fn named(alloc: Global, name: &str) -> Result<Text, AllocError> {
+fn named(alloc: Global, name: &str) -> Result<Text, AllocError> {
     Ok(Text::new(String::from_str(alloc, name)?))
 }
 
+// NAME int
+fn column(alloc: Global, name: &str) -> Result<Listed<(Text, ColumnType)>, AllocError> {
+    Ok(Listed::new(vec![in alloc; (named(alloc, name)?, ColumnType::Int)]?))
+}
+
 // table t (id int key, a int)
-fn config(alloc: Global) -> Result<Config, AllocError> {
-    let table = TableDef {
+fn table(alloc: Global) -> Result<TableDef, AllocError> {
+    Ok(TableDef {
         name: named(alloc, "t")?,
-        key: Listed::new(vec![in alloc; (named(alloc, "id")?, ColumnType::Int)]?),
-        columns: Listed::new(vec![in alloc; (named(alloc, "a")?, ColumnType::Int)]?),
+        key: column(alloc, "id")?,
+        columns: column(alloc, "a")?,
         indexes: Listed::new(Vec::new(alloc)),
-    };
-    let tables = Listed::new(vec![in alloc; table]?);
+    })
+}
+
+fn config(alloc: Global) -> Result<Config, AllocError> {
+    let tables = Listed::new(vec![in alloc; table(alloc)?]?);
     Ok(Config { length: 10, tables })
 }
 
@@ -82,186 +79,35 @@ pub(crate) fn whole_table(alloc: Global) -> Result<Query, AllocError> {
     })
 }
 
-/// What is prepared of these operations by what was read for them.
-pub(crate) fn work_of(
-    alloc: Global,
-    schema: &Counted<Schema>,
-    lease: Lease,
-    ops: RowOps,
-    view: ReadView,
-) -> Option<Prepared> {
-    prepare(alloc, schema.clone().ok()?, lease, ops, view).ok()
-}
-
-/// The rows, and the pairs that are missing and extra.
-pub(crate) fn counted<L: Room, R: Wait>(
-    rt: &R,
-    alloc: Global,
-    shared: &Shared<L>,
-    me: &mut Handle<L>,
-) -> Option<(u64, u64, u64)> {
-    let told = match shared.check(rt, alloc, me) {
-        Err(SharedFault::World(AllocError)) => shared.check(rt, alloc, me),
-        told => told,
+/// add index i on t (a): element 2, since 1 is the column
+pub(crate) fn entering(alloc: Global) -> Result<Step, AllocError> {
+    let fresh = NewElement {
+        table: 1,
+        name: named(alloc, "i")?,
+        kind: Kind::Index(Listed::new(vec![in alloc; 1u32]?)),
     };
-    let report = told.ok()?;
-    Some((report.rows, report.missing, report.extra))
+    let to = ElementState::DeleteOnly;
+    Ok(Listed::new(vec![in alloc; Move::Enter { fresh, to }]?))
 }
 
-/// Whether a call that found no memory left the log as long as it was, so many rows, and each pair with its reason.
-pub(crate) fn is_kept<L: Room, R: Wait>(
-    rt: &R,
-    alloc: Global,
-    shared: &Shared<L>,
-    me: &mut Handle<L>,
-    front: u64,
-    rows: u64,
-) -> bool {
-    counted(rt, alloc, shared, me) == Some((rows, 0, 0)) && me.front() == front
+/// move t.i to STATE
+pub(crate) fn going(alloc: Global, to: ElementState) -> Result<Step, AllocError> {
+    Ok(Listed::new(vec![in alloc; Move::Go { element: 2, to }]?))
 }
 
-/// A lease at 0, on a world without entries.
-pub(crate) fn leased<L: Room, R: Wait>(
-    rt: &R,
-    alloc: Global,
-    shared: &Shared<L>,
-    me: &mut Handle<L>,
-) -> Option<Grant> {
-    match shared.lease(rt, alloc, me, 0) {
-        Ok(grant) => Some(grant),
-        Err(SharedFault::World(GrantFault::Memory)) => {
-            if !is_kept(rt, alloc, shared, me, 0, 0) {
-                return None;
-            }
-            shared.lease(rt, alloc, me, 0).ok()
-        }
-        Err(_) => None,
+// Whether the row has this key and this value of a.
+fn is_row(row: &Row, id: i64, value: i64) -> bool {
+    match (row.key.as_slice(), row.cells.as_slice()) {
+        ([Value::Int(key)], [(column, Value::Int(a))]) => (*key, *column, *a) == (id, 1, value),
+        _ => false,
     }
 }
 
-// What keys of operations have.
-fn view_of<L: Room, R: Wait>(
-    rt: &R,
-    alloc: Global,
-    shared: &Shared<L>,
-    me: &mut Handle<L>,
-    schema: &Schema,
-    ops: &RowOps,
-) -> Option<ReadView> {
-    let keys = either(
-        reads_of(alloc, schema, ops.as_slice()),
-        reads_of(alloc, schema, ops.as_slice()),
-    )?;
-    match shared.read(rt, alloc, me, &keys) {
-        Ok(view) => Some(view),
-        Err(SharedFault::World(AllocError)) => shared.read(rt, alloc, me, &keys).ok(),
-        Err(_) => None,
-    }
-}
-
-// What is prepared of operations by what the shared world has now. They come back where memory was short.
-fn prepared<L: Room, R: Wait>(
-    rt: &R,
-    alloc: Global,
-    shared: &Shared<L>,
-    me: &mut Handle<L>,
-    grant: &Grant,
-    ops: RowOps,
-) -> Option<Prepared> {
-    let view = view_of(rt, alloc, shared, me, grant.schema.get(), &ops)?;
-    match prepare(alloc, grant.schema.clone().ok()?, grant.lease, ops, view) {
-        Ok(work) => Some(work),
-        Err((PrepareFault::Memory, ops)) => {
-            let view = view_of(rt, alloc, shared, me, grant.schema.get(), &ops)?;
-            work_of(alloc, &grant.schema, grant.lease, ops, view)
-        }
-        Err(_) => None,
-    }
-}
-
-// The receipt of what is committed.
-fn receipt_of(told: Result<Committed, (SharedFault<CommitFault>, Prepared)>) -> Option<Receipt> {
-    match told {
-        Ok(Committed::Done(receipt)) => Some(receipt),
-        _ => None,
-    }
-}
-
-/// The receipt of operations at moment 0, where there are so many rows. What was prepared comes back where memory was short.
-pub(crate) fn committed<L: Room, R: Wait>(
-    rt: &R,
-    alloc: Global,
-    shared: &Shared<L>,
-    me: &mut Handle<L>,
-    grant: &Grant,
-    ops: RowOps,
-    rows: u64,
-) -> Option<Receipt> {
-    let work = prepared(rt, alloc, shared, me, grant, ops)?;
-    let front = me.front();
-    match shared.commit(rt, alloc, me, 0, work) {
-        Err((SharedFault::World(CommitFault::Memory), work)) => {
-            if !is_kept(rt, alloc, shared, me, front, rows) {
-                return None;
-            }
-            receipt_of(shared.commit(rt, alloc, me, 0, work))
-        }
-        told => receipt_of(told),
-    }
-}
-
-/// The rows that a query finds at moment 0.
-pub(crate) fn found<L: Room, R: Wait>(
-    rt: &R,
-    alloc: Global,
-    shared: &Shared<L>,
-    me: &mut Handle<L>,
-    grant: &Grant,
-    query: &Query,
-) -> Option<Listed<Row>> {
-    match shared.query(rt, alloc, me, 0, &grant.lease, query) {
-        Err(SharedFault::World(QueryRefusal::Query(QueryFault::Memory))) => {
-            shared.query(rt, alloc, me, 0, &grant.lease, query).ok()
-        }
-        told => told.ok(),
-    }
-}
-
-/// A snapshot at moment 0.
-pub(crate) fn taken<L: Room, R: Wait>(
-    rt: &R,
-    shared: &Shared<L>,
-    me: &mut Handle<L>,
-    grant: &Grant,
-) -> Option<Snapshot> {
-    match shared.snapshot(rt, me, 0, &grant.lease) {
-        Err(SharedFault::World(SnapshotFault::Memory)) => {
-            shared.snapshot(rt, me, 0, &grant.lease).ok()
-        }
-        told => told.ok(),
-    }
-}
-
-/// The receipt of an insert with a = 7. It is asked once more only where there was no row.
-pub(crate) fn inserted<L: Room, R: Wait>(
-    rt: &R,
-    alloc: Global,
-    shared: &Shared<L>,
-    me: &mut Handle<L>,
-    grant: &Grant,
-    id: i64,
-) -> Option<Receipt> {
-    let ops = either(insert(alloc, id, 7), insert(alloc, id, 7))?;
-    committed(rt, alloc, shared, me, grant, ops, 0)
-}
-
-/// Whether there is the row of this key with this value of a, and no other.
-pub(crate) fn is_row(rows: &[Row], id: i64, value: i64) -> bool {
-    match rows {
-        [row] => match (row.key.as_slice(), row.cells.as_slice()) {
-            ([Value::Int(key)], [(column, Value::Int(a))]) => (*key, *column, *a) == (id, 1, value),
-            _ => false,
-        },
+/// Whether there are these rows, of which there is one at most.
+pub(crate) fn are(rows: &[Row], wanted: &[(i64, i64)]) -> bool {
+    match (rows, wanted) {
+        ([], []) => true,
+        ([row], [(id, value)]) => is_row(row, *id, *value),
         _ => false,
     }
 }

@@ -2,12 +2,14 @@
 #![tactic(auto)]
 
 #[cfg(test)]
-mod changes;
+mod acts;
 #[cfg(test)]
-mod counts;
+mod desk;
 #[cfg(test)]
 mod fixtures;
 #[cfg(test)]
-mod snapshots;
+mod one_thread;
+#[cfg(test)]
+mod pieces;
 #[cfg(test)]
 mod two_threads;

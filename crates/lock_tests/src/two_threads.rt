@@ -1,10 +1,11 @@
 //! Two threads over one world, which keep snapshots of it; a second world then repeats its log.
 ghost use Rattle.std.specs.Prelude.{◌≡◌, length};
 
-use crate::fixtures::{inserted, opened, whole_table, work_of};
+use crate::desk::{Desk, committed, prepared};
+use crate::fixtures::{FIRST, insert, opened, whole_table};
 use lease::Lease;
 use locked_store::{Handle, Missing, Room, Shared, reconcile};
-use row_write::{RowOps, reads_of};
+use row_write::{Prepared, RowOps, prepare, reads_of};
 use std::alloc::Global;
 use std::marker::Brand;
 use std::sync::Wait;
@@ -26,62 +27,96 @@ struct Found {
     seen: Vec<Seen>,
 }
 
+// The receipt of an insert.
+fn receipt_of<L: Room, R: Wait>(desk: &mut Desk<L, R>, id: i64) -> Option<Receipt> {
+    let ops = insert(desk.alloc, id, 7);
+    let work = prepared(desk, ops).ok()?;
+    committed(desk, &mut None, work).ok()
+}
+
+// A snapshot of what there is now.
+fn look<L: Room, R: Wait>(desk: &mut Desk<L, R>) -> Option<Seen> {
+    let snapshot = desk.shared.snapshot(desk.rt, &mut desk.me, 0, &FIRST).ok()?;
+    let front = desk.me.front();
+    Some(Seen { front, snapshot })
+}
+
 // One insert, and a snapshot of what there then is.
 fn insert_and_look<L: Room, R: Wait>(
-    rt: &R,
-    alloc: Global,
-    shared: &Shared<L>,
-    me: &mut Handle<L>,
-    grant: &Grant,
+    desk: &mut Desk<L, R>,
     found: &mut Found,
     id: i64,
 ) -> Option<()> {
-    let receipt = inserted(rt, alloc, shared, me, grant, id)?;
-    found.receipts.push(receipt).ok()?;
-    let snapshot = shared.snapshot(rt, me, 0, &grant.lease).ok()?;
-    let front = me.front();
-    found.seen.push(Seen { front, snapshot }).ok()
+    found.receipts.push(receipt_of(desk, id)?).ok()?;
+    found.seen.push(look(desk)?).ok()
 }
 
-// A lease, and a hundred inserts from this key on.
-fn inserts<L: Room, R: Wait>(
-    rt: &R,
-    alloc: Global,
-    shared: &Shared<L>,
-    me: &mut Handle<L>,
-    from: i64,
-    to: i64,
-) -> Option<Found> {
-    let mut found = Found {
-        receipts: Vec::new(alloc),
-        seen: Vec::new(alloc),
-    };
-    let grant = shared.lease(rt, alloc, me, 0).ok()?;
-    for id in from..to {
-        insert_and_look(rt, alloc, shared, me, &grant, &mut found, id)?;
-    }
+// The receipt of a lease.
+fn lease_of<L: Room, R: Wait>(desk: &mut Desk<L, R>) -> Option<Receipt> {
+    let grant = desk
+        .shared
+        .lease(desk.rt, desk.alloc, &mut desk.me, 0)
+        .ok()?;
     let Grant {
         lease: _,
         schema: _,
         receipt,
     } = grant;
-    found.receipts.push(receipt).ok()?;
+    Some(receipt)
+}
+
+// A lease, and a hundred inserts from this key on.
+fn inserts<L: Room, R: Wait>(desk: &mut Desk<L, R>, from: i64, to: i64) -> Option<Found> {
+    let mut found = Found {
+        receipts: Vec::new(desk.alloc),
+        seen: Vec::new(desk.alloc),
+    };
+    found.receipts.push(lease_of(desk)?).ok()?;
+    for id in from..to {
+        insert_and_look(desk, &mut found, id)?;
+    }
     Some(found)
 }
 
+// The same through a handle that is handed in, and comes back.
+fn worked<L: Room, R: Wait>(
+    rt: &R,
+    alloc: Global,
+    shared: &Shared<L>,
+    me: Handle<L>,
+    from: i64,
+    to: i64,
+) -> (Handle<L>, Option<Found>) {
+    let mut desk = Desk {
+        rt,
+        alloc,
+        shared,
+        me,
+    };
+    let found = inserts(&mut desk, from, to);
+    let Desk {
+        rt: _,
+        alloc: _,
+        shared: _,
+        me,
+    } = desk;
+    (me, found)
+}
+
+// Puts what the other found behind what this one did.
+fn unite(found: &mut Found, other: &mut Found) -> bool {
+    found.receipts.append(&mut other.receipts).is_ok() && found.seen.append(&mut other.seen).is_ok()
+}
+
 // All that both found.
-fn both(first: Found, second: Found) -> Option<Found> {
-    let Found {
-        mut receipts,
-        mut seen,
-    } = first;
-    let Found {
-        receipts: mut more,
-        seen: mut others,
-    } = second;
-    receipts.append(&mut more).ok()?;
-    seen.append(&mut others).ok()?;
-    Some(Found { receipts, seen })
+fn both(first: Option<Found>, second: Option<Found>) -> Option<Found> {
+    let mut found = first?;
+    let mut other = second?;
+    if unite(&mut found, &mut other) {
+        Some(found)
+    } else {
+        None
+    }
 }
 
 // The world comes back only with both handles.
@@ -96,6 +131,22 @@ fn closed<L: Room>(shared: Shared<L>, handles: Vec<Handle<L>>, last: Handle<L>) 
     shared.close(handles).ok()
 }
 
+// What two threads find at once, through a handle each.
+fn at_once<L: Room + Send + Sync, R: Threads + Wait + Sync>(
+    rt: &R,
+    alloc: Global,
+    shared: &Shared<L>,
+    first: Handle<L>,
+    second: Handle<L>,
+) -> (Handle<L>, Handle<L>, Option<Found>) {
+    let ((first, a), (second, b)) = join(
+        rt,
+        move || worked(rt, alloc, shared, first, 0, 100),
+        move || worked(rt, alloc, shared, second, 100, 200),
+    );
+    (first, second, both(a, b))
+}
+
 fn two_at_once<L: Room + Send + Sync, R: Threads + Wait + Sync>(
     rt: &R,
     alloc: Global,
@@ -107,37 +158,20 @@ fn two_at_once<L: Room + Send + Sync, R: Threads + Wait + Sync>(
     requires picked { (L.handles ≡ 2) × (L.handles ≡ L.parts) × (L.opening ≡ world.opening) × (L.since ≡ length world.log) }
 {
     let (shared, mut handles) = Shared::<L>::new(alloc, blank, world, 2).ok()?;
-    let mut second = handles.pop()?;
-    let mut first = handles.pop()?;
-    let desk = &shared;
-    let (mine, other) = (&mut first, &mut second);
-    let (a, b) = join(
-        rt,
-        move || inserts(rt, alloc, desk, mine, 0, 100),
-        move || inserts(rt, alloc, desk, other, 100, 200),
-    );
-    let found = both(a?, b?)?;
+    let second = handles.pop()?;
+    let first = handles.pop()?;
+    let (first, second, found) = at_once(rt, alloc, &shared, first, second);
     handles.push(first).ok()?;
     let world = closed(shared, handles, second)?;
-    Some((world, found))
+    Some((world, found?))
 }
 
-// A transaction again, under its own lease.
-fn commits(
-    alloc: Global,
-    world: &mut World,
-    moment: u64,
-    lease: Lease,
-    ops: &RowOps,
-) -> Option<()> {
+// A transaction prepared again, under its own lease.
+fn prepared_again(alloc: Global, world: &World, lease: Lease, ops: &RowOps) -> Option<Prepared> {
     let schema = world.schema(lease.version)?.clone().ok()?;
     let keys = reads_of(alloc, schema.get(), ops.as_slice()).ok()?;
     let view = world.read(alloc, &keys).ok()?;
-    let work = work_of(alloc, &schema, lease, ops.clone().ok()?, view)?;
-    match world.commit(alloc, moment, work) {
-        Ok(Committed::Done(_)) => Some(()),
-        _ => None,
-    }
+    prepare(alloc, schema, lease, ops.clone().ok()?, view).ok()
 }
 
 // The call of an entry again.
@@ -147,7 +181,13 @@ fn repeat(alloc: Global, world: &mut World, entry: &Entry) -> Option<()> {
             Ok(_) => Some(()),
             Err(_) => None,
         },
-        What::Txn(lease, ops) => commits(alloc, world, entry.moment, *lease, ops),
+        What::Txn(lease, ops) => {
+            let work = prepared_again(alloc, world, *lease, ops)?;
+            match world.commit(alloc, entry.moment, work) {
+                Ok(Committed::Done(_)) => Some(()),
+                _ => None,
+            }
+        }
         _ => None,
     }
 }
@@ -157,13 +197,8 @@ fn is_seen_again(alloc: Global, world: &World, one: &Seen) -> Option<bool> {
     if one.front != world.log().len() as u64 {
         return Some(true);
     }
-    let lease = Lease {
-        version: 1,
-        granted: 0,
-        until: 10,
-    };
     let query = whole_table(alloc).ok()?;
-    let rows = world.query(alloc, 0, &lease, &query).ok()?;
+    let rows = world.query(alloc, 0, &FIRST, &query).ok()?;
     let kept = one.snapshot.query(alloc, &query).ok()?;
     Some(rows == kept)
 }
