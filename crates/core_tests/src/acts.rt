@@ -3,7 +3,7 @@
 use crate::fixtures::{a_is_5, are_1_and_3, entering, going};
 use crate::pieces::{Refusal, begins, commits, piece, piece_by_hand};
 use crate::told::{Told, judged};
-use crate::transactions::inserts;
+use crate::transactions::{inserts, lets_go};
 use lease::Lease;
 use reorganise::{PreparedPiece, Work};
 use row_query::QueryFault;
@@ -21,6 +21,8 @@ pub(crate) enum Act {
     Insert(Lease, (i64, i64)),
     /// The same, prepared by the schema of this version, and refused for it.
     Strange(u64, Lease, (i64, i64)),
+    /// The same, prepared by the schema of its lease's version and let go before it is committed, which leaves no trace.
+    LetGo(Lease, (i64, i64)),
     /// select a from t where a = 5 at 9, which finds rows 1 and 3.
     Find(Lease),
     /// A snapshot at 9.
@@ -151,6 +153,7 @@ pub(crate) fn acted(alloc: Global, world: &mut World, kept: &mut Kept, act: &Act
         Act::Lease(lease) => leases(alloc, world, *lease),
         Act::Insert(lease, row) => inserts(alloc, world, lease.version, *lease, *row),
         Act::Strange(version, lease, row) => inserts(alloc, world, *version, *lease, *row),
+        Act::LetGo(lease, row) => lets_go(alloc, world, *lease, *row),
         Act::Find(lease) => finds(alloc, world, *lease),
         Act::Keep(lease) => keeps(world, &mut kept.snapshot, *lease),
         Act::Look => looks(alloc, &kept.snapshot),

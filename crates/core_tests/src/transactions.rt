@@ -101,3 +101,15 @@ pub(crate) fn inserts(
     let answer = committed(alloc, world, work);
     told_of(&answer, version != lease.version)
 }
+
+/// An insert that is prepared and let go before it is committed: the world stands as before.
+pub(crate) fn lets_go(alloc: Global, world: &World, lease: Lease, row: (i64, i64)) -> Told {
+    let before = seen(world);
+    match prepared(alloc, world, lease.version, lease, row) {
+        Ok(work) => {
+            drop(work);
+            judged(seen(world) == before)
+        }
+        Err(told) => told,
+    }
+}

@@ -6,8 +6,8 @@ use crate::fixtures::{FIRST, mark, opened};
 use crate::pieces::Refusal::{Moved, NotWanted, WrongElement};
 use crate::told::{Told, seen};
 use Act::{
-    Begin, ByHand, Check, Commit, Enter, Find, Go, Insert, Keep, Look, Read, Stand, State, Strange,
-    Swap,
+    Begin, ByHand, Check, Commit, Enter, Find, Go, Insert, Keep, LetGo, Look, Read, Stand, State,
+    Strange, Swap,
 };
 use lease::Lease;
 use reorganise::Work::{Clear, Fill};
@@ -54,9 +54,9 @@ fn nothing() -> Kept {
     }
 }
 
-// Rows 1 and 3 have the value, row 2 another. When row 4 is added, a snapshot from before it has rows 1 and 3 all the same. Then the column is cleared: a fill of the same definition, over the same
+// Rows 1 and 3 have the value, row 2 another. An insert that is let go leaves no trace, so that row 4 can be added. A snapshot from before it has rows 1 and 3 all the same. Then the column is cleared: a fill of the same definition, over the same
 // range, is not one of its pieces; a clear that is made by hand in the same way is.
-static COMMITS: [Row; 16] = [
+static COMMITS: [Row; 17] = [
     (Act::Lease(FIRST), 1),
     (Insert(FIRST, (1, 5)), 2),
     (Insert(FIRST, (2, 9)), 3),
@@ -64,6 +64,7 @@ static COMMITS: [Row; 16] = [
     (Find(FIRST), 4),
     (Keep(FIRST), 4),
     (Check(3), 4),
+    (LetGo(FIRST, (4, 5)), 4),
     (Insert(FIRST, (4, 5)), 5),
     (Look, 5),
     (Go(1, DeleteOnly, 10, Ok(2)), 6),
