@@ -11,7 +11,7 @@ use Rattle.keycode.specs.declared.fault.KeyFault.{KeyFault}
 use Rattle.keycode.specs.declared.value.Value.{Value}
 use Rattle.keycode.specs.Order.{bytes_cmp, values_cmp}
 use Rattle.keycode.specs.Valid.{AreValues, IsStorable}
-use Rattle.keycode.proofs.Fields.{IsBytes, value_takes}
+use Rattle.keycode.proofs.Fields.{IsBytes}
 use Rattle.keycode.proofs.Orders.{values_cmp-IsAntisymmetric}
 use Rattle.byte_map.proofs.Order.{same_itself}
 use Rattle.row_map.specs.declared.key.KeyOf.{KeyOf}
@@ -19,6 +19,7 @@ use Rattle.row_map.specs.declared.key.KeyOf.TheVariants.{Exists, Column, Index}
 use Rattle.row_map.specs.Keys.{IsKey, key_code, row_code}
 use Rattle.row_map.specs.Reading.{key_at}
 use Rattle.row_map.specs.Rows.{Bytes, RowKey, Cells, Pairs, IsStorableRow}
+use Rattle.row_map.proofs.Cells.{only_is}
 use Rattle.row_map.proofs.KeyLaws.{key_takes}
 use Rattle.row_map.proofs.KeyOrder.{row_keys}
 use Rattle.schema_version.specs.Version.{Version}
@@ -98,5 +99,4 @@ module _ (pairs : Pairs) (strings : AreByteStrings pairs) where
     where
       storable : (column : ℕ) (value : Value) → HasCell version pairs row column value → IsStorable value
       storable column value has =
-          let read = value_takes has.bytes (value, []) (bytes_of has.bytes (strings (row_code row.0 row.1 column) has.bytes has.there).1) has.reads in
-          (read.value, read.short)
+          ((only_is has.bytes (bytes_of has.bytes (strings (row_code row.0 row.1 column) has.bytes has.there).1) value).0 has.reads).storable

@@ -1,5 +1,5 @@
 -- The cells of the row that an audit reads are the values that the row's pairs spell.
-use Rattle.std.proofs.Common.{◌≡◌, ℕ, ◌==◌, ◌&&◌, Bool, true, false, cond, List, [], ◌∷◌, Option, Some, None, Result, Ok, Err, option_map, refl, sym, ap, ◌∙◌, eqb-true, eq-eqb}
+use Rattle.std.proofs.Common.{◌≡◌, ℕ, ◌==◌, ◌&&◌, Bool, true, false, cond, List, [], ◌∷◌, Option, Some, None, option_map, refl, sym, ap, ◌∙◌, eqb-true, eq-eqb}
 use Rattle.std.specs.Prelude.{unwrap_or, ◌↔◌}
 use Rattle.std.specs.Cmp.{nat_cmp_total, Equal-is}
 use Rattle.std.specs.FinMap as map
@@ -9,14 +9,12 @@ use Rattle.std.specs.List.{AllByRecursion, filter_map, cons_option}
 use Rattle.std.specs.Ordering.{nat_cmp, eq_by_cmp}
 use Rattle.std.proofs.lemmas.Option.{same_Some}
 use mathlib.Core.List.{map as each}
-use Rattle.keycode.specs.declared.fault.KeyFault.{KeyFault}
 use Rattle.keycode.specs.declared.value.Value.{Value}
 use Rattle.keycode.specs.declared.value.Value.TheVariants.{Null}
-use Rattle.keycode.specs.Reading.{value_at}
 use Rattle.row_map.specs.declared.shape.ColumnType.{ColumnType}
 use Rattle.row_map.specs.Keys.{row_code}
 use Rattle.row_map.specs.Rows.{Bytes, Cells, Pairs, value_or_null}
-use Rattle.row_map.specs.Shape.{has_type}
+use Rattle.row_map.proofs.Cells.{typed_reads, typed_from as value_typed}
 use Rattle.row_map.proofs.Entries.{each_entry}
 use Rattle.schema_version.specs.declared.element.ElementState.{ElementState}
 use Rattle.schema_version.specs.declared.element.ElementState.TheVariants.{Absent, DeleteOnly, WriteOnly, Public}
@@ -29,10 +27,10 @@ use Rattle.element_state.specs.Apart.{none_some}
 use Rattle.element_state.specs.Clears.{left_true, right_true}
 use Rattle.element_state.specs.Index.{indexed}
 use Rattle.element_state.specs.Operations.{cells_of}
-use Rattle.audit.specs.Spelled.{single_value, spelled, public_type, cell_by, stored_cell, row_at}
+use Rattle.audit.specs.Spelled.{spelled, public_type, cell_by, stored_cell, row_at}
 use Rattle.audit.specs.Meaning.{HasExistsPair, HasCell, IsSpelled}
 
--- ---- one value
+-- ---- one column
 
 pub public_is : (s : ElementState) → is_public s ≡ true → s ≡ Public
 public_is Absent e = absurd cc
@@ -66,15 +64,6 @@ typed_from table element type home kind public =
     ∙ ap (λ (q : ElementState). cond (is_public q) (type_of_kind element.kind) None) public
     ∙ ap type_of_kind kind
 
-single_says : (type : ColumnType) (r : Result (Value × Bytes) KeyFault) (v : Value) → single_value type r ≡ Some v → (r ≡ Ok (v, [])) × (has_type type v ≡ true)
-single_says type (Ok (w, [])) v e =
-    elim (has_type type w) as (λ b. has_type type w ≡ b → cond b (Some w) None ≡ Some v → (◌≡◌ {A = Result (Value × Bytes) KeyFault} (Ok (w, [])) (Ok (v, []))) × (has_type type v ≡ true)) [
-      | true ↦ λ t is. (ap (λ (x : Value). Ok (x, [])) (same_Some w v is), ap (has_type type) (sym (same_Some w v is)) ∙ t)
-      | false ↦ λ t is. absurd (none_some v is)
-    ] refl e
-single_says type (Ok (w, (b ∷ bytes))) v e = absurd (none_some v e)
-single_says type (Err fault) v e = absurd (none_some v e)
-
 -- ---- the cells
 
 module _ (version : Version) (pairs : Pairs) (table : ℕ) (primary : List Value) where
@@ -96,7 +85,7 @@ module _ (version : Version) (pairs : Pairs) (table : ℕ) (primary : List Value
       at_bytes : (element : ElementDef) (type : ColumnType) → element_at version n ≡ Some element → IsTyped table element type → (o : Option Bytes) → map.get pairs (row_code table primary n) ≡ o → spelled type o ≡ Some v → HasCell version pairs (table, primary) n v
       at_bytes element type known typed None there e = absurd (none_some v e)
       at_bytes element type known typed (Some bytes) there e =
-          let s = single_says type (value_at bytes) v e in
+          let s = typed_reads type bytes v e in
           record { element = element; type = type; known = known; home = typed.home; kind = typed.kind; public = typed.public; bytes = bytes; there = there; reads = s.0; fits = s.1 }
 
       at_type : (element : ElementDef) → element_at version n ≡ Some element → (o : Option ColumnType) → public_type table element ≡ o → value_by n o ≡ Some v → HasCell version pairs (table, primary) n v
@@ -112,8 +101,7 @@ module _ (version : Version) (pairs : Pairs) (table : ℕ) (primary : List Value
       ap (λ (o : Option ElementDef). value_by n (type_here o)) has.known
       ∙ ap (value_by n) (typed_from table has.element has.type has.home has.kind has.public)
       ∙ ap (spelled has.type) has.there
-      ∙ ap (single_value has.type) has.reads
-      ∙ ap (λ (b : Bool). cond b (Some v) None) has.fits
+      ∙ value_typed has.type has.bytes v has.reads has.fits
 
   -- each element under its number
   abbrev IsOwn : ℕ → ElementDef → Type 0

@@ -1,11 +1,11 @@
 -- The plain meaning of an audit: the rows that the pairs of a store spell, and the pairs that these rows call for.
-use Rattle.std.specs.Prelude.{◌≡◌, ◌↔◌, ℕ, ◌<◌, ◌^◌, List, [], Some, Ok, IsTrue}
+use Rattle.std.specs.Prelude.{◌≡◌, ◌↔◌, ℕ, ◌<◌, ◌^◌, List, [], Some, IsTrue}
 use Rattle.std.specs.FinMap as map
 use Rattle.std.specs.List.{AllByRecursion}
 use Rattle.keycode.specs.declared.value.Value.{Value}
-use Rattle.keycode.specs.Reading.{value_at}
 use Rattle.row_map.specs.declared.key.KeyOf.TheVariants.{Exists, Column}
 use Rattle.row_map.specs.declared.shape.ColumnType.{ColumnType}
+use Rattle.row_map.specs.Cell.{only_value}
 use Rattle.row_map.specs.Keys.{row_code}
 use Rattle.row_map.specs.Rows.{Bytes, RowKey, Cells, Pairs}
 use Rattle.row_map.specs.Shape.{has_type}
@@ -36,7 +36,7 @@ pub record HasCell (version : Version) (pairs : Pairs) (row : RowKey) (column : 
   pub public : element.state ≡ Public
   pub bytes : Bytes
   pub there : map.get pairs (row_code row.0 row.1 column) ≡ Some bytes
-  pub reads : value_at bytes ≡ Ok (value, [])
+  pub reads : only_value bytes ≡ Some value
   pub fits : IsTrue (has_type type value)
 
 -- the pairs spell the row: its `exists` pair is there, and its cells are the values of its columns' pairs

@@ -1,17 +1,16 @@
 -- The rows that the pairs of a store spell.
-use Rattle.std.specs.Prelude.{ℕ, ◌==◌, Bool, true, false, ◌&&◌, List, [], ◌∷◌, Option, Some, None, Result, Ok, Err, if◌then◌else◌, option_map, is_some, filter_map}
+use Rattle.std.specs.Prelude.{ℕ, ◌==◌, Bool, true, false, ◌&&◌, List, Option, Some, None, Result, Ok, Err, if◌then◌else◌, option_map, is_some, filter_map}
 use Rattle.std.specs.FinMap as map
 use Rattle.keycode.specs.declared.fault.KeyFault.{KeyFault}
 use Rattle.keycode.specs.declared.value.Value.{Value}
-use Rattle.keycode.specs.Reading.{value_at}
 use Rattle.row_map.specs.declared.key.KeyOf.{KeyOf}
 use Rattle.row_map.specs.declared.key.KeyOf.TheVariants.{Exists}
 use Rattle.row_map.specs.declared.shape.ColumnType.{ColumnType}
 use Rattle.row_map.specs.declared.shape.Row.{Row}
+use Rattle.row_map.specs.Cell.{typed_value}
 use Rattle.row_map.specs.Keys.{row_code}
 use Rattle.row_map.specs.Reading.{key_at}
 use Rattle.row_map.specs.Rows.{Bytes, Pairs}
-use Rattle.row_map.specs.Shape.{has_type}
 use Rattle.schema_version.specs.declared.element.ElementDef.{ElementDef}
 use Rattle.schema_version.specs.Version.{Version, live, is_public, type_of_kind}
 
@@ -31,15 +30,10 @@ is_exists _ = false
 abbrev pub is_row : Pairs → ℕ → List Value → Bool
 is_row pairs table primary = is_exists (key_read (row_code table primary 0)) && is_some (map.get pairs (row_code table primary 0))
 
-abbrev pub single_value : ColumnType → Result (Value × Bytes) KeyFault → Option Value
-single_value type (Ok (value, [])) = if has_type type value then Some value else None
-single_value type (Ok (value, (b ∷ bytes))) = None
-single_value type (Err fault) = None
-
 -- the value that a column's pair spells, if that is just one value of the column's type
 abbrev pub spelled : ColumnType → Option Bytes → Option Value
 spelled type None = None
-spelled type (Some bytes) = single_value type (value_at bytes)
+spelled type (Some bytes) = typed_value type bytes
 
 -- the type of an element that is a public column of the table
 abbrev pub public_type : ℕ → ElementDef → Option ColumnType

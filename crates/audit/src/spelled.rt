@@ -2,9 +2,11 @@
 ghost use Rattle.std.specs.Prelude.{◌≡◌, IfOk, option_map, filter_map};
 ghost use Rattle.audit.specs.Spelled.{key_read, spelled as spelled_of, public_type as public_type_of, stored_cell as stored_cell_of, row_at as row_at_of, is_row as is_row_of};
 
-use keycode::{KeyFault, Value, Values, read_value};
+use keycode::{KeyFault, Value, Values};
 use listed::Listed;
-use row_map::{ColumnType, KeyOf, PairView, Row, column_key, exists_key, fits, read_key};
+use row_map::{
+    ColumnType, KeyOf, PairView, Row, column_key, exists_key, read_key, read_typed_value,
+};
 use schema_version::{ElementDef, Schema};
 use std::alloc::{AllocError, Global};
 
@@ -43,19 +45,9 @@ fn spelled(
 ) -> Result<Option<Value>, AllocError>
     ensures { IfOk result (λ value. value ≡ spelled_of kind (option_map (λ b. b.now) bytes.entry)) }
 {
-    let Some(bytes) = bytes else {
-        return Ok(None);
-    };
-    match read_value(alloc, bytes) {
-        Ok((value, rest)) => {
-            if rest.is_empty() && fits(kind, &value) {
-                Ok(Some(value))
-            } else {
-                Ok(None)
-            }
-        }
-        Err(KeyFault::Memory) => Err(AllocError),
-        Err(_) => Ok(None),
+    match bytes {
+        None => Ok(None),
+        Some(bytes) => read_typed_value(alloc, kind, bytes),
     }
 }
 

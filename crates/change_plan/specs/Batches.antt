@@ -48,6 +48,18 @@ leaving version change = None
 abbrev pub is_same_name : ℕ → List ℕ → ℕ → List ℕ → Bool
 is_same_name table name other own = (table == other) && bytes_eq name own
 
+-- the table and the name that a change is of
+abbrev pub place_of : Change → ℕ × List ℕ
+place_of (AddIndex table name columns) = (table, name)
+place_of (DropIndex table name) = (table, name)
+place_of (AddColumn table name kind) = (table, name)
+place_of (DropColumn table name) = (table, name)
+place_of (Abandon table name) = (table, name)
+
+-- whether a change is of the table's element of this name
+abbrev pub is_of : ℕ → List ℕ → Change → Bool
+is_of table name change = is_same_name table name (place_of change).0 (place_of change).1
+
 -- whether the change adds the table's column of this name
 abbrev pub adds_column : ℕ → List ℕ → Change → Bool
 adds_column table name (AddColumn other own kind) = is_same_name table name other own

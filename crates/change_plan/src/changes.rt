@@ -1,7 +1,7 @@
 //! Looking for changes of a batch by table and name.
 ghost use Rattle.std.specs.Prelude.{◌≡◌, ◌&&◌, ◌==◌, bytes_eq};
 ghost use Rattle.std.specs.List.{list_any};
-ghost use Rattle.change_plan.specs.Batches.{is_same_name as is_same_name_of, adds_column as adds_column_of, adds as adds_of, drops as drops_of, drops_index as drops_index_of, drops_column as drops_column_of, lists_added as lists_added_of};
+ghost use Rattle.change_plan.specs.Batches.{place_of, is_of as is_of_of, adds_column as adds_column_of, adds as adds_of, drops as drops_of, drops_index as drops_index_of, drops_column as drops_column_of, lists_added as lists_added_of};
 ghost use Rattle.change_plan.specs.Refusals.{adds_like as adds_like_of, is_addition as is_addition_of};
 ghost use Rattle.change_plan.specs.Deciding.{adds_index_on as adds_index_on_of};
 ghost use Rattle.change_plan.specs.Schedule.{is_early as is_early_of, is_late as is_late_of};
@@ -11,9 +11,24 @@ use crate::finding::named_column;
 use keycode::Text;
 use schema_version::Schema;
 
-fn is_same_name(table: u32, name: &Text, other: u32, own: &Text) -> bool
-    ensures { result ≡ is_same_name_of table name.now other own.now }
+// The table and the name that the change is of.
+fn place(change: &Change) -> (u32, &Text)
+    ensures { (result.0, result.1.now) ≡ place_of change.now }
 {
+    match change {
+        Change::AddIndex { table, name, .. } => (*table, name),
+        Change::DropIndex { table, name } => (*table, name),
+        Change::AddColumn { table, name, .. } => (*table, name),
+        Change::DropColumn { table, name } => (*table, name),
+        Change::Abandon { table, name } => (*table, name),
+    }
+}
+
+// Whether the change is of the table's element of this name.
+fn is_of(change: &Change, table: u32, name: &Text) -> bool
+    ensures { result ≡ is_of_of table name.now change.now }
+{
+    let (other, own) = place(change);
     table == other && name.as_bytes() == own.as_bytes()
 }
 
@@ -22,11 +37,7 @@ pub(crate) fn adds_column(change: &Change, table: u32, name: &Text) -> bool
     ensures { result ≡ adds_column_of table name.now change.now }
 {
     match change {
-        Change::AddColumn {
-            table: other,
-            name: own,
-            ..
-        } => is_same_name(table, name, *other, own),
+        Change::AddColumn { .. } => is_of(change, table, name),
         _ => false,
     }
 }
@@ -36,16 +47,7 @@ fn adds(change: &Change, table: u32, name: &Text) -> bool
     ensures { result ≡ adds_of table name.now change.now }
 {
     match change {
-        Change::AddIndex {
-            table: other,
-            name: own,
-            ..
-        } => is_same_name(table, name, *other, own),
-        Change::AddColumn {
-            table: other,
-            name: own,
-            ..
-        } => is_same_name(table, name, *other, own),
+        Change::AddIndex { .. } | Change::AddColumn { .. } => is_of(change, table, name),
         _ => false,
     }
 }
@@ -55,18 +57,9 @@ fn drops(change: &Change, table: u32, name: &Text) -> bool
     ensures { result ≡ drops_of table name.now change.now }
 {
     match change {
-        Change::DropIndex {
-            table: other,
-            name: own,
-        } => is_same_name(table, name, *other, own),
-        Change::DropColumn {
-            table: other,
-            name: own,
-        } => is_same_name(table, name, *other, own),
-        Change::Abandon {
-            table: other,
-            name: own,
-        } => is_same_name(table, name, *other, own),
+        Change::DropIndex { .. } | Change::DropColumn { .. } | Change::Abandon { .. } => {
+            is_of(change, table, name)
+        }
         _ => false,
     }
 }
@@ -76,14 +69,7 @@ fn drops_index(change: &Change, table: u32, name: &Text) -> bool
     ensures { result ≡ drops_index_of table name.now change.now }
 {
     match change {
-        Change::DropIndex {
-            table: other,
-            name: own,
-        } => is_same_name(table, name, *other, own),
-        Change::Abandon {
-            table: other,
-            name: own,
-        } => is_same_name(table, name, *other, own),
+        Change::DropIndex { .. } | Change::Abandon { .. } => is_of(change, table, name),
         _ => false,
     }
 }
@@ -93,14 +79,10 @@ fn drops_column(schema: &Schema, change: &Change, table: u32, name: &Text) -> bo
     ensures { result ≡ drops_column_of schema.now table name.now change.now }
 {
     match change {
-        Change::DropColumn {
-            table: other,
-            name: own,
-        } => is_same_name(table, name, *other, own),
-        Change::Abandon {
-            table: other,
-            name: own,
-        } => is_same_name(table, name, *other, own) && named_column(schema, table, name).is_some(),
+        Change::DropColumn { .. } => is_of(change, table, name),
+        Change::Abandon { .. } => {
+            is_of(change, table, name) && named_column(schema, table, name).is_some()
+        }
         _ => false,
     }
 }

@@ -1,5 +1,5 @@
 -- What the pairs of exact columns spell are the rows' values.
-use Rattle.std.proofs.Common.{◌≡◌, ℕ, ◌+◌, ◌<◌, ◌^◌, Bool, true, false, ◌||◌, cond, eqb, eq-eqb, List, [], ◌∷◌, Option, Some, None, unwrap_or, option_map, refl, sym, ap, ◌∙◌, append-nil, arith, lit<}
+use Rattle.std.proofs.Common.{◌≡◌, ℕ, ◌+◌, ◌<◌, ◌^◌, Bool, true, false, ◌||◌, cond, eqb, eq-eqb, List, [], ◌∷◌, Option, Some, None, unwrap_or, option_map, refl, sym, ap, ◌∙◌, arith, lit<}
 use Rattle.std.specs.Prelude.{filter_map, if◌then◌else◌}
 use Rattle.std.specs.List.{AllByRecursion, list_any}
 use Rattle.std.specs.FinMap as map
@@ -13,9 +13,7 @@ use Rattle.keycode.specs.declared.value.Value.{Value}
 use Rattle.keycode.specs.declared.value.Value.TheVariants.{Null, Int, Text, Bool as Flag}
 use Rattle.keycode.specs.Code.{code}
 use Rattle.keycode.specs.Order.{bytes_cmp}
-use Rattle.keycode.specs.Reading.{value_at}
 use Rattle.keycode.specs.Valid.{IsStorable}
-use Rattle.keycode.proofs.Fields.{value_again}
 use Rattle.std.specs.List.{cons_option}
 use Rattle.std.proofs.lemmas.Bool.Decides.{nat_tests}
 use Rattle.keycode.specs.Order.{values_cmp}
@@ -26,6 +24,7 @@ use Rattle.row_map.specs.Keys.{row_code}
 use Rattle.row_map.specs.Shape.{is_null}
 use Rattle.row_map.specs.Rows.{Bytes, RowKey, Cells, Rows, Pairs, AreStorable, value_or_null}
 use Rattle.row_map.specs.Ranges.{is_within, IsRowBound}
+use Rattle.row_map.proofs.Cells.{only_again}
 use Rattle.row_map.proofs.Ranges.{row_then_pair}
 use Rattle.row_map.proofs.KeyLaws.{same_key}
 use Rattle.row_map.proofs.KeyOrder.{row_keys}
@@ -36,7 +35,7 @@ use Rattle.element_state.specs.Column.{coded, column_of, IsLawfulColumn}
 use Rattle.element_state.specs.ColumnLaws.{column_is_key, column_owned_key}
 use Rattle.element_state.specs.Index.{indexed}
 use Rattle.reorganise.specs.Pieces.{part}
-use Rattle.reorganise.specs.Batches.{only_value, spelled, cell_in, cells_in}
+use Rattle.reorganise.specs.Batches.{but_null, spelled, cell_in, cells_in}
 use Rattle.reorganise.proofs.Order.{get-part, some_in, within_parts, parts_within, le_trans, less_le}
 
 -- ---- values
@@ -49,7 +48,7 @@ not_null (Flag b) = refl
 
 spelled_code : (v : Value) → IsStorable v → unwrap_or (spelled (Some (code v))) Null ≡ v
 spelled_code v s =
-    ap (λ r. unwrap_or (only_value r) Null) (ap value_at (sym (append-nil (code v))) ∙ value_again v [] s.0 s.1) ∙ not_null v
+    ap (λ o. unwrap_or (but_null o) Null) (only_again v s) ∙ not_null v
 
 spelled_cell : (o : Option Value) → ((v : Value) → o ≡ Some v → IsStorable v) → unwrap_or (spelled (coded o)) Null ≡ unwrap_or o Null
 spelled_cell None h = refl

@@ -1,11 +1,10 @@
 -- What a piece writes.
-use Rattle.std.specs.Prelude.{◌≡◌, ℕ, List, [], ◌∷◌, Option, Some, None, option_map, Result, Ok, Err, if◌then◌else◌, filter_map}
+use Rattle.std.specs.Prelude.{◌≡◌, ℕ, List, [], ◌∷◌, Option, Some, None, option_map, if◌then◌else◌, filter_map}
 use Rattle.std.specs.List.{flat_map}
 use Rattle.std.specs.FinMap as map
-use Rattle.keycode.specs.declared.fault.KeyFault.{KeyFault}
 use Rattle.keycode.specs.declared.value.Value.{Value}
-use Rattle.keycode.specs.Reading.{value_at}
 use Rattle.row_map.specs.declared.key.KeyOf.TheVariants.{Column}
+use Rattle.row_map.specs.Cell.{only_value}
 use Rattle.row_map.specs.Keys.{key_code}
 use Rattle.row_map.specs.Rows.{Bytes, Pairs}
 use Rattle.row_map.specs.Shape.{is_null}
@@ -28,16 +27,15 @@ use Rattle.reorganise.specs.Pieces.{IsReading}
 
 -- ---- the row of an item
 
--- the bytes are the code of just one value, which isn't Null
-abbrev pub only_value : Result (Value × Bytes) KeyFault → Option Value
-only_value (Ok (v, [])) = if is_null v then None else Some v
-only_value (Ok (v, (b ∷ bs))) = None
-only_value (Err fault) = None
+-- a value that isn't Null
+abbrev pub but_null : Option Value → Option Value
+but_null None = None
+but_null (Some v) = if is_null v then None else Some v
 
 -- the value that a column's pair spells, if there is one
 abbrev pub spelled : Option Bytes → Option Value
 spelled None = None
-spelled (Some bytes) = only_value (value_at bytes)
+spelled (Some bytes) = but_null (only_value bytes)
 
 -- the value of a row in a column, as the pairs have it
 abbrev pub cell_in : Pairs → ℕ → List Value → ℕ → Option Value

@@ -1,29 +1,21 @@
 //! The row of an item, as the pairs that were read spell it.
 ghost use Rattle.std.specs.Prelude.{◌≡◌, IfOk};
-ghost use Rattle.keycode.specs.Reading.{value_at};
-ghost use Rattle.reorganise.specs.Batches.{only_value, cell_in, cells_in, row_in, columns_of};
+ghost use Rattle.reorganise.specs.Batches.{but_null as but_null_of, cell_in, cells_in, row_in, columns_of};
 
 use byte_map::{Bytes, KeyMap};
-use keycode::{KeyFault, Value, Values, read_value};
+use keycode::{Value, Values};
 use listed::Listed;
-use row_map::{Row, column_key};
+use row_map::{Row, column_key, read_only_value};
 use schema_version::{ElementDef, Kind};
 use std::alloc::{AllocError, Global};
 
-/// The value that the bytes spell, if it is just one, and not Null.
-fn only(alloc: Global, bytes: &[u8]) -> Result<Option<Value>, AllocError>
-    ensures { IfOk result (λ v. v ≡ only_value (value_at bytes.now)) }
+/// A value that is not Null.
+fn but_null(value: Option<Value>) -> Option<Value>
+    ensures { result ≡ but_null_of value }
 {
-    match read_value(alloc, bytes) {
-        Err(KeyFault::Memory) => Err(AllocError),
-        Err(_) => Ok(None),
-        Ok((value, rest)) => {
-            if rest.is_empty() && !matches!(value, Value::Null) {
-                Ok(Some(value))
-            } else {
-                Ok(None)
-            }
-        }
+    match value {
+        Some(Value::Null) => None,
+        value => value,
     }
 }
 
@@ -40,7 +32,7 @@ fn cell(
     let name = column_key(alloc, table, key, column)?;
     match pairs.get(name.as_slice()) {
         None => Ok(None),
-        Some(bytes) => only(alloc, bytes.as_slice()),
+        Some(bytes) => Ok(but_null(read_only_value(alloc, bytes.as_slice())?)),
     }
 }
 

@@ -9,10 +9,8 @@ use Rattle.std.proofs.lemmas.List.Elements.{All-nil, All-cons, All-head, All-tai
 use Rattle.std.proofs.lemmas.Option.{slice_get_within, get_or_from_slice_get}
 use Rattle.listed.specs.Answers.{◌>>>=◌, try_fold}
 use Rattle.keycode.specs.declared.value.Value.{Value}
-use Rattle.keycode.specs.Code.{code, codes_of}
-use Rattle.keycode.specs.Reading.{values_at}
+use Rattle.keycode.specs.Code.{code}
 use Rattle.keycode.specs.Valid.{IsValue, IsShort, AreShort}
-use Rattle.keycode.proofs.Lists.{values_again}
 use Rattle.keycode.proofs.Orders.{values_cmp_total}
 use Rattle.row_map.specs.declared.key.KeyOf.TheVariants.{Exists, Column}
 use Rattle.row_map.specs.declared.shape.ColumnType.{ColumnType}
@@ -21,10 +19,12 @@ use Rattle.row_map.specs.declared.shape.ShapeFault.{ShapeFault}
 use Rattle.row_map.specs.declared.shape.TableShape.{TableShape}
 use Rattle.row_map.specs.declared.shape.Row.{Row}
 use Rattle.row_map.specs.Keys.{row_code, AreKeyValues}
-use Rattle.row_map.specs.Pairs.{part_at, part_from, joined, part_step, parts_at, last_of, single, cell_at, cell_from, with_cell, cell_step, cells_at, row_of, row_from}
+use Rattle.row_map.specs.Cell.{typed_value}
+use Rattle.row_map.specs.Pairs.{part_at, part_from, joined, part_step, parts_at, last_of, cell_of, cell_from, with_cell, cell_step, cells_at, row_of, row_from}
 use Rattle.row_map.specs.Rows.{Bytes}
 use Rattle.row_map.specs.Shape.{are_key_values, has_null}
 use Rattle.row_map.specs.Spelled.{IsOfType, IsColumn, IsRowOf, IsListed, IsShape, IsPairOf, OfRow, OfCell, OfUnlisted, SpelledRowsComeBack}
+use Rattle.row_map.proofs.Cells.{typed_again}
 use Rattle.row_map.proofs.KeyLaws.{key_again}
 use Rattle.row_map.proofs.RowsOf.{type_passes, key_passes}
 
@@ -61,13 +61,8 @@ key_short [] (y ∷ vs) len f = absurd (omega arith)
 key_short (x ∷ ks) (y ∷ vs) len f = (of_type_short x y (f 0 x y refl refl), key_short ks vs (omega arith) (λ i. f (suc i)))
 
 -- the spelling of a value is read as that value
-cell_again : (k : ColumnType) (v : Value) → IsOfType k v → IsValue v → cell_at k (code v) ≡ Ok v
-unfolding cell_at
-cell_again k v h is =
-    let bytes : codes_of (v ∷ []) ++ [] ≡ code v = append-nil (code v ++ []) ∙ append-nil (code v) in
-    ap (λ b. single k (values_at [] 1 b)) (sym bytes)
-    ∙ ap (single k) (values_again [] (v ∷ []) [] (is, tt) (of_type_short k v h, tt))
-    ∙ rw (type_passes k v h) refl
+cell_again : (k : ColumnType) (v : Value) → IsOfType k v → IsValue v → typed_value k (code v) ≡ Some v
+cell_again k v h is = typed_again k v (is, of_type_short k v h) (type_passes k v h)
 
 -- ---- the pairs one by one
 
@@ -230,10 +225,10 @@ with_first parts c cs d ds up rise same g = record {
 passed_over : (parts : List (ℕ × Bytes)) (before : List (ℕ × Value)) (c : ℕ × ColumnType) → last_of c.0 None parts ≡ None → cell_step parts before c ≡ Ok before
 passed_over parts before c none = ap (λ o. cell_from c.1 o >>>= λ v. Ok (with_cell before c.0 v)) none
 
-taken : (parts : List (ℕ × Bytes)) (before : List (ℕ × Value)) (c : ℕ × ColumnType) (v : Value) → last_of c.0 None parts ≡ Some (code v) → cell_at c.1 (code v) ≡ Ok v → cell_step parts before c ≡ Ok (before ++ (c.0, v) ∷ [])
+taken : (parts : List (ℕ × Bytes)) (before : List (ℕ × Value)) (c : ℕ × ColumnType) (v : Value) → last_of c.0 None parts ≡ Some (code v) → typed_value c.1 (code v) ≡ Some v → cell_step parts before c ≡ Ok (before ++ (c.0, v) ∷ [])
 taken parts before c v some read =
     ap (λ o. cell_from c.1 o >>>= λ v. Ok (with_cell before c.0 v)) some
-    ∙ ap (λ r. (r >>>= λ v. Ok (Some v)) >>>= λ o. Ok (with_cell before c.0 o)) read
+    ∙ ap (λ r. cell_of r >>>= λ o. Ok (with_cell before c.0 o)) read
 
 -- the type of a column that is listed once
 one_type : (c : ℕ × ColumnType) (cs : List (ℕ × ColumnType)) (k : ColumnType) → AreRising (c ∷ cs) → Contains (c ∷ cs) (c.0, k) → c.1 ≡ k
@@ -256,7 +251,7 @@ cells_again parts (c ∷ cs) (d ∷ ds) up rise g before =
           let t = g.typed d.0 d.1 (in_front d ds) in
           let k_is : c.1 ≡ t.0 = one_type c cs t.0 up (subst (λ n. Contains (c ∷ cs) (n, t.0)) (sym same) t.1) in
           let some : last_of c.0 None parts ≡ Some (code d.1) = ap (λ n. last_of n None parts) same ∙ g.found d.0 d.1 (in_front d ds) in
-          let read : cell_at c.1 (code d.1) ≡ Ok d.1 = ap (λ k. cell_at k (code d.1)) k_is ∙ cell_again t.0 d.1 t.2 t.3 in
+          let read : typed_value c.1 (code d.1) ≡ Some d.1 = ap (λ k. typed_value k (code d.1)) k_is ∙ cell_again t.0 d.1 t.2 t.3 in
           let next : before ++ (c.0, d.1) ∷ [] ≡ before ++ d ∷ [] = ap (λ n. before ++ (n, d.1) ∷ []) same in
           ap (λ r. r >>>= λ s. try_fold (cell_step parts) s cs) (taken parts before c d.1 some read)
           ∙ ap (λ s. try_fold (cell_step parts) s cs) next

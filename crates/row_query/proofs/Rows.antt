@@ -18,14 +18,13 @@ use Rattle.keycode.specs.declared.value.Value.{Value}
 use Rattle.keycode.specs.declared.value.Value.TheVariants.{Null, Int, Text, Bool as Flag}
 use Rattle.keycode.specs.Code.{code, codes_of}
 use Rattle.keycode.specs.Order.{values_cmp}
-use Rattle.keycode.specs.Valid.{IsValue, IsShort}
-use Rattle.keycode.proofs.Fields.{value_again}
 use Rattle.keycode.proofs.Orders.{bytes_cmp_total, bytes_cmp-IsAntisymmetric}
 use Rattle.row_map.specs.declared.shape.Row.{Row}
 use Rattle.row_map.specs.declared.key.KeyOf.{KeyOf}
 use Rattle.row_map.specs.declared.key.KeyOf.TheVariants.{Exists, Column, Index}
 use Rattle.row_map.specs.Keys.{IsKey, key_code, row_code}
 use Rattle.row_map.specs.Reading.{key_at}
+use Rattle.row_map.proofs.Cells.{only_again}
 use Rattle.row_map.proofs.KeyLaws.{key_again, row_code_is}
 use Rattle.row_map.proofs.KeyOrder.{row_keys, number_order}
 use Rattle.keycode.specs.Order.{bytes_cmp}
@@ -41,7 +40,7 @@ use Rattle.element_state.specs.Elements.{HasForm}
 use Rattle.row_query.proofs.Premise.{Reads}
 use Rattle.row_map.specs.Walk.{stretch}
 use Rattle.row_map.specs.Ranges.{is_within, table_prefix}
-use Rattle.row_query.specs.Found.{only_value, value_of, value_from, cell_in, cells_in, value_in, row_of, row_in, key_of_row, row_key_in, row_of_key, row_at, rows_at}
+use Rattle.row_query.specs.Found.{value_from, cell_in, cells_in, value_in, row_of, row_in, key_of_row, row_key_in, row_of_key, row_at, rows_at}
 use Rattle.row_query.specs.Checked.{public_numbers}
 use Rattle.row_query.proofs.Sorted.{kept, find_kept, sorted_kept, passing, sorted_filter, find_filter, all_found, member_of, sorted_map, all_given, same_given, tied}
 use Rattle.row_map.proofs.Stretches.{stretch_sorted, find_stretch}
@@ -62,10 +61,6 @@ listed_tie [] c = refl
 listed_tie (x ∷ columns) c = ap (λ b. b || is_named columns c) (eq_tie c x) ∙ ap (λ b. eq_by_cmp nat_cmp c x || b) (listed_tie columns c)
 
 -- ---- cells
-
-code_read : (v : Value) → IsValue v → IsShort v → value_of (code v) ≡ Some v
-unfolding value_of
-code_read v p q = ap value_of (sym (append-nil (code v))) ∙ ap only_value (value_again v [] p q)
 
 find_tie : (columns : List ℕ) (q : ℕ) (x y : ℕ) → nat_cmp q x ≡ Equal → is_named columns x ≡ is_named columns q
 find_tie columns q x y e = ap (is_named columns) (sym (nat_cmp-IsAntisymmetric q x e))
@@ -183,7 +178,7 @@ module _ (version : Version) (rows : Rows) (pairs : Pairs) (agree : Reads versio
         ap value_from (agree.columns query.table key cells c here p)
         ∙ elim (map.get cells c) as (λ o. map.get cells c ≡ o → value_from (option_map code o) ≡ o) [
           | None ↦ λ n. refl
-          | Some v ↦ λ s. let lawful = agree.values query.table key cells c v here s in code_read v lawful.0 lawful.1
+          | Some v ↦ λ s. only_again v (agree.values query.table key cells c v here s)
         ] refl
 
     found_is : (c : ℕ) → is_named columns c ≡ true → find nat_cmp c read ≡ map.get cells c

@@ -7,28 +7,20 @@ use Rattle.std.specs.FinMap.{find}
 use Rattle.keycode.specs.declared.value.Value.{Value}
 use Rattle.keycode.specs.declared.value.Value.TheVariants.{Null}
 use Rattle.keycode.specs.declared.fault.KeyFault.{KeyFault}
-use Rattle.keycode.specs.Reading.{value_at}
 use Rattle.row_map.specs.declared.shape.Row.{Row}
 use Rattle.row_map.specs.declared.key.KeyOf.{KeyOf}
 use Rattle.row_map.specs.declared.key.KeyOf.TheVariants.{Exists, Column, Index}
+use Rattle.row_map.specs.Cell.{only_value}
 use Rattle.row_map.specs.Keys.{row_code}
 use Rattle.row_map.specs.Reading.{key_at}
 use Rattle.row_map.specs.Rows.{Bytes, Pairs}
 use Rattle.row_query.specs.declared.query.Query.{Query}
 use Rattle.row_query.specs.Answer.{meets, is_named}
 
--- the one value that was read
-abbrev pub only_value : Result (Value × Bytes) KeyFault → Option Value
-only_value (Ok (v, [])) = Some v
-only_value (Ok (v, (b ∷ bytes))) = None
-only_value (Err fault) = None
-
-unfoldable pub value_of : Bytes → Option Value
-value_of bytes = only_value (value_at bytes)
-
+-- the one value that a pair spells, if it is there
 abbrev pub value_from : Option Bytes → Option Value
 value_from None = None
-value_from (Some bytes) = value_of bytes
+value_from (Some bytes) = only_value bytes
 
 -- the value of a column in the pairs
 abbrev pub cell_in : Pairs → ℕ → List Value → ℕ → Option Value

@@ -3,30 +3,12 @@ ghost use Rattle.std.specs.Prelude.{◌≡◌, option_map, IfOk, filter};
 ghost use Rattle.std.specs.Ordering.{nat_cmp};
 ghost use Rattle.std.specs.FinMap.{find};
 ghost use Rattle.row_query.specs.Answer.{is_named};
-ghost use Rattle.row_query.specs.Found.{value_of, cell_in, cells_in};
+ghost use Rattle.row_query.specs.Found.{cell_in, cells_in};
 
-use keycode::{KeyFault, Value, read_value};
+use keycode::Value;
 use listed::Listed;
-use row_map::{PairView, column_key};
+use row_map::{PairView, column_key, read_only_value};
 use std::alloc::{AllocError, Global};
-
-/// The one value that the bytes spell.
-#[tactic(auto, unfolding(crate::specs::Found::value_of))]
-fn read_cell(alloc: Global, bytes: &[u8]) -> Result<Option<Value>, AllocError>
-    ensures { IfOk result (λ v. v ≡ value_of bytes.now) }
-{
-    match read_value(alloc, bytes) {
-        Err(KeyFault::Memory) => Err(AllocError),
-        Err(_) => Ok(None),
-        Ok((value, rest)) => {
-            if rest.is_empty() {
-                Ok(Some(value))
-            } else {
-                Ok(None)
-            }
-        }
-    }
-}
 
 /// The value of a column of a row.
 fn cell<V: PairView>(
@@ -41,7 +23,7 @@ fn cell<V: PairView>(
     let name = column_key(alloc, table, key, column)?;
     match view.get(name.as_slice()) {
         None => Ok(None),
-        Some(bytes) => read_cell(alloc, bytes),
+        Some(bytes) => read_only_value(alloc, bytes),
     }
 }
 

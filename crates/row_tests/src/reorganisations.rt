@@ -8,7 +8,7 @@ use Work::{Clear, Fill};
 use byte_map::{Bytes, KeyMap};
 use listed::Listed;
 use reorganise::{PieceView, PreparedPiece, Progress, Span, ViewFault, Work, prepare_piece};
-use row_map::{ColumnType, Expect};
+use row_map::ColumnType;
 use schema_version::{ElementDef, ElementState, Kind, Way};
 use std::alloc::{AllocError, Global};
 
@@ -189,84 +189,6 @@ fn prepared(
 
 /// The row 1 with a 5 in `a`, and the row 2 without a value.
 const TWO_ROWS: Pairs<'static> = &[(ROW_1, EMPTY), (A_1, FIVE), (ROW_2, EMPTY)];
-
-/// The element, what is done, the piece and how many pairs were read, where the piece is the whole table and comes from
-/// its front to row 2.
-type First = Option<(u32, Work, u32, usize)>;
-
-fn is_first(bounds: (&[u8], &[u8]), cursors: (&[u8], &[u8])) -> bool {
-    bounds.0 == TABLE && bounds.1 == NEXT_TABLE && cursors.0 == TABLE && cursors.1 == ROW_2
-}
-
-fn first_read(view: &PieceView) -> First {
-    if is_first(view.bounds(), view.cursors()) {
-        Some((
-            view.element().number,
-            view.kind(),
-            view.piece(),
-            view.pairs().len(),
-        ))
-    } else {
-        None
-    }
-}
-
-fn first_prepared(piece: &PreparedPiece) -> First {
-    if is_first(piece.bounds(), piece.cursors()) {
-        Some((
-            piece.element().number,
-            piece.kind(),
-            piece.piece(),
-            piece.pairs().len(),
-        ))
-    } else {
-        None
-    }
-}
-
-/// Whether just the pairs from the front of the table to row 2 are expected, which are two.
-fn is_expected(expect: &Expect) -> bool {
-    match &expect.stretch {
-        Some(range) => {
-            range.low.as_slice() == TABLE
-                && range.high.as_slice() == ROW_2
-                && range.pairs.len() == 2
-                && expect.points.len() == 0
-        }
-        None => false,
-    }
-}
-
-/// What is read of two rows with a limit of 1, what is then prepared, and whether that is expected.
-fn one_row_once(alloc: Global, what: (Of, Work)) -> Result<(First, First, bool), ViewFault> {
-    let view = read(alloc, what, TWO_ROWS, 1)?;
-    let seen = first_read(&view);
-    let piece = piece_of(alloc, view)?;
-    Ok((seen, first_prepared(&piece), is_expected(piece.expect())))
-}
-
-/// The same, asked once more where memory was short.
-fn one_row(alloc: Global, what: (Of, Work)) -> Result<(First, First, bool), ViewFault> {
-    match one_row_once(alloc, what) {
-        Err(ViewFault::Memory) => one_row_once(alloc, what),
-        told => told,
-    }
-}
-
-/// What is done, and what is read of it.
-static FIRSTS: [(&str, (Of, Work), (u32, Work, u32, usize)); 2] = [
-    ("a fill of the index", (Index, Fill), (2, Fill, 0, 2)),
-    ("a clear of the column", (Column, Clear), (1, Clear, 0, 2)),
-];
-
-#[test]
-fn under_refusal_a_limit_stops_before_the_next_row(rt: HostRuntime) {
-    assert!(rt; mark(&rt));
-    for (name, what, want) in &FIRSTS {
-        let wanted = (Some(*want), Some(*want), true);
-        assert!(rt; one_row(rt.alloc(), *what) == Ok(wanted), "{name}");
-    }
-}
 
 /// Whether a piece makes just these writes in this order, and whether it comes to this key.
 fn writes(piece: &PreparedPiece, wanted: Points, cursor: &[u8]) -> (bool, bool) {

@@ -4,7 +4,7 @@ use crate::fixtures::{
     bytes, declared, key, mark, value,
 };
 use Plain::{Bool, Int, Null};
-use PrepareFault::{NoTable, NotPublic, TooManyOps, ViewMismatch, WrongType};
+use PrepareFault::{NoTable, NotPublic, ViewMismatch, WrongType};
 use RowOutcome::{Done, Refused};
 use Verb::{Delete, Insert, Update};
 use byte_map::{Bytes, KeyMap};
@@ -58,15 +58,6 @@ fn operations(alloc: Global, plain: &[Op]) -> Result<Vec<RowOp>, AllocError> {
     Ok(ops)
 }
 
-/// Inserts of so many rows without a value.
-fn inserts(alloc: Global, count: i64) -> Result<Vec<RowOp>, AllocError> {
-    let mut ops = Vec::new(alloc);
-    for id in 0..count {
-        ops.push(operation(alloc, (Insert, 1, Int(id), &[]))?)?;
-    }
-    Ok(ops)
-}
-
 fn point(alloc: Global, value: Option<&[u8]>) -> Result<Option<Bytes>, AllocError> {
     match value {
         Some(value) => Ok(Some(bytes(alloc, value)?)),
@@ -86,15 +77,6 @@ fn view(alloc: Global, points: Points) -> Result<ReadView, AllocError> {
 fn read_set(alloc: Global, ops: &[RowOp]) -> Result<ReadSet, AllocError> {
     let schema = declared(alloc)?;
     reads_of(alloc, &schema, ops)
-}
-
-/// The view in which these keys have no pair.
-fn bare_view(alloc: Global, reads: &ReadSet) -> Result<ReadView, AllocError> {
-    let mut view = KeyMap::new(alloc);
-    for (key, _) in reads.entries() {
-        view.insert(key.clone()?, None)?;
-    }
-    Ok(view)
 }
 
 /// What is prepared; of no table where the operations did not come back with a refusal.
@@ -353,73 +335,6 @@ fn under_refusal_what_writes_nothing_is_told(rt: HostRuntime) {
             "{name}"
         );
     }
-}
-
-/// The outcome, and the number of writes.
-fn told(prepared: &Prepared) -> (RowOutcome, usize) {
-    (prepared.outcome(), prepared.batch().writes().len())
-}
-
-/// The same of so many inserts.
-fn inserted(alloc: Global, count: i64) -> Result<(RowOutcome, usize), PrepareFault> {
-    let ops = inserts(alloc, count)?;
-    let reads = read_set(alloc, ops.as_slice())?;
-    let view = bare_view(alloc, &reads)?;
-    let prepared = prepared(alloc, ops, view)?;
-    Ok(told(&prepared))
-}
-
-/// An insert without a value puts its `exists` pair and its pair of the index.
-#[test]
-fn at_most_64_operations(rt: HostRuntime) {
-    assert!(rt; inserted(rt.alloc(), 64) == Ok((Done, 128)));
-    assert!(rt; inserted(rt.alloc(), 65) == Err(TooManyOps));
-}
-
-fn is_one(key: &[Value]) -> bool {
-    match key {
-        [Value::Int(id)] => *id == 1,
-        _ => false,
-    }
-}
-
-/// Whether this is a delete of row 1 alone.
-fn is_delete(ops: &[RowOp]) -> bool {
-    match ops {
-        [RowOp::Delete { table, key }] => *table == 1 && is_one(key.as_slice()),
-        _ => false,
-    }
-}
-
-/// How many keys a transaction expects to find again, whether no range, the number of t in its schema, and whether its
-/// lease, its operations and a copy of them are those of a delete.
-fn parts(prepared: &Prepared) -> (usize, bool, Option<u32>, bool, bool, bool) {
-    let expect = prepared.expect();
-    let copied = match prepared.ops_copied() {
-        Ok(copy) => is_delete(copy.as_slice()),
-        Err(_) => false,
-    };
-    (
-        expect.points.len(),
-        expect.stretch.is_none(),
-        prepared.schema().get().table("t"),
-        *prepared.lease() == LEASE,
-        is_delete(prepared.ops()),
-        copied,
-    )
-}
-
-/// The same of a delete of row 1.
-fn kept(alloc: Global) -> Result<(usize, bool, Option<u32>, bool, bool, bool), PrepareFault> {
-    let ops = operations(alloc, &[(Delete, 1, Int(1), &[])])?;
-    let view = view(alloc, NO_ROW)?;
-    let prepared = prepared(alloc, ops, view)?;
-    Ok(parts(&prepared))
-}
-
-#[test]
-fn what_is_prepared_is_kept(rt: HostRuntime) {
-    assert!(rt; kept(rt.alloc()) == Ok((2, true, Some(1), true, true, true)));
 }
 
 fn are_keys(entries: &[(Bytes, ())], wanted: &[&[u8]]) -> bool {

@@ -1,5 +1,5 @@
 -- Operations one after another on working rows.
-use Rattle.std.specs.Prelude.{◌≡◌, ℕ, nat_lt, List, [], ◌∷◌, ◌++◌, filter, Option, option_map, Result, Ok, Err, IfSome}
+use Rattle.std.specs.Prelude.{◌≡◌, ℕ, eqb, not, List, [], ◌∷◌, ◌++◌, filter, Option, option_map, Result, Ok, Err, IfSome}
 use Rattle.std.specs.FinMap as map
 use Rattle.keycode.specs.declared.value.Value.{Value}
 use Rattle.row_map.specs.declared.shape.Row.{Row}
@@ -21,11 +21,9 @@ use Rattle.row_write.specs.Plain.{key_of, row_of, change_of, change}
 abbrev pub cells_in : List (ℕ × Value) → Cells
 cells_in cells = map.from_entries cells
 
-abbrev pub cells_below : ℕ → List (ℕ × Value) → List (ℕ × Value)
-cells_below number cells = filter (λ (cell : ℕ × Value). nat_lt cell.0 number) cells
-
-abbrev pub cells_above : ℕ → List (ℕ × Value) → List (ℕ × Value)
-cells_above number cells = filter (λ (cell : ℕ × Value). nat_lt number cell.0) cells
+-- the cells of all other columns
+abbrev pub cells_but : ℕ → List (ℕ × Value) → List (ℕ × Value)
+cells_but number cells = filter (λ (cell : ℕ × Value). not (eqb cell.0 number)) cells
 
 -- the change from one row of the key to another
 abbrev pub change_at : RowKey → Option Cells → Option Cells → Change

@@ -1,10 +1,8 @@
 -- What a view says of one row.
-use Rattle.std.specs.Prelude.{◌≡◌, ℕ, Bool, true, false, List, [], ◌∷◌, Option, Some, None, option_map, Result, Ok, Err, IsTrue, ◌↔◌, ◌⊎◌, if◌then◌else◌}
+use Rattle.std.specs.Prelude.{◌≡◌, ℕ, Bool, true, false, List, [], ◌∷◌, Option, Some, None, option_map, IsTrue, ◌↔◌, ◌⊎◌}
 use Rattle.std.specs.FinMap as map
-use Rattle.keycode.specs.declared.fault.KeyFault.{KeyFault}
 use Rattle.keycode.specs.declared.value.Value.{Value}
 use Rattle.keycode.specs.Code.{code}
-use Rattle.keycode.specs.Reading.{value_at}
 use Rattle.keycode.specs.Valid.{IsStorable}
 use Rattle.row_map.specs.declared.shape.ColumnType.{ColumnType}
 use Rattle.row_map.specs.Keys.{row_code}
@@ -20,21 +18,6 @@ use Rattle.row_write.specs.Entering.{KeySet}
 -- a mismatch, and then the fact, or want of memory
 abbrev pub IsMissed : Type 0 → PrepareFault → Type 0
 IsMissed Fact fault = (fault ≡ Memory) ⊎ ((fault ≡ ViewMismatch) × Fact)
-
--- the one value that the bytes spell
-abbrev pub whole : ColumnType → Result (Value × List ℕ) KeyFault → Result Value PrepareFault
-whole type (Ok (value, [])) = if has_type type value then Ok value else Err ViewMismatch
-whole type (Ok (value, b ∷ bytes)) = Err ViewMismatch
-whole type (Err fault) = Err ViewMismatch
-
-abbrev pub value_in : ColumnType → Bytes → Result Value PrepareFault
-value_in type bytes = whole type (value_at bytes)
-
--- the bytes are the code of this value, which is of the type
-pub record IsSpelling (type : ColumnType) (bytes : Bytes) (value : Value) : Type 0 where
-  pub spelled : bytes ≡ code value
-  pub typed : IsTrue (has_type type value)
-  pub storable : IsStorable value
 
 -- the column's cell of a row that is there, or of one that isn't, from what was read at the column's key
 pub record IsCell (type : ColumnType) (there : Bool) (seen : Option (Option Bytes)) (cell : Option Value) : Type 0 where

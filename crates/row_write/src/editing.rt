@@ -4,7 +4,7 @@ ghost use Rattle.std.specs.FinMap as map;
 ghost use Rattle.element_state.specs.Operations.{cells_of};
 ghost use Rattle.row_write.specs.Plain.{cell_of, with_cells as with_cells_of};
 ghost use Rattle.row_write.specs.Viewing.{with_front};
-ghost use Rattle.row_write.specs.Running.{cells_in, cells_below, cells_above, IsNext};
+ghost use Rattle.row_write.specs.Running.{cells_in, cells_but, IsNext};
 
 use crate::fault::RowFault;
 use crate::op::RowOp;
@@ -32,36 +32,11 @@ fn copy_cells(cells: &Listed<(u32, Value)>) -> Result<Listed<(u32, Value)>, Allo
     cells.clone()
 }
 
-fn push_below(
-    out: &mut Vec<(u32, Value)>,
-    cells: &[(u32, Value)],
-    number: u32,
-) -> Result<(), AllocError>
-    ensures { OnOk result (out.new.items ≡ out.old.items ++ cells_below number cells.now) }
+/// Takes the cell of a column away.
+fn forget(cells: &mut Vec<(u32, Value)>, number: u32)
+    ensures { cells.new.items ≡ cells_but number cells.old.items }
 {
-    for (other, value) in cells {
-        if *other < number {
-            let copy = copy_value(value)?;
-            out.push((*other, copy))?;
-        }
-    }
-    Ok(())
-}
-
-fn push_above(
-    out: &mut Vec<(u32, Value)>,
-    cells: &[(u32, Value)],
-    number: u32,
-) -> Result<(), AllocError>
-    ensures { OnOk result (out.new.items ≡ out.old.items ++ cells_above number cells.now) }
-{
-    for (other, value) in cells {
-        if number < *other {
-            let copy = copy_value(value)?;
-            out.push((*other, copy))?;
-        }
-    }
-    Ok(())
+    cells.retain(|cell| cell.0 != number);
 }
 
 /// Adds a cell. Null is none.
@@ -78,47 +53,37 @@ fn push_value(out: &mut Vec<(u32, Value)>, number: u32, value: &Value) -> Result
     }
 }
 
-/// The cells with another value for one column.
-fn with_cell(
-    alloc: Global,
-    cells: &[(u32, Value)],
-    number: u32,
-    value: &Value,
-) -> Result<Listed<(u32, Value)>, AllocError>
-    ensures { IfOk result (λ next. next ≡ (cells_below number cells.now ++ with_front number (cell_of value.now) []) ++ cells_above number cells.now) }
+/// Gives one column another value.
+fn set_cell(cells: &mut Vec<(u32, Value)>, number: u32, value: &Value) -> Result<(), AllocError>
+    ensures { OnOk result (cells.new.items ≡ cells_but number cells.old.items ++ with_front number (cell_of value.now) []) }
 {
-    let mut next = Vec::new(alloc);
-    push_below(&mut next, cells, number)?;
-    push_value(&mut next, number, value)?;
-    push_above(&mut next, cells, number)?;
-    Ok(Listed::new(next))
+    forget(cells, number);
+    push_value(cells, number, value)
 }
 
 /// The cells with the named values.
 fn with_cells(
-    alloc: Global,
-    cells: Listed<(u32, Value)>,
+    cells: Vec<(u32, Value)>,
     named: &[(u32, Value)],
-) -> Result<Listed<(u32, Value)>, AllocError>
-    ensures { IfOk result (λ next. cells_in next ≡ with_cells_of (cells_in cells) named.now) }
+) -> Result<Vec<(u32, Value)>, AllocError>
+    ensures { IfOk result (λ next. cells_in next.items ≡ with_cells_of (cells_in cells.items) named.now) }
 {
     let mut next = cells;
     for (number, value) in named {
-        next = with_cell(alloc, next.as_slice(), *number, value)?;
+        set_cell(&mut next, *number, value)?;
     }
     Ok(next)
 }
 
 fn new_row(
-    alloc: Global,
     key: &Values,
-    cells: Listed<(u32, Value)>,
+    cells: Vec<(u32, Value)>,
     named: &[(u32, Value)],
 ) -> Result<Row, AllocError>
     ensures key { IfOk result (λ row. row.key ≡ key.now) }
-    ensures cells { IfOk result (λ row. cells_of row ≡ with_cells_of (cells_in cells) named.now) }
+    ensures cells { IfOk result (λ row. cells_of row ≡ with_cells_of (cells_in cells.items) named.now) }
 {
-    let cells = with_cells(alloc, cells, named)?;
+    let cells = Listed::new(with_cells(cells, named)?);
     let key = copy_key(key)?;
     Ok(Row { key, cells })
 }
@@ -127,20 +92,15 @@ fn inserted_row(alloc: Global, key: &Values, named: &[(u32, Value)]) -> Result<R
     ensures key { IfOk result (λ row. row.key ≡ key.now) }
     ensures cells { IfOk result (λ row. cells_of row ≡ with_cells_of map.empty named.now) }
 {
-    new_row(alloc, key, Listed::new(Vec::new(alloc)), named)
+    new_row(key, Vec::with_capacity(alloc, named.len())?, named)
 }
 
-fn updated_row(
-    alloc: Global,
-    old: &Row,
-    key: &Values,
-    named: &[(u32, Value)],
-) -> Result<Row, AllocError>
+fn updated_row(old: &Row, key: &Values, named: &[(u32, Value)]) -> Result<Row, AllocError>
     ensures key { IfOk result (λ row. row.key ≡ key.now) }
     ensures cells { IfOk result (λ row. cells_of row ≡ with_cells_of (cells_of old.now) named.now) }
 {
     let cells = copy_cells(&old.cells)?;
-    new_row(alloc, key, cells, named)
+    new_row(key, cells.into_vec(), named)
 }
 
 /// The row that an operation leaves, if it leaves one, or why it is refused.
@@ -157,7 +117,7 @@ pub(crate) fn next_row(
             None => Ok(Ok(Some(inserted_row(alloc, key, cells.as_slice())?))),
         },
         RowOp::Update { key, cells, .. } => match old {
-            Some(old) => Ok(Ok(Some(updated_row(alloc, old, key, cells.as_slice())?))),
+            Some(old) => Ok(Ok(Some(updated_row(old, key, cells.as_slice())?))),
             None => Ok(Err(RowFault::NoRow)),
         },
         RowOp::Delete { .. } => match old {

@@ -2,41 +2,27 @@
 ghost use Rattle.std.specs.Prelude.{◌≡◌, ◌++◌, [], IfOk, IfErr, OnOk, option_map};
 ghost use Rattle.std.specs.FinMap as map;
 ghost use Rattle.keycode.specs.declared.value.Value.{Value};
-ghost use Rattle.listed.specs.Answers.{GivesOr};
-ghost use Rattle.row_write.specs.declared.fault.PrepareFault.TheVariants.{Memory as OutOfMemory};
-ghost use Rattle.row_write.specs.Viewing.{IsMissed, value_in, IsSpelling, IsCell, IsThere, with_front, AreCells, seen_at, IsSeen};
+ghost use Rattle.row_map.specs.Cell.{IsTypedSpelling};
+ghost use Rattle.row_write.specs.Viewing.{IsMissed, IsCell, IsThere, with_front, AreCells, seen_at, IsSeen};
 
 use crate::fault::PrepareFault;
 use crate::op::RowOp;
 use byte_map::Bytes;
-use keycode::{KeyFault, Value, read_value};
+use keycode::Value;
 use listed::Listed;
-use row_map::{ColumnType, ReadView, column_key, exists_key, fits};
+use row_map::{ColumnType, ReadView, column_key, exists_key, read_typed_value};
 use std::alloc::{AllocError, Global};
 
-/// The one value that the bytes spell.
-#[tactic(auto, unfolding(keycode::specs::Reading::value_at))]
-fn whole_value(alloc: Global, kind: ColumnType, bytes: &[u8]) -> Result<Value, PrepareFault>
-    ensures { GivesOr OutOfMemory (λ x. x) result (value_in kind bytes.now) }
-{
-    match read_value(alloc, bytes) {
-        Err(KeyFault::Memory) => Err(PrepareFault::Memory),
-        Err(_) => Err(PrepareFault::ViewMismatch),
-        Ok((value, rest)) => {
-            if rest.is_empty() && fits(kind, &value) {
-                Ok(value)
-            } else {
-                Err(PrepareFault::ViewMismatch)
-            }
-        }
-    }
-}
-
+/// The one value that the bytes spell, which has to be of the type.
 fn spelled_value(alloc: Global, kind: ColumnType, bytes: &[u8]) -> Result<Value, PrepareFault>
-    ensures found { IfOk result (λ value. IsSpelling kind bytes.now value) }
-    ensures missed { IfErr result (IsMissed ((value : Value) → ¬ (IsSpelling kind bytes.now value))) }
+    ensures found { IfOk result (λ value. IsTypedSpelling kind bytes.now value) }
+    ensures missed { IfErr result (IsMissed ((value : Value) → ¬ (IsTypedSpelling kind bytes.now value))) }
 {
-    whole_value(alloc, kind, bytes)
+    let found = read_typed_value(alloc, kind, bytes)?;
+    match found {
+        Some(value) => Ok(value),
+        None => Err(PrepareFault::ViewMismatch),
+    }
 }
 
 /// A column's cell, from what was read at its key. A row that isn't there has none.

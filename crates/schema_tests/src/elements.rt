@@ -195,9 +195,8 @@ fn writes_again(
         }
         noted => noted,
     };
-    let (first, second) = batch
-        .writes()
-        .split_at(case.5.len().min(batch.writes().len()));
+    let writes = batch.writes();
+    let (first, second) = writes.split_at(case.5.len().min(writes.len()));
     noted.is_ok() && are_writes(first, case.5) && are_writes(second, case.5)
 }
 
@@ -273,13 +272,16 @@ fn fills(alloc: Global, element: &AnyElement, row: &Row) -> Result<bool, AllocEr
     }
 }
 
+fn fills_row(alloc: Global, element: &AnyElement) -> Result<bool, AllocError> {
+    let row = row(alloc, 1, Some(5))?;
+    Ok(has_cells(&row) && fills(alloc, element, &row)?)
+}
+
 /// The element's own number is told, a row's cells are found, and only an index is filled.
 fn reads(alloc: Global, number: u32) -> Result<bool, AllocError> {
     let element = element(alloc, number)?;
     are_lawful(&element);
-    let row = row(alloc, 1, Some(5))?;
-    let filled = fills(alloc, &element, &row)?;
-    Ok(element.number() == number && has_cells(&row) && filled)
+    Ok(element.number() == number && fills_row(alloc, &element)?)
 }
 
 /// The same, asked once more where memory was short.

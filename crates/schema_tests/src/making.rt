@@ -20,16 +20,15 @@ pub enum Plain {
 /// Steps in turn.
 pub type Path = &'static [&'static [Plain]];
 
-/// Tables of these names, each with the key z, these columns of integers, and these indexes, all over the same columns. Each byte
-/// is a name.
-pub type PlainTables = (&'static [u8], &'static [u8], &'static [u8], &'static [u8]);
+/// A table of this name, with the key z, these columns of integers, and these indexes, all over the same columns. Each byte is a name.
+pub type PlainTable = (u8, &'static [u8], &'static [u8], &'static [u8]);
 
 /// The columns 1 to 5, and the index 6 over the first of them.
-pub const TABLE_T: PlainTables = (b"t", b"abcde", b"i", b"a");
+pub const TABLE_T: PlainTable = (b't', b"abcde", b"i", b"a");
 
 /// A table with as many columns and indexes as there may be.
-pub const FULL: PlainTables = (
-    b"t",
+pub const FULL: PlainTable = (
+    b't',
     b"ABCDEFGHIJKLMNOPQRSTUVWXYZabcdef",
     b"hijklmnopqrstuvw",
     b"A",
@@ -84,24 +83,21 @@ fn indexes(
     Ok(Listed::new(all))
 }
 
-fn table(alloc: Global, name: u8, plain: &PlainTables) -> Result<TableDef, AllocError> {
+fn table(alloc: Global, plain: &PlainTable) -> Result<TableDef, AllocError> {
     Ok(TableDef {
-        name: letter(alloc, name)?,
+        name: letter(alloc, plain.0)?,
         key: ints(alloc, b"z")?,
         columns: ints(alloc, plain.1)?,
         indexes: indexes(alloc, plain.2, plain.3)?,
     })
 }
 
-fn tables(alloc: Global, plain: &PlainTables) -> Result<Vec<TableDef>, AllocError> {
-    let mut all = Vec::new(alloc);
-    for name in plain.0 {
-        all.push(table(alloc, *name, plain)?)?;
-    }
-    Ok(all)
+fn tables(alloc: Global, plain: &PlainTable) -> Result<Vec<TableDef>, AllocError> {
+    let table = table(alloc, plain)?;
+    Ok(vec![in alloc; table]?)
 }
 
-pub fn declared(alloc: Global, plain: &PlainTables) -> Result<Schema, DeclareFault> {
+fn declared(alloc: Global, plain: &PlainTable) -> Result<Schema, DeclareFault> {
     Schema::declared(alloc, &tables(alloc, plain)?)
 }
 
@@ -149,8 +145,8 @@ fn reached(alloc: Global, schema: &Schema, path: &[&'static [Plain]]) -> Result<
     }
 }
 
-/// The version of these tables after these steps. That the tables may be declared is tested by itself.
-pub fn version(alloc: Global, plain: &PlainTables, path: Path) -> Result<Schema, StepFault> {
+/// The version of this table after these steps. It may be declared: what refuses it is want of memory.
+pub fn version(alloc: Global, plain: &PlainTable, path: Path) -> Result<Schema, StepFault> {
     match declared(alloc, plain) {
         Ok(schema) => reached(alloc, &schema, path),
         Err(_) => Err(StepFault::Memory),

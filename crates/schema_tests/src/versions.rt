@@ -1,103 +1,16 @@
 //! Declarations, steps and readers of a version.
 use crate::making::Plain::{Column, Go, Index, Turn};
-use crate::making::{FULL, Path, PlainTables, TABLE_T, declared, mark, step, texts, version};
+use crate::making::{FULL, Path, PlainTable, TABLE_T, mark, version};
 use row_map::ColumnType::{self, Int};
 use row_map::TableShape;
 use schema_version::ElementState::{self, Absent, DeleteOnly, Public, WriteOnly};
-use schema_version::{DeclareFault, ElementDef, Schema, StepFault, is_name, is_name_list};
+use schema_version::{ElementDef, Schema, StepFault};
 use std::alloc::{AllocError, Global};
 use std::test::*;
 
 const LONGEST_NAME: &str = "n2345678901234567890123456789012";
 
 const LONG_NAME: &str = "n23456789012345678901234567890123";
-
-/// Bytes, whether they are a name, and whether they are a list of names of one letter each.
-static NAMES: [(&[u8], bool, bool); 10] = [
-    (b"", false, false),
-    (b"a", true, true),
-    (b"abcd", true, true),
-    (b"abcde", true, false),
-    (b"aba", true, false),
-    (b"Z_9", true, true),
-    (b"_z", false, true),
-    (b"b-c", false, true),
-    (b"n2345678901234567890123456789012", true, false),
-    (b"n23456789012345678901234567890123", false, false),
-];
-
-fn is_lawful(alloc: Global, names: &[u8]) -> Result<(bool, bool), AllocError> {
-    let list = texts(alloc, names)?;
-    Ok((is_name(names), is_name_list(list.as_slice())))
-}
-
-#[test]
-fn names(rt: HostRuntime) {
-    for row in 0..NAMES.len() {
-        let (names, name, list) = NAMES[row];
-        assert!(rt;
-            is_lawful(rt.alloc(), names) == Ok((name, list)),
-            "row {row}"
-        );
-    }
-}
-
-/// The numbers of the table P, of the element w of the table 1, and of the next element.
-type Numbers = (Option<u32>, Option<u32>, u32);
-
-const BAD: Result<Numbers, DeclareFault> = Err(DeclareFault::BadTable);
-
-static DECLARED: [(PlainTables, Result<Numbers, DeclareFault>); 10] = [
-    (FULL, Ok((None, Some(48), 49))),
-    ((b"t", b"ABCDEFGHIJKLMNOPQRSTUVWXYZabcdefg", b"", b""), BAD),
-    ((b"t", b"a", b"hijklmnopqrstuvwx", b"a"), BAD),
-    ((b"t", b"a", b"a", b"a"), BAD),
-    ((b"t", b"a", b"i", b"z"), BAD),
-    ((b"t", b"a", b"i", b"aa"), BAD),
-    ((b"", b"a", b"", b""), BAD),
-    ((b"tt", b"a", b"", b""), BAD),
-    (
-        (b"ABCDEFGHIJKLMNOP", b"", b"", b""),
-        Ok((Some(16), None, 1)),
-    ),
-    ((b"ABCDEFGHIJKLMNOPQ", b"", b"", b""), BAD),
-];
-
-fn number_of(element: Option<&ElementDef>) -> Option<u32> {
-    match element {
-        Some(element) => Some(element.number),
-        None => None,
-    }
-}
-
-fn numbers(schema: &Schema) -> Numbers {
-    let element = number_of(schema.by_name(1, "w"));
-    (schema.table("P"), element, schema.next_number())
-}
-
-fn declared_numbers(alloc: Global, tables: &PlainTables) -> Result<Numbers, DeclareFault> {
-    match declared(alloc, tables) {
-        Ok(schema) => Ok(numbers(&schema)),
-        Err(fault) => Err(fault),
-    }
-}
-
-/// The same, asked once more where memory was short.
-fn numbers_told(alloc: Global, tables: &PlainTables) -> Result<Numbers, DeclareFault> {
-    match declared_numbers(alloc, tables) {
-        Err(DeclareFault::Memory) => declared_numbers(alloc, tables),
-        told => told,
-    }
-}
-
-#[test]
-fn under_refusal_declarations(rt: HostRuntime) {
-    assert!(rt; mark(&rt));
-    for row in 0..DECLARED.len() {
-        let (tables, want) = DECLARED[row];
-        assert!(rt; numbers_told(rt.alloc(), &tables) == want, "row {row}");
-    }
-}
 
 /// What is asked of a version, with the answer.
 #[derive(Clone, Copy)]
@@ -110,15 +23,41 @@ enum Ask {
     Number(u32, ElementState, &'static str, &'static str, &'static str),
     /// Whether it has the columns of a table.
     Shape(u32, Option<&'static [(u32, ColumnType)]>),
-    /// Whether it is the same as the version of other tables after other steps.
-    Same(PlainTables, Path, bool),
 }
 
-use Ask::{Number, Numbers as Numbered, Refused, Same, Shape};
+use Ask::{Number, Numbers as Numbered, Refused, Shape};
 
-type Case = (PlainTables, Path, Ask);
+type Case = (PlainTable, Path, Ask);
 
 const ONE: &[u32] = &[1];
+
+const I_LEAVES: Path = &[&[Go(6, WriteOnly)], &[Go(6, DeleteOnly)], &[Go(6, Absent)]];
+
+const I_COMES_BACK: Path = &[
+    &[Go(6, WriteOnly)],
+    &[Go(6, DeleteOnly)],
+    &[Go(6, Absent)],
+    &[Index("i", ONE, DeleteOnly)],
+];
+
+const J_COMES_AND_GOES: Path = &[
+    &[Index("j", ONE, DeleteOnly)],
+    &[Go(7, WriteOnly)],
+    &[Go(7, Public)],
+    &[Go(7, WriteOnly)],
+    &[Go(7, DeleteOnly)],
+    &[Go(7, Absent)],
+];
+
+const J_TURNS_BACK: Path = &[
+    &[Index("j", ONE, DeleteOnly)],
+    &[Go(7, WriteOnly)],
+    &[Turn(7)],
+    &[Go(7, DeleteOnly)],
+    &[Go(7, Absent)],
+];
+
+const E_COMES_BACK: Path = &[&[Go(5, DeleteOnly)], &[Go(5, Absent)], &[Column("e")]];
 
 static REFUSED: [Case; 24] = [
     (
@@ -213,35 +152,7 @@ static REFUSED: [Case; 24] = [
     ),
 ];
 
-const I_LEAVES: Path = &[&[Go(6, WriteOnly)], &[Go(6, DeleteOnly)], &[Go(6, Absent)]];
-
-const I_COMES_BACK: Path = &[
-    &[Go(6, WriteOnly)],
-    &[Go(6, DeleteOnly)],
-    &[Go(6, Absent)],
-    &[Index("i", ONE, DeleteOnly)],
-];
-
-const J_COMES_AND_GOES: Path = &[
-    &[Index("j", ONE, DeleteOnly)],
-    &[Go(7, WriteOnly)],
-    &[Go(7, Public)],
-    &[Go(7, WriteOnly)],
-    &[Go(7, DeleteOnly)],
-    &[Go(7, Absent)],
-];
-
-const J_TURNS_BACK: Path = &[
-    &[Index("j", ONE, DeleteOnly)],
-    &[Go(7, WriteOnly)],
-    &[Turn(7)],
-    &[Go(7, DeleteOnly)],
-    &[Go(7, Absent)],
-];
-
-const E_COMES_BACK: Path = &[&[Go(5, DeleteOnly)], &[Go(5, Absent)], &[Column("e")]];
-
-static ALLOWED: [Case; 14] = [
+static ALLOWED: [Case; 18] = [
     (TABLE_T, &[], Numbered("i", Some(6), Some(6), 7)),
     (
         TABLE_T,
@@ -281,15 +192,7 @@ static ALLOWED: [Case; 14] = [
         Number(5, Absent, "", "", ""),
     ),
     (TABLE_T, E_COMES_BACK, Numbered("e", Some(7), Some(7), 8)),
-];
-
-static READ: [Case; 15] = [
-    (TABLE_T, &[], Number(0, Absent, "", "a", "")),
     (TABLE_T, &[], Number(1, Public, "a", "b", "t")),
-    (TABLE_T, &[], Number(2, Public, "b", "c", "")),
-    (TABLE_T, &[], Number(5, Public, "e", "i", "")),
-    (TABLE_T, &[], Number(6, Public, "i", "", "")),
-    (TABLE_T, &[], Number(7, Absent, "", "", "")),
     (
         TABLE_T,
         &[],
@@ -301,22 +204,14 @@ static READ: [Case; 15] = [
         Shape(1, Some(&[(1, Int), (2, Int), (3, Int), (4, Int)])),
     ),
     (TABLE_T, &[], Shape(2, None)),
-    (TABLE_T, &[], Same(TABLE_T, &[], true)),
-    (TABLE_T, &[], Same((b"u", b"abcde", b"i", b"a"), &[], false)),
-    (
-        TABLE_T,
-        &[&[Go(6, WriteOnly)]],
-        Same(TABLE_T, &[&[Go(6, WriteOnly)]], true),
-    ),
-    (
-        TABLE_T,
-        &[&[Go(6, WriteOnly)]],
-        Same(TABLE_T, &[&[Go(6, WriteOnly)], &[Go(6, DeleteOnly)]], false),
-    ),
-    (TABLE_T, I_LEAVES, Same(TABLE_T, I_LEAVES, true)),
-    // They differ in the next number alone.
-    (TABLE_T, &[], Same(TABLE_T, J_COMES_AND_GOES, false)),
 ];
+
+fn number_of(element: Option<&ElementDef>) -> Option<u32> {
+    match element {
+        Some(element) => Some(element.number),
+        None => None,
+    }
+}
 
 fn name_of(element: Option<&ElementDef>) -> &str {
     match element {
@@ -344,39 +239,37 @@ fn has_shape(
     }
 }
 
-fn is_same(schema: &Schema, other: Result<Schema, StepFault>, same: bool) -> Answer {
-    match other {
-        Ok(other) => Ok(schema.is_same(&other) == same),
-        Err(StepFault::Memory) => Err(AllocError),
-        Err(_) => Ok(false),
-    }
+/// Whether these are the number of the element of a name, that of the sixth live element, and the next one.
+fn are_numbers(schema: &Schema, name: &str, numbers: (Option<u32>, Option<u32>, u32)) -> bool {
+    number_of(schema.by_name(1, name)) == numbers.0
+        && number_of(schema.live(5)) == numbers.1
+        && schema.next_number() == numbers.2
+}
+
+/// Whether these are the names of an element, of the live element at its place, and of a table of its number.
+fn are_names(schema: &Schema, number: u32, names: (&str, &str, &str)) -> bool {
+    name_of(schema.element(number)) == names.0
+        && name_of(schema.live(number as usize)) == names.1
+        && schema.table_name(number).unwrap_or("") == names.2
 }
 
 /// Whether the answer is the one that is wanted, or that memory was short.
 type Answer = Result<bool, AllocError>;
 
-fn answers(alloc: Global, schema: &Schema, ask: Ask) -> Answer {
-    match ask {
+fn answers(alloc: Global, schema: &Schema, ask: &Ask) -> Answer {
+    match *ask {
         Refused(_) => Ok(false),
-        Numbered(name, number, sixth, next) => Ok(
-            number_of(schema.by_name(1, name)) == number
-                && number_of(schema.live(5)) == sixth
-                && schema.next_number() == next,
-        ),
-        Number(number, state, name, at_place, table) => Ok(
-            schema.state(number) == state
-                && name_of(schema.element(number)) == name
-                && name_of(schema.live(number as usize)) == at_place
-                && schema.table_name(number).unwrap_or("") == table,
-        ),
+        Numbered(name, number, sixth, next) => Ok(are_numbers(schema, name, (number, sixth, next))),
+        Number(number, state, name, at_place, table) => {
+            Ok(schema.state(number) == state && are_names(schema, number, (name, at_place, table)))
+        }
         Shape(table, columns) => has_shape(alloc, schema, table, columns),
-        Same(tables, path, same) => is_same(schema, version(alloc, &tables, path), same),
     }
 }
 
 fn holds_once(alloc: Global, case: &Case) -> Answer {
     match version(alloc, &case.0, case.1) {
-        Ok(schema) => answers(alloc, &schema, case.2),
+        Ok(schema) => answers(alloc, &schema, &case.2),
         Err(StepFault::Memory) => Err(AllocError),
         Err(got) => match case.2 {
             Refused(fault) => Ok(got == fault),
@@ -406,13 +299,5 @@ fn under_refusal_allowed_steps(rt: HostRuntime) {
     assert!(rt; mark(&rt));
     for row in 0..ALLOWED.len() {
         assert!(rt; holds(rt.alloc(), &ALLOWED[row]), "row {row}");
-    }
-}
-
-#[test]
-fn under_refusal_readers(rt: HostRuntime) {
-    assert!(rt; mark(&rt));
-    for row in 0..READ.len() {
-        assert!(rt; holds(rt.alloc(), &READ[row]), "row {row}");
     }
 }

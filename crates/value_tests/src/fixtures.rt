@@ -1,6 +1,5 @@
 //! What several tests make of plain literals.
 use byte_map::{Bytes, KeyMap};
-use keycode::{Text, Value};
 use row_map::{Batch, Expect, PairView, Write};
 use std::alloc::{AllocError, Global};
 use txn_store::{SetFault, Store};
@@ -8,25 +7,6 @@ use txn_store::{SetFault, Store};
 /// Prints the line from which on the step for refusals counts allocations.
 pub fn mark<R: Print>(rt: &R) -> bool {
     rt.println("from here on").is_ok()
-}
-
-/// A value as a literal.
-#[derive(Clone, Copy)]
-pub enum Plain {
-    Null,
-    Int(i64),
-    Text(&'static str),
-    Bool(bool),
-}
-
-/// The value of a literal.
-pub fn value(alloc: Global, plain: Plain) -> Result<Value, AllocError> {
-    match plain {
-        Plain::Null => Ok(Value::Null),
-        Plain::Int(n) => Ok(Value::Int(n)),
-        Plain::Text(t) => Ok(Value::Text(Text::new(String::from_str(alloc, t)?))),
-        Plain::Bool(b) => Ok(Value::Bool(b)),
-    }
 }
 
 pub fn bytes(alloc: Global, content: &[u8]) -> Result<Bytes, AllocError> {
@@ -99,22 +79,4 @@ pub fn set(
         }
         told => told,
     }
-}
-
-/// Whether the byte string is this byte alone.
-pub fn is_byte(found: &Bytes, wanted: u8) -> bool {
-    found.compare([wanted].as_slice()).is_eq()
-}
-
-/// Whether these are the entries, in their order.
-pub fn are(entries: &[(Bytes, Bytes)], wanted: &[(u8, u8)]) -> bool {
-    if entries.len() != wanted.len() {
-        return false;
-    }
-    for i in 0..entries.len() {
-        if !is_byte(&entries[i].0, wanted[i].0) || !is_byte(&entries[i].1, wanted[i].1) {
-            return false;
-        }
-    }
-    true
 }

@@ -106,23 +106,3 @@ fn under_refusal_versions_come_a_length_apart_and_leases_are_on_the_newest(rt: H
         );
     }
 }
-
-/// The length of the timeline that is made of this length.
-fn length(alloc: Global, length: u64) -> Result<u64, TimelineFault> {
-    let line = Timeline::new(alloc, length)?;
-    Ok(line.length())
-}
-
-const LENGTHS: &[(u64, Result<u64, TimelineFault>)] = &[
-    (0, Err(TimelineFault::BadLength)),
-    (1, Ok(1)),
-    (4294967296, Ok(4294967296)),
-    (4294967297, Err(TimelineFault::BadLength)),
-];
-
-#[test]
-fn lengths_are_from_1_to_2_to_the_32nd(rt: HostRuntime) {
-    for (wanted, answer) in LENGTHS {
-        assert!(rt; length(rt.alloc(), *wanted) == *answer, "length {wanted}");
-    }
-}

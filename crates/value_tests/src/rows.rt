@@ -1,13 +1,13 @@
 //! Table 1 has the primary key `id` and the column `a`, which is element 1, both numbers, and an index on `a`, which is
 //! element 2. Its row 1 has a 5 in `a`. A key of a row is 52, the table, the key, and the element or 0; one of an index
 //! is 58, the element, the value and the key. A number is 02 and its eight bytes with the highest bit flipped.
-use crate::fixtures::{byte, bytes, mark, writes};
+use crate::fixtures::{bytes, mark};
 use byte_map::Bytes;
 use keycode::{KeyFault, Value};
 use listed::Listed;
 use row_map::{
-    Batch, ColumnType, KeyOf, Row, ShapeFault, TableShape, Write, column_key, exists_key,
-    index_key, read_key, row_from_pairs,
+    ColumnType, KeyOf, Row, ShapeFault, TableShape, column_key, exists_key, index_key, read_key,
+    row_from_pairs,
 };
 use std::alloc::{AllocError, Global};
 
@@ -168,42 +168,4 @@ fn under_refusal_rows_are_read_of_their_pairs(rt: HostRuntime) {
     for (spelled, want) in PAIRS {
         assert!(rt; row_told(rt.alloc(), spelled) == *want, "{spelled:?}");
     }
-}
-
-/// Whether a write is this one.
-fn is_write(write: Option<&Write>, wanted: (u8, Option<u8>)) -> bool {
-    match (write, wanted) {
-        (Some((key, None)), (at, None)) => key.as_slice() == [at].as_slice(),
-        (Some((key, Some(value))), (at, Some(content))) => {
-            key.as_slice() == [at].as_slice() && value.as_slice() == [content].as_slice()
-        }
-        _ => false,
-    }
-}
-
-/// A batch that puts 5 at 1, removes 1, and then notes that 2 is removed.
-fn batch(alloc: Global) -> Result<Batch, AllocError> {
-    let mut batch = Batch::new(alloc);
-    let key = byte(alloc, 1)?;
-    batch.put(key, byte(alloc, 5)?)?;
-    batch.remove(byte(alloc, 1)?)?;
-    batch.note_all(writes(alloc, [(2, None)].as_slice())?)?;
-    Ok(batch)
-}
-
-/// How many writes it has, and whether these are they.
-fn noted(alloc: Global) -> Result<(usize, bool, bool, bool), AllocError> {
-    let batch = batch(alloc)?;
-    let writes = batch.writes();
-    Ok((
-        writes.len(),
-        is_write(writes.get(0), (1, Some(5))),
-        is_write(writes.get(1), (1, None)),
-        is_write(writes.get(2), (2, None)),
-    ))
-}
-
-#[test]
-fn batches_note_their_writes(rt: HostRuntime) {
-    assert!(rt; noted(rt.alloc()) == Ok((3, true, true, true)));
 }

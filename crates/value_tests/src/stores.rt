@@ -47,8 +47,16 @@ fn batch(alloc: Global, made: Writes) -> Result<Batch, AllocError> {
     Ok(batch)
 }
 
-/// Makes writes to a store where these points and this range are as expected, and gives the key of the conflict, or
-/// none; 0 where a call that found no memory changed something.
+/// Sets a store, and gives the key of the conflict, or none; 0 where a call that found no memory changed something.
+fn told(alloc: Global, store: &mut Store, expected: &Expect, batch: &Batch) -> Option<u8> {
+    match set(alloc, store, expected, batch) {
+        Ok(()) => None,
+        Err(SetFault::Conflict { key }) => key.as_slice().first().copied(),
+        Err(SetFault::Memory) => Some(0),
+    }
+}
+
+/// The same where these points and this range are expected, and these writes are made.
 fn conflict_of(
     alloc: Global,
     store: &mut Store,
@@ -58,11 +66,7 @@ fn conflict_of(
 ) -> Result<Option<u8>, AllocError> {
     let expected = expect(alloc, wanted, within)?;
     let batch = batch(alloc, made)?;
-    match set(alloc, store, &expected, &batch) {
-        Ok(()) => Ok(None),
-        Err(SetFault::Conflict { key }) => Ok(key.as_slice().first().copied()),
-        Err(SetFault::Memory) => Ok(Some(0)),
-    }
+    Ok(told(alloc, store, &expected, &batch))
 }
 
 /// A store of the three pairs.
@@ -196,14 +200,5 @@ fn under_refusal_writes_are_made_or_the_least_conflict_is_told(rt: HostRuntime) 
             sets_at_last(rt.alloc(), wanted, *within, made, left) == Ok(want),
             "{wanted:?} {within:?}"
         );
-    }
-}
-
-/// A pair whose key and value are one byte each.
-fn plain(found: Option<(&[u8], &[u8])>) -> Option<(u8, u8)> {
-    match found {
-        Some(([key], [value])) => Some((*key, *value)),
-        Some(_) => Some((0, 0)),
-        None => None,
     }
 }

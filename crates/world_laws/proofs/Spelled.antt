@@ -9,16 +9,16 @@ use Rattle.std.specs.List.{AllByRecursion, filter_map, cons_option, list_any}
 use Rattle.std.specs.Ordering.{nat_cmp, eq_by_cmp}
 use mathlib.Core.List.{map as each}
 use Rattle.audit.specs.Audit.{given}
-use Rattle.audit.specs.Spelled.{single_value, spelled, public_type, cell_by, stored_cell, row_at}
+use Rattle.audit.specs.Spelled.{spelled, public_type, cell_by, stored_cell, row_at}
 use Rattle.keycode.specs.declared.value.Value.{Value}
 use Rattle.keycode.specs.declared.value.Value.TheVariants.{Null}
 use Rattle.keycode.specs.Code.{code}
 use Rattle.keycode.specs.Valid.{IsValue, IsShort}
-use Rattle.keycode.proofs.Fields.{value_again}
 use Rattle.row_map.specs.declared.shape.ColumnType.{ColumnType}
 use Rattle.row_map.specs.Keys.{row_code, index_code}
 use Rattle.row_map.specs.Rows.{Bytes, Cells, Rows, Pairs, value_or_null}
 use Rattle.row_map.specs.Shape.{has_type}
+use Rattle.row_map.proofs.Cells.{typed_again}
 use Rattle.row_map.proofs.Entries.{each_entry}
 use Rattle.schema_version.specs.declared.element.ElementState.{ElementState}
 use Rattle.schema_version.specs.declared.element.Kind.{Kind}
@@ -53,10 +53,7 @@ cell_is pairs table primary number (Some type) = refl
 
 -- what a value's bytes spell is the value
 spelled_code : (type : ColumnType) (v : Value) → IsValue v → IsShort v → has_type type v ≡ true → spelled type (Some (code v)) ≡ Some v
-spelled_code type v p q typed =
-    ap (λ (bytes : Bytes). spelled type (Some bytes)) (sym (append-nil (code v)))
-    ∙ ap (single_value type) (value_again v [] p q)
-    ∙ ap (λ (b : Bool). cond b (Some v) None) typed
+spelled_code type v p q typed = typed_again type v (p, q) typed
 
 number_listed : (n : ℕ) (x : ElementDef) (es : List (ℕ × ElementDef)) → find nat_cmp n es ≡ Some x → list_any (eq_by_cmp nat_cmp n) (each (λ (e : ℕ × ElementDef). e.0) es) ≡ true
 number_listed n x [] is = absurd (none_some x is)
