@@ -4,27 +4,19 @@ use crate::fixtures::{entering, mark, opened};
 use std::alloc::{AllocError, Global};
 use world::{Event, GrantFault, PublishFault, Reply, World};
 
-// A lease at a moment.
-fn push_lease(events: &mut Vec<Event>, moment: u64) -> bool {
-    events.push(Event::Lease { moment }).is_ok()
-}
-
-// add index i on t (a) at a moment
-fn push_step(alloc: Global, events: &mut Vec<Event>, moment: u64) -> bool {
-    match entering(alloc, "i") {
-        Ok(step) => events.push(Event::Publish { moment, step }).is_ok(),
-        Err(AllocError) => false,
-    }
-}
-
 // A lease at 0, the index at 9 and at 10, a lease at 9.
 fn four(alloc: Global) -> Option<Vec<Event>> {
-    let mut events = Vec::new(alloc);
-    let are_there = push_lease(&mut events, 0)
-        && push_step(alloc, &mut events, 9)
-        && push_step(alloc, &mut events, 10)
-        && push_lease(&mut events, 9);
-    if are_there { Some(events) } else { None }
+    let early = entering(alloc, "i").ok()?;
+    let step = entering(alloc, "i").ok()?;
+    let mut events = Vec::with_capacity(alloc, 4).ok()?;
+    events.push_reserved(Event::Lease { moment: 0 });
+    events.push_reserved(Event::Publish {
+        moment: 9,
+        step: early,
+    });
+    events.push_reserved(Event::Publish { moment: 10, step });
+    events.push_reserved(Event::Lease { moment: 9 });
+    Some(events)
 }
 
 fn is_lease(reply: &Reply, version: u64, granted: u64, until: u64) -> bool {

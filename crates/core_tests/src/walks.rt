@@ -13,6 +13,7 @@ use lease::Lease;
 use reorganise::Work::{Clear, Fill};
 use schema_version::ElementState::{DeleteOnly, Public, WriteOnly};
 use std::alloc::Global;
+use std::process::Abort;
 use world::{BeginFault, PublishFault, World};
 
 // An act, and how many entries there are then.
@@ -54,7 +55,18 @@ fn nothing() -> Kept {
     }
 }
 
-// Rows 1 and 3 have the value, row 2 another. An insert that is let go leaves no trace, so that row 4 can be added. A snapshot from before it has rows 1 and 3 all the same. Then the column is cleared: a fill of the same definition, over the same
+// Behind the mark, the acts on two worlds in turn, which share what they keep.
+fn are_right<R: Print + Abort>(rt: &R, alloc: Global, first: &[Row], second: &[Row]) {
+    assert!(rt; mark(rt));
+    let mut kept = nothing();
+    let one = walked_anew(alloc, &mut kept, first);
+    let other = walked_anew(alloc, &mut kept, second);
+    let are_all = (one, other) == (first.len(), second.len());
+    assert!(rt; are_all, "acts {one} and {other}");
+}
+
+// Rows 1 and 3 have the value, row 2 another. An insert that is let go leaves no trace, so that row 4 can be added; a snapshot from
+// before it has rows 1 and 3 all the same. Then the column is cleared: a fill of the same definition, over the same
 // range, is not one of its pieces; a clear that is made by hand in the same way is.
 static COMMITS: [Row; 17] = [
     (Act::Lease(FIRST), 1),
@@ -78,9 +90,7 @@ static COMMITS: [Row; 17] = [
 
 #[test]
 fn under_refusal_commits_and_queries(rt: HostRuntime) {
-    assert!(rt; mark(&rt));
-    let right = walked_anew(rt.alloc(), &mut nothing(), &COMMITS);
-    assert!(rt; right == COMMITS.len(), "act {right}");
+    are_right(&rt, rt.alloc(), &[], &COMMITS);
 }
 
 // A lease that is granted at 9.
@@ -107,9 +117,7 @@ static VERSIONS: [Row; 10] = [
 
 #[test]
 fn under_refusal_two_versions(rt: HostRuntime) {
-    assert!(rt; mark(&rt));
-    let right = walked_anew(rt.alloc(), &mut nothing(), &VERSIONS);
-    assert!(rt; right == VERSIONS.len(), "act {right}");
+    are_right(&rt, rt.alloc(), &[], &VERSIONS);
 }
 
 // A piece of a world whose element 2 is an index of another name.
@@ -156,12 +164,7 @@ static FILL: [Row; 23] = [
 
 #[test]
 fn under_refusal_fills(rt: HostRuntime) {
-    assert!(rt; mark(&rt));
-    let mut kept = nothing();
-    let other = walked_anew(rt.alloc(), &mut kept, &OTHER);
-    assert!(rt; other == OTHER.len(), "act {other} of the other");
-    let right = walked_anew(rt.alloc(), &mut kept, &FILL);
-    assert!(rt; right == FILL.len(), "act {right}");
+    are_right(&rt, rt.alloc(), &OTHER, &FILL);
 }
 
 // A lease, and 32 rows of even keys, whose 64 pairs are one page.
@@ -180,12 +183,13 @@ fn fills_a_page(alloc: Global, world: &mut World, kept: &mut Kept) -> bool {
 // The row of an odd key comes between them.
 static CUT: [Row; 2] = [(Insert(FIRST, (31, 5)), 34), (Check(33), 34)];
 
-fn is_page_cut<R: Print>(rt: &R, alloc: Global, kept: &mut Kept) -> bool {
+fn is_page_cut<R: Print>(rt: &R, alloc: Global) -> bool {
+    let mut kept = nothing();
     match opened(alloc) {
         Ok(mut world) => {
-            fills_a_page(alloc, &mut world, kept)
+            fills_a_page(alloc, &mut world, &mut kept)
                 && mark(rt)
-                && walked(alloc, &mut world, kept, &CUT) == CUT.len()
+                && walked(alloc, &mut world, &mut kept, &CUT) == CUT.len()
         }
         Err(_) => false,
     }
@@ -193,5 +197,5 @@ fn is_page_cut<R: Print>(rt: &R, alloc: Global, kept: &mut Kept) -> bool {
 
 #[test]
 fn under_refusal_a_page_is_cut(rt: HostRuntime) {
-    assert!(rt; is_page_cut(&rt, rt.alloc(), &mut nothing()));
+    assert!(rt; is_page_cut(&rt, rt.alloc()));
 }

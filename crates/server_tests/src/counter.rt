@@ -91,26 +91,3 @@ fn two_seats_draw_all(rt: HostRuntime) {
     let drawn = two::<Brand, _>(&rt, rt.alloc(), opened);
     assert!(rt; drawn == Ok((700, 702)));
 }
-
-// Whether there is such a counter, or why there is none.
-fn told(alloc: Global, total: usize, seats: usize) -> Result<(), ClaimFault> {
-    Opened::new(alloc, total, seats)?;
-    Ok(())
-}
-
-#[test]
-fn from_1_to_64_seats(rt: HostRuntime) {
-    let rows = [
-        (0, 0, Err(ClaimFault::BadCount)),
-        (0, 1, Ok(())),
-        (1_000_000, 64, Ok(())),
-        (1_000_001, 1, Err(ClaimFault::BadCount)),
-        (1, 65, Err(ClaimFault::BadCount)),
-    ];
-    for (total, seats, answer) in rows {
-        assert!(rt;
-            told(rt.alloc(), total, seats) == answer,
-            "{total} numbers, {seats} seats"
-        );
-    }
-}

@@ -4,6 +4,8 @@
 #[cfg(test)]
 mod counter;
 #[cfg(test)]
+mod fills;
+#[cfg(test)]
 mod gates;
 #[cfg(test)]
 mod one_request;
@@ -11,3 +13,5 @@ mod one_request;
 mod refusals;
 #[cfg(test)]
 mod table;
+#[cfg(test)]
+mod turned;

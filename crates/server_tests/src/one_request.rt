@@ -11,7 +11,9 @@ use locked_store::SharedFault;
 use row_map::{ReadSet, ReadView};
 use row_write::Prepared;
 use schema_version::Schema;
-use server::{Last, Outcome, Port, Tally, last_of_commit, last_of_grant, last_of_read, serve_one};
+use server::{
+    Last, Outcome, Port, Request, Tally, last_of_commit, last_of_grant, last_of_read, serve_one,
+};
 use std::alloc::{AllocError, Global};
 use world::{CommitFault, Committed, GrantFault, World};
 
@@ -196,23 +198,40 @@ impl Stubborn {
     }
 }
 
-// What becomes of the insert of key 1 through a port of these answers, with so many tries.
-fn served_once(alloc: Global, answers: Answers, tries: u32) -> Option<Ending> {
-    if tries < 1 || tries > 1000 {
-        return None;
-    }
-    let world = opened(alloc).ok()?;
-    let request = insert(alloc, 1).ok()?;
-    let mut port = port(alloc, world, answers);
-    let outcome = serve_one(alloc, &mut port, &request, tries);
-    let retries = port.tally().retries;
-    let entries = port.world.log().len();
+// How a request ended, by its outcome.
+fn ending_of(outcome: &Outcome, retries: u64, entries: usize) -> Option<Ending> {
     match outcome {
         Outcome::Done(receipt) => Some((Some(receipt.place), None, retries, entries)),
-        Outcome::Busy { tries } => Some((None, Some(tries), retries, entries)),
+        Outcome::Busy { tries } => Some((None, Some(*tries), retries, entries)),
         Outcome::Memory => Some((None, None, retries, entries)),
         _ => None,
     }
+}
+
+/// What becomes of a request through a port that has counted no retry yet, with so many tries.
+pub(crate) fn outcome_of(
+    alloc: Global,
+    port: &mut Stubborn,
+    request: &Request,
+    tries: u32,
+) -> Option<Outcome> {
+    if tries < 1 || tries > 1000 || port.tally().retries != 0 {
+        return None;
+    }
+    Some(serve_one(alloc, port, request, tries))
+}
+
+// How it ends.
+fn ended(alloc: Global, port: &mut Stubborn, request: &Request, tries: u32) -> Option<Ending> {
+    let outcome = outcome_of(alloc, port, request, tries)?;
+    ending_of(&outcome, port.tally().retries, port.world.log().len())
+}
+
+// What becomes of the insert of key 1 through a port of these answers, with so many tries.
+fn served_once(alloc: Global, answers: Answers, tries: u32) -> Option<Ending> {
+    let request = insert(alloc, 1).ok()?;
+    let mut port = port(alloc, opened(alloc).ok()?, answers);
+    ended(alloc, &mut port, &request, tries)
 }
 
 // Whether that becomes of it; in another port alike where memory was short.

@@ -2,14 +2,12 @@
 //! the handles come back, and what is left is done by a second call.
 ghost use Rattle.std.specs.Prelude.{◌≡◌, length};
 
-use crate::one_request::port;
-use crate::table::{insert, mark, named, opened};
-use listed::Listed;
+use crate::fills::filling;
+use crate::table::{insert, mark};
 use locked_store::{Handle, Room, Shared};
 use reorganise::Work;
 use reorganiser::{PieceEnd, ReorganiseFault, Reorganised, reorganise_all};
-use schema_version::{ElementState, Kind, Move, NewElement, Step};
-use server::{FreeGate, Outcome, Request, ServeFault, Served, serve, serve_one};
+use server::{FreeGate, Outcome, Request, ServeFault, Served, serve};
 use std::alloc::{AllocError, Global};
 use std::marker::Brand;
 use std::sync::Wait;
@@ -29,7 +27,9 @@ fn is_done(outcome: &Outcome) -> Option<u64> {
 // How many requests are committed, where the two numbers have one outcome each.
 fn dones(outcomes: &[(usize, Outcome)]) -> Option<u64> {
     match outcomes {
-        [(0, first), (1, second)] => Some(is_done(first)?.wrapping_add(is_done(second)?)),
+        [(one, first), (two, second)] if (*one, *two) == (0, 1) => {
+            Some(is_done(first)?.wrapping_add(is_done(second)?))
+        }
         _ => None,
     }
 }
@@ -85,7 +85,9 @@ fn is_finished(end: &PieceEnd) -> Option<bool> {
 // Whether both pieces have ended, where the two numbers have one end each.
 fn are_finished(ends: &[(usize, PieceEnd)]) -> Option<bool> {
     match ends {
-        [(0, first), (1, second)] => Some(is_finished(first)? && is_finished(second)?),
+        [(one, first), (two, second)] if (*one, *two) == (0, 1) => {
+            Some(is_finished(first)? && is_finished(second)?)
+        }
         _ => None,
     }
 }
@@ -154,42 +156,6 @@ fn inserts(alloc: Global, first: i64, second: i64) -> Result<Vec<Request>, Alloc
     Ok(vec![in alloc; first, second]?)
 }
 
-// add index i on t (a): element 2, since 1 is the column
-fn entering(alloc: Global) -> Result<Step, AllocError> {
-    let fresh = NewElement {
-        table: 1,
-        name: named(alloc, "i")?,
-        kind: Kind::Index(Listed::new(vec![in alloc; 1u32]?)),
-    };
-    let to = ElementState::DeleteOnly;
-    Ok(Listed::new(vec![in alloc; Move::Enter { fresh, to }]?))
-}
-
-// move t.i to write_only
-fn writing(alloc: Global) -> Result<Step, AllocError> {
-    let to = ElementState::WriteOnly;
-    Ok(Listed::new(vec![in alloc; Move::Go { element: 2, to }]?))
-}
-
-// A world with the rows 1 and 2.
-fn with_rows(alloc: Global) -> Option<World> {
-    let requests = inserts(alloc, 1, 2).ok()?;
-    let mut port = port(alloc, opened(alloc).ok()?, &[]);
-    for request in requests.as_slice() {
-        if !matches!(serve_one(alloc, &mut port, request, 1), Outcome::Done(_)) {
-            return None;
-        }
-    }
-    Some(port.into_world())
-}
-
-// Whether the fill of an index begins in two pieces.
-fn begins(alloc: Global, world: &mut World, steps: (Step, Step)) -> bool {
-    world.publish(alloc, 10, &steps.0).is_ok()
-        && world.publish(alloc, 20, &steps.1).is_ok()
-        && world.begin_reorg(alloc, 30, 2, 2).is_ok()
-}
-
 // Whether all four rows have their pairs, and the fill has ended.
 fn is_filled(alloc: Global, world: &World) -> bool {
     let told = match world.check(alloc) {
@@ -207,11 +173,7 @@ fn is_filled(alloc: Global, world: &World) -> bool {
 
 fn is_worked_off<R: Threads + Wait + Sync + Print>(rt: &R, alloc: Global) -> Option<bool> {
     let requests = inserts(alloc, 3, 4).ok()?;
-    let steps = (entering(alloc).ok()?, writing(alloc).ok()?);
-    let mut world = with_rows(alloc)?;
-    if !begins(alloc, &mut world, steps) {
-        return None;
-    }
+    let world = filling(alloc, 2, 2)?;
     let world = works::<Brand, R>(rt, alloc, Blank::new(2), world, requests.as_slice())?;
     Some(is_filled(alloc, &world))
 }

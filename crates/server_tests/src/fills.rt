@@ -1,0 +1,74 @@
+//! A world with rows, in which the fill of an index has begun, and the step that turns the index back.
+
+use crate::one_request::{Stubborn, outcome_of, port};
+use crate::table::{insert, named, opened};
+use listed::Listed;
+use schema_version::{ElementState, Kind, Move, NewElement, Step};
+use server::Outcome;
+use std::alloc::{AllocError, Global};
+use world::World;
+
+// add index i on t (a): element 2, since 1 is the column
+fn entering(alloc: Global) -> Result<Step, AllocError> {
+    let fresh = NewElement {
+        table: 1,
+        name: named(alloc, "i")?,
+        kind: Kind::Index(Listed::new(vec![in alloc; 1u32]?)),
+    };
+    let to = ElementState::DeleteOnly;
+    Ok(Listed::new(vec![in alloc; Move::Enter { fresh, to }]?))
+}
+
+// move t.i to write_only
+fn writing(alloc: Global) -> Result<Step, AllocError> {
+    let to = ElementState::WriteOnly;
+    Ok(Listed::new(vec![in alloc; Move::Go { element: 2, to }]?))
+}
+
+/// turn t.i
+pub(crate) fn turning(alloc: Global) -> Result<Step, AllocError> {
+    Ok(Listed::new(vec![in alloc; Move::Turn { element: 2 }]?))
+}
+
+// Whether a row is inserted.
+fn is_inserted(alloc: Global, port: &mut Stubborn, id: i64) -> bool {
+    match insert(alloc, id) {
+        Ok(request) => matches!(outcome_of(alloc, port, &request, 1), Some(Outcome::Done(_))),
+        Err(AllocError) => false,
+    }
+}
+
+// A world with the rows from 0 on, each behind a lease of its own.
+fn with_rows(alloc: Global, rows: i64) -> Option<World> {
+    let mut port = port(alloc, opened(alloc).ok()?, &[]);
+    for id in 0..rows {
+        if !is_inserted(alloc, &mut port, id) {
+            return None;
+        }
+    }
+    Some(port.into_world())
+}
+
+// Whether a step is published.
+fn is_published(alloc: Global, world: &mut World, moment: u64, step: &Step) -> bool {
+    world.publish(alloc, moment, step).is_ok()
+}
+
+// Whether the index enters, and its fill begins in so many pieces.
+fn begins(alloc: Global, world: &mut World, steps: &(Step, Step), pieces: u32) -> bool {
+    is_published(alloc, world, 10, &steps.0)
+        && is_published(alloc, world, 20, &steps.1)
+        && world.begin_reorg(alloc, 30, 2, pieces).is_ok()
+}
+
+/// A world with so many rows, whose index i, element 2, is write-only from 20 on and has its fill begun at 30 in so many pieces: two
+/// entries for each row and three more.
+pub(crate) fn filling(alloc: Global, rows: i64, pieces: u32) -> Option<World> {
+    let steps = (entering(alloc).ok()?, writing(alloc).ok()?);
+    let mut world = with_rows(alloc, rows)?;
+    if begins(alloc, &mut world, &steps, pieces) {
+        Some(world)
+    } else {
+        None
+    }
+}
