@@ -1,5 +1,5 @@
 -- An allowed step keeps what is true of every version: how the version after some of its moves goes back to the old one.
-use Rattle.std.proofs.Common.{◌≡◌, ℕ, ◌+◌, ◌≤◌, Bool, true, false, cond, not, ◌&&◌, ◌||◌, ◌==◌, ◌⊎◌, List, [], ◌∷◌, ◌++◌, Option, Some, None, inl, inr, refl, sym, ap, subst, ◌∙◌, arith, Contains, Ok, Err, count_by, append_assoc, add-zero}
+use Rattle.std.proofs.Common.{◌≡◌, ℕ, ◌+◌, ◌≤◌, Bool, true, false, cond, not, ◌&&◌, ◌||◌, ◌==◌, List, [], ◌∷◌, ◌++◌, Option, Some, None, inl, inr, refl, sym, ap, subst, ◌∙◌, arith, Contains, Ok, Err, count_by, append_assoc, add-zero}
 use Rattle.std.specs.Prelude.{IsNone, OnOk}
 use Rattle.std.specs.Option.{unwrap_or}
 use Rattle.std.specs.List.{find as find_by, list_any}
@@ -12,15 +12,14 @@ use Rattle.schema_version.specs.declared.element.ElementState.TheVariants.{Absen
 use Rattle.schema_version.specs.declared.element.Way.{Way}
 use Rattle.schema_version.specs.declared.element.Way.TheVariants.{Adding, Dropping}
 use Rattle.schema_version.specs.declared.element.Kind.{Kind}
-use Rattle.schema_version.specs.declared.element.Kind.TheVariants.{Index, Optional}
 use Rattle.schema_version.specs.declared.element.ElementDef.{ElementDef}
 use Rattle.schema_version.specs.declared.element.NewElement.{NewElement}
 use Rattle.schema_version.specs.declared.step.Move.{Move}
 use Rattle.schema_version.specs.declared.step.Move.TheVariants.{Enter, Go, Turn}
 use Rattle.schema_version.specs.declared.step.StepFault.TheVariants.{Unknown, NotAdjacent, Dependent, NameTaken, Limit}
-use Rattle.schema_version.specs.Version.{Version, table_at, element_at, state_of, state_or_absent, live, is_index, is_like, is_public, listed, IsLiveColumn, IsPublicColumn, count_live}
-use Rattle.schema_version.specs.Edges.{edge, HasEdge}
-use Rattle.schema_version.specs.Moves.{as_element, in_state, moved, turned_back, turned, after_move, after_step, is_move_of, moves_element, is_unready, is_entry, is_entry_like, count_like, IsFirstSuch, IsIndexOn, IsLeastIndexOn, DependsOn, IsWithinLimits, IsAllowed}
+use Rattle.schema_version.specs.Version.{Version, table_at, element_at, state_of, state_or_absent, live, is_index, is_like, is_public, listed, IsLiveColumn, IsPublicColumn, count_live, type_of_kind}
+use Rattle.schema_version.specs.Edges.{edge, HasEdge, edge_by, is_filled}
+use Rattle.schema_version.specs.Moves.{as_element, in_state, moved, turned_back, turned, after_move, after_step, is_move_of, moves_element, is_unready, is_entry, is_entry_like, count_like, IsFirstSuch, IsIndexOn, IsLeastIndexOn, IsWithinLimits, IsAllowed}
 use Rattle.schema_version.specs.Steps.{IsOrdered, in_state_or_none}
 use Rattle.schema_version.specs.Deciding.{Answer, step_check, lists, is_column_of, is_within_limits}
 use Rattle.schema_version.specs.Sound.{IsSoundVersion}
@@ -28,7 +27,7 @@ use Rattle.schema_version.proofs.Entries.{tells}
 use Rattle.schema_version.proofs.Lists.{here, some_same, not_both, any_from, find_first, none_in}
 use Rattle.schema_version.proofs.Live.{none_passes, element_at-lookup}
 use Rattle.schema_version.proofs.Changes.{moved_here, moved_apart, moved_next, turned_here, turned_apart, its_go, its_turn, inserted_here, inserted_apart}
-use Rattle.schema_version.proofs.Decides.{AreNumbered, least, listing, column_is, within}
+use Rattle.schema_version.proofs.Decides.{AreNumbered, least, listing, column_is, within, column_depends}
 use Rattle.schema_version.proofs.Declared.{any_append}
 use Rattle.schema_version.proofs.Steps.{truly, step_allowed}
 use Rattle.schema_version.proofs.Stepping.{split_at, not_true, some_edge, adding_to_public, edge_to, is_live, clear, is_live_back, not_before, own_way, may_turn}
@@ -74,11 +73,14 @@ public_state o e at public = by e.state refl (subst (λ (p : Option ElementDef).
     by DeleteOnly is p = absurd (not_both p (ap is_public is))
     by WriteOnly is p = absurd (not_both p (ap is_public is))
 
+none_to_absent : (filled : Bool) (way next : Way) → edge_by filled way Absent Absent ≡ Some next → ⊥
+none_to_absent true Adding next e = cc
+none_to_absent true Dropping next e = cc
+none_to_absent false Adding next e = cc
+none_to_absent false Dropping next e = cc
+
 no_edge_to_absent : (kind : Kind) → ¬ (HasEdge kind Absent Absent)
-no_edge_to_absent (Index columns) (Adding, next, e) = cc
-no_edge_to_absent (Index columns) (Dropping, next, e) = cc
-no_edge_to_absent (Optional type) (Adding, next, e) = cc
-no_edge_to_absent (Optional type) (Dropping, next, e) = cc
+no_edge_to_absent kind (way, next, e) = none_to_absent (is_filled kind) way next e
 
 -- what comes to public does so by adding
 way_to : (e : ElementDef) (to : ElementState) (way : Way) → edge e.kind e.way e.state to ≡ Some way → to ≡ Public → (in_state e to).way ≡ Adding
@@ -182,7 +184,7 @@ module _ (v : Version) (step : List Move) (sound : IsSoundVersion v) (allowed : 
         named = l.0;
         placed = (there.0, tables_at ∙ there.1);
         apart = λ (table, type, at, key). allowed earlier later (Enter fresh to) NameTaken split (inl (table, type, sym tables_at ∙ at, key));
-        list = l.1;
+        fair = l.1;
         columns = columns_public earlier later fresh to split u along;
         free = λ n e at table name. not_taken earlier later fresh to split n e (along.from n e at) table name;
         few = (let few = l.2 in let so_far = along.counts fresh.table (is_index fresh.kind) in omega (arith, few, so_far));
@@ -213,18 +215,19 @@ module _ (v : Version) (step : List Move) (sound : IsSoundVersion v) (allowed : 
   -- no index lists a column that moves
   not_listed : (earlier later : List Move) (n : ℕ) (to : ElementState) (e : ElementDef) → step ≡ earlier ++ Go n to ∷ later → element_at v n ≡ Some e → (u : Version) → Along v earlier u → element_at u n ≡ Some e
       → (m : ℕ) (index : ElementDef) → element_at u m ≡ Some index → ¬ (Contains (listed index.kind) n)
-  not_listed earlier later n to e split at u along now m x at_m there = by e.kind refl (along.from m x at_m)
+  not_listed earlier later n to e split at u along now m x at_m there = by (along.from m x at_m)
     where
-      by : (kind : Kind) → e.kind ≡ kind → From v earlier m x → ⊥
-      by (Index columns) is from =
-          let column = (along.sound.elements m x at_m).columns n there in
-          let same : e.kind ≡ Optional column.1 = ap (λ (y : ElementDef). y.kind) (some_same (sym now ∙ column.2)) ∙ column.4 in
-          let wrong : Index columns ≡ Optional column.1 = sym is ∙ same in
-          cc
-      by (Optional type) is (Old d at_d table name kind) =
+      column : IsPublicColumn u x.table n
+      column = (along.sound.elements m x at_m).columns n there
+
+      type : type_of_kind e.kind ≡ Some column.1
+      type = ap (λ (y : ElementDef). type_of_kind y.kind) (some_same (sym now ∙ column.2)) ∙ column.4
+
+      by : From v earlier m x → ⊥
+      by (Old d at_d table name kind) =
           let least = least_there v n m numbered (d, at_d, subst (λ k. Contains (listed k) n) kind there) in
-          clear v step allowed earlier later n to e (Dependent least.0) split at (subst (λ k. DependsOn v step n k least.0) (sym is) least.1)
-      by (Optional type) is (New fresh t among table name kind) =
+          clear v step allowed earlier later n to e (Dependent least.0) split at (column_depends v step n e.kind column.1 least.0 type least.1)
+      by (New fresh t among table name kind) =
           let s = split_at earlier (Enter fresh t) among in
           let whole : step ≡ s.0 ++ Enter fresh t ∷ (s.1 ++ Go n to ∷ later) = split ∙ ap (λ l. l ++ Go n to ∷ later) s.2 ∙ append_assoc s.0 (Enter fresh t ∷ s.1) (Go n to ∷ later) in
           let still = (ready s.0 (s.1 ++ Go n to ∷ later) fresh t whole n (subst (λ k. Contains (listed k) n) kind there)).1 in

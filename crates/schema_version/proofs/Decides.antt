@@ -1,5 +1,12 @@
 -- The tests of a move decide why it isn't allowed.
-use Rattle.std.proofs.Common.{◌≡◌, ◌≢◌, ℕ, ◌+◌, ◌≤◌, Bool, true, false, not, ◌&&◌, ◌||◌, ◌==◌, List, [], ◌∷◌, length, Option, Some, None, inl, inr, refl, sym, ap, subst, ◌∙◌, arith, Contains, Err, is_some}
+use Rattle.std.specs.Int.{w64}
+use Rattle.std.proofs.lemmas.Str.{IsUtf8-from_is_utf8, is_utf8-from_IsUtf8}
+use Rattle.keycode.specs.declared.value.Value.{Value}
+use Rattle.keycode.specs.declared.value.Value.TheVariants.{Null, Int, Text, Bool as Flag}
+use Rattle.keycode.specs.Valid.{IsValue}
+use Rattle.row_map.specs.Shape.{has_type}
+use Rattle.schema_version.specs.Defaults.{has_word, is_value}
+use Rattle.std.proofs.Common.{FitsSigned, ℤ, pos, negsuc, ◌^◌, ◌≡◌, ℕ, ◌+◌, ◌≤◌, Bool, true, false, not, ◌&&◌, ◌||◌, ◌==◌, List, [], ◌∷◌, length, Option, Some, None, inl, inr, refl, sym, ap, subst, ◌∙◌, arith, Contains, Err, is_some}
 use Rattle.std.specs.Prelude.{IsTrue, bytes_eq, nat_lt, nat_le, count_by, option_map}
 use Rattle.std.specs.Bool.{Decides}
 use Rattle.std.specs.List.{list_any, list_all, find}
@@ -12,7 +19,7 @@ use Rattle.schema_version.specs.declared.element.ElementState.TheVariants.{Absen
 use Rattle.schema_version.specs.declared.element.Way.{Way}
 use Rattle.schema_version.specs.declared.element.Way.TheVariants.{Adding, Dropping}
 use Rattle.schema_version.specs.declared.element.Kind.{Kind}
-use Rattle.schema_version.specs.declared.element.Kind.TheVariants.{Index, Optional}
+use Rattle.schema_version.specs.declared.element.Kind.TheVariants.{Index, Optional, Required}
 use Rattle.schema_version.specs.declared.element.ElementDef.{ElementDef}
 use Rattle.schema_version.specs.declared.element.NewElement.{NewElement}
 use Rattle.schema_version.specs.declared.step.Move.{Move}
@@ -20,10 +27,10 @@ use Rattle.schema_version.specs.declared.step.Move.TheVariants.{Enter, Go, Turn}
 use Rattle.schema_version.specs.declared.step.StepFault.{StepFault}
 use Rattle.schema_version.specs.declared.step.StepFault.TheVariants.{Unknown}
 use Rattle.schema_version.specs.Names.{IsName, is_name, is_letter, is_word_byte, max_listed, max_elements}
-use Rattle.schema_version.specs.Version.{Version, Table, table_at, element_at, live, is_index, is_public, is_column, is_named, listed, IsLiveColumn}
-use Rattle.schema_version.specs.Moves.{moves_element, HasNoEdge, is_unready, is_distinct, count_like, max_like, is_entry, DependsOn, IsFirstSuch, IsLeastIndexOn, IsTaken, Enters, IsColumnList, IsWithinLimits, GoFault, GoFaultAt, TurnFault, TurnFaultAt, MoveFault, rank}
+use Rattle.schema_version.specs.Version.{Version, Table, table_at, element_at, live, is_index, is_public, is_column, is_named, listed, type_of_kind, IsLiveColumn}
+use Rattle.schema_version.specs.Moves.{moves_element, HasNoEdge, is_unready, is_distinct, count_like, max_like, is_entry, DependsOn, IsFirstSuch, IsLeastIndexOn, IsTaken, Enters, IsFairKind, IsWithinLimits, GoFault, GoFaultAt, TurnFault, TurnFaultAt, MoveFault, rank}
 use Rattle.schema_version.specs.Edges.{edge}
-use Rattle.schema_version.specs.Deciding.{has_no_edge, lists, stands_against, go_check, go_check_at, is_dropping, turn_check, turn_check_at, enter_check, move_check, is_column_of, are_columns_of, has_key_column, is_entry_named, is_taken, is_column_list, is_within_limits}
+use Rattle.schema_version.specs.Deciding.{has_no_edge, lists, stands_against, go_check, go_check_at, is_dropping, turn_check, turn_check_at, enter_check, move_check, is_column_of, are_columns_of, has_key_column, is_entry_named, is_taken, is_fair_kind, is_within_limits}
 use Rattle.schema_version.proofs.Lists.{any_says, any_from, all_says, all_fails, find_first, find_none, some_same, not_both}
 use Rattle.schema_version.proofs.Live.{IsLeast, first_is_least, none_passes, element_at-lookup, live_has, live_from}
 use Rattle.schema_version.proofs.Chain.{Finds, Says, chain_says}
@@ -52,8 +59,9 @@ Finds-first test list (Some n) e = find_first test list n e
 
 -- ---- unknown
 
-column_type : (k : Kind) → Decides (is_column k) ((type : ColumnType) × (k ≡ Optional type))
+column_type : (k : Kind) → Decides (is_column k) ((type : ColumnType) × (type_of_kind k ≡ Some type))
 column_type (Optional type) = (λ e. (type, refl), λ h. refl)
+column_type (Required type fallback) = (λ e. (type, refl), λ h. refl)
 column_type (Index columns) = (λ e. cc, λ (type, h). cc)
 
 pub column_is : (v : Version) (t c : ℕ) → Decides (is_column_of t (element_at v c)) (IsLiveColumn v t c)
@@ -64,7 +72,7 @@ column_is v t c = by (element_at v c) refl
     by (Some e) is =
         Decides-like ((e.table == t) && is_column e.kind)
         (λ (own, (type, kind)). (e, type, is, own, kind))
-        (λ (f, type, at, own, kind). let same : e ≡ f = some_same (sym is ∙ at) in (ap (λ (x : ElementDef). x.table) same ∙ own, (type, ap (λ (x : ElementDef). x.kind) same ∙ kind)))
+        (λ (f, type, at, own, kind). let same : e ≡ f = some_same (sym is ∙ at) in (ap (λ (x : ElementDef). x.table) same ∙ own, (type, ap (λ (x : ElementDef). type_of_kind x.kind) same ∙ kind)))
         (Decides-and (e.table == t) (is_column e.kind) (Decides-eqb e.table t) (column_type e.kind))
 
 strange_column : (v : Version) (t : ℕ) (cs : List ℕ) → Decides (not (are_columns_of v t cs)) ((c : ℕ) × Contains cs c × (¬ (IsLiveColumn v t c)))
@@ -127,23 +135,40 @@ word (c ∷ cs) =
     (λ (first, rest, short). (short, (first, rest)))
     (Decides-and (nat_le (length (c ∷ cs)) 32) (is_letter c && list_all is_word_byte cs) (at_most (length (c ∷ cs)) 32) (Decides-and (is_letter c) (list_all is_word_byte cs) (itself (is_letter c)) (itself (list_all is_word_byte cs))))
 
-column_list : (k : Kind) → Decides (is_column_list k) (IsColumnList k)
-column_list (Index columns) =
+-- a value of the program is told by its test
+in_word : (n : ℤ) → Decides (has_word n) (FitsSigned w64 n)
+in_word (pos n) = Decides-like (nat_lt n (2 ^ 63)) (λ lt. record { sfits = lt }) (λ f. f.sfits) (Decides-ltb n (2 ^ 63))
+in_word (negsuc n) = Decides-like (nat_lt n (2 ^ 63)) (λ lt. record { sfits = lt }) (λ f. f.sfits) (Decides-ltb n (2 ^ 63))
+
+pub value_is : (v : Value) → Decides (is_value v) (IsValue v)
+value_is Null = (λ e. tt, λ h. refl)
+value_is (Int n) = in_word n
+value_is (Text t) = (IsUtf8-from_is_utf8 t, is_utf8-from_IsUtf8 t)
+value_is (Flag b) = (λ e. tt, λ h. refl)
+
+-- for a value of the program the test says no more
+pub passes_so : (b : Bool) (v : Value) → IsValue v → b ≡ (b && is_value v)
+passes_so true v known = sym ((value_is v).1 known)
+passes_so false v known = refl
+
+fair_kind : (k : Kind) → Decides (is_fair_kind k) (IsFairKind k)
+fair_kind (Index columns) =
     Decides-like (nat_le 1 (length columns) && (nat_le (length columns) max_listed && is_distinct columns))
     (λ (some, (few, distinct)). (some, few, distinct))
     (λ (some, few, distinct). (some, (few, distinct)))
     (Decides-and (nat_le 1 (length columns)) (nat_le (length columns) max_listed && is_distinct columns) (at_most 1 (length columns)) (Decides-and (nat_le (length columns) max_listed) (is_distinct columns) (at_most (length columns) max_listed) (itself (is_distinct columns))))
-column_list (Optional type) = (λ e. tt, λ h. refl)
+fair_kind (Optional type) = (λ e. tt, λ h. refl)
+fair_kind (Required type fallback) = Decides-and (has_type type fallback) (is_value fallback) (itself (has_type type fallback)) (value_is fallback)
 
 pub within : (v : Version) (earlier : List Move) (fresh : NewElement) → Decides (is_within_limits v earlier fresh) (IsWithinLimits v earlier fresh)
 within v earlier fresh =
     let room = nat_lt (count_like v earlier fresh.table (is_index fresh.kind)) (max_like (is_index fresh.kind)) in
     let number = nat_le (v.next + count_by is_entry earlier) max_elements in
-    Decides-like (is_name fresh.name && (is_column_list fresh.kind && (room && number)))
+    Decides-like (is_name fresh.name && (is_fair_kind fresh.kind && (room && number)))
     (λ (name, (list, (room, number))). (name, list, room, number))
     (λ (name, list, room, number). (name, (list, (room, number))))
-    (Decides-and (is_name fresh.name) (is_column_list fresh.kind && (room && number)) (word fresh.name)
-    (Decides-and (is_column_list fresh.kind) (room && number) (column_list fresh.kind)
+    (Decides-and (is_name fresh.name) (is_fair_kind fresh.kind && (room && number)) (word fresh.name)
+    (Decides-and (is_fair_kind fresh.kind) (room && number) (fair_kind fresh.kind)
     (Decides-and room number (Decides-ltb (count_like v earlier fresh.table (is_index fresh.kind)) (max_like (is_index fresh.kind))) (at_most (v.next + count_by is_entry earlier) max_elements))))
 
 -- ---- edges and what stands against a move
@@ -174,6 +199,7 @@ least v n numbered (Some e) found =
 stands : (v : Version) (step : List Move) (n : ℕ) (k : Kind) → AreNumbered v → Finds (stands_against v step n k) (DependsOn v step n k)
 stands v step n (Index columns) numbered = Finds-first (is_unready v step) columns (find (is_unready v step) columns) refl
 stands v step n (Optional type) numbered = least v n numbered (find (lists n) (live v)) refl
+stands v step n (Required type fallback) numbered = least v n numbered (find (lists n) (live v)) refl
 
 -- ---- a whole move
 
@@ -241,3 +267,9 @@ move_says v step earlier (Turn n) numbered = by (element_at v n)
     by : (o : Option ElementDef) → Says (TurnFaultAt earlier n o) (turn_check_at earlier n o)
     by None = unknown_says (TurnFaultAt earlier n None) refl (λ f e. e)
     by (Some e) = turn_says earlier n e
+
+-- a column of any kind depends on the least index that lists it
+pub column_depends : (v : Version) (step : List Move) (n : ℕ) (k : Kind) (type : ColumnType) (on : ℕ) → type_of_kind k ≡ Some type → IsLeastIndexOn v n on → DependsOn v step n k on
+column_depends v step n (Index columns) type on is least = cc
+column_depends v step n (Optional kept) type on is least = least
+column_depends v step n (Required kept fallback) type on is least = least

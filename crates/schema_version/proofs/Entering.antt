@@ -9,14 +9,14 @@ use mathlib.Core.List.{map as each}
 use Rattle.row_map.specs.declared.shape.ColumnType.{ColumnType}
 use Rattle.schema_version.specs.declared.element.ElementState.TheVariants.{Public}
 use Rattle.schema_version.specs.declared.element.Kind.{Kind}
-use Rattle.schema_version.specs.declared.element.Kind.TheVariants.{Index, Optional}
+use Rattle.schema_version.specs.declared.element.Kind.TheVariants.{Index, Optional, Required}
 use Rattle.schema_version.specs.declared.element.ElementDef.{ElementDef}
 use Rattle.schema_version.specs.declared.element.NewElement.{NewElement}
 use Rattle.schema_version.specs.declared.table.TableDef.{TableDef}
 use Rattle.schema_version.specs.Edges.{has_state}
 use Rattle.schema_version.specs.Names.{IsName, is_among, is_distinct, max_listed}
-use Rattle.schema_version.specs.Version.{Version, Table, table_at, element_at, is_index, is_like, listed, IsPublicColumn, count_live}
-use Rattle.schema_version.specs.Moves.{as_element, entered, IsColumnList, max_like, is_distinct as is_distinct_numbers}
+use Rattle.schema_version.specs.Version.{Version, Table, table_at, element_at, is_index, is_like, listed, IsPublicColumn, count_live, type_of_kind}
+use Rattle.schema_version.specs.Moves.{as_element, entered, IsFairKind, max_like, is_distinct as is_distinct_numbers}
 use Rattle.schema_version.specs.Declaring.{number_of, column_entry, index_entry, enter_public, IsLawfulIndex}
 use Rattle.schema_version.specs.Sound.{IsSoundVersion}
 use Rattle.schema_version.proofs.Entries.{tells}
@@ -94,10 +94,11 @@ none_like false = refl
 public_is : (kind : Kind) → IsTrue (has_state kind Public)
 public_is (Index columns) = refl
 public_is (Optional type) = refl
+public_is (Required type fallback) = refl
 
 module _ (tables : List Table) (k : ℕ) (table : Table) (few_tables : k ≤ 16) (placed : (u : Version) → u.tables ≡ tables → table_at u k ≡ Some table) where
   module _ (u : Version) (name : List ℕ) (kind : Kind) (rest : List (List ℕ)) (c i : ℕ) (at : AtTable tables k (name ∷ rest) c i u) (fresh : IsFresh table.key name) (distinct : is_distinct (name ∷ rest) ≡ true)
-      (list : IsColumnList kind) (columns : (column : ℕ) → Contains (listed kind) column → IsPublicColumn u k column) (some : 1 ≤ c + i) (few : count_live u k (is_index kind) < max_like (is_index kind)) where
+      (fair : IsFairKind kind) (columns : (column : ℕ) → Contains (listed kind) column → IsPublicColumn u k column) (some : 1 ≤ c + i) (few : count_live u k (is_index kind) < max_like (is_index kind)) where
     one_sound : IsSoundVersion (entered u (of_table k name kind) Public)
     one_sound =
         enter_sound u (of_table k name kind) Public at.sound
@@ -108,7 +109,7 @@ module _ (tables : List Table) (k : ℕ) (table : Table) (few_tables : k ≤ 16)
           named = fresh.named;
           placed = (table, placed u at.same);
           apart = λ (t, type, there, key). fresh.apart type (subst (λ (x : Table). Contains x.key (name, type)) (some_same (sym there ∙ placed u at.same)) key);
-          list = list;
+          fair = fair;
           columns = columns;
           free = λ n e there own named. at.free n e there own (subst (Contains (name ∷ rest)) (sym named) (here name rest));
           few = few;
@@ -158,7 +159,7 @@ module _ (tables : List Table) (k : ℕ) (table : Table) (few_tables : k ≤ 16)
 
   -- an index enters
   pub index_in : (u : Version) (name : List ℕ) (numbers : List ℕ) (rest : List (List ℕ)) (c i more : ℕ) → more ≡ i + 1 → AtTable tables k (name ∷ rest) c more u → IsFresh table.key name → is_distinct (name ∷ rest) ≡ true
-      → IsColumnList (Index numbers) → ((column : ℕ) → Contains numbers column → IsPublicColumn u k column)
+      → IsFairKind (Index numbers) → ((column : ℕ) → Contains numbers column → IsPublicColumn u k column)
       → AtTable tables k rest c i (entered u (of_table k name (Index numbers)) Public)
   index_in u name numbers rest c i more is at fresh distinct list columns =
       let room = at.room_indexes in
@@ -224,7 +225,7 @@ module _ (u : Version) (k first : ℕ) (columns : List (List ℕ × ColumnType))
   listed_public names all column there =
       let r = from_each (number_of first columns) names column there in
       let c = known r.0 (all_says (λ name. is_among name (each (λ c. c.0) columns)) names r.0 all r.1) in
-      subst (IsPublicColumn u k) r.2 (c.0, c.1, c.2, c.3, c.4, c.5)
+      subst (IsPublicColumn u k) r.2 (c.0, c.1, c.2, c.3, ap type_of_kind c.4, c.5)
 
   distinct_numbers : (names : List (List ℕ)) → is_distinct names ≡ true → list_all (λ name. is_among name (each (λ c. c.0) columns)) names ≡ true → is_distinct_numbers (each (number_of first columns) names) ≡ true
   distinct_numbers [] distinct all = refl
@@ -240,7 +241,7 @@ module _ (u : Version) (k first : ℕ) (columns : List (List ℕ × ColumnType))
       apart.0 (subst (Contains names) (sym one) from.1))) in
       ap (λ b. not b && is_distinct_numbers (each (number_of first columns) names)) alone ∙ distinct_numbers names apart.1 two.1
 
-  pub lawful_list : (names : List (List ℕ)) → 1 ≤ length names → length names ≤ max_listed → is_distinct names ≡ true → list_all (λ name. is_among name (each (λ c. c.0) columns)) names ≡ true → IsColumnList (Index (each (number_of first columns) names))
+  pub lawful_list : (names : List (List ℕ)) → 1 ≤ length names → length names ≤ max_listed → is_distinct names ≡ true → list_all (λ name. is_among name (each (λ c. c.0) columns)) names ≡ true → IsFairKind (Index (each (number_of first columns) names))
   lawful_list names some few distinct all =
       let long = length-map names (number_of first columns) in
       (omega (arith, some, long), omega (arith, few, long), distinct_numbers names distinct all)

@@ -7,13 +7,13 @@ use Rattle.schema_version.specs.declared.element.ElementState.{ElementState}
 use Rattle.schema_version.specs.declared.element.ElementState.TheVariants.{Absent, DeleteOnly, WriteOnly, Public}
 use Rattle.schema_version.specs.declared.element.Way.TheVariants.{Adding}
 use Rattle.schema_version.specs.declared.element.Kind.{Kind}
-use Rattle.schema_version.specs.declared.element.Kind.TheVariants.{Index, Optional}
+use Rattle.schema_version.specs.declared.element.Kind.TheVariants.{Index, Optional, Required}
 use Rattle.schema_version.specs.declared.element.ElementDef.{ElementDef}
 use Rattle.schema_version.specs.declared.element.NewElement.{NewElement}
 use Rattle.schema_version.specs.Edges.{has_state}
 use Rattle.schema_version.specs.Names.{IsName, max_elements}
 use Rattle.schema_version.specs.Version.{Version, Table, table_at, element_at, live, is_like, is_index, listed, IsPublicColumn, IsKeyName, count_live}
-use Rattle.schema_version.specs.Moves.{as_element, in_state, turned_back, entered, moved, turned, IsColumnList, max_like}
+use Rattle.schema_version.specs.Moves.{as_element, in_state, turned_back, entered, moved, turned, IsFairKind, max_like}
 use Rattle.schema_version.specs.Sound.{IsSoundElement, HaveOwnNames, IsSoundVersion}
 use Rattle.schema_version.proofs.Entries.{tells}
 use Rattle.schema_version.proofs.Lists.{some_same}
@@ -31,7 +31,7 @@ pub record MayEnter (version : Version) (fresh : NewElement) (to : ElementState)
   pub named : IsName fresh.name
   pub placed : (table : Table) × (table_at version fresh.table ≡ Some table)
   pub apart : ¬ (IsKeyName version fresh.table fresh.name)
-  pub list : IsColumnList fresh.kind
+  pub fair : IsFairKind fresh.kind
   pub columns : (column : ℕ) → Contains (listed fresh.kind) column → IsPublicColumn version fresh.table column
   pub free : (n : ℕ) (element : ElementDef) → element_at version n ≡ Some element → element.table ≡ fresh.table → element.name ≡ fresh.name → ⊥
   pub few : count_live version fresh.table (is_index fresh.kind) < max_like (is_index fresh.kind)
@@ -42,6 +42,8 @@ like_says true (Index columns) e = refl
 like_says true (Optional type) e = cc
 like_says false (Index columns) e = cc
 like_says false (Optional type) e = refl
+like_says true (Required type fallback) e = cc
+like_says false (Required type fallback) e = refl
 
 pub counted_as : (table : ℕ) (index : Bool) (e : ElementDef) → ((e.table == table) && is_like index e.kind) ≡ true → (e.table ≡ table) × (index ≡ is_index e.kind)
 counted_as table index e h = let p = both_true (e.table == table) (is_like index e.kind) h in ((Decides-eqb e.table table).0 p.0, like_says index e.kind p.1)
@@ -67,7 +69,7 @@ module _ (u : Version) (fresh : NewElement) (to : ElementState) (sound : IsSound
         named = s.named;
         placed = s.placed;
         apart = s.apart;
-        list = s.list;
+        fair = s.fair;
         columns = λ c there. column_stays e.table c (s.columns c there);
       }
 
@@ -83,7 +85,7 @@ module _ (u : Version) (fresh : NewElement) (to : ElementState) (sound : IsSound
         named = may.named;
         placed = may.placed;
         apart = may.apart;
-        list = may.list;
+        fair = may.fair;
         columns = λ c there. column_stays fresh.table c (may.columns c there);
       }
 
@@ -200,7 +202,7 @@ module _ (u : Version) (after : map.FinMap nat_cmp ElementDef) (n : ℕ) (sound 
         named = subst IsName (sym w.4) s.named;
         placed = subst (λ t. (table : Table) × (table_at u t ≡ Some table)) (sym w.3) s.placed;
         apart = λ taken. s.apart (subst (λ name. IsKeyName u d.table name) w.4 (subst (λ t. IsKeyName u t e.name) w.3 taken));
-        list = subst IsColumnList (sym w.5) s.list;
+        fair = subst IsFairKind (sym w.5) s.fair;
         columns = λ c there.
             let there_too : Contains (listed d.kind) c = subst (λ k. Contains (listed k) c) w.5 there in
             subst (λ t. IsPublicColumn then t c) (sym w.3)

@@ -1,13 +1,14 @@
 -- The columns that a live index lists don't change in an allowed step.
-use Rattle.std.proofs.Common.{◌≡◌, ℕ, true, false, List, ◌∷◌, ◌++◌, Option, Some, inl, inr, refl, sym, ap, subst, ◌∙◌, Contains}
+use Rattle.std.proofs.Common.{◌≡◌, ℕ, true, false, List, ◌∷◌, ◌++◌, Option, Some, inl, inr, sym, ap, subst, ◌∙◌, Contains}
+use Rattle.schema_version.proofs.Decides.{column_depends}
 use Rattle.schema_version.specs.declared.element.ElementState.{ElementState}
 use Rattle.schema_version.specs.declared.element.ElementDef.{ElementDef}
 use Rattle.schema_version.specs.declared.element.NewElement.{NewElement}
 use Rattle.schema_version.specs.declared.step.Move.{Move}
 use Rattle.schema_version.specs.declared.step.Move.TheVariants.{Enter, Go, Turn}
 use Rattle.schema_version.specs.declared.step.StepFault.TheVariants.{Dependent}
-use Rattle.schema_version.specs.Version.{Version, element_at, state_of, state_or_absent, is_public, listed}
-use Rattle.schema_version.specs.Moves.{after_step, is_move_of, moves_element, DependsOn, IsAllowed}
+use Rattle.schema_version.specs.Version.{Version, element_at, state_of, state_or_absent, is_public, listed, type_of_kind}
+use Rattle.schema_version.specs.Moves.{after_step, is_move_of, moves_element, IsAllowed}
 use Rattle.schema_version.specs.Steps.{Change, Stays, Enters, Goes, Turns, StepsStaySound, IndexedColumnsStay}
 use Rattle.schema_version.specs.Sound.{IsSoundVersion}
 use Rattle.schema_version.proofs.Lists.{some_same, not_both, any_from}
@@ -25,10 +26,10 @@ module _ (v : Version) (step : List Move) (sound : IsSoundVersion v) (allowed : 
       by (Enters fresh to among le none is) = let column = (sound.elements n index at).columns c there in absurd (none_there column.0 (element_at v c) none column.2)
       by (Goes x to among was is) =
           let column = (sound.elements n index at).columns c there in
-          let kind = ap (λ (e : ElementDef). e.kind) (some_same (sym was ∙ column.2)) ∙ column.4 in
+          let type = ap (λ (e : ElementDef). type_of_kind e.kind) (some_same (sym was ∙ column.2)) ∙ column.4 in
           let s = split_at step (Go c to) among in
           let least = least_there v c n (λ m e at_m. (sound.elements m e at_m).own) (index, at, there) in
-          absurd (clear v step allowed s.0 s.1 c to x (Dependent least.0) s.2 was (subst (λ k. DependsOn v step c k least.0) (sym kind) least.1))
+          absurd (clear v step allowed s.0 s.1 c to x (Dependent least.0) s.2 was (column_depends v step c x.kind column.1 least.0 type least.1))
       by (Turns x among was is) =
           let column = (sound.elements n index at).columns c there in
           let s = split_at step (Turn c) among in

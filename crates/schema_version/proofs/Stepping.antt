@@ -1,5 +1,5 @@
 -- What an allowed step does to each element, and to the columns of indexes.
-use Rattle.std.proofs.Common.{◌≡◌, ◌≢◌, ℕ, zero, suc, Bool, true, false, List, [], ◌∷◌, ◌++◌, Option, Some, None, ◌⊎◌, inl, inr, refl, sym, ap, subst, ◌∙◌, arith, append_assoc, Contains}
+use Rattle.std.proofs.Common.{◌≡◌, ◌≢◌, ℕ, zero, suc, Bool, true, false, List, [], ◌∷◌, ◌++◌, Option, Some, None, inl, inr, refl, sym, ap, subst, ◌∙◌, arith, append_assoc, Contains}
 use Rattle.std.proofs.lemmas.Bool.Decides.{Decides-eqb}
 use Rattle.std.proofs.lemmas.List.Elements.{Contains-append_right}
 use Rattle.schema_version.specs.declared.element.ElementState.{ElementState}
@@ -7,14 +7,13 @@ use Rattle.schema_version.specs.declared.element.ElementState.TheVariants.{Absen
 use Rattle.schema_version.specs.declared.element.Way.{Way}
 use Rattle.schema_version.specs.declared.element.Way.TheVariants.{Adding, Dropping}
 use Rattle.schema_version.specs.declared.element.Kind.{Kind}
-use Rattle.schema_version.specs.declared.element.Kind.TheVariants.{Index, Optional}
 use Rattle.schema_version.specs.declared.element.ElementDef.{ElementDef}
 use Rattle.schema_version.specs.declared.step.Move.{Move}
 use Rattle.schema_version.specs.declared.step.Move.TheVariants.{Enter, Go, Turn}
 use Rattle.schema_version.specs.declared.step.StepFault.{StepFault}
 use Rattle.schema_version.specs.declared.step.StepFault.TheVariants.{Unknown, NotAdjacent, WrongWay}
 use Rattle.schema_version.specs.Version.{Version, element_at}
-use Rattle.schema_version.specs.Edges.{edge, has_state, HasEdge}
+use Rattle.schema_version.specs.Edges.{edge, has_state, HasEdge, edge_by, is_filled, state_by}
 use Rattle.schema_version.specs.Moves.{HasNoEdge, is_move_of, moves_element, GoFaultAt, TurnFaultAt, IsAllowed, after_step}
 use Rattle.schema_version.specs.Steps.{Change, Stays, Enters, Goes, Turns, StepOf, Same, New, Next, Back, IsOrdered, StepsKeepToEdges}
 use Rattle.schema_version.proofs.Lists.{here, not_both, any_says, any_from}
@@ -41,40 +40,49 @@ none_some : {A B : Type 0} {x : A} → None ≡ Some x → B
 none_some e = absurd cc
 
 -- what comes to public is being added, was not public, and is being added still
+public_by : (filled : Bool) (way : Way) (from : ElementState) (next : Way) → edge_by filled way from Public ≡ Some next → (way ≡ Adding) × (from ≢ Public) × (next ≡ Adding)
+public_by true Adding WriteOnly next e = (refl, λ p. absurd cc, cc)
+public_by false Adding DeleteOnly next e = (refl, λ p. absurd cc, cc)
+public_by true Dropping Absent next e = none_some e
+public_by false Dropping Absent next e = none_some e
+public_by filled way from next e = none_some e
+
 pub adding_to_public : (kind : Kind) (way : Way) (from : ElementState) (next : Way) → edge kind way from Public ≡ Some next → (way ≡ Adding) × (from ≢ Public) × (next ≡ Adding)
-adding_to_public (Index columns) Adding WriteOnly next e = (refl, λ p. absurd cc, cc)
-adding_to_public (Optional type) Adding DeleteOnly next e = (refl, λ p. absurd cc, cc)
-adding_to_public (Index columns) Dropping Absent next e = none_some e
-adding_to_public (Optional type) Dropping Absent next e = none_some e
-adding_to_public kind way from next e = none_some e
+adding_to_public kind way from next e = public_by (is_filled kind) way from next e
 
 -- an edge leads to a state of the kind
+state_behind : (filled : Bool) (way next : Way) (from to : ElementState) → edge_by filled way from to ≡ Some next → state_by filled to ≡ true
+state_behind true Adding next Absent DeleteOnly e = refl
+state_behind true Adding next DeleteOnly WriteOnly e = refl
+state_behind true Adding next WriteOnly Public e = refl
+state_behind true way next Public WriteOnly e = refl
+state_behind true Dropping next WriteOnly DeleteOnly e = refl
+state_behind true Dropping next DeleteOnly Absent e = refl
+state_behind false Adding next Absent DeleteOnly e = refl
+state_behind false Adding next DeleteOnly Public e = refl
+state_behind false way next Public DeleteOnly e = refl
+state_behind false Dropping next DeleteOnly Absent e = refl
+state_behind filled way next from to e = none_some e
+
 pub edge_to : (kind : Kind) (way next : Way) (from to : ElementState) → edge kind way from to ≡ Some next → has_state kind to ≡ true
-edge_to (Index columns) Adding next Absent DeleteOnly e = refl
-edge_to (Index columns) Adding next DeleteOnly WriteOnly e = refl
-edge_to (Index columns) Adding next WriteOnly Public e = refl
-edge_to (Index columns) way next Public WriteOnly e = refl
-edge_to (Index columns) Dropping next WriteOnly DeleteOnly e = refl
-edge_to (Index columns) Dropping next DeleteOnly Absent e = refl
-edge_to (Optional type) Adding next Absent DeleteOnly e = refl
-edge_to (Optional type) Adding next DeleteOnly Public e = refl
-edge_to (Optional type) way next Public DeleteOnly e = refl
-edge_to (Optional type) Dropping next DeleteOnly Absent e = refl
-edge_to kind way next from to e = none_some e
+edge_to kind way next from to e = state_behind (is_filled kind) way next from to e
 
 -- what is being added after an edge was so before it, and was not public
+added_by : (filled : Bool) (way : Way) (from to : ElementState) → edge_by filled way from to ≡ Some Adding → (way ≡ Adding) × (from ≢ Public)
+added_by true Adding Absent DeleteOnly e = (refl, λ p. absurd cc)
+added_by true Adding DeleteOnly WriteOnly e = (refl, λ p. absurd cc)
+added_by true Adding WriteOnly Public e = (refl, λ p. absurd cc)
+added_by true way Public WriteOnly e = absurd cc
+added_by true Dropping WriteOnly DeleteOnly e = absurd cc
+added_by true Dropping DeleteOnly Absent e = absurd cc
+added_by false Adding Absent DeleteOnly e = (refl, λ p. absurd cc)
+added_by false Adding DeleteOnly Public e = (refl, λ p. absurd cc)
+added_by false way Public DeleteOnly e = absurd cc
+added_by false Dropping DeleteOnly Absent e = absurd cc
+added_by filled way from to e = none_some e
+
 pub adding_before : (kind : Kind) (way : Way) (from to : ElementState) → edge kind way from to ≡ Some Adding → (way ≡ Adding) × (from ≢ Public)
-adding_before (Index columns) Adding Absent DeleteOnly e = (refl, λ p. absurd cc)
-adding_before (Index columns) Adding DeleteOnly WriteOnly e = (refl, λ p. absurd cc)
-adding_before (Index columns) Adding WriteOnly Public e = (refl, λ p. absurd cc)
-adding_before (Index columns) way Public WriteOnly e = absurd cc
-adding_before (Index columns) Dropping WriteOnly DeleteOnly e = absurd cc
-adding_before (Index columns) Dropping DeleteOnly Absent e = absurd cc
-adding_before (Optional type) Adding Absent DeleteOnly e = (refl, λ p. absurd cc)
-adding_before (Optional type) Adding DeleteOnly Public e = (refl, λ p. absurd cc)
-adding_before (Optional type) way Public DeleteOnly e = absurd cc
-adding_before (Optional type) Dropping DeleteOnly Absent e = absurd cc
-adding_before kind way from to e = none_some e
+adding_before kind way from to e = added_by (is_filled kind) way from to e
 
 module _ (v : Version) (step : List Move) (allowed : IsAllowed v step) where
   -- a move of the step is one of a live element

@@ -2,18 +2,20 @@
 use Rattle.std.specs.Prelude.{ℕ, ◌+◌, List, [], ◌∷◌, ◌++◌, length, Bool, true, false, ◌&&◌, ◌||◌, not, ◌==◌, nat_lt, nat_le, count_by, Option, Some, None, is_some, option_map, Result, Ok, Err, if◌then◌else◌, bytes_eq}
 use Rattle.std.specs.List.{list_any, list_all, find}
 use Rattle.listed.specs.Answers.{◌>>>=◌}
+use Rattle.row_map.specs.Shape.{has_type}
 use Rattle.schema_version.specs.declared.element.ElementState.{ElementState}
 use Rattle.schema_version.specs.declared.element.ElementState.TheVariants.{Absent}
 use Rattle.schema_version.specs.declared.element.Way.{Way}
 use Rattle.schema_version.specs.declared.element.Way.TheVariants.{Adding, Dropping}
 use Rattle.schema_version.specs.declared.element.Kind.{Kind}
-use Rattle.schema_version.specs.declared.element.Kind.TheVariants.{Index, Optional}
+use Rattle.schema_version.specs.declared.element.Kind.TheVariants.{Index, Optional, Required}
 use Rattle.schema_version.specs.declared.element.ElementDef.{ElementDef}
 use Rattle.schema_version.specs.declared.element.NewElement.{NewElement}
 use Rattle.schema_version.specs.declared.step.Move.{Move}
 use Rattle.schema_version.specs.declared.step.Move.TheVariants.{Enter, Go, Turn}
 use Rattle.schema_version.specs.declared.step.StepFault.{StepFault}
 use Rattle.schema_version.specs.declared.step.StepFault.TheVariants.{Unknown, NotAdjacent, WrongWay, Dependent, NameTaken, Limit}
+use Rattle.schema_version.specs.Defaults.{is_value}
 use Rattle.schema_version.specs.Edges.{edge}
 use Rattle.schema_version.specs.Names.{is_name, max_listed, max_elements}
 use Rattle.schema_version.specs.Version.{Version, Table, table_at, element_at, live, is_index, is_public, is_column, is_named, listed}
@@ -34,6 +36,7 @@ lists column element = list_any (◌==◌ column) (listed element.kind)
 abbrev pub stands_against : Version → List Move → ℕ → Kind → Option ℕ
 stands_against version step number (Index columns) = find (is_unready version step) columns
 stands_against version step number (Optional type) = option_map (λ (e : ElementDef). e.number) (find (lists number) (live version))
+stands_against version step number (Required type fallback) = option_map (λ (e : ElementDef). e.number) (find (lists number) (live version))
 
 abbrev pub unless : Option ℕ → Answer → Answer
 unless None answer = answer
@@ -84,13 +87,14 @@ abbrev pub is_taken : Version → List Move → ℕ → List ℕ → Bool
 is_taken version earlier table name =
     has_key_column (table_at version table) name || (list_any (is_named table name) (live version) || list_any (is_entry_named table name) earlier)
 
-abbrev pub is_column_list : Kind → Bool
-is_column_list (Index columns) = nat_le 1 (length columns) && (nat_le (length columns) max_listed && is_distinct columns)
-is_column_list (Optional type) = true
+abbrev pub is_fair_kind : Kind → Bool
+is_fair_kind (Index columns) = nat_le 1 (length columns) && (nat_le (length columns) max_listed && is_distinct columns)
+is_fair_kind (Optional type) = true
+is_fair_kind (Required type fallback) = has_type type fallback && is_value fallback
 
 abbrev pub is_within_limits : Version → List Move → NewElement → Bool
 is_within_limits version earlier fresh =
-    is_name fresh.name && (is_column_list fresh.kind && (nat_lt (count_like version earlier fresh.table (is_index fresh.kind)) (max_like (is_index fresh.kind))
+    is_name fresh.name && (is_fair_kind fresh.kind && (nat_lt (count_like version earlier fresh.table (is_index fresh.kind)) (max_like (is_index fresh.kind))
     && nat_le (version.next + count_by is_entry earlier) max_elements))
 
 abbrev pub enter_check : Version → List Move → List Move → NewElement → ElementState → Answer

@@ -8,7 +8,7 @@ use Rattle.schema_version.specs.declared.element.ElementDef.{ElementDef}
 use Rattle.schema_version.specs.Names.{IsName, is_distinct, max_tables, max_key_columns, max_elements}
 use Rattle.schema_version.specs.Edges.{has_state}
 use Rattle.schema_version.specs.Version.{Version, Table, table_at, element_at, listed, IsPublicColumn, IsKeyName, count_live}
-use Rattle.schema_version.specs.Moves.{IsColumnList, max_like}
+use Rattle.schema_version.specs.Moves.{IsFairKind, max_like}
 
 -- a table whose key has 1 to 4 columns, each under a name of its own
 pub record IsSoundTable (table : Table) : Type 0 where
@@ -18,7 +18,7 @@ pub record IsSoundTable (table : Table) : Type 0 where
   pub names : AllByRecursion IsName (each (λ c. c.0) table.key)
   pub distinct : IsTrue (is_distinct (each (λ c. c.0) table.key))
 
--- a live element under its number: its table is there, and an index lists 1 to 4 public columns of that table
+-- a live element under its number: its table is there, its kind may be, and an index lists public columns of that table
 pub record IsSoundElement (version : Version) (number : ℕ) (element : ElementDef) : Type 0 where
   pub own : element.number ≡ number
   pub first : 1 ≤ number
@@ -29,7 +29,7 @@ pub record IsSoundElement (version : Version) (number : ℕ) (element : ElementD
   pub named : IsName element.name
   pub placed : (table : Table) × (table_at version element.table ≡ Some table)
   pub apart : ¬ (IsKeyName version element.table element.name)
-  pub list : IsColumnList element.kind
+  pub fair : IsFairKind element.kind
   pub columns : (column : ℕ) → Contains (listed element.kind) column → IsPublicColumn version element.table column
 
 -- two live elements of a table have two names

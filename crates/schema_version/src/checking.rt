@@ -11,7 +11,7 @@ use crate::element::{ElementDef, ElementState, Kind, NewElement, Way};
 use crate::limits::{MAX_COLUMNS, MAX_ELEMENTS, MAX_INDEXES};
 use crate::moves::{
     any_column_named, any_named, elements_like, enters_named, entries, entries_like, first_listing,
-    is_column_list, moves_element,
+    is_fair_kind, moves_element,
 };
 use crate::names::is_name;
 use crate::schema::Schema;
@@ -44,7 +44,7 @@ impl Schema {
     {
         match kind {
             Kind::Index(columns) => self.first_unready(step, columns.as_slice()),
-            Kind::Optional(_) => first_listing(self.elements(), number),
+            Kind::Optional(_) | Kind::Required { .. } => first_listing(self.elements(), number),
         }
     }
 
@@ -123,7 +123,7 @@ impl Schema {
         ensures { result ≡ is_within self.now earlier.now fresh.now }
     {
         is_name(fresh.name.as_bytes())
-            && is_column_list(&fresh.kind)
+            && is_fair_kind(&fresh.kind)
             && self.has_room(earlier, fresh.table, fresh.kind.is_index())
             && self.has_number(earlier)
     }

@@ -7,8 +7,8 @@ use crate::element::{ElementDef, ElementState, Kind, Way, Work};
 /// The way of an element after it goes from one state to another; `None` where no edge joins them that is one of its way or leaves
 /// public.
 ///
-/// An index goes absent, delete-only, write-only, public, one state at a time, and the same way back; a column goes absent, delete-only,
-/// public, and the same way back. What leaves public is dropped from then on.
+/// An index and a required column go absent, delete-only, write-only, public, one state at a time, and the same way back; an optional
+/// column goes absent, delete-only, public, and the same way back. What leaves public is dropped from then on.
 ///
 /// - `kind`: what the element is.
 /// - `way`: where it is going; that of a public one does not count.
@@ -18,30 +18,31 @@ pub fn edge(kind: &Kind, way: Way, from: ElementState, to: ElementState) -> Opti
     ensures { result ≡ edge_of kind.now way from to }
 {
     use ElementState::{Absent, DeleteOnly, Public, WriteOnly};
-    match (kind, way, from, to) {
-        (Kind::Index(_), Way::Adding, Absent, DeleteOnly)
-        | (Kind::Index(_), Way::Adding, DeleteOnly, WriteOnly)
-        | (Kind::Index(_), Way::Adding, WriteOnly, Public)
-        | (Kind::Optional(_), Way::Adding, Absent, DeleteOnly)
-        | (Kind::Optional(_), Way::Adding, DeleteOnly, Public) => Some(Way::Adding),
-        (Kind::Index(_), _, Public, WriteOnly)
-        | (Kind::Index(_), Way::Dropping, WriteOnly, DeleteOnly)
-        | (Kind::Index(_), Way::Dropping, DeleteOnly, Absent)
-        | (Kind::Optional(_), _, Public, DeleteOnly)
-        | (Kind::Optional(_), Way::Dropping, DeleteOnly, Absent) => Some(Way::Dropping),
+    match (kind.is_filled(), way, from, to) {
+        (true, Way::Adding, Absent, DeleteOnly)
+        | (true, Way::Adding, DeleteOnly, WriteOnly)
+        | (true, Way::Adding, WriteOnly, Public)
+        | (false, Way::Adding, Absent, DeleteOnly)
+        | (false, Way::Adding, DeleteOnly, Public) => Some(Way::Adding),
+        (true, _, Public, WriteOnly)
+        | (true, Way::Dropping, WriteOnly, DeleteOnly)
+        | (true, Way::Dropping, DeleteOnly, Absent)
+        | (false, _, Public, DeleteOnly)
+        | (false, Way::Dropping, DeleteOnly, Absent) => Some(Way::Dropping),
         _ => None,
     }
 }
 
-/// What a move needs to be finished: an index's to public its fill, every one to absent the clear; `None` where it needs nothing.
+/// What a move needs to be finished: an index's or a required column's to public its fill, every one to absent the clear; `None` where it
+/// needs nothing.
 ///
 /// - `kind`: what the element is.
 /// - `to`: the state to go to.
 pub fn needed(kind: &Kind, to: ElementState) -> Option<Work>
     ensures { result ≡ needed_of kind.now to }
 {
-    match (kind, to) {
-        (Kind::Index(_), ElementState::Public) => Some(Work::Fill),
+    match (kind.is_filled(), to) {
+        (true, ElementState::Public) => Some(Work::Fill),
         (_, ElementState::Absent) => Some(Work::Clear),
         _ => None,
     }
@@ -55,8 +56,8 @@ impl ElementDef {
         edge(&self.kind, self.way, self.state, to).is_some()
     }
 
-    /// What the element wants, which is what the next move on its way needs: an index that is write-only and being added a fill, what is
-    /// delete-only and being dropped a clear; `None` where that move needs nothing.
+    /// What the element wants, which is what the next move on its way needs: an index or a required column that is write-only and being added
+    /// a fill, what is delete-only and being dropped a clear; `None` where that move needs nothing.
     pub fn wanted(&self) -> Option<Work>
         ensures { result ≡ wanted_by self.now }
     {

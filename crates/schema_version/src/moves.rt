@@ -3,14 +3,14 @@ ghost use Rattle.std.specs.Prelude.{◌≡◌, ◌==◌, ◌&&◌, count_by, byt
 ghost use Rattle.std.specs.List.{list_any, find};
 ghost use Rattle.schema_version.specs.Version.{is_like as is_like_of, is_named as is_named_of};
 ghost use Rattle.schema_version.specs.Moves.{moves_element as moves_element_of, is_move_of as is_move_of_number, is_entry as is_entry_of, is_entry_like as is_entry_like_of, is_distinct as is_distinct_of};
-ghost use Rattle.schema_version.specs.Deciding.{is_entry_named as is_entry_named_of, lists as lists_of, is_column_list as is_column_list_of};
+ghost use Rattle.schema_version.specs.Deciding.{is_entry_named as is_entry_named_of, lists as lists_of, is_fair_kind as is_fair_kind_of};
 ghost use Rattle.schema_version.specs.declared.element.ElementDef.{ElementDef as ElementDefinition};
 
 use crate::element::{ElementDef, Kind};
 use crate::limits::MAX_LISTED;
 use crate::step::Move;
 use keycode::Text;
-use row_map::ColumnType;
+use row_map::{ColumnType, fits};
 
 /// Whether the step takes the element of this number to another state or turns it back. An entered element has no number before.
 pub fn moves_element(step: &[Move], number: u32) -> bool
@@ -141,14 +141,17 @@ pub(crate) fn is_distinct(numbers: &[u32]) -> bool
     }
 }
 
-/// Whether an index lists 1 to 4 distinct columns.
-pub(crate) fn is_column_list(kind: &Kind) -> bool
-    ensures { result ≡ is_column_list_of kind.now }
+/// Whether an index lists 1 to 4 distinct columns, and the default of a required column is a value of its type: not Null, and no text of
+/// more than 1,024 bytes.
+#[tactic(auto, using(crate::proofs::Decides::passes_so))]
+pub fn is_fair_kind(kind: &Kind) -> bool
+    ensures { result ≡ is_fair_kind_of kind.now }
 {
     match kind {
         Kind::Index(columns) => 1 <= columns.len()
             && columns.len() <= MAX_LISTED
             && is_distinct(columns.as_slice()),
         Kind::Optional(_) => true,
+        Kind::Required { column, fallback } => fits(*column, fallback),
     }
 }

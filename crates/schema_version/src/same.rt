@@ -5,16 +5,57 @@ ghost use Rattle.std.specs.String.{string_bytes};
 ghost use mathlib.Core.List.{map as each};
 ghost use Rattle.schema_version.specs.Held.{table_held};
 
-use crate::element::ElementDef;
+use crate::element::{ElementDef, Kind};
 use crate::table::Columns;
 use indexmap::IndexMap;
-use keycode::Text;
+use keycode::{Text, Value};
+use listed::Listed;
 use row_map::ColumnType;
+
+fn same_list(a: &Listed<u32>, b: &Listed<u32>) -> bool
+    ensures { Decides result (a.now ≡ b.now) }
+{
+    a == b
+}
+
+fn same_value(a: &Value, b: &Value) -> bool
+    ensures { Decides result (a.now ≡ b.now) }
+{
+    a == b
+}
+
+fn same_type(a: ColumnType, b: ColumnType) -> bool
+    ensures { Decides result (a ≡ b) }
+{
+    a == b
+}
+
+fn same_kind(a: &Kind, b: &Kind) -> bool
+    ensures { Decides result (a.now ≡ b.now) }
+{
+    match (a, b) {
+        (Kind::Index(columns), Kind::Index(others)) => same_list(columns, others),
+        (Kind::Optional(column), Kind::Optional(other)) => same_type(*column, *other),
+        (
+            Kind::Required { column, fallback },
+            Kind::Required {
+                column: other,
+                fallback: second,
+            },
+        ) => same_type(*column, *other) && same_value(fallback, second),
+        _ => false,
+    }
+}
 
 fn same_element(a: &ElementDef, b: &ElementDef) -> bool
     ensures { Decides result (a.now ≡ b.now) }
 {
-    a == b
+    a.number == b.number
+        && a.table == b.table
+        && a.name == b.name
+        && same_kind(&a.kind, &b.kind)
+        && a.state == b.state
+        && a.way == b.way
 }
 
 /// Whether these are the same elements in the same order.

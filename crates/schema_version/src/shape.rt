@@ -3,7 +3,7 @@ ghost use Rattle.std.specs.Prelude.{◌≡◌, IfOk};
 ghost use Rattle.std.specs.List.{filter_map};
 ghost use Rattle.schema_version.specs.Shape.{public_column as public_column_of, column_types, key_types as key_types_of, shape_of};
 
-use crate::element::{ElementDef, Kind};
+use crate::element::ElementDef;
 use crate::schema::Schema;
 use keycode::Text;
 use listed::Listed;
@@ -17,10 +17,10 @@ fn public_column(element: &ElementDef, table: u32) -> Option<(u32, ColumnType)>
     if element.table != table || !element.state.is_public() {
         return None;
     }
-    match element.kind {
-        Kind::Index(_) => None,
-        Kind::Optional(column_type) => Some((element.number, column_type)),
-    }
+    element
+        .kind
+        .column_type()
+        .map(|column_type| (element.number, column_type))
 }
 
 fn public_columns(
