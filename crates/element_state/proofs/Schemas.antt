@@ -19,21 +19,21 @@ both_less Less b h = (refl, h)
 both_less Equal b h = absurd h
 both_less Greater b h = absurd h
 
-not_found : {X : Type 0} (q : ℕ) (es : List (ℕ × X)) → T (below_all nat_cmp q es) → find nat_cmp q es ≡ None
+pub not_found : {X : Type 0} (q : ℕ) (es : List (ℕ × X)) → T (below_all nat_cmp q es) → find nat_cmp q es ≡ None
 not_found q [] h = refl
 not_found q (e ∷ es) h =
     let b = both_less (nat_cmp q e.0) (below_all nat_cmp q es) h in
     ap (λ t. cond t (Some e.1) (find nat_cmp q es)) b.0 ∙ not_found q es b.1
 
-second : (a b : Bool) → T (a && b) → T b
+pub second : (a b : Bool) → T (a && b) → T b
 second true b h = h
 second false b h = absurd h
 
-first : (a b : Bool) → T (a && b) → T a
+pub first : (a b : Bool) → T (a && b) → T a
 first true b h = tt
 first false b h = absurd h
 
-found : {X : Type 0} (n : ℕ) (e : ℕ × X) (es : List (ℕ × X)) → n ≡ e.0 → find nat_cmp n (e ∷ es) ≡ None → ⊥
+pub found : {X : Type 0} (n : ℕ) (e : ℕ × X) (es : List (ℕ × X)) → n ≡ e.0 → find nat_cmp n (e ∷ es) ≡ None → ⊥
 found n e es s none =
     let here : find nat_cmp n (e ∷ es) ≡ Some e.1 = ap (λ t. cond t (Some e.1) (find nat_cmp n es)) (ap (λ y. eq_by_cmp nat_cmp n y) (sym s) ∙ tied nat_cmp_total nat_cmp-IsAntisymmetric n) in
     none_some e.1 (sym none ∙ here)

@@ -3,12 +3,12 @@ use Rattle.std.specs.Prelude.{◌≡◌, ℕ, IsTrue, Bool, true, false, cond, L
 use mathlib.Core.List.{map as each}
 use Rattle.std.specs.Cmp.{nat_cmp_total}
 use Rattle.std.specs.Ordering.{nat_cmp, eq_by_cmp}
-use Rattle.std.specs.FinMap.{get, find, entries, from_entries, get-entries, get-from_entries}
+use Rattle.std.specs.FinMap.{get, find, entries, get-entries, get-from_entries}
 use Rattle.std.proofs.Common.{sym, ap, subst, ◌∙◌, eqb-true}
 use Rattle.row_map.specs.declared.key.KeyOf.TheVariants.{Exists}
 use Rattle.row_map.specs.Keys.{IsKey}
 use Rattle.row_map.specs.Rows.{RowKey, Cells, Rows, Pairs, AreStorable}
-use Rattle.schema_version.specs.declared.element.Kind.{Kind}
+use Rattle.element_state.specs.Sources.{Source}
 use Rattle.schema_version.specs.declared.element.ElementDef.{ElementDef}
 use Rattle.schema_version.specs.Version.{Version}
 use Rattle.element_state.specs.Elements.{IsFromScratch, Exact, owner, owner_named}
@@ -20,21 +20,21 @@ use Rattle.element_state.specs.Apart.{not_none}
 use Rattle.element_state.specs.Versions.{meaning_of, the_kinds, entry_of, row_entry, schema_of, Of}
 
 -- only rows of its table have an element's pairs
-pub one_table : (number table : ℕ) (kind : Kind) (t : ℕ) → IsTrue ((meaning_of number (Of table kind)).serves t) → t ≡ table
-one_table number table kind t e = eqb-true t table e
+pub one_table : (number table : ℕ) (source : Source) (t : ℕ) → IsTrue ((meaning_of number (Of table source)).serves t) → t ≡ table
+one_table number table source t e = eqb-true t table e
 
 map_cond : {A B : Type 0} (f : A → B) (b : Bool) (x : A) (o : Option A) → cond b (Some (f x)) (option_map f o) ≡ option_map f (cond b (Some x) o)
 map_cond f true x o = refl
 map_cond f false x o = refl
 
-find-each : (n : ℕ) (es : List (ℕ × ElementDef)) → find nat_cmp n (each (λ (e : ℕ × ElementDef). (e.0, entry_of e.1)) es) ≡ option_map entry_of (find nat_cmp n es)
-find-each n [] = refl
-find-each n (e ∷ es) = ap (cond (eq_by_cmp nat_cmp n e.0) (Some (entry_of e.1))) (find-each n es) ∙ map_cond entry_of (eq_by_cmp nat_cmp n e.0) e.1 (find nat_cmp n es)
+find-each : (version : Version) (n : ℕ) (es : List (ℕ × ElementDef)) → find nat_cmp n (each (λ (e : ℕ × ElementDef). (e.0, entry_of version e.1)) es) ≡ option_map (entry_of version) (find nat_cmp n es)
+find-each version n [] = refl
+find-each version n (e ∷ es) = ap (cond (eq_by_cmp nat_cmp n e.0) (Some (entry_of version e.1))) (find-each version n es) ∙ map_cond (entry_of version) (eq_by_cmp nat_cmp n e.0) e.1 (find nat_cmp n es)
 
-pub get-schema_of : (version : Version) (n : ℕ) → get (schema_of version) n ≡ cond (eq_by_cmp nat_cmp n 0) (Some row_entry) (option_map entry_of (get version.elements n))
+pub get-schema_of : (version : Version) (n : ℕ) → get (schema_of version) n ≡ cond (eq_by_cmp nat_cmp n 0) (Some row_entry) (option_map (entry_of version) (get version.elements n))
 get-schema_of version n =
-    get-from_entries nat_cmp_total ((0, row_entry) ∷ each (λ (e : ℕ × ElementDef). (e.0, entry_of e.1)) (entries version.elements)) n
-    ∙ ap (cond (eq_by_cmp nat_cmp n 0) (Some row_entry)) (find-each n (entries version.elements) ∙ ap (option_map entry_of) (sym (get-entries version.elements n)))
+    get-from_entries nat_cmp_total ((0, row_entry) ∷ each (λ (e : ℕ × ElementDef). (e.0, entry_of version e.1)) (entries version.elements)) n
+    ∙ ap (cond (eq_by_cmp nat_cmp n 0) (Some row_entry)) (find-each version n (entries version.elements) ∙ ap (option_map (entry_of version)) (sym (get-entries version.elements n)))
 
 -- ---- what consistency says of the rows
 

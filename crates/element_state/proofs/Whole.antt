@@ -4,7 +4,6 @@ use Rattle.std.specs.FinMap.{get, insert, nat_cmp-IsAntisymmetric}
 use Rattle.std.specs.Cmp.{nat_cmp_total}
 use Rattle.std.proofs.Common.{sym, ap, subst, ◌∙◌, inl, inr}
 use Rattle.row_map.specs.Rows.{Bytes, Rows, Pairs}
-use Rattle.row_map.specs.Writes.{written_all}
 use Rattle.byte_map.proofs.Written.{written_all-append, written_here, written_apart, same_or_apart}
 use Rattle.element_state.specs.Elements.{Change, rows_after}
 use Rattle.element_state.specs.Exists.{row_key}

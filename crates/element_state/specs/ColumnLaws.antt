@@ -1,8 +1,8 @@
 -- The laws of an optional column.
-use Rattle.std.specs.Prelude.{◌≡◌, ◌≢◌, ℕ, ◌<◌, ◌^◌, Bool, true, false, IsTrue, List, [], ◌∷◌, Option, Some, None, cond, refl, eqb}
+use Rattle.std.specs.Prelude.{◌≡◌, ◌≢◌, ℕ, ◌<◌, ◌^◌, true, false, IsTrue, List, [], ◌∷◌, Option, Some, None, cond, refl, eqb, option_to_list}
 use Rattle.std.specs.FinMap.{get}
 use Rattle.std.specs.Cmp.{Equal-is}
-use Rattle.std.proofs.Common.{eq-eqb, ap₂, sym, ap, ◌∙◌, inl, inr}
+use Rattle.std.proofs.Common.{ap₂, sym, ap, ◌∙◌, inl, inr}
 use Rattle.keycode.specs.declared.value.Value.{Value}
 use Rattle.keycode.specs.Order.{value_cmp}
 use Rattle.keycode.proofs.Orders.{value_cmp-IsAntisymmetric}
@@ -14,13 +14,13 @@ use Rattle.row_map.specs.Writes.{written, written_all, AllKeys}
 use Rattle.row_map.proofs.KeyLaws.{same_key}
 use Rattle.schema_version.specs.declared.element.ElementState.{ElementState}
 use Rattle.schema_version.specs.declared.element.ElementState.TheVariants.{Absent, DeleteOnly, WriteOnly, Public}
-use Rattle.element_state.specs.Elements.{Alike, Change, ChangesPublicOnly, IsStorableChange, cell, IsKeyOfElement}
+use Rattle.element_state.specs.Elements.{Alike, Change, ChangesPublicOnly, IsStorableChange, cell, IsKeyOfElement, Meaning}
 use Rattle.element_state.specs.Laws.{pairs_after, Grows, IsLive, Laws, BesideOne}
 use Rattle.element_state.specs.Effects.{Effect, Stays, Gone, Came, KindFacts, bytes_one, pair_here, pair_apart}
 use Rattle.element_state.specs.IndexLaws.{removed, no_test, yes_test}
 use Rattle.element_state.specs.Tables.{HasOneRowIn, table_laws}
-use Rattle.element_state.specs.Column.{column_pair, coded, same_cell, put_if_some, column_public, column_deletes, column_writes, column_exact, column_edge, column_reads, column_meaning, column_of, IsLawfulColumn}
-use Rattle.std.specs.Prelude.{◌≡◌, ◌≢◌, ℕ, ◌+◌, ◌<◌, ◌^◌, Bool, true, false, ◌&&◌, eqb, cond, List, [], ◌∷◌, Some, None, refl}
+use Rattle.element_state.specs.Column.{column_pair, coded, same_cell, put_if_some, column_public, column_deletes, column_writes, column_exact, column_edge, column_sees, column_meaning, column_of, IsLawfulColumn}
+use Rattle.std.specs.Prelude.{◌≡◌, ◌≢◌, ℕ, ◌+◌, ◌<◌, ◌^◌, true, false, ◌&&◌, eqb, cond, List, [], ◌∷◌, Some, None, refl}
 use Rattle.std.specs.List.{AllByRecursion}
 use Rattle.std.specs.FinMap.{get, entries}
 use Rattle.std.proofs.Common.{sym, ap, subst, ◌∙◌, inl, inr, eqb-true}
@@ -37,7 +37,7 @@ use Rattle.element_state.specs.Exists.{row_key}
 use Rattle.element_state.specs.Items.{IsIn, Between, row_items, ClearFacts, AmongEntries}
 use Rattle.element_state.specs.Clears.{both_true, test_between, entry_kept, facts_kept, first_facts}
 use Rattle.element_state.specs.Column.{column_items, column_clear}
-use Rattle.element_state.specs.Tables.{some_in}
+use Rattle.element_state.specs.Tables.{within, some_in}
 use Rattle.element_state.specs.Apart.{below_next, false_true, hidden_not_public, none_some, some_one}
 
 same_cell_is : (a b : Option Value) → same_cell a b ≡ true → a ≡ b
@@ -67,7 +67,7 @@ module _ (n : ℕ) (lawful : IsLawfulColumn n) where
   pub column_owned_key : (k : RowKey) (r : Cells) → IsStorableRow k r → IsKeyOfElement n (column_pair n k)
   column_owned_key k r held = record { key = Column k.0 k.1 n; form = column_is_key k r held; spelled = refl; names = refl }
 
-  column_row : (table : ℕ) → HasOneRowIn table (column_meaning n)
+  pub column_row : (table : ℕ) → HasOneRowIn table (column_meaning n)
   column_row table k l r s held also at to e =
       let same : Column k.0 k.1 n ≡ Column l.0 l.1 n = same_key (Column k.0 k.1 n) (Column l.0 l.1 n) (column_is_key k r held) (column_is_key l s also) e in
       λ i. (key_table (same i), key_values (same i))
@@ -84,7 +84,7 @@ module _ (n : ℕ) where
   owned_public k (Some o) None p q = (p o refl, tt)
   owned_public k (Some o) (Some r) p q = elim (same_cell (get o n) (get r n)) as (λ t. AllKeys (IsKeyOfElement n) (cond t [] ((column_pair n k, coded (get r n)) ∷ []))) [ true ↦ tt | false ↦ (p o refl, tt) ]
 
-  owned_deletes : (k : RowKey) (old new : Option Cells) → ((r : Cells) → old ≡ Some r → IsKeyOfElement n (column_pair n k)) → AllKeys (IsKeyOfElement n) (column_deletes n k old new)
+  pub owned_deletes : (k : RowKey) (old new : Option Cells) → ((r : Cells) → old ≡ Some r → IsKeyOfElement n (column_pair n k)) → AllKeys (IsKeyOfElement n) (column_deletes n k old new)
   owned_deletes k None None p = tt
   owned_deletes k None (Some r) p = tt
   owned_deletes k (Some o) None p = (p o refl, tt)
@@ -149,11 +149,11 @@ module _ (n : ℕ) where
   stands_deletes c P None was only stood r v is val = absurd (none_some v (ap coded (sym (only r is ∙ ap (λ s. cell s n) was)) ∙ val))
   stands_deletes c P (Some o) was only stood r v is val = stood o v was (ap coded (sym (only r is ∙ ap (λ s. cell s n) was)) ∙ val)
 
-  shrinks_by : (c : Change) (P : Pairs) (old new : Option Cells) (x v : Bytes) → get (written_all P (column_deletes n c.key old new)) x ≡ Some v → get P x ≡ Some v
-  shrinks_by c P None None x v is = is
-  shrinks_by c P None (Some r) x v is = is
-  shrinks_by c P (Some o) None x v is = removed P _ x v is
-  shrinks_by c P (Some o) (Some r) x v is = is
+  pub deletes_shrink : (c : Change) (P : Pairs) (old new : Option Cells) (x v : Bytes) → get (written_all P (column_deletes n c.key old new)) x ≡ Some v → get P x ≡ Some v
+  deletes_shrink c P None None x v is = is
+  deletes_shrink c P None (Some r) x v is = is
+  deletes_shrink c P (Some o) None x v is = removed P _ x v is
+  deletes_shrink c P (Some o) (Some r) x v is = is
 
   -- an ElementState that isn't public
   delete_only : DeleteOnly ≢ Public
@@ -190,7 +190,7 @@ module _ (n : ℕ) where
 
   column_shrinks : (q : ElementState) (c : Change) (P : Pairs) → ¬ (Grows q) → (x v : Bytes) → get (pairs_after (column_meaning n) q c P) x ≡ Some v → get P x ≡ Some v
   column_shrinks Absent c P g x v is = is
-  column_shrinks DeleteOnly c P g x v is = shrinks_by c P c.old c.new x v is
+  column_shrinks DeleteOnly c P g x v is = deletes_shrink c P c.old c.new x v is
   column_shrinks WriteOnly c P g x v is = absurd (g tt)
   column_shrinks Public c P g x v is = absurd (g tt)
 
@@ -201,20 +201,24 @@ module _ (n : ℕ) where
   column_beside DeleteOnly Absent e = (tt, λ g. g)
   column_beside _ _ e = absurd (no_test e)
 
-eqb_itself : (n : ℕ) → IsTrue (eqb n n)
-eqb_itself n = eq-eqb n n refl
+-- a list of one value, or none, tells it
+listed_one : (a b : Option Value) → option_to_list a ≡ option_to_list b → a ≡ b
+listed_one None None e = refl
+listed_one None (Some w) e = cc
+listed_one (Some v) None e = cc
+listed_one (Some v) (Some w) e = cc
 
-same_public : (n : ℕ) (k : RowKey) (a b c d : Option Cells) → Alike (λ i. eqb i n) a c → Alike (λ i. eqb i n) b d → column_public n k a b ≡ column_public n k c d
+same_public : (n : ℕ) (k : RowKey) (a b c d : Option Cells) → Alike (λ r. option_to_list (get r n)) a c → Alike (λ r. option_to_list (get r n)) b d → column_public n k a b ≡ column_public n k c d
 same_public n k None b (Some s) d x y = absurd x
 same_public n k (Some o) b None d x y = absurd x
 same_public n k a None c (Some s) x y = absurd y
 same_public n k a (Some r) c None x y = absurd y
 same_public n k None None None None x y = refl
-same_public n k None (Some r) None (Some s) x y = ap (λ v. put_if_some (column_pair n k) (coded v)) (y n (eqb_itself n))
+same_public n k None (Some r) None (Some s) x y = ap (λ v. put_if_some (column_pair n k) (coded v)) (listed_one (get r n) (get s n) y)
 same_public n k (Some o) None (Some p) None x y = refl
-same_public n k (Some o) (Some r) (Some p) (Some s) x y = ap₂ (λ v w. cond (same_cell v w) [] ((column_pair n k, coded w) ∷ [])) (x n (eqb_itself n)) (y n (eqb_itself n))
+same_public n k (Some o) (Some r) (Some p) (Some s) x y = ap₂ (λ v w. cond (same_cell v w) [] ((column_pair n k, coded w) ∷ [])) (listed_one (get o n) (get p n) x) (listed_one (get r n) (get s n) y)
 
-same_deletes : (n : ℕ) (k : RowKey) (f : ℕ → Bool) (a b c d : Option Cells) → Alike f a c → Alike f b d → column_deletes n k a b ≡ column_deletes n k c d
+pub same_deletes : (n : ℕ) (k : RowKey) (f : Cells → List Value) (a b c d : Option Cells) → Alike f a c → Alike f b d → column_deletes n k a b ≡ column_deletes n k c d
 same_deletes n k f None b (Some s) d x y = absurd x
 same_deletes n k f (Some o) b None d x y = absurd x
 same_deletes n k f a None c (Some s) x y = absurd y
@@ -224,10 +228,10 @@ same_deletes n k f None (Some r) None (Some s) x y = refl
 same_deletes n k f (Some o) None (Some p) None x y = refl
 same_deletes n k f (Some o) (Some r) (Some p) (Some s) x y = refl
 
-column_same : (n : ℕ) (q : ElementState) (c d : Change) → c.key ≡ d.key → Alike (column_reads n q) c.old d.old → Alike (column_reads n q) c.new d.new → column_writes n q c ≡ column_writes n q d
+column_same : (n : ℕ) (q : ElementState) (c d : Change) → c.key ≡ d.key → Alike (column_sees n q) c.old d.old → Alike (column_sees n q) c.new d.new → column_writes n q c ≡ column_writes n q d
 column_same n Absent c d k x y = refl
-column_same n DeleteOnly c d k x y = ap (λ t. column_deletes n t c.old c.new) k ∙ same_deletes n d.key (column_reads n DeleteOnly) c.old c.new d.old d.new x y
-column_same n WriteOnly c d k x y = ap (λ t. column_deletes n t c.old c.new) k ∙ same_deletes n d.key (column_reads n WriteOnly) c.old c.new d.old d.new x y
+column_same n DeleteOnly c d k x y = ap (λ t. column_deletes n t c.old c.new) k ∙ same_deletes n d.key (column_sees n DeleteOnly) c.old c.new d.old d.new x y
+column_same n WriteOnly c d k x y = ap (λ t. column_deletes n t c.old c.new) k ∙ same_deletes n d.key (column_sees n WriteOnly) c.old c.new d.old d.new x y
 column_same n Public c d k x y = ap (λ t. column_public n t c.old c.new) k ∙ same_public n d.key c.old c.new d.old d.new x y
 
 column_live : (q : ElementState) → IsTrue (column_exact q) → IsLive q
@@ -268,38 +272,42 @@ column_in n lawful x (e ∷ es) h at = elim at [
   | inr later ↦ column_in n lawful x es h.1 later
 ]
 
-module _ (table n : ℕ) (fits : table + 1 < 2 ^ 32) (lawful : IsLawfulColumn n) where
-  column_reach : (R : Rows) (P : Pairs) (from to x v : Bytes) → AreStorable R → Subset (column_of table n) P R → IsRowBound table from → IsRowBound table to → owner x ≡ Some n → get P x ≡ Some v → Between from to x → IsIn x (column_items table n R P from to)
+-- of a kind that has one pair for a row, under the column's key of the row
+module _ (table n : ℕ) (fits : table + 1 < 2 ^ 32) (lawful : IsLawfulColumn n) (m : Meaning) (named : m.number ≡ n) (keyed : (k : RowKey) (r : Cells) → m.pair_key k r ≡ column_pair n k) where
+  column_reach : (R : Rows) (P : Pairs) (from to x v : Bytes) → AreStorable R → Subset (within table m) P R → IsRowBound table from → IsRowBound table to → owner x ≡ Some n → get P x ≡ Some v → Between from to x → IsIn x (column_items table n R P from to)
   column_reach R P from to x v held sub low high own is at =
-      let s : IsFromScratch (column_of table n) R x v = sub x v own is in
-      let of_table : eqb s.key.0 table ≡ true = (some_in (eqb s.key.0 table) ((column_meaning n).pair_value s.key s.cells) v s.value_is).0 in
+      let s : IsFromScratch (within table m) R x v = sub x v (own ∙ ap Some (sym named)) is in
+      let of_table : eqb s.key.0 table ≡ true = (some_in (eqb s.key.0 table) (m.pair_value s.key s.cells) v s.value_is).0 in
       let tables : s.key.0 ≡ table = eqb-true s.key.0 table of_table in
       let row : IsStorableRow s.key s.cells = held s.key s.cells s.there in
-      let pair_is : row_code table s.key.1 n ≡ x = ap (λ t. row_code t s.key.1 n) (sym tables) ∙ s.key_is in
+      let pair_is : row_code table s.key.1 n ≡ x = ap (λ t. row_code t s.key.1 n) (sym tables) ∙ sym (keyed s.key s.cells) ∙ s.key_is in
       let row_is : row_code table s.key.1 0 ≡ row_key s.key = ap (λ t. row_code t s.key.1 0) (sym tables) in
       let between : Between from to (row_key s.key) = (
         λ e. at.0 (sym (ap (λ y. bytes_cmp y from) pair_is) ∙ row_then_pair table fits s.key.1 row.primary.values n lawful.below from low (ap (λ y. bytes_cmp y from) row_is ∙ e)),
         sym (ap (λ y. bytes_cmp y to) row_is) ∙ pair_then_row table fits s.key.1 row.primary.values n lawful.below to high (ap (λ y. bytes_cmp y to) pair_is ∙ at.1),
       ) in
-      subst (λ y. IsIn y (column_items table n R P from to)) s.key_is
+      subst (λ y. IsIn y (column_items table n R P from to)) (sym (keyed s.key s.cells) ∙ s.key_is)
       (column_among n s.key (row_items (λ t. eqb t table) R from to) (entry_kept row_cmp_total row_cmp-IsAntisymmetric (λ (e : RowKey × Cells). eqb e.0.0 table && is_within from to (row_key e.0)) R s.key s.cells s.there
       (both_true _ _ of_table (test_between from to (row_key s.key) between))))
 
-  column_whole : (R : Rows) (P : Pairs) (x v : Bytes) → AreStorable R → Subset (column_of table n) P R → owner x ≡ Some n → get P x ≡ Some v → Between (table_prefix table) (table_prefix (table + 1)) x
+  column_whole : (R : Rows) (P : Pairs) (x v : Bytes) → AreStorable R → Subset (within table m) P R → owner x ≡ Some n → get P x ≡ Some v → Between (table_prefix table) (table_prefix (table + 1)) x
   column_whole R P x v held sub own is =
-      let s : IsFromScratch (column_of table n) R x v = sub x v own is in
-      let tables : s.key.0 ≡ table = eqb-true s.key.0 table (some_in (eqb s.key.0 table) ((column_meaning n).pair_value s.key s.cells) v s.value_is).0 in
-      let pair_is : row_code table s.key.1 n ≡ x = ap (λ t. row_code t s.key.1 n) (sym tables) ∙ s.key_is in (
+      let s : IsFromScratch (within table m) R x v = sub x v (own ∙ ap Some (sym named)) is in
+      let tables : s.key.0 ≡ table = eqb-true s.key.0 table (some_in (eqb s.key.0 table) (m.pair_value s.key s.cells) v s.value_is).0 in
+      let pair_is : row_code table s.key.1 n ≡ x = ap (λ t. row_code t s.key.1 n) (sym tables) ∙ sym (keyed s.key s.cells) ∙ s.key_is in (
         λ e. row_not_before table s.key.1 n (below_next table (2 ^ 32) fits) (ap (λ y. bytes_cmp y (table_prefix table)) pair_is ∙ e),
         sym (ap (λ y. bytes_cmp y (table_prefix (table + 1))) pair_is) ∙ row_before_next table s.key.1 n fits,
       )
 
-  pub column_clears : ClearFacts (column_of table n) (column_clear table n)
-  column_clears = record {
-    owned = λ R P from to x held formed at. column_in n lawful x (row_items (λ t. eqb t table) R from to)
+  pub cell_clears : ClearFacts (within table m) (column_clear table n)
+  cell_clears = record {
+    owned = λ R P from to x held formed at. subst (λ i. IsKeyOfElement i x) (sym named) (column_in n lawful x (row_items (λ t. eqb t table) R from to)
         (first_facts (λ (e : RowKey × Cells). IsStorableRow e.0 e.1) (λ (e : RowKey × Cells). (eqb e.0.0 table && is_within from to (row_key e.0)) ≡ true) (row_items (λ t. eqb t table) R from to)
         (facts_kept row_cmp_total row_cmp-IsAntisymmetric (λ (e : RowKey × Cells). eqb e.0.0 table && is_within from to (row_key e.0)) (λ (e : RowKey × Cells). IsStorableRow e.0 e.1) (entries R)
-        (each_entry row_cmp row_cmp_total row_cmp-IsAntisymmetric IsStorableRow R held))) at;
-    reach = column_reach;
-    whole = column_whole;
+        (each_entry row_cmp row_cmp_total row_cmp-IsAntisymmetric IsStorableRow R held))) at);
+    reach = λ R P from to x v held sub low high own. column_reach R P from to x v held sub low high (own ∙ ap Some named);
+    whole = λ R P x v held sub own. column_whole R P x v held sub (own ∙ ap Some named);
   }
+
+pub column_clears : (table n : ℕ) → table + 1 < 2 ^ 32 → IsLawfulColumn n → ClearFacts (column_of table n) (column_clear table n)
+column_clears table n fits lawful = cell_clears table n fits lawful (column_meaning n) refl (λ k r. refl)

@@ -58,7 +58,7 @@ pub record KindFacts (m : Meaning) : Type 0 where
   pub owned : (k : RowKey) (r : Cells) → IsStorableRow k r → IsKeyOfElement m.number (m.pair_key k r)
   pub writes_owned : (q : ElementState) (c : Change) → IsStorableChange c → AllKeys (IsKeyOfElement m.number) (m.writes q c)
   pub absent : (c : Change) → m.writes Absent c ≡ []
-  pub same_writes : (q : ElementState) (c d : Change) → c.key ≡ d.key → Alike (m.reads q) c.old d.old → Alike (m.reads q) c.new d.new → m.writes q c ≡ m.writes q d
+  pub same_writes : (q : ElementState) (c d : Change) → c.key ≡ d.key → Alike (m.sees q) c.old d.old → Alike (m.sees q) c.new d.new → m.writes q c ≡ m.writes q d
   pub effect : (q : ElementState) (c : Change) (P : Pairs) → IsLive q → ChangesPublicOnly m.number q c → (x : Bytes) → Effect m c P (pairs_after m q c P) x
   pub stands : (q : ElementState) (c : Change) (P : Pairs) → IsTrue (m.exact q) → ChangesPublicOnly m.number q c
       → ((o : Cells) (w : Bytes) → c.old ≡ Some o → m.pair_value c.key o ≡ Some w → get P (m.pair_key c.key o) ≡ Some w)

@@ -1,5 +1,5 @@
 -- The laws of the `exists` pairs.
-use Rattle.std.specs.Prelude.{◌≡◌, ℕ, ◌<◌, ◌^◌, Bool, false, IsTrue, List, [], Option, Some, None, refl}
+use Rattle.std.specs.Prelude.{◌≡◌, ℕ, ◌<◌, ◌^◌, IsTrue, List, [], Option, Some, None, refl}
 use Rattle.std.specs.FinMap.{get}
 use Rattle.std.proofs.Common.{true≢false, sym, ap, ◌∙◌, inl, inr}
 use Rattle.keycode.specs.declared.value.Value.{Value}
@@ -127,7 +127,7 @@ exists_shrinks DeleteOnly c P g x v is = shrinks_by c P c.old c.new x v is
 exists_shrinks WriteOnly c P g x v is = absurd (g tt)
 exists_shrinks Public c P g x v is = absurd (g tt)
 
-same_by : (k : RowKey) (f : ℕ → Bool) (a b c d : Option Cells) → Alike f a c → Alike f b d → exists_by k a b ≡ exists_by k c d
+same_by : (k : RowKey) (f : Cells → List Value) (a b c d : Option Cells) → Alike f a c → Alike f b d → exists_by k a b ≡ exists_by k c d
 same_by k f None b (Some s) d x y = absurd x
 same_by k f (Some o) b None d x y = absurd x
 same_by k f a None c (Some s) x y = absurd y
@@ -137,7 +137,7 @@ same_by k f None (Some r) None (Some s) x y = refl
 same_by k f (Some o) None (Some p) None x y = refl
 same_by k f (Some o) (Some r) (Some p) (Some s) x y = refl
 
-same_deletes : (k : RowKey) (f : ℕ → Bool) (a b c d : Option Cells) → Alike f a c → Alike f b d → exists_deletes k a b ≡ exists_deletes k c d
+same_deletes : (k : RowKey) (f : Cells → List Value) (a b c d : Option Cells) → Alike f a c → Alike f b d → exists_deletes k a b ≡ exists_deletes k c d
 same_deletes k f None b (Some s) d x y = absurd x
 same_deletes k f (Some o) b None d x y = absurd x
 same_deletes k f a None c (Some s) x y = absurd y
@@ -147,11 +147,11 @@ same_deletes k f None (Some r) None (Some s) x y = refl
 same_deletes k f (Some o) None (Some p) None x y = refl
 same_deletes k f (Some o) (Some r) (Some p) (Some s) x y = refl
 
-exists_same : (q : ElementState) (c d : Change) → c.key ≡ d.key → Alike (λ i. false) c.old d.old → Alike (λ i. false) c.new d.new → exists_writes q c ≡ exists_writes q d
+exists_same : (q : ElementState) (c d : Change) → c.key ≡ d.key → Alike (λ r. []) c.old d.old → Alike (λ r. []) c.new d.new → exists_writes q c ≡ exists_writes q d
 exists_same Absent c d k x y = refl
-exists_same DeleteOnly c d k x y = ap (λ t. exists_deletes t c.old c.new) k ∙ same_deletes d.key (λ i. false) c.old c.new d.old d.new x y
-exists_same WriteOnly c d k x y = ap (λ t. exists_by t c.old c.new) k ∙ same_by d.key (λ i. false) c.old c.new d.old d.new x y
-exists_same Public c d k x y = ap (λ t. exists_by t c.old c.new) k ∙ same_by d.key (λ i. false) c.old c.new d.old d.new x y
+exists_same DeleteOnly c d k x y = ap (λ t. exists_deletes t c.old c.new) k ∙ same_deletes d.key (λ r. []) c.old c.new d.old d.new x y
+exists_same WriteOnly c d k x y = ap (λ t. exists_by t c.old c.new) k ∙ same_by d.key (λ r. []) c.old c.new d.old d.new x y
+exists_same Public c d k x y = ap (λ t. exists_by t c.old c.new) k ∙ same_by d.key (λ r. []) c.old c.new d.old d.new x y
 
 exists_live : (q : ElementState) → IsTrue (exists_exact q) → IsLive q
 exists_live Absent e = absurd (no_test e)

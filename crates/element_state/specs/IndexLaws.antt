@@ -1,13 +1,12 @@
 -- The laws of an index.
-use Rattle.std.specs.Prelude.{eqb, ◌≡◌, ◌<◌, ◌≤◌, ◌^◌, ℕ, suc, Bool, true, false, ◌||◌, IsTrue, unwrap_or, List, [], ◌∷◌, ◌++◌, length, drop, Option, Some, None, cond, refl}
+use Rattle.std.specs.Prelude.{◌≡◌, ◌<◌, ◌≤◌, ◌^◌, ℕ, suc, Bool, true, false, IsTrue, unwrap_or, List, [], ◌∷◌, ◌++◌, length, drop, Option, Some, None, cond, refl}
 use Rattle.std.specs.FinMap.{get}
 use Rattle.std.specs.Cmp.{Equal-is}
-use Rattle.std.proofs.Common.{eq-eqb, ap₂, true≢false, sym, ap, ◌∙◌, inl, inr}
+use Rattle.std.proofs.Common.{ap₂, true≢false, sym, ap, ◌∙◌, inl, inr}
 use Rattle.std.proofs.Math.Nat.{add-le-add}
 use Rattle.std.proofs.lemmas.List.{length-append, drop_at}
 use mathlib.Core.List.{map as each}
 use Rattle.keycode.specs.declared.value.Value.{Value}
-use Rattle.keycode.specs.declared.value.Value.TheVariants.{Null}
 use Rattle.keycode.specs.Order.{bytes_cmp}
 use Rattle.keycode.specs.Valid.{IsValue, IsShort, AreValues, AreShort, IsStorable}
 use Rattle.keycode.proofs.Orders.{bytes_cmp-IsAntisymmetric}
@@ -15,17 +14,17 @@ use Rattle.listed.proofs.Steps.{AllByRecursion-append}
 use Rattle.row_map.specs.declared.key.KeyOf.{KeyOf}
 use Rattle.row_map.specs.declared.key.KeyOf.TheVariants.{Exists, Column, Index}
 use Rattle.row_map.specs.Keys.{index_code, IsKey}
-use Rattle.row_map.specs.Rows.{Bytes, RowKey, Cells, Pairs, value_or_null, IsStorableRow}
+use Rattle.row_map.specs.Rows.{Bytes, RowKey, Cells, Pairs, IsStorableRow}
 use Rattle.row_map.specs.Writes.{written, written_all, AllKeys}
 use Rattle.row_map.proofs.KeyLaws.{same_key}
 use Rattle.schema_version.specs.declared.element.ElementState.{ElementState}
 use Rattle.schema_version.specs.declared.element.ElementState.TheVariants.{Absent, DeleteOnly, WriteOnly, Public}
-use Rattle.element_state.specs.Elements.{Alike, Change, ChangesPublicOnly, IsStorableChange, IsKeyOfElement}
+use Rattle.element_state.specs.Elements.{Alike, Change, ChangesPublicOnly, IsStorableChange, IsKeyOfElement, Meaning}
 use Rattle.element_state.specs.Laws.{pairs_after, Grows, IsLive, Laws, BesideOne}
 use Rattle.element_state.specs.Effects.{Effect, Stays, Gone, Came, KindFacts, bytes_one, pair_here, pair_apart}
 use Rattle.element_state.specs.Tables.{HasOneRowIn, table_laws}
-use Rattle.element_state.specs.Index.{indexed, index_pair, same_bytes, moved, index_by, index_writes, index_exact, index_edge, lists, index_meaning, index_of, IsLawfulIndex}
-use Rattle.std.specs.Prelude.{◌≡◌, ℕ, ◌+◌, ◌<◌, ◌^◌, Bool, true, false, ◌&&◌, eqb, cond, List, [], ◌∷◌, ◌++◌, Some, None, filter, refl}
+use Rattle.element_state.specs.Index.{indexed, index_pair, same_bytes, moved, index_by, index_writes, index_exact, index_edge, index_meaning, index_of, IsLawfulIndex, value_in}
+use Rattle.std.specs.Prelude.{◌≡◌, ℕ, ◌+◌, ◌<◌, ◌^◌, Bool, true, false, ◌&&◌, cond, List, [], ◌∷◌, ◌++◌, Some, None, filter, refl}
 use Rattle.std.specs.List.{AllByRecursion}
 use Rattle.std.specs.FinMap.{get, find, entries, get-entries}
 use Rattle.std.proofs.Common.{sym, ap, subst, ◌∙◌, inl, inr}
@@ -57,7 +56,7 @@ removed P k x v is = elim (bytes_one x k) [
   | inr ne ↦ sym (pair_apart P k None x ne) ∙ is
 ]
 
-module _ (n : ℕ) (columns : List ℕ) where
+module _ (n : ℕ) (columns : List (ℕ × Value)) where
   owned_by : (puts : Bool) (k : RowKey) (old new : Option Cells) → ((r : Cells) → old ≡ Some r → IsKeyOfElement n (index_pair n columns k r)) → ((r : Cells) → new ≡ Some r → IsKeyOfElement n (index_pair n columns k r))
       → AllKeys (IsKeyOfElement n) (index_by n columns puts k old new)
   owned_by puts k None None p q = tt
@@ -133,46 +132,29 @@ module _ (n : ℕ) (columns : List ℕ) where
         | false ↦ λ e. removed P _ x v e
       ] is
 
-index_effect : (n : ℕ) (columns : List ℕ) (q : ElementState) (c : Change) (P : Pairs) → IsLive q → ChangesPublicOnly n q c → (x : Bytes) → Effect (index_meaning n columns) c P (pairs_after (index_meaning n columns) q c P) x
+index_effect : (n : ℕ) (columns : List (ℕ × Value)) (q : ElementState) (c : Change) (P : Pairs) → IsLive q → ChangesPublicOnly n q c → (x : Bytes) → Effect (index_meaning n columns) c P (pairs_after (index_meaning n columns) q c P) x
 index_effect n columns Absent c P live only x = absurd live
 index_effect n columns DeleteOnly c P live only x = effect_by n columns false c P x c.old c.new refl refl
 index_effect n columns WriteOnly c P live only x = effect_by n columns true c P x c.old c.new refl refl
 index_effect n columns Public c P live only x = effect_by n columns true c P x c.old c.new refl refl
 
-eqb_itself : (n : ℕ) → IsTrue (eqb n n)
-eqb_itself n = eq-eqb n n refl
-
-or_true : (a b : Bool) → IsTrue b → IsTrue (a || b)
-or_true true b h = refl
-or_true false b h = h
-
-true_or : (a b : Bool) → IsTrue a → IsTrue (a || b)
-true_or true b h = refl
-true_or false b h = absurd (no_test h)
-
--- rows with the same listed cells have the same indexed values
-same_indexed : (columns : List ℕ) (r s : Cells) → ((i : ℕ) → IsTrue (lists columns i) → get r i ≡ get s i) → indexed columns r ≡ indexed columns s
-same_indexed [] r s h = refl
-same_indexed (c ∷ cs) r s h =
-    ap₂ (λ (v : Value) (vs : List Value). v ∷ vs) (ap (λ o. unwrap_or o Null) (h c (true_or (eqb c c) (lists cs c) (eqb_itself c)))) (same_indexed cs r s (λ i t. h i (or_true (eqb i c) (lists cs i) t)))
-
-module _ (n : ℕ) (columns : List ℕ) where
+module _ (n : ℕ) (columns : List (ℕ × Value)) where
   -- the index's key of a row with these indexed values
   abbrev key_with : RowKey → List Value → Bytes
   key_with k vs = index_code n (vs ++ k.1)
 
-  same_by : (puts : Bool) (k : RowKey) (a b c d : Option Cells) → Alike (lists columns) a c → Alike (lists columns) b d → index_by n columns puts k a b ≡ index_by n columns puts k c d
+  same_by : (puts : Bool) (k : RowKey) (a b c d : Option Cells) → Alike (indexed columns) a c → Alike (indexed columns) b d → index_by n columns puts k a b ≡ index_by n columns puts k c d
   same_by puts k None b (Some s) d x y = absurd x
   same_by puts k (Some o) b None d x y = absurd x
   same_by puts k a None c (Some s) x y = absurd y
   same_by puts k a (Some r) c None x y = absurd y
   same_by puts k None None None None x y = refl
-  same_by puts k None (Some r) None (Some s) x y = ap (λ v. cond puts ((key_with k v, Some []) ∷ []) []) (same_indexed columns r s y)
-  same_by puts k (Some o) None (Some p) None x y = ap (λ v. (key_with k v, None) ∷ []) (same_indexed columns o p x)
+  same_by puts k None (Some r) None (Some s) x y = ap (λ v. cond puts ((key_with k v, Some []) ∷ []) []) y
+  same_by puts k (Some o) None (Some p) None x y = ap (λ v. (key_with k v, None) ∷ []) x
   same_by puts k (Some o) (Some r) (Some p) (Some s) x y =
-      ap₂ (λ v w. cond (same_bytes (key_with k v) (key_with k w)) [] (moved puts (key_with k v) (key_with k w))) (same_indexed columns o p x) (same_indexed columns r s y)
+      ap₂ (λ v w. cond (same_bytes (key_with k v) (key_with k w)) [] (moved puts (key_with k v) (key_with k w))) x y
 
-  index_same : (q : ElementState) (c d : Change) → c.key ≡ d.key → Alike (lists columns) c.old d.old → Alike (lists columns) c.new d.new → index_writes n columns q c ≡ index_writes n columns q d
+  index_same : (q : ElementState) (c d : Change) → c.key ≡ d.key → Alike (indexed columns) c.old d.old → Alike (indexed columns) c.new d.new → index_writes n columns q c ≡ index_writes n columns q d
   index_same Absent c d k x y = refl
   index_same DeleteOnly c d k x y = ap (λ t. index_by n columns false t c.old c.new) k ∙ same_by false d.key c.old c.new d.old d.new x y
   index_same WriteOnly c d k x y = ap (λ t. index_by n columns true t c.old c.new) k ∙ same_by true d.key c.old c.new d.old d.new x y
@@ -180,18 +162,18 @@ module _ (n : ℕ) (columns : List ℕ) where
 
 -- ---- reading an index's key
 
-storable_or_null : (r : Cells) (i : ℕ) → ((column : ℕ) (value : Value) → get r column ≡ Some value → IsStorable value) → IsStorable (value_or_null r i)
-storable_or_null r i h = elim (get r i) as (λ o. get r i ≡ o → IsStorable (unwrap_or o Null)) [ None ↦ λ e. (tt, tt) | Some v ↦ λ e. h i v e ] refl
+storable_in : (r : Cells) (c : ℕ × Value) → IsStorable c.1 → ((column : ℕ) (value : Value) → get r column ≡ Some value → IsStorable value) → IsStorable (value_in r c)
+storable_in r c stand h = elim (get r c.0) as (λ o. get r c.0 ≡ o → IsStorable (unwrap_or o c.1)) [ None ↦ λ e. stand | Some v ↦ λ e. h c.0 v e ] refl
 
-indexed_values : (columns : List ℕ) (r : Cells) → ((column : ℕ) (value : Value) → get r column ≡ Some value → IsStorable value) → AreValues (indexed columns r)
-indexed_values [] r h = tt
-indexed_values (c ∷ cs) r h = ((storable_or_null r c h).0, indexed_values cs r h)
+indexed_values : (columns : List (ℕ × Value)) (r : Cells) → AllByRecursion (λ (c : ℕ × Value). IsStorable c.1) columns → ((column : ℕ) (value : Value) → get r column ≡ Some value → IsStorable value) → AreValues (indexed columns r)
+indexed_values [] r stand h = tt
+indexed_values (c ∷ cs) r stand h = ((storable_in r c stand.0 h).0, indexed_values cs r stand.1 h)
 
-indexed_short : (columns : List ℕ) (r : Cells) → ((column : ℕ) (value : Value) → get r column ≡ Some value → IsStorable value) → AreShort (indexed columns r)
-indexed_short [] r h = tt
-indexed_short (c ∷ cs) r h = ((storable_or_null r c h).1, indexed_short cs r h)
+indexed_short : (columns : List (ℕ × Value)) (r : Cells) → AllByRecursion (λ (c : ℕ × Value). IsStorable c.1) columns → ((column : ℕ) (value : Value) → get r column ≡ Some value → IsStorable value) → AreShort (indexed columns r)
+indexed_short [] r stand h = tt
+indexed_short (c ∷ cs) r stand h = ((storable_in r c stand.0 h).1, indexed_short cs r stand.1 h)
 
-pub indexed_length : (columns : List ℕ) (r : Cells) → length (indexed columns r) ≡ length columns
+pub indexed_length : (columns : List (ℕ × Value)) (r : Cells) → length (indexed columns r) ≡ length columns
 indexed_length [] r = refl
 indexed_length (c ∷ cs) r = ap suc (indexed_length cs r)
 
@@ -201,7 +183,7 @@ index_values (Exists table key) = []
 index_values (Column table key element) = []
 index_values (Index element values) = values
 
-module _ (n : ℕ) (columns : List ℕ) (lawful : IsLawfulIndex n columns) where
+module _ (n : ℕ) (columns : List (ℕ × Value)) (lawful : IsLawfulIndex n columns) where
   length_both : (k : RowKey) (r : Cells) → length (indexed columns r ++ k.1) ≡ length columns + length k.1
   length_both k r = length-append (indexed columns r) k.1 ∙ ap (λ l. l + length k.1) (indexed_length columns r)
 
@@ -211,8 +193,8 @@ module _ (n : ℕ) (columns : List ℕ) (lawful : IsLawfulIndex n columns) where
     record {
       low_number = subst (λ l. 2 ≤ l) (sym (length_both k r)) (add-le-add lawful.some_columns held.primary.low_number);
       high_number = subst (λ l. l ≤ 8) (sym (length_both k r)) (add-le-add lawful.few_columns held.primary.high_number);
-      values = AllByRecursion-append IsValue (indexed columns r) k.1 (indexed_values columns r held.values) held.primary.values;
-      short = AllByRecursion-append IsShort (indexed columns r) k.1 (indexed_short columns r held.values) held.primary.short;
+      values = AllByRecursion-append IsValue (indexed columns r) k.1 (indexed_values columns r lawful.stand_ins held.values) held.primary.values;
+      short = AllByRecursion-append IsShort (indexed columns r) k.1 (indexed_short columns r lawful.stand_ins held.values) held.primary.short;
     },
   )
 
@@ -237,50 +219,52 @@ module _ (n : ℕ) (columns : List ℕ) (lawful : IsLawfulIndex n columns) where
   index_owned Public c both = owned_by n columns true c.key c.old c.new (λ r e. index_owned_key c.key r (both.before r e)) (λ r e. index_owned_key c.key r (both.after r e))
 
 -- the new row's pair is there after the operation, if the old row's was there before
-abbrev StandsAfter : ℕ → List ℕ → ElementState → Type 0
+abbrev StandsAfter : ℕ → List (ℕ × Value) → ElementState → Type 0
 StandsAfter n columns q = (c : Change) (P : Pairs)
     → ((o : Cells) (w : Bytes) → c.old ≡ Some o → Some [] ≡ Some w → get P (index_pair n columns c.key o) ≡ Some w)
     → (r : Cells) (v : Bytes) → c.new ≡ Some r → Some [] ≡ Some v → get (pairs_after (index_meaning n columns) q c P) (index_pair n columns c.key r) ≡ Some v
 
-puts_stand : (n : ℕ) (columns : List ℕ) (c : Change) (P : Pairs)
+puts_stand : (n : ℕ) (columns : List (ℕ × Value)) (c : Change) (P : Pairs)
     → ((o : Cells) (w : Bytes) → c.old ≡ Some o → Some [] ≡ Some w → get P (index_pair n columns c.key o) ≡ Some w)
     → (r : Cells) (v : Bytes) → c.new ≡ Some r → Some [] ≡ Some v → get (written_all P (index_by n columns true c.key c.old c.new)) (index_pair n columns c.key r) ≡ Some v
 puts_stand n columns c P stood r v is val = ap (λ y. get (written_all P (index_by n columns true c.key c.old y)) (index_pair n columns c.key r)) is ∙ stands_by n columns c P c.old refl stood r ∙ val
 
-index_stands : (n : ℕ) (columns : List ℕ) (q : ElementState) → IsTrue (index_exact q) → StandsAfter n columns q
+index_stands : (n : ℕ) (columns : List (ℕ × Value)) (q : ElementState) → IsTrue (index_exact q) → StandsAfter n columns q
 index_stands n columns Absent e = absurd (no_test e)
 index_stands n columns DeleteOnly e = absurd (no_test e)
 index_stands n columns WriteOnly e = puts_stand n columns
 index_stands n columns Public e = puts_stand n columns
 
-index_shrinks : (n : ℕ) (columns : List ℕ) (q : ElementState) (c : Change) (P : Pairs) → ¬ (Grows q) → (x v : Bytes) → get (pairs_after (index_meaning n columns) q c P) x ≡ Some v → get P x ≡ Some v
+index_shrinks : (n : ℕ) (columns : List (ℕ × Value)) (q : ElementState) (c : Change) (P : Pairs) → ¬ (Grows q) → (x v : Bytes) → get (pairs_after (index_meaning n columns) q c P) x ≡ Some v → get P x ≡ Some v
 index_shrinks n columns Absent c P g x v is = is
 index_shrinks n columns DeleteOnly c P g x v is = shrinks_by n columns c P c.old c.new x v is
 index_shrinks n columns WriteOnly c P g x v is = absurd (g tt)
 index_shrinks n columns Public c P g x v is = absurd (g tt)
 
-index_live : (q : ElementState) → IsTrue (index_exact q) → IsLive q
-index_live Absent e = absurd (no_test e)
-index_live DeleteOnly e = tt
-index_live WriteOnly e = tt
-index_live Public e = tt
+-- ---- the states of a kind that is filled
 
-index_fills : (q : ElementState) → Grows q → IsTrue (index_exact q)
-index_fills Absent e = absurd e
-index_fills DeleteOnly e = absurd e
-index_fills WriteOnly e = yes_test
-index_fills Public e = yes_test
+pub filled_live : (q : ElementState) → IsTrue (index_exact q) → IsLive q
+filled_live Absent e = absurd (no_test e)
+filled_live DeleteOnly e = tt
+filled_live WriteOnly e = tt
+filled_live Public e = tt
 
-index_beside : (n : ℕ) (columns : List ℕ) (p q : ElementState) → IsTrue (index_edge p q) → BesideOne (index_meaning n columns) p q × BesideOne (index_meaning n columns) q p
-index_beside n columns Absent DeleteOnly e = (λ g. g, tt)
-index_beside n columns DeleteOnly WriteOnly e = (tt, tt)
-index_beside n columns WriteOnly Public e = (tt, yes_test)
-index_beside n columns Public WriteOnly e = (yes_test, tt)
-index_beside n columns WriteOnly DeleteOnly e = (tt, tt)
-index_beside n columns DeleteOnly Absent e = (tt, λ g. g)
-index_beside n columns _ _ e = absurd (no_test e)
+pub filled_grows : (q : ElementState) → Grows q → IsTrue (index_exact q)
+filled_grows Absent e = absurd e
+filled_grows DeleteOnly e = absurd e
+filled_grows WriteOnly e = yes_test
+filled_grows Public e = yes_test
 
-pub index_facts : (n : ℕ) (columns : List ℕ) → IsLawfulIndex n columns → KindFacts (index_meaning n columns)
+pub filled_beside : (m : Meaning) → IsTrue (m.exact WriteOnly) → (p q : ElementState) → IsTrue (index_edge p q) → BesideOne m p q × BesideOne m q p
+filled_beside m exact Absent DeleteOnly e = (λ g. g, tt)
+filled_beside m exact DeleteOnly WriteOnly e = (tt, tt)
+filled_beside m exact WriteOnly Public e = (tt, exact)
+filled_beside m exact Public WriteOnly e = (exact, tt)
+filled_beside m exact WriteOnly DeleteOnly e = (tt, tt)
+filled_beside m exact DeleteOnly Absent e = (tt, λ g. g)
+filled_beside m exact _ _ e = absurd (no_test e)
+
+pub index_facts : (n : ℕ) (columns : List (ℕ × Value)) → IsLawfulIndex n columns → KindFacts (index_meaning n columns)
 index_facts n columns lawful = record {
   owned = index_owned_key n columns lawful;
   writes_owned = index_owned n columns lawful;
@@ -289,14 +273,14 @@ index_facts n columns lawful = record {
   effect = index_effect n columns;
   stands = λ q c P e only. index_stands n columns q e c P;
   no_growth = index_shrinks n columns;
-  exact_is_live = index_live;
+  exact_is_live = filled_live;
   exact_public = yes_test;
-  exact_where_grows = λ q _ g. index_fills q g;
+  exact_where_grows = λ q _ g. filled_grows q g;
   no_pair = λ e. absurd (true≢false e);
-  beside = index_beside n columns;
+  beside = filled_beside (index_meaning n columns) yes_test;
 }
 
-pub index_laws : (table n : ℕ) (columns : List ℕ) → IsLawfulIndex n columns → Laws (index_of table n columns)
+pub index_laws : (table n : ℕ) (columns : List (ℕ × Value)) → IsLawfulIndex n columns → Laws (index_of table n columns)
 index_laws table n columns lawful = table_laws table (index_meaning n columns) (index_facts n columns lawful) (index_row n columns lawful table)
 
 -- ---- its clear
@@ -333,7 +317,7 @@ index_named n fits x (Index element values) form is b = record {
   names = index_number element n values form.0 fits (λ e. b.0 (ap (λ y. bytes_cmp y (index_prefix n)) is ∙ e)) (ap (λ y. bytes_cmp y (index_prefix (n + 1))) (sym is) ∙ b.1);
 }
 
-module _ (table n : ℕ) (columns : List ℕ) (fits : n + 1 < 2 ^ 32) where
+module _ (table n : ℕ) (columns : List (ℕ × Value)) (fits : n + 1 < 2 ^ 32) where
   index_items_owned : (R : Rows) (P : Pairs) (from to x : Bytes) → AreStorable R → AreFormed P → IsIn x (index_items n R P from to) → IsKeyOfElement n x
   index_items_owned R P from to x held formed at =
       let f = key_facts (λ y. is_within (index_prefix n) (index_prefix (n + 1)) y && is_within from to y) (entries P) x (each_entry bytes_cmp bytes_cmp_total bytes_cmp-IsAntisymmetric (λ y v. HasForm y) P formed) at in

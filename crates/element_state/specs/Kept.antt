@@ -4,7 +4,7 @@ use Rattle.std.specs.FinMap.{FinMap, get, insert}
 use Rattle.std.specs.Ordering.{nat_cmp}
 use Rattle.row_map.specs.Rows.{Bytes}
 use Rattle.row_map.specs.Writes.{written_all}
-use Rattle.schema_version.specs.declared.element.Kind.{Kind}
+use Rattle.element_state.specs.Sources.{Source}
 use Rattle.element_state.specs.Elements.{Change}
 use Rattle.element_state.specs.Schemas.{Entry, Schema, state_of, AreLawful}
 use Rattle.schema_version.specs.declared.element.Work.{Work}
@@ -52,6 +52,6 @@ FillKeeps =
 -- a piece of a clear removes each item from the old cursor to below the new one
 abbrev pub ClearKeeps : Type 0
 ClearKeeps =
-    (w : Core ElementKind) (n table : ℕ) (kind : Kind) (f : Entry ElementKind) (old : List Span) (place : ℕ) (to : Bytes) → Invariant the_kinds w
-    → get w.newest n ≡ Some f → f.kind ≡ Of table kind → get w.progress n ≡ Some (record { work = Clear; spans = old }) → IsBound (kind_clear table n kind).bounds (cursor_at place old) → IsBound (kind_clear table n kind).bounds to
-    → Invariant the_kinds (moved the_kinds w n (record { work = Clear; spans = with_cursor place to old }) (written_all w.pairs (clear_writes ((kind_clear table n kind).items w.rows w.pairs (cursor_at place old) to))))
+    (w : Core ElementKind) (n table : ℕ) (source : Source) (f : Entry ElementKind) (old : List Span) (place : ℕ) (to : Bytes) → Invariant the_kinds w
+    → get w.newest n ≡ Some f → f.kind ≡ Of table source → get w.progress n ≡ Some (record { work = Clear; spans = old }) → IsBound (kind_clear table n source).bounds (cursor_at place old) → IsBound (kind_clear table n source).bounds to
+    → Invariant the_kinds (moved the_kinds w n (record { work = Clear; spans = with_cursor place to old }) (written_all w.pairs (clear_writes ((kind_clear table n source).items w.rows w.pairs (cursor_at place old) to))))

@@ -6,7 +6,7 @@ use Rattle.std.proofs.Common.{sym, subst}
 use Rattle.schema_version.specs.declared.element.ElementState.TheVariants.{Public}
 use Rattle.schema_version.specs.declared.element.Way.{Way}
 use Rattle.schema_version.specs.declared.element.Way.TheVariants.{Adding, Dropping}
-use Rattle.schema_version.specs.declared.element.Kind.{Kind}
+use Rattle.element_state.specs.Sources.{Source, source_in}
 use Rattle.schema_version.specs.declared.element.ElementDef.{ElementDef}
 use Rattle.schema_version.specs.Version.{Version}
 use Rattle.element_state.specs.Elements.{Meaning}
@@ -21,30 +21,30 @@ use Rattle.element_state.specs.Schemas.{Entry, Schema, Kinds}
 -- the `exists` pairs of all rows, or an element of a table
 pub data ElementKind : Type 0 where
   Row : ElementKind
-  Of : (table : ℕ) → (kind : Kind) → ElementKind
+  Of : (table : ℕ) → (source : Source) → ElementKind
 
 -- what an element of that kind and number means
 abbrev pub meaning_of : ℕ → ElementKind → Meaning
 meaning_of number Row = record exists_meaning { number = number }
-meaning_of number (Of table kind) = within table (kind_meaning number kind)
+meaning_of number (Of table source) = within table (kind_meaning number source)
 
 -- the element's number and its table's within the limits, and what its kind's laws want
-pub record IsLawfulOf (number table : ℕ) (kind : Kind) : Type 0 where
+pub record IsLawfulOf (number table : ℕ) (source : Source) : Type 0 where
   pub range : HasRange table number
-  pub lawful : IsLawfulKind number kind
+  pub lawful : IsLawfulKind number source
 
 -- what the laws want of it
 abbrev pub IsLawful : ℕ → ElementKind → Type 0
 IsLawful number Row = number ≡ 0
-IsLawful number (Of table kind) = IsLawfulOf number table kind
+IsLawful number (Of table source) = IsLawfulOf number table source
 
 pub numbered : (number : ℕ) (kind : ElementKind) → (meaning_of number kind).number ≡ number
 numbered number Row = refl
-numbered number (Of table kind) = kind_numbered number kind
+numbered number (Of table source) = kind_numbered number source
 
 pub laws : (number : ℕ) (kind : ElementKind) → IsLawful number kind → Laws (meaning_of number kind)
 laws number Row lawful = subst (λ y. Laws (record exists_meaning { number = y })) (sym lawful) exists_laws
-laws number (Of table kind) lawful = kind_laws table number kind lawful.lawful
+laws number (Of table source) lawful = kind_laws table number source lawful.lawful
 
 -- the kinds that there are
 abbrev pub the_kinds : Kinds ElementKind
@@ -56,8 +56,8 @@ is_adding Adding = true
 is_adding Dropping = false
 
 -- an element of a version as the core sees it
-abbrev pub entry_of : ElementDef → Entry ElementKind
-entry_of element = record { kind = Of element.table element.kind; state = element.state; adding = is_adding element.way }
+abbrev pub entry_of : Version → ElementDef → Entry ElementKind
+entry_of version element = record { kind = Of element.table (source_in version element.kind); state = element.state; adding = is_adding element.way }
 
 -- the `exists` pairs as the core sees them
 abbrev pub row_entry : Entry ElementKind
@@ -65,4 +65,4 @@ row_entry = record { kind = Row; state = Public; adding = true }
 
 -- the elements of a version, and the `exists` pairs
 abbrev pub schema_of : Version → Schema ElementKind
-schema_of version = from_entries ((0, row_entry) ∷ each (λ (e : ℕ × ElementDef). (e.0, entry_of e.1)) (entries version.elements))
+schema_of version = from_entries ((0, row_entry) ∷ each (λ (e : ℕ × ElementDef). (e.0, entry_of version e.1)) (entries version.elements))

@@ -1,13 +1,19 @@
 //! An element of any kind.
 ghost use Rattle.std.specs.Prelude.{◌≡◌, IfOk};
+ghost use mathlib.Core.List.{map as each};
+ghost use Rattle.keycode.specs.declared.value.Value.TheVariants.{Null};
+ghost use Rattle.element_state.specs.Sources.{source_with, source_in, source_alone, stand_in_at};
 ghost use Rattle.element_state.specs.Kinds.{kind_meaning, table_of_any, meaning_of_any, IsLawfulElement, laws_of_any, clear_of_any, clears_of_any};
 
 use crate::column::OptionalColumn;
 use crate::element::Element;
 use crate::index::IndexElement;
+use crate::required::RequiredColumn;
 use byte_map::Bytes;
+use keycode::Value;
+use listed::Listed;
 use row_map::{Batch, Row};
-use schema_version::{ElementDef, ElementState, Kind};
+use schema_version::{ElementDef, ElementState, Kind, Schema};
 use std::alloc::{AllocError, Global};
 
 /// An element of any kind. A new kind is one more variant here, with its arm in each call.
@@ -17,29 +23,113 @@ pub enum AnyElement {
     Index(IndexElement),
     /// A column that a row may have no value in.
     Optional(OptionalColumn),
+    /// A column with a default.
+    Required(RequiredColumn),
+}
+
+// What stands in a version for a value that a row lacks in a column.
+fn stand_in(schema: &Schema, column: u32) -> Result<Value, AllocError>
+    ensures { IfOk result (λ value. value ≡ stand_in_at schema.now column) }
+{
+    match schema.element(column) {
+        Some(element) => match &element.kind {
+            Kind::Required { fallback, .. } => fallback.clone(),
+            Kind::Index(_) | Kind::Optional(_) => Ok(Value::Null),
+        },
+        None => Ok(Value::Null),
+    }
+}
+
+fn with_stand_in(schema: &Schema, column: u32) -> Result<(u32, Value), AllocError>
+    ensures { IfOk result (λ listed. listed ≡ (column, stand_in_at schema.now column)) }
+{
+    Ok((column, stand_in(schema, column)?))
+}
+
+// Columns with what stands for a missing value in a version.
+fn with_stand_ins(
+    alloc: Global,
+    schema: &Schema,
+    columns: &[u32],
+) -> Result<Listed<(u32, Value)>, AllocError>
+    ensures { IfOk result (λ listed. listed ≡ each (λ c. (c, stand_in_at schema.now c)) columns.now) }
+{
+    let mut listed = Vec::new(alloc);
+    for column in columns {
+        listed.push(with_stand_in(schema, *column)?)?;
+    }
+    Ok(Listed::new(listed))
+}
+
+fn with_null(column: u32) -> (u32, Value)
+    ensures { result ≡ (column, Null) }
+{
+    (column, Value::Null)
+}
+
+// Columns of which each row has a value, or Null stands for it.
+fn with_nulls(alloc: Global, columns: &[u32]) -> Result<Listed<(u32, Value)>, AllocError>
+    ensures { IfOk result (λ listed. listed ≡ each (λ c. (c, Null)) columns.now) }
+{
+    let mut listed = Vec::new(alloc);
+    for column in columns {
+        listed.push(with_null(*column))?;
+    }
+    Ok(Listed::new(listed))
 }
 
 impl AnyElement {
-    /// The element that a schema version defines: of its table, its number and its kind.
-    ///
-    /// An index's columns are copied. Want of memory is the only refusal.
-    pub fn of(definition: &ElementDef) -> Result<AnyElement, AllocError>
+    // The element, if these are the columns that it lists.
+    fn with(
+        definition: &ElementDef,
+        columns: Listed<(u32, Value)>,
+    ) -> Result<AnyElement, AllocError>
         ensures table { IfOk result (λ e. table_of_any e ≡ definition.now.table) }
-        ensures meaning { IfOk result (λ e. meaning_of_any e ≡ kind_meaning definition.now.number definition.now.kind) }
+        ensures meaning { IfOk result (λ e. meaning_of_any e ≡ kind_meaning definition.now.number (source_with columns definition.now.kind)) }
     {
         let table = definition.table;
         let number = definition.number;
         match &definition.kind {
-            Kind::Index(columns) => {
-                let columns = columns.clone()?;
-                Ok(AnyElement::Index(IndexElement {
-                    table,
-                    number,
-                    columns,
-                }))
-            }
+            Kind::Index(_) => Ok(AnyElement::Index(IndexElement {
+                table,
+                number,
+                columns,
+            })),
             Kind::Optional(_) => Ok(AnyElement::Optional(OptionalColumn { table, number })),
+            Kind::Required { fallback, .. } => Ok(AnyElement::Required(RequiredColumn {
+                table,
+                number,
+                fallback: fallback.clone()?,
+            })),
         }
+    }
+
+    /// The element that a version defines: of its table, its number and its kind. For a value that a row lacks in a column that an index
+    /// lists stands the column's default in that version, or Null.
+    ///
+    /// `alloc` is where the list of an index's columns is made. Want of memory is the only refusal.
+    pub fn of(
+        alloc: Global,
+        schema: &Schema,
+        definition: &ElementDef,
+    ) -> Result<AnyElement, AllocError>
+        ensures table { IfOk result (λ e. table_of_any e ≡ definition.now.table) }
+        ensures meaning { IfOk result (λ e. meaning_of_any e ≡ kind_meaning definition.now.number (source_in schema.now definition.now.kind)) }
+    {
+        let columns = with_stand_ins(alloc, schema, definition.kind.listed())?;
+        AnyElement::with(definition, columns)
+    }
+
+    /// The element of a definition by itself, for rows that have a value in each required column: in any other column that an index lists,
+    /// Null stands for a value that a row lacks.
+    ///
+    /// `alloc` is where the list of an index's columns is made. Want of memory is the only refusal.
+    pub fn alone(alloc: Global, definition: &ElementDef) -> Result<AnyElement, AllocError>
+        ensures table { IfOk result (λ e. table_of_any e ≡ definition.now.table) }
+        ensures meaning { IfOk result (λ e. meaning_of_any e ≡ kind_meaning definition.now.number (source_alone definition.now.kind)) }
+    {
+        let columns = with_nulls(alloc, definition.kind.listed())?;
+        AnyElement::with(definition, columns)
     }
 }
 
@@ -60,6 +150,7 @@ impl Element for AnyElement {
         match self {
             AnyElement::Index(e) => e.number(),
             AnyElement::Optional(e) => e.number(),
+            AnyElement::Required(e) => e.number(),
         }
     }
 
@@ -73,6 +164,7 @@ impl Element for AnyElement {
         match self {
             AnyElement::Index(e) => e.on_insert(alloc, state, row, batch),
             AnyElement::Optional(e) => e.on_insert(alloc, state, row, batch),
+            AnyElement::Required(e) => e.on_insert(alloc, state, row, batch),
         }
     }
 
@@ -87,6 +179,7 @@ impl Element for AnyElement {
         match self {
             AnyElement::Index(e) => e.on_update(alloc, state, old, new, batch),
             AnyElement::Optional(e) => e.on_update(alloc, state, old, new, batch),
+            AnyElement::Required(e) => e.on_update(alloc, state, old, new, batch),
         }
     }
 
@@ -100,6 +193,7 @@ impl Element for AnyElement {
         match self {
             AnyElement::Index(e) => e.on_delete(alloc, state, row, batch),
             AnyElement::Optional(e) => e.on_delete(alloc, state, row, batch),
+            AnyElement::Required(e) => e.on_delete(alloc, state, row, batch),
         }
     }
 
@@ -107,6 +201,7 @@ impl Element for AnyElement {
         match self {
             AnyElement::Index(e) => e.fill_of(alloc, row),
             AnyElement::Optional(e) => e.fill_of(alloc, row),
+            AnyElement::Required(e) => e.fill_of(alloc, row),
         }
     }
 }

@@ -1,16 +1,13 @@
 //! What an optional column writes in each state.
-ghost use Rattle.std.specs.Prelude.{◌≡◌, OnOk, OnErr, IfOk, Some, None};
-ghost use Rattle.std.specs.FinMap as map;
-ghost use Rattle.keycode.specs.Code.{code};
-ghost use Rattle.element_state.specs.Column.{column_clear, column_pair, IsLawfulColumn};
+ghost use Rattle.element_state.specs.Column.{column_clear, IsLawfulColumn};
 ghost use Rattle.element_state.specs.ColumnLaws.{column_clears, column_laws};
 ghost use Rattle.element_state.specs.Kinds.{meaning_of_column};
 
 use crate::cells::{cell, is_same};
 use crate::element::Element;
+use crate::pair::{put, remove};
 use byte_map::Bytes;
-use keycode::{Value, Values, push_value};
-use row_map::{Batch, Row, column_key};
+use row_map::{Batch, Row};
 use schema_version::ElementState;
 use std::alloc::{AllocError, Global};
 
@@ -24,42 +21,6 @@ pub struct OptionalColumn {
     pub table: u32,
     /// Its element number.
     pub number: u32,
-}
-
-/// The code of a value, as the value of a pair.
-fn encoded(alloc: Global, value: &Value) -> Result<Bytes, AllocError>
-    ensures { IfOk result (λ bytes. bytes ≡ code value.now) }
-{
-    let mut out = Vec::new(alloc);
-    push_value(&mut out, value)?;
-    Bytes::new(out)
-}
-
-impl OptionalColumn {
-    /// Notes the pair of the row of a key.
-    fn put(
-        &self,
-        alloc: Global,
-        key: &Values,
-        value: &Value,
-        batch: &mut Batch,
-    ) -> Result<(), AllocError>
-        ensures ok { OnOk result (batch.new ≡ map.insert batch.old (column_pair self.now.number (self.now.table, key.now)) (Some (code value.now))) }
-        ensures err { OnErr result (batch.new ≡ batch.old) }
-    {
-        let at = column_key(alloc, self.table, key.as_slice(), self.number)?;
-        let bytes = encoded(alloc, value)?;
-        batch.put(at, bytes)
-    }
-
-    /// Notes that the pair of the row of a key goes.
-    fn remove(&self, alloc: Global, key: &Values, batch: &mut Batch) -> Result<(), AllocError>
-        ensures ok { OnOk result (batch.new ≡ map.insert batch.old (column_pair self.now.number (self.now.table, key.now)) None) }
-        ensures err { OnErr result (batch.new ≡ batch.old) }
-    {
-        let at = column_key(alloc, self.table, key.as_slice(), self.number)?;
-        batch.remove(at)
-    }
 }
 
 impl Element for OptionalColumn {
@@ -89,7 +50,7 @@ impl Element for OptionalColumn {
         match state {
             ElementState::Public => match cell(row, self.number) {
                 None => Ok(()),
-                Some(value) => self.put(alloc, &row.key, value, batch),
+                Some(value) => put(alloc, self.table, self.number, &row.key, value, batch),
             },
             ElementState::Absent | ElementState::DeleteOnly | ElementState::WriteOnly => Ok(()),
         }
@@ -110,8 +71,8 @@ impl Element for OptionalColumn {
                     return Ok(());
                 }
                 match value {
-                    None => self.remove(alloc, &old.key, batch),
-                    Some(value) => self.put(alloc, &old.key, value, batch),
+                    None => remove(alloc, self.table, self.number, &old.key, batch),
+                    Some(value) => put(alloc, self.table, self.number, &old.key, value, batch),
                 }
             }
             ElementState::Absent | ElementState::DeleteOnly | ElementState::WriteOnly => Ok(()),
@@ -128,7 +89,7 @@ impl Element for OptionalColumn {
         match state {
             ElementState::Absent => Ok(()),
             ElementState::DeleteOnly | ElementState::WriteOnly | ElementState::Public => {
-                self.remove(alloc, &row.key, batch)
+                remove(alloc, self.table, self.number, &row.key, batch)
             }
         }
     }

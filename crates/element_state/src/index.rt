@@ -10,7 +10,7 @@ ghost use Rattle.element_state.specs.Kinds.{meaning_of_index};
 use crate::cells::copied;
 use crate::element::Element;
 use byte_map::Bytes;
-use keycode::Values;
+use keycode::{Value, Values};
 use listed::Listed;
 use row_map::{Batch, Row, index_key};
 use schema_version::ElementState;
@@ -24,17 +24,18 @@ pub struct IndexElement {
     pub table: u32,
     /// Its element number.
     pub number: u32,
-    /// The element numbers of its 1 to 4 columns, in the order in which they sort.
-    pub columns: Listed<u32>,
+    /// The element numbers of its 1 to 4 columns, in the order in which they sort, each with what stands for a value that a row lacks
+    /// in it: Null, or the default of a required column.
+    pub columns: Listed<(u32, Value)>,
 }
 
-/// A row's values in some columns, Null where it has none.
-fn indexed_values(alloc: Global, columns: &[u32], row: &Row) -> Result<Values, AllocError>
+/// A row's values in some columns, or what stands for those that it lacks.
+fn indexed_values(alloc: Global, columns: &[(u32, Value)], row: &Row) -> Result<Values, AllocError>
     ensures { IfOk result (λ values. values ≡ indexed columns.now (cells_of row.now)) }
 {
     let mut values = Vec::new(alloc);
     for column in columns {
-        values.push(copied(row, *column)?)?;
+        values.push(copied(row, column)?)?;
     }
     Ok(Listed::new(values))
 }

@@ -1,0 +1,41 @@
+-- What the pairs of an element are built from: its kind, with what a version knows of the columns that an index lists.
+use Rattle.std.specs.Prelude.{ℕ, List, Option, Some, None}
+use mathlib.Core.List.{map as each}
+use Rattle.keycode.specs.declared.value.Value.{Value}
+use Rattle.keycode.specs.declared.value.Value.TheVariants.{Null}
+use Rattle.schema_version.specs.declared.element.Kind.{Kind}
+use Rattle.schema_version.specs.declared.element.Kind.TheVariants.{Index, Optional, Required}
+use Rattle.schema_version.specs.declared.element.ElementDef.{ElementDef}
+use Rattle.schema_version.specs.Version.{Version, element_at, fallback_of, listed}
+
+-- an index's columns, each with what stands for a value that a row lacks in it; nothing of an optional column; a required column's default
+pub data Source : Type 0 where
+  IndexOn : (columns : List (ℕ × Value)) → Source
+  OptionalIn : Source
+  RequiredIn : (fallback : Value) → Source
+
+-- that of a kind, if these are its columns
+abbrev pub source_with : List (ℕ × Value) → Kind → Source
+source_with columns (Index numbers) = IndexOn columns
+source_with columns (Optional type) = OptionalIn
+source_with columns (Required type fallback) = RequiredIn fallback
+
+-- with what stands for a missing value in each listed column
+abbrev pub source_by : (ℕ → Value) → Kind → Source
+source_by stand_in kind = source_with (each (λ c. (c, stand_in c)) (listed kind)) kind
+
+abbrev pub fallback_or_null : Option ElementDef → Value
+fallback_or_null None = Null
+fallback_or_null (Some element) = fallback_of element.kind
+
+-- what stands in a version for a value that a row lacks in a column: the default of a required one, else Null
+abbrev pub stand_in_at : Version → ℕ → Value
+stand_in_at version column = fallback_or_null (element_at version column)
+
+-- what the pairs of an element of this kind are built from in a version
+abbrev pub source_in : Version → Kind → Source
+source_in version kind = source_by (stand_in_at version) kind
+
+-- and where no default is asked for, since each row has its values
+abbrev pub source_alone : Kind → Source
+source_alone kind = source_by (λ column. Null) kind
