@@ -38,7 +38,7 @@ use Rattle.element_state.specs.Consistent.{DemandOf, IsLawfulRow, AreLawfulRows}
 use Rattle.element_state.specs.Seen.{default_of, default_in, default_at, own_or, seen_value, with_default, with_defaults, seen_cells, see, seen, SeenAgree}
 use Rattle.element_state.proofs.Schemas.{not_found, first, second, found}
 
-own_or_none : (o : Option Value) → own_or o None ≡ o
+pub own_or_none : (o : Option Value) → own_or o None ≡ o
 own_or_none None = refl
 own_or_none (Some v) = refl
 
@@ -182,17 +182,42 @@ default_stands table (Some element) v e = by ((element.table == table) && is_pub
     by true (Required type fallback) e = some_one fallback v e
     by false k e = absurd (none_some v e)
 
-value_seen : (version : Version) (table : ℕ) (r : Cells) (c : ℕ) → value_in (seen_cells version table r) (c, stand_in_at version c) ≡ value_in r (c, stand_in_at version c)
-value_seen version table r c = ap (λ o. unwrap_or o (stand_in_at version c)) (seen_get version table r c) ∙ by (get r c) (default_at table (element_at version c)) refl
+-- what stands for a missing value stands for one that isn't seen too
+pub stands_for : (version : Version) (table c : ℕ) (own : Option Value) → unwrap_or (seen_value version table c own) (stand_in_at version c) ≡ unwrap_or own (stand_in_at version c)
+stands_for version table c own = by own (default_at table (element_at version c)) refl
   where
     by : (o d : Option Value) → default_at table (element_at version c) ≡ d → unwrap_or (own_or o d) (stand_in_at version c) ≡ unwrap_or o (stand_in_at version c)
     by (Some v) d e = refl
     by None None e = refl
     by None (Some v) e = sym (default_stands table (element_at version c) v e)
 
+value_seen : (version : Version) (table : ℕ) (r : Cells) (c : ℕ) → value_in (seen_cells version table r) (c, stand_in_at version c) ≡ value_in r (c, stand_in_at version c)
+value_seen version table r c = ap (λ o. unwrap_or o (stand_in_at version c)) (seen_get version table r c) ∙ stands_for version table c (get r c)
+
 indexed_seen : (version : Version) (table : ℕ) (r : Cells) (cs : List ℕ) → indexed (each (λ c. (c, stand_in_at version c)) cs) (seen_cells version table r) ≡ indexed (each (λ c. (c, stand_in_at version c)) cs) r
 indexed_seen version table r [] = refl
 indexed_seen version table r (c ∷ cs) = ap₂ (λ (v : Value) (vs : List Value). v ∷ vs) (value_seen version table r c) (indexed_seen version table r cs)
+
+-- in an optional column the row's own value is seen
+pub optional_seen : (version : Version) (n : ℕ) (element : ElementDef) (type : ColumnType) (table : ℕ) (own : Option Value) → element_at version n ≡ Some element → element.kind ≡ Optional type → seen_value version table n own ≡ own
+optional_seen version n element type table own at is = ap (own_or own) none ∙ own_or_none own
+  where
+    no_default : (b : Bool) → cond b (default_of (Optional type)) None ≡ None
+    no_default true = refl
+    no_default false = refl
+
+    none : default_at table (element_at version n) ≡ None
+    none = ap (default_at table) at ∙ ap (λ y. cond ((element.table == table) && is_public element.state) (default_of y) None) is ∙ no_default ((element.table == table) && is_public element.state)
+
+-- the default of a required column is what stands for a missing value
+pub required_stands_for : (version : Version) (n : ℕ) (element : ElementDef) (type : ColumnType) (fallback : Value) → element_at version n ≡ Some element → element.kind ≡ Required type fallback → stand_in_at version n ≡ fallback
+required_stands_for version n element type fallback at is = ap fallback_or_null at ∙ ap fallback_of is
+
+-- so its value is that of what is seen
+pub required_seen : (version : Version) (n : ℕ) (element : ElementDef) (type : ColumnType) (fallback : Value) (table : ℕ) (own : Option Value) → element_at version n ≡ Some element → element.kind ≡ Required type fallback
+    → unwrap_or (seen_value version table n own) fallback ≡ unwrap_or own fallback
+required_seen version n element type fallback table own at is =
+    subst (λ (v : Value). unwrap_or (seen_value version table n own) v ≡ unwrap_or own v) (required_stands_for version n element type fallback at is) (stands_for version table n own)
 
 -- no kind of element tells them apart
 blind_kind : (version : Version) (n : ℕ) (element : ElementDef) → element_at version n ≡ Some element → (k : Kind) → element.kind ≡ k → IsBlind version (kind_meaning n (source_in version k))
@@ -202,31 +227,16 @@ blind_kind version n element at (Index columns) is = record {
 }
 blind_kind version n element at (Optional type) is = record {
   key = λ k r. refl;
-  value = λ k r. ap coded (seen_get version k.0 r n ∙ ap (own_or (get r n)) (none k.0) ∙ own_or_none (get r n));
+  value = λ k r. ap coded (seen_get version k.0 r n ∙ optional_seen version n element type k.0 (get r n) at is);
 }
-  where
-    no_default : (b : Bool) → cond b (default_of (Optional type)) None ≡ None
-    no_default true = refl
-    no_default false = refl
-
-    none : (table : ℕ) → default_at table (element_at version n) ≡ None
-    none table = ap (default_at table) at ∙ ap (λ y. cond ((element.table == table) && is_public element.state) (default_of y) None) is ∙ no_default ((element.table == table) && is_public element.state)
 blind_kind version n element at (Required type fallback) is = record {
   key = λ k r. refl;
-  value = λ k r. ap (λ v. Some (code v)) (ap (λ o. unwrap_or o fallback) (seen_get version k.0 r n) ∙ by k.0 (get r n) (default_at k.0 (element_at version n)) refl);
+  value = λ k r. ap (λ v. Some (code v)) (ap (λ o. unwrap_or o fallback) (seen_get version k.0 r n) ∙ required_seen version n element type fallback k.0 (get r n) at is);
 }
-  where
-    stands : fallback_or_null (element_at version n) ≡ fallback
-    stands = ap fallback_or_null at ∙ ap fallback_of is
-
-    by : (table : ℕ) (o d : Option Value) → default_at table (element_at version n) ≡ d → unwrap_or (own_or o d) fallback ≡ unwrap_or o fallback
-    by table (Some v) d e = refl
-    by table None None e = refl
-    by table None (Some v) e = sym (default_stands table (element_at version n) v e) ∙ stands
 
 -- ---- the rows that are seen are lawful
 
-short_typed : (type : ColumnType) (v : Value) → has_type type v ≡ true → IsShort v × (v ≢ Null)
+pub short_typed : (type : ColumnType) (v : Value) → has_type type v ≡ true → IsShort v × (v ≢ Null)
 short_typed type Null e = absurd (false_true e)
 short_typed type (Int n) e = (tt, λ is. cc)
 short_typed kind.Int (Text t) e = absurd (false_true e)
@@ -239,7 +249,7 @@ short_typed kind.Bool (Text t) e = absurd (false_true e)
 short_typed type (Flag b) e = (tt, λ is. cc)
 
 -- a default that is seen is a value of its column's type
-default_typed : (version : Version) (table c : ℕ) (v : Value) → IsSoundVersion version → default_at table (element_at version c) ≡ Some v
+pub default_typed : (version : Version) (table c : ℕ) (v : Value) → IsSoundVersion version → default_at table (element_at version c) ≡ Some v
     → ((element : ElementDef) (type : ColumnType) → element_at version c ≡ Some element → type_of_kind element.kind ≡ Some type → IsTrue (has_type type v)) × IsStorable v × (v ≢ Null)
 default_typed version table c v sound e = by (element_at version c) refl
   where

@@ -81,10 +81,6 @@ public_is DeleteOnly e = absurd cc
 public_is WriteOnly e = absurd cc
 public_is Public e = refl
 
-typed_kind : (k : Kind) (type : ColumnType) → type_of_kind k ≡ Some type → k ≡ Optional type
-typed_kind (Index columns) type e = absurd cc
-typed_kind (Optional t) type e = ap Optional (some_same e)
-
 record Shown (table number : ℕ) (element : ElementDef) : Type 0 where
   named : element.number ≡ number
   home : element.table ≡ table
@@ -120,7 +116,7 @@ module _ (v : Version) (served : IsServed v) where
               element = element;
               known = ap (element_at v) (sym p.named) ∙ found_at element s.0;
               home = p.home;
-              column = typed_kind element.kind type e;
+              column = e;
               public = p.public;
             }
       ] refl
@@ -135,7 +131,7 @@ module _ (v : Version) (served : IsServed v) where
             let s = find_says (is_shown table number) (live v) element f in
             let q = shown_says table number element s.1 in
             let same : element ≡ p.element = some_same (sym (ap (element_at v) (sym q.named) ∙ found_at element s.0) ∙ p.known) in
-            ap (λ (e : ElementDef). type_of_kind e.kind) same ∙ ap type_of_kind p.column
+            ap (λ (e : ElementDef). type_of_kind e.kind) same ∙ p.column
       ] refl
 
   -- ---- as a list
@@ -146,19 +142,19 @@ module _ (v : Version) (served : IsServed v) where
       let test : ((p.element.table == table) && is_public p.element.state) ≡ true = and_true (p.element.table == table) _ (eq-eqb p.element.table table p.home) (ap is_public p.public) in
       let is : public_column table p.element ≡ Some (number, type) =
       ap (λ b. cond b (option_map (λ (t : ColumnType). (p.element.number, t)) (type_of_kind p.element.kind)) None) test
-      ∙ ap (λ k. option_map (λ (t : ColumnType). (p.element.number, t)) (type_of_kind k)) p.column
+      ∙ ap (option_map (λ (t : ColumnType). (p.element.number, t))) p.column
       ∙ ap (λ n. Some (n, type)) (served.own number p.element p.known) in
       mapped_has (public_column table) (live v) p.element (number, type) there is
 
   listed_one : (table : ℕ) (element : ElementDef) (number : ℕ) (type : ColumnType) → public_column table element ≡ Some (number, type)
-      → (element.table ≡ table) × (element.state ≡ Public) × (element.kind ≡ Optional type) × (element.number ≡ number)
+      → (element.table ≡ table) × (element.state ≡ Public) × (type_of_kind element.kind ≡ Some type) × (element.number ≡ number)
   listed_one table element number type =
       elim ((element.table == table) && is_public element.state) as (λ b. ((element.table == table) && is_public element.state) ≡ b → cond b (option_map {U = ℕ × ColumnType} (λ (t : ColumnType). (element.number, t)) (type_of_kind element.kind)) None ≡ Some (number, type)
-      → (element.table ≡ table) × (element.state ≡ Public) × (element.kind ≡ Optional type) × (element.number ≡ number)) [
+      → (element.table ≡ table) × (element.state ≡ Public) × (type_of_kind element.kind ≡ Some type) × (element.number ≡ number)) [
         | true ↦ λ p e.
             let b = both_true (element.table == table) (is_public element.state) p in
             let k = typed (type_of_kind element.kind) e in
-            (eqb-true element.table table b.0, public_is element.state b.1, typed_kind element.kind type k.0, k.1)
+            (eqb-true element.table table b.0, public_is element.state b.1, k.0, k.1)
         | false ↦ λ p e. absurd (let x : None ≡ Some (number, type) = e in cc)
       ] refl
     where

@@ -1,5 +1,5 @@
 -- One more operation of a run, and runs on rows that agree.
-use Rattle.std.proofs.Common.{◌≡◌, ◌<◌, ◌+◌, ◌++◌, ℕ, Bool, cond, List, [], ◌∷◌, length, get_or, drop, Option, Some, None, option_map, Result, Ok, Err, inl, inr, refl, sym, ap, ap₂, subst, ◌∙◌, IsTrue}
+use Rattle.std.proofs.Common.{◌≡◌, ◌<◌, ◌+◌, ◌++◌, ℕ, Bool, true, false, cond, List, [], ◌∷◌, length, get_or, drop, Option, Some, None, option_map, Result, Ok, Err, inl, inr, refl, sym, ap, ap₂, subst, ◌∙◌, IsTrue}
 use Rattle.std.proofs.lemmas.List.{at_drop_more, append-nil}
 use Rattle.std.specs.List.{AllByRecursion}
 use Rattle.std.specs.Ordering.{nat_cmp, eq_by_cmp}
@@ -16,8 +16,9 @@ use Rattle.row_map.specs.Writes.{Writes, Batch, written, noted}
 use Rattle.row_map.proofs.Orders.{row_cmp_total, row_cmp-IsAntisymmetric}
 use Rattle.schema_version.specs.Version.{Version}
 use Rattle.schema_version.proofs.Lists.{some_same}
-use Rattle.element_state.specs.Elements.{Change, Alike, rows_after}
+use Rattle.element_state.specs.Elements.{Change, rows_after}
 use Rattle.element_state.specs.Schemas.{version_writes}
+use Rattle.element_state.specs.Seen.{seen_value}
 use Rattle.element_state.specs.Versions.{the_kinds, schema_of}
 use Rattle.row_write.specs.declared.op.RowOp.{RowOp}
 use Rattle.row_write.specs.declared.op.RowOp.TheVariants.{Insert, Update, Delete}
@@ -28,7 +29,7 @@ use Rattle.row_write.specs.Prepare.{IsSpelledRow, Spells, write_on, writes_of, a
 use Rattle.row_write.specs.Served.{IsServed}
 use Rattle.row_write.specs.Running.{IsStep}
 use Rattle.row_write.proofs.Spelled.{IsSpelledAs, of_row}
-use Rattle.row_write.proofs.Wanted.{shown, column_shown, same_writes}
+use Rattle.row_write.proofs.Wanted.{SeenAlike, shown, column_shown, same_writes}
 
 -- ---- one more operation
 
@@ -52,29 +53,34 @@ batch_more v rows then ops i op b b_then total lt is (made, done, rows_is, noted
 
 -- ---- rows that agree
 
-cells_alike : (f : ℕ → Bool) (named : List (ℕ × Value)) (r s : Cells) → ((i : ℕ) → IsTrue (f i) → get r i ≡ get s i) → (i : ℕ) → IsTrue (f i) → get (with_cells r named) i ≡ get (with_cells s named) i
-cells_alike f [] r s h = h
-cells_alike f (x ∷ named) r s h = cells_alike f named (written r x.0 (cell_of x.1)) (written s x.0 (cell_of x.1)) (λ i t.
-    get-written nat_cmp_total nat_cmp-IsAntisymmetric r x.0 (cell_of x.1) i
-    ∙ ap (cond (eq_by_cmp nat_cmp i x.0) (cell_of x.1)) (h i t)
-    ∙ sym (get-written nat_cmp_total nat_cmp-IsAntisymmetric s x.0 (cell_of x.1) i))
+module _ (f : ℕ → Bool) (see : ℕ → Option Value → Option Value) where
+  one_of_both : (i : ℕ) (b : Bool) (o p q : Option Value) → see i p ≡ see i q → see i (cond b o p) ≡ see i (cond b o q)
+  one_of_both i true o p q h = refl
+  one_of_both i false o p q h = h
+
+  cells_alike : (named : List (ℕ × Value)) (r s : Cells) → ((i : ℕ) → IsTrue (f i) → see i (get r i) ≡ see i (get s i)) → (i : ℕ) → IsTrue (f i) → see i (get (with_cells r named) i) ≡ see i (get (with_cells s named) i)
+  cells_alike [] r s h = h
+  cells_alike (x ∷ named) r s h = cells_alike named (written r x.0 (cell_of x.1)) (written s x.0 (cell_of x.1)) (λ i t.
+      ap (see i) (get-written nat_cmp_total nat_cmp-IsAntisymmetric r x.0 (cell_of x.1) i)
+      ∙ one_of_both i (eq_by_cmp nat_cmp i x.0) (cell_of x.1) (get r i) (get s i) (h i t)
+      ∙ sym (ap (see i) (get-written nat_cmp_total nat_cmp-IsAntisymmetric s x.0 (cell_of x.1) i)))
 
 -- the same refusal, or changes of one row that agree
-AreSame : (ℕ → Bool) → RowKey → Result Change RowFault → Result Change RowFault → Type 0
-AreSame f key (Ok c) (Ok d) = (c.key ≡ key) × (d.key ≡ key) × Alike f c.old d.old × Alike f c.new d.new
-AreSame f key (Err a) (Err b) = a ≡ b
-AreSame f key _ _ = ⊥
+AreSame : (ℕ → Bool) → (ℕ → Option Value → Option Value) → RowKey → Result Change RowFault → Result Change RowFault → Type 0
+AreSame f see key (Ok c) (Ok d) = (c.key ≡ key) × (d.key ≡ key) × SeenAlike f see c.old d.old × SeenAlike f see c.new d.new
+AreSame f see key (Err a) (Err b) = a ≡ b
+AreSame f see key _ _ = ⊥
 
-same_change : (f : ℕ → Bool) (o p : Option Cells) (op : RowOp) → Alike f o p → AreSame f (row_of op) (change_of o op) (change_of p op)
+same_change : (f : ℕ → Bool) (see : ℕ → Option Value → Option Value) (o p : Option Cells) (op : RowOp) → SeenAlike f see o p → AreSame f see (row_of op) (change_of o op) (change_of p op)
 unfolding AreSame
-same_change f None None (Insert table key cells) a = (refl, refl, tt, cells_alike f cells empty empty (λ i t. refl))
-same_change f None None (Update table key cells) a = refl
-same_change f None None (Delete table key) a = refl
-same_change f (Some r) (Some s) (Insert table key cells) a = refl
-same_change f (Some r) (Some s) (Update table key cells) a = (refl, refl, a, cells_alike f cells r s a)
-same_change f (Some r) (Some s) (Delete table key) a = (refl, refl, a, tt)
-same_change f None (Some s) op a = absurd a
-same_change f (Some r) None op a = absurd a
+same_change f see None None (Insert table key cells) a = (refl, refl, tt, cells_alike f see cells empty empty (λ i t. refl))
+same_change f see None None (Update table key cells) a = refl
+same_change f see None None (Delete table key) a = refl
+same_change f see (Some r) (Some s) (Insert table key cells) a = refl
+same_change f see (Some r) (Some s) (Update table key cells) a = (refl, refl, a, cells_alike f see cells r s a)
+same_change f see (Some r) (Some s) (Delete table key) a = (refl, refl, a, tt)
+same_change f see None (Some s) op a = absurd a
+same_change f see (Some r) None op a = absurd a
 
 abbrev no_pair : Option (Option Bytes)
 no_pair = Some None
@@ -86,9 +92,9 @@ not_both : {A : Type 0} → no_pair ≡ empty_pair → A
 not_both e = absurd cc
 
 module _ (v : Version) (served : IsServed v) where
-  -- two rows of the key that agree on the public columns of its table
+  -- two rows of the key in which the version sees the same in the public columns of its table
   abbrev AgreeAt : RowKey → Option Cells → Option Cells → Type 0
-  AgreeAt key o p = Alike (shown v key.0) o p
+  AgreeAt key o p = SeenAlike (shown v key.0) (seen_value v key.0) o p
 
   abbrev Agree : List RowOp → Rows → Rows → Type 0
   Agree ops work rows = AllByRecursion (λ (op : RowOp). AgreeAt (row_of op) (get work (row_of op)) (get rows (row_of op))) ops
@@ -128,7 +134,7 @@ module _ (v : Version) (served : IsServed v) where
       (rest.0, ap₂ (λ (a b : Writes). a ++ b) (same_writes v served c d same (at c.old d.old old) (at c.new d.new new)) rest.1)
 
   step_same : (ops : List RowOp) (place : ℕ) (work rows : Rows) (key : RowKey) (a b : Result Change RowFault) → Agree ops work rows → ((w r : Rows) → Agree ops w r → SameRun (place + 1) ops w r)
-      → AreSame (shown v key.0) key a b → SameStep place ops work rows a b
+      → AreSame (shown v key.0) (seen_value v key.0) key a b → SameStep place ops work rows a b
   unfolding AreSame
   step_same ops place work rows key (Ok c) (Ok d) all again (left, right, old, new) = ok_same ops place work rows key c d all again left right old new
   step_same ops place work rows key (Err x) (Err y) all again s = (ap (λ why. told (go_on place work (Err why) (λ new. applied (place + 1) new ops))) s, refl)
@@ -138,7 +144,7 @@ module _ (v : Version) (served : IsServed v) where
   same_run : (ops : List RowOp) (place : ℕ) (work rows : Rows) → Agree ops work rows → SameRun place ops work rows
   same_run [] place work rows all = (refl, refl)
   same_run (op ∷ ops) place work rows all =
-      step_same ops place work rows (row_of op) (change work op) (change rows op) all.1 (λ w r h. same_run ops (place + 1) w r h) (same_change (shown v (table_of op)) (get work (row_of op)) (get rows (row_of op)) op all.0)
+      step_same ops place work rows (row_of op) (change work op) (change rows op) all.1 (λ w r h. same_run ops (place + 1) w r h) (same_change (shown v (table_of op)) (seen_value v (table_of op)) (get work (row_of op)) (get rows (row_of op)) op all.0)
 
   -- ---- rows that one view spells
 
@@ -156,10 +162,10 @@ module _ (v : Version) (served : IsServed v) where
   agree_as view key (Some r) None s t = not_both (sym (t.absent refl) ∙ s.present r refl)
   agree_as view key (Some r) (Some u) s t = λ i is.
       let has = column_shown v served key.0 i is in
-      value_one (get r i) (get u i)
-      (some_same (sym (s.columns i has.0 r has.1 refl) ∙ t.columns i has.0 u has.1 refl))
-      (λ w at. (s.typed i has.0 r w has.1 refl at).1.0)
-      (λ w at. (t.typed i has.0 u w has.1 refl at).1.0)
+      let a = s.columns i has.0 r has.1 refl in
+      let b = t.columns i has.0 u has.1 refl in
+      let own : a.own ≡ b.own = value_one a.own b.own (some_same (sym a.held ∙ b.held)) (λ w at. (a.typed w at).1.0) (λ w at. (b.typed w at).1.0) in
+      sym a.same ∙ ap (seen_value v key.0 i) own ∙ b.same
 
   agree_all : (view : View) (ops : List RowOp) (work rows : Rows) → AllByRecursion (IsSpelledRow v view work) ops → AllByRecursion (IsSpelledRow v view rows) ops → Agree ops work rows
   agree_all view [] work rows s t = tt

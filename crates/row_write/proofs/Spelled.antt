@@ -25,7 +25,7 @@ use Rattle.schema_version.proofs.Lists.{here, later, here_or_later, some_same}
 use Rattle.row_write.specs.declared.op.RowOp.{RowOp}
 use Rattle.row_write.specs.Plain.{table_of, row_of}
 use Rattle.row_write.specs.Reads.{IsPublicColumn}
-use Rattle.row_write.specs.Prepare.{IsSpelledRow}
+use Rattle.row_write.specs.Prepare.{IsSpelledCell, IsSpelledRow}
 use Rattle.row_write.specs.Served.{IsServed}
 use Rattle.row_write.specs.Viewing.{IsCell, with_front, AreCells, seen_at, IsSeen, cells_there}
 use Rattle.row_write.proofs.Columns.{column_listed, listed_column, columns_rise}
@@ -91,11 +91,13 @@ module _ (there : Bool) (seen : ℕ → Option (Option Bytes)) where
       behind None ne = refl
       behind (Some v) ne = ap (λ b. cond b (Some v) (find nat_cmp n rest)) (apart nat_cmp_total nat_cmp-IsAntisymmetric n c.0 ne)
 
-  cells_from : (columns : List (ℕ × ColumnType)) (cell : ℕ → Option Value) → ((n : ℕ) (type : ColumnType) → Contains columns (n, type) → IsCell type there (seen n) (cell n)) → (cells : List (ℕ × Value)) × AreCells there seen columns cells
+  cells_from : (columns : List (ℕ × ColumnType)) (cell : (n : ℕ) (type : ColumnType) → Contains columns (n, type) → Option Value)
+      → ((n : ℕ) (type : ColumnType) (at : Contains columns (n, type)) → IsCell type there (seen n) (cell n type at)) → (cells : List (ℕ × Value)) × AreCells there seen columns cells
   cells_from [] cell h = ([], refl)
   cells_from (c ∷ columns) cell h =
-      let r = cells_from columns cell (λ n type at. h n type (later c (n, type) columns at)) in
-      (with_front c.0 (cell c.0) r.0, (cell c.0, r.0, h c.0 c.1 (here c columns), refl, r.1))
+      let r = cells_from columns (λ n type at. cell n type (later c (n, type) columns at)) (λ n type at. h n type (later c (n, type) columns at)) in
+      let own = cell c.0 c.1 (here c columns) in
+      (with_front c.0 own r.0, (own, r.0, h c.0 c.1 (here c columns), refl, r.1))
 
 -- ---- the row of a key
 
@@ -104,14 +106,13 @@ pub record IsSpelledAs (v : Version) (view : View) (key : RowKey) (row : Option 
   pub absent : row ≡ None → get view (row_code key.0 key.1 0) ≡ Some None
   pub present : (cells : Cells) → row ≡ Some cells → get view (row_code key.0 key.1 0) ≡ Some (Some [])
   pub no_columns : (number : ℕ) (type : ColumnType) → IsPublicColumn v key.0 number type → row ≡ None → get view (row_code key.0 key.1 number) ≡ Some None
-  pub columns : (number : ℕ) (type : ColumnType) (cells : Cells) → IsPublicColumn v key.0 number type → row ≡ Some cells → get view (row_code key.0 key.1 number) ≡ Some (option_map code (get cells number))
-  pub typed : (number : ℕ) (type : ColumnType) (cells : Cells) (value : Value) → IsPublicColumn v key.0 number type → row ≡ Some cells → get cells number ≡ Some value → IsTrue (has_type type value) × IsStorable value
+  pub columns : (number : ℕ) (type : ColumnType) (cells : Cells) → IsPublicColumn v key.0 number type → row ≡ Some cells → IsSpelledCell v key.0 number type (get view (row_code key.0 key.1 number)) (get cells number)
 
 to_row : (v : Version) (view : View) (rows : Rows) (op : RowOp) → IsSpelledAs v view (row_of op) (get rows (row_of op)) → IsSpelledRow v view rows op
-to_row v view rows op s = record { absent = s.absent; present = s.present; no_columns = s.no_columns; columns = s.columns; typed = s.typed }
+to_row v view rows op s = record { absent = s.absent; present = s.present; no_columns = s.no_columns; columns = s.columns }
 
 pub of_row : (v : Version) (view : View) (rows : Rows) (op : RowOp) → IsSpelledRow v view rows op → IsSpelledAs v view (row_of op) (get rows (row_of op))
-of_row v view rows op s = record { absent = s.absent; present = s.present; no_columns = s.no_columns; columns = s.columns; typed = s.typed }
+of_row v view rows op s = record { absent = s.absent; present = s.present; no_columns = s.no_columns; columns = s.columns }
 
 module _ (v : Version) (served : IsServed v) (view : View) where
   seen_spelled : (op : RowOp) (there : Bool) (cells : List (ℕ × Value)) → IsSeen view op (column_types v (table_of op)) there cells → IsSpelledAs v view (row_of op) (cells_there there cells)
@@ -122,8 +123,12 @@ module _ (v : Version) (served : IsServed v) (view : View) where
         absent = λ e. some_no (from_entries {R = nat_cmp} cells) e;
         present = λ r e. exists;
         no_columns = λ n type p e. some_no (from_entries {R = nat_cmp} cells) e;
-        columns = λ n type r p e. (cell n type p).seen_is ∙ ap (λ o. Some (option_map code o)) (read n r e);
-        typed = λ n type r value p e at. (cell n type p).typed value (read n r e ∙ at);
+        columns = λ n type r p e. record {
+          own = get r n;
+          held = (cell n type p).seen_is ∙ ap (λ o. Some (option_map code o)) (read n r e);
+          typed = λ value at. (cell n type p).typed value (read n r e ∙ at);
+          same = refl;
+        };
       }
   seen_spelled op false cells (exists, all) =
       let cell = λ (n : ℕ) (type : ColumnType) (p : IsPublicColumn v (table_of op) n type). cell_of false (seen_at view op) (column_types v (table_of op)) cells n type (columns_rise v served (table_of op)) all (column_listed v served (table_of op) n type p) in
@@ -132,22 +137,22 @@ module _ (v : Version) (served : IsServed v) (view : View) where
         present = λ r e. no_some r e;
         no_columns = λ n type p e. (cell n type p).seen_is ∙ ap (λ o. Some (option_map code o)) ((cell n type p).absent refl);
         columns = λ n type r p e. no_some r e;
-        typed = λ n type r value p e at. no_some r e;
       }
 
   spelled_seen : (op : RowOp) (row : Option Cells) → IsSpelledAs v view (row_of op) row → (there : Bool) × (cells : List (ℕ × Value)) × IsSeen view op (column_types v (table_of op)) there cells
   spelled_seen op None s =
-      let r = cells_from false (seen_at view op) (column_types v (table_of op)) (λ n. None) (λ n type at. record {
+      let r = cells_from false (seen_at view op) (column_types v (table_of op)) (λ n type at. None) (λ n type at. record {
         seen_is = s.no_columns n type (listed_column v served (table_of op) n type at) refl;
         absent = λ _. refl;
         typed = λ value e. no_some value e;
       }) in
       (false, r.0, (s.absent refl, r.1))
   spelled_seen op (Some cells) s =
-      let r = cells_from true (seen_at view op) (column_types v (table_of op)) (λ n. get cells n) (λ n type at. record {
-        seen_is = s.columns n type cells (listed_column v served (table_of op) n type at) refl;
+      let own = λ (n : ℕ) (type : ColumnType) (at : Contains (column_types v (table_of op)) (n, type)). s.columns n type cells (listed_column v served (table_of op) n type at) refl in
+      let r = cells_from true (seen_at view op) (column_types v (table_of op)) (λ n type at. (own n type at).own) (λ n type at. record {
+        seen_is = (own n type at).held;
         absent = λ (e : true ≡ false). absurd cc;
-        typed = λ value e. s.typed n type cells value (listed_column v served (table_of op) n type at) refl e;
+        typed = (own n type at).typed;
       }) in
       (true, r.0, (s.present cells refl, r.1))
 

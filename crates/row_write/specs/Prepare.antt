@@ -19,6 +19,7 @@ use Rattle.schema_version.specs.Moves.{is_distinct}
 use Rattle.element_state.specs.Consistent.{IsKeyFor}
 use Rattle.element_state.specs.Elements.{Change, rows_after}
 use Rattle.element_state.specs.Schemas.{version_writes}
+use Rattle.element_state.specs.Seen.{seen_value}
 use Rattle.element_state.specs.Versions.{the_kinds, schema_of}
 use Rattle.row_write.specs.declared.op.RowOp.{RowOp}
 use Rattle.row_write.specs.declared.op.RowOutcome.{RowOutcome}
@@ -81,15 +82,21 @@ max_ops = 64
 
 -- ---- what the reads say of the rows
 
+-- What was read at the key of a row's pair of a public column: a value of the type, or none. The version sees the same there as in the
+-- row's cell: it is the cell, but that in a required column the pair, or the cell, may have the default where the other has nothing.
+pub record IsSpelledCell (version : Version) (table number : ℕ) (type : ColumnType) (read : Option (Option Bytes)) (cell : Option Value) : Type 0 where
+  pub own : Option Value
+  pub held : read ≡ Some (option_map code own)
+  pub typed : (value : Value) → own ≡ Some value → IsTrue (has_type type value) × IsStorable value
+  pub same : seen_value version table number own ≡ seen_value version table number cell
+
 -- the operation's row stands in the view as in the rows: its `exists` pair just where it is there, and its pairs of public columns
 pub record IsSpelledRow (version : Version) (view : View) (rows : Rows) (op : RowOp) : Type 0 where
   pub absent : map.get rows (row_of op) ≡ None → map.get view (row_code (table_of op) (key_of op) 0) ≡ Some None
   pub present : (cells : Cells) → map.get rows (row_of op) ≡ Some cells → map.get view (row_code (table_of op) (key_of op) 0) ≡ Some (Some [])
   pub no_columns : (number : ℕ) (type : ColumnType) → IsPublicColumn version (table_of op) number type → map.get rows (row_of op) ≡ None → map.get view (row_code (table_of op) (key_of op) number) ≡ Some None
   pub columns : (number : ℕ) (type : ColumnType) (cells : Cells) → IsPublicColumn version (table_of op) number type → map.get rows (row_of op) ≡ Some cells
-      → map.get view (row_code (table_of op) (key_of op) number) ≡ Some (option_map code (map.get cells number))
-  pub typed : (number : ℕ) (type : ColumnType) (cells : Cells) (value : Value) → IsPublicColumn version (table_of op) number type → map.get rows (row_of op) ≡ Some cells → map.get cells number ≡ Some value
-      → IsTrue (has_type type value) × IsStorable value
+      → IsSpelledCell version (table_of op) number type (map.get view (row_code (table_of op) (key_of op) number)) (map.get cells number)
 
 -- the view has the keys that are read, and spells these rows
 pub record Spells (version : Version) (ops : List RowOp) (view : View) (rows : Rows) : Type 0 where

@@ -5,9 +5,8 @@ use Rattle.row_map.specs.declared.shape.ColumnType.{ColumnType}
 use Rattle.row_map.specs.Keys.{row_code}
 use Rattle.row_map.specs.Rows.{Bytes}
 use Rattle.schema_version.specs.declared.element.ElementState.TheVariants.{Public}
-use Rattle.schema_version.specs.declared.element.Kind.TheVariants.{Optional}
 use Rattle.schema_version.specs.declared.element.ElementDef.{ElementDef}
-use Rattle.schema_version.specs.Version.{Version, Table, table_at, element_at}
+use Rattle.schema_version.specs.Version.{Version, Table, table_at, element_at, type_of_kind}
 use Rattle.std.specs.Prelude.{Some}
 use Rattle.row_write.specs.declared.op.RowOp.{RowOp}
 use Rattle.row_write.specs.Plain.{table_of, key_of}
@@ -17,7 +16,7 @@ pub record IsPublicColumn (version : Version) (table number : ℕ) (type : Colum
   pub element : ElementDef
   pub known : element_at version number ≡ Some element
   pub home : element.table ≡ table
-  pub column : element.kind ≡ Optional type
+  pub column : type_of_kind element.kind ≡ Some type
   pub public : element.state ≡ Public
 
 -- the key of the row's `exists` pair, or of its pair for a public column

@@ -9,6 +9,7 @@ use Rattle.schema_version.specs.declared.element.ElementDef.{ElementDef}
 use Rattle.schema_version.specs.Version.{Version}
 use Rattle.element_state.specs.Elements.{Change, rows_after}
 use Rattle.element_state.specs.Kinds.{kind_meaning}
+use Rattle.element_state.specs.Sources.{source_in}
 use Rattle.element_state.specs.Operations.{cells_of}
 use Rattle.element_state.specs.Schemas.{version_writes}
 use Rattle.element_state.specs.Tables.{within}
@@ -34,13 +35,13 @@ abbrev pub IsNext : Option Cells → RowOp → Result (Option Row) RowFault → 
 IsNext old op (Err why) = change_of old op ≡ Err why
 IsNext old op (Ok new) = (change_of old op ≡ Ok (change_at (row_of op) old (option_map cells_of new))) × IfSome new (λ row. row.key ≡ key_of op)
 
--- what an element of the table writes
-abbrev pub element_writes : ElementDef → Change → Writes
-element_writes element done = (within element.table (kind_meaning element.number element.kind)).writes element.state done
+-- what an element of the version writes
+abbrev pub element_writes : Version → ElementDef → Change → Writes
+element_writes version element done = (within element.table (kind_meaning element.number (source_in version element.kind))).writes element.state done
 
-abbrev pub live_writes : List ElementDef → Change → Writes
-live_writes [] done = []
-live_writes (element ∷ elements) done = element_writes element done ++ live_writes elements done
+abbrev pub live_writes : Version → List ElementDef → Change → Writes
+live_writes version [] done = []
+live_writes version (element ∷ elements) done = element_writes version element done ++ live_writes version elements done
 
 -- an operation was refused, or the rows are changed and the writes noted
 abbrev pub IsStep : Version → Rows → RowOp → Result (Unit {0}) RowFault → Rows → Batch → Batch → Type 0

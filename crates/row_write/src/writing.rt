@@ -4,6 +4,7 @@ ghost use Rattle.row_map.specs.Writes.{noted};
 ghost use Rattle.schema_version.specs.Version.{live};
 ghost use Rattle.element_state.specs.Exists.{exists_by};
 ghost use Rattle.element_state.specs.Kinds.{kind_meaning};
+ghost use Rattle.element_state.specs.Sources.{source_in};
 ghost use Rattle.element_state.specs.Operations.{cells_of};
 ghost use Rattle.element_state.specs.Schemas.{version_writes};
 ghost use Rattle.element_state.specs.Versions.{the_kinds, schema_of};
@@ -44,6 +45,7 @@ fn write_exists(
 /// Writes what an element asks for, as if the row were one of its table.
 fn write_own(
     alloc: Global,
+    schema: &Schema,
     definition: &ElementDef,
     op: &RowOp,
     old: Option<&Row>,
@@ -52,9 +54,9 @@ fn write_own(
 ) -> Result<(), AllocError>
     requires old { IfSome old (λ r. r.now.key ≡ key_of op.now) }
     requires new { IfSome new (λ r. r.now.key ≡ key_of op.now) }
-    ensures { OnOk result (batch.new ≡ noted batch.old ((kind_meaning definition.now.number definition.now.kind).writes definition.now.state (change_at (definition.now.table, key_of op.now) (option_map (λ r. cells_of r.now) old.entry) (option_map (λ r. cells_of r.now) new.entry)))) }
+    ensures { OnOk result (batch.new ≡ noted batch.old ((kind_meaning definition.now.number (source_in schema.now definition.now.kind)).writes definition.now.state (change_at (definition.now.table, key_of op.now) (option_map (λ r. cells_of r.now) old.entry) (option_map (λ r. cells_of r.now) new.entry)))) }
 {
-    let element = AnyElement::of(definition)?;
+    let element = AnyElement::of(alloc, schema, definition)?;
     match old {
         None => match new {
             None => Ok(()),
@@ -70,6 +72,7 @@ fn write_own(
 /// Writes what an element asks for. One of another table asks for nothing.
 fn write_element(
     alloc: Global,
+    schema: &Schema,
     definition: &ElementDef,
     op: &RowOp,
     old: Option<&Row>,
@@ -78,10 +81,10 @@ fn write_element(
 ) -> Result<(), AllocError>
     requires old { IfSome old (λ r. r.now.key ≡ key_of op.now) }
     requires new { IfSome new (λ r. r.now.key ≡ key_of op.now) }
-    ensures { OnOk result (batch.new ≡ noted batch.old (element_writes definition.now (change_at (row_of op.now) (option_map (λ r. cells_of r.now) old.entry) (option_map (λ r. cells_of r.now) new.entry)))) }
+    ensures { OnOk result (batch.new ≡ noted batch.old (element_writes schema.now definition.now (change_at (row_of op.now) (option_map (λ r. cells_of r.now) old.entry) (option_map (λ r. cells_of r.now) new.entry)))) }
 {
     if op.table() == definition.table {
-        write_own(alloc, definition, op, old, new, batch)
+        write_own(alloc, schema, definition, op, old, new, batch)
     } else {
         Ok(())
     }
@@ -89,6 +92,7 @@ fn write_element(
 
 fn write_elements(
     alloc: Global,
+    schema: &Schema,
     definitions: &[ElementDef],
     op: &RowOp,
     old: Option<&Row>,
@@ -97,10 +101,10 @@ fn write_elements(
 ) -> Result<(), AllocError>
     requires old { IfSome old (λ r. r.now.key ≡ key_of op.now) }
     requires new { IfSome new (λ r. r.now.key ≡ key_of op.now) }
-    ensures { OnOk result (batch.new ≡ noted batch.old (live_writes definitions.now (change_at (row_of op.now) (option_map (λ r. cells_of r.now) old.entry) (option_map (λ r. cells_of r.now) new.entry)))) }
+    ensures { OnOk result (batch.new ≡ noted batch.old (live_writes schema.now definitions.now (change_at (row_of op.now) (option_map (λ r. cells_of r.now) old.entry) (option_map (λ r. cells_of r.now) new.entry)))) }
 {
     for definition in definitions {
-        write_element(alloc, definition, op, old, new, batch)?;
+        write_element(alloc, schema, definition, op, old, new, batch)?;
     }
     Ok(())
 }
@@ -120,5 +124,5 @@ pub(crate) fn write_change(
 {
     served(schema);
     write_exists(alloc, op, old, new, batch)?;
-    write_elements(alloc, schema.elements(), op, old, new, batch)
+    write_elements(alloc, schema, schema.elements(), op, old, new, batch)
 }

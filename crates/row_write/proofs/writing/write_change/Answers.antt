@@ -12,4 +12,4 @@ returns c =
     let made = change_at (row_of c.args.op.now) (option_map (λ r. cells_of r.now) c.args.old) (option_map (λ r. cells_of r.now) c.args.new) in
     on_ok_weaker c.write_elements.result (λ e.
     noted_all c.args.schema.now c.served.ensures made c.args.batch.now c.write_exists.new.batch c.write_elements.new.batch c.in_ok-write_exists.ensures
-    (e ∙ ap (λ es. noted c.write_exists.new.batch (live_writes es made)) c.elements.ensures)) c.write_elements.ensures
+    (e ∙ ap (λ es. noted c.write_exists.new.batch (live_writes c.args.schema.now es made)) c.elements.ensures)) c.write_elements.ensures

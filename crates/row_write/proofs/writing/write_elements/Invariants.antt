@@ -7,5 +7,5 @@ use Rattle.row_write.proofs.writing.write_elements.Given as goal
 
 abbrev pub invariant-loop-definition : goal.invariant-loop-definition
 invariant-loop-definition l =
-    noted l.batch (live_writes (drop l.definition-index l.definitions) (change_at (row_of l.op) (option_map (λ r. cells_of r.now) l.old) (option_map (λ r. cells_of r.now) l.new)))
-    ≡ noted l.initial.batch (live_writes l.definitions (change_at (row_of l.op) (option_map (λ r. cells_of r.now) l.old) (option_map (λ r. cells_of r.now) l.new)))
+    noted l.batch (live_writes l.schema (drop l.definition-index l.definitions) (change_at (row_of l.op) (option_map (λ r. cells_of r.now) l.old) (option_map (λ r. cells_of r.now) l.new)))
+    ≡ noted l.initial.batch (live_writes l.schema l.definitions (change_at (row_of l.op) (option_map (λ r. cells_of r.now) l.old) (option_map (λ r. cells_of r.now) l.new)))
