@@ -1,5 +1,5 @@
 -- The row that is read is the row that the view spells.
-use Rattle.std.proofs.Common.{◌≡◌, ◌≢◌, ◌&&◌, ◌<◌, ◌+◌, ℕ, zero, suc, Bool, true, false, cond, T, List, [], ◌∷◌, length, get_or, take, Option, Some, None, option_map, inl, inr, refl, sym, ap, subst, ◌∙◌, arith, Contains, IsTrue}
+use Rattle.std.proofs.Common.{◌≡◌, ◌≢◌, ◌&&◌, ◌<◌, ◌+◌, ℕ, zero, suc, Bool, true, false, cond, T, List, [], ◌∷◌, length, get_or, take, Option, Some, None, option_map, inl, inr, refl, sym, ap, subst, ◌∙◌, arith, Contains}
 use Rattle.std.specs.List.{AllByRecursion}
 use Rattle.std.specs.declared.cmp.Ordering.{Ordering}
 use Rattle.std.specs.declared.cmp.Ordering.TheVariants.{Less, Equal, Greater}
@@ -11,11 +11,9 @@ use Rattle.listed.proofs.Steps.{AllByRecursion-take_more}
 use Rattle.byte_map.proofs.Written.{written_here, written_apart, same_or_apart, tied, apart}
 use Rattle.keycode.specs.declared.value.Value.{Value}
 use Rattle.keycode.specs.Code.{code}
-use Rattle.keycode.specs.Valid.{IsStorable}
 use Rattle.row_map.specs.declared.shape.ColumnType.{ColumnType}
 use Rattle.row_map.specs.Keys.{row_code}
 use Rattle.row_map.specs.Rows.{Bytes, RowKey, Cells, Rows}
-use Rattle.row_map.specs.Shape.{has_type}
 use Rattle.row_map.specs.Expect.{View}
 use Rattle.row_map.specs.Writes.{written}
 use Rattle.row_map.proofs.Orders.{row_cmp_total, row_cmp-IsAntisymmetric}
