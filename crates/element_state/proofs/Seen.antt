@@ -270,7 +270,7 @@ default_typed version table c v sound e = by (element_at version c) refl
         let f = fair ((d.table == table) && is_public d.state) d.kind (sound.elements c d is).fair (sym (ap (default_at table) is) ∙ e) in
         (λ element type at typed. f.0 type (ap (λ (x : ElementDef). type_of_kind x.kind) (some_one d element (sym is ∙ at)) ∙ typed), f.1, f.2)
 
-lawful_seen : (version : Version) (rows : Rows) → IsSoundVersion version → AreLawfulRows version rows → AreLawfulRows version (seen version rows)
+pub lawful_seen : (version : Version) (rows : Rows) → IsSoundVersion version → AreLawfulRows version rows → AreLawfulRows version (seen version rows)
 lawful_seen version rows sound lawful k s at =
     let r = seen_from version rows k s at in
     let row : IsLawfulRow version k r.0 = lawful k r.0 r.1 in

@@ -1,24 +1,25 @@
--- What the pairs of an element are built from: its kind, with what a version knows of the columns that an index lists.
+-- What the pairs of an element are built from: its kind, in which an index knows what stands for a value that a row lacks in its columns.
 use Rattle.std.specs.Prelude.{ℕ, List, Option, Some, None}
 use mathlib.Core.List.{map as each}
 use Rattle.keycode.specs.declared.value.Value.{Value}
 use Rattle.keycode.specs.declared.value.Value.TheVariants.{Null}
+use Rattle.row_map.specs.declared.shape.ColumnType.{ColumnType}
 use Rattle.schema_version.specs.declared.element.Kind.{Kind}
 use Rattle.schema_version.specs.declared.element.Kind.TheVariants.{Index, Optional, Required}
 use Rattle.schema_version.specs.declared.element.ElementDef.{ElementDef}
 use Rattle.schema_version.specs.Version.{Version, element_at, fallback_of, listed}
 
--- an index's columns, each with what stands for a value that a row lacks in it; nothing of an optional column; a required column's default
+-- an index's columns, each with what stands for a missing value; a column's type, and of a required one its default
 pub data Source : Type 0 where
   IndexOn : (columns : List (ℕ × Value)) → Source
-  OptionalIn : Source
-  RequiredIn : (fallback : Value) → Source
+  OptionalIn : (type : ColumnType) → Source
+  RequiredIn : (type : ColumnType) (fallback : Value) → Source
 
 -- that of a kind, if these are its columns
 abbrev pub source_with : List (ℕ × Value) → Kind → Source
 source_with columns (Index numbers) = IndexOn columns
-source_with columns (Optional type) = OptionalIn
-source_with columns (Required type fallback) = RequiredIn fallback
+source_with columns (Optional type) = OptionalIn type
+source_with columns (Required type fallback) = RequiredIn type fallback
 
 -- with what stands for a missing value in each listed column
 abbrev pub source_by : (ℕ → Value) → Kind → Source
