@@ -28,10 +28,10 @@ none_some v e = absurd cc
 -- ---- one version
 
 -- an element as the core sees it
-pub at_number : (version : Version) (n : ℕ) → 1 ≤ n → map.get (schema_of version) n ≡ option_map entry_of (element_at version n)
+pub at_number : (version : Version) (n : ℕ) → 1 ≤ n → map.get (schema_of version) n ≡ option_map (entry_of version) (element_at version n)
 at_number version n above =
     get-schema_of version n
-    ∙ ap (λ (b : Bool). cond b (Some row_entry) (option_map entry_of (map.get version.elements n))) (apart_zero n above)
+    ∙ ap (λ (b : Bool). cond b (Some row_entry) (option_map (entry_of version) (map.get version.elements n))) (apart_zero n above)
   where
     apart_zero : (m : ℕ) → 1 ≤ m → eq_by_cmp nat_cmp m 0 ≡ false
     apart_zero m le = apart nat_cmp_total nat_cmp-IsAntisymmetric m 0 (λ e. zero_above (subst (λ (x : ℕ). 1 ≤ x) e le))
@@ -39,13 +39,13 @@ at_number version n above =
         zero_above : 1 ≤ 0 → ⊥
         zero_above h = absurd (omega (arith, h))
 
-meets_demand : (P : Pairs) (R : Rows) (n : ℕ) (o : Option ElementDef) → Meets the_kinds n (option_map entry_of o) P R → DemandOf n o P R
-meets_demand P R n None m = m
-meets_demand P R n (Some e) m = m
+meets_demand : (version : Version) (P : Pairs) (R : Rows) (n : ℕ) (o : Option ElementDef) → Meets the_kinds n (option_map (entry_of version) o) P R → DemandOf version n o P R
+meets_demand version P R n None m = m
+meets_demand version P R n (Some e) m = m
 
 pub consistent : (version : Version) (R : Rows) (P : Pairs) → Consistent the_kinds (schema_of version) P R → AreFormed P → AreLawfulRows version R → IsConsistent version R P
 consistent version R P all formed lawful = record {
-  elements = λ n above. meets_demand P R n (element_at version n) (subst (λ o. Meets the_kinds n o P R) (at_number version n above) (all n));
+  elements = λ n above. meets_demand version P R n (element_at version n) (subst (λ o. Meets the_kinds n o P R) (at_number version n above) (all n));
   exists = exists_exact version P R all;
   forms = formed;
   lawful = lawful;

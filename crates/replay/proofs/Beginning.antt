@@ -1,6 +1,6 @@
 -- A reorganisation that begins: nothing is passed yet.
 use Rattle.std.proofs.Common.{◌≡◌, ℕ, ◌≤◌, List, [], ◌∷◌, ◌++◌, Option, Some, None, option_map, refl, sym, ap, subst, ◌∙◌, inl, inr, Bool, true, false, cond, eq-eqb, ne_eqb, arith}
-use Rattle.std.specs.Prelude.{IsTrue}
+use Rattle.std.specs.Prelude.{IsTrue, is_some, if◌then◌else◌}
 use Rattle.std.specs.List.{AllByRecursion}
 use Rattle.std.specs.Option.{option_or}
 use Rattle.std.proofs.lemmas.List.Folds.{find-append}
@@ -16,13 +16,14 @@ use Rattle.schema_version.specs.declared.element.ElementState.TheVariants.{Absen
 use Rattle.schema_version.specs.declared.element.Way.{Way}
 use Rattle.schema_version.specs.declared.element.Way.TheVariants.{Adding, Dropping}
 use Rattle.schema_version.specs.declared.element.Kind.{Kind}
-use Rattle.schema_version.specs.declared.element.Kind.TheVariants.{Index, Optional}
+use Rattle.schema_version.specs.declared.element.Kind.TheVariants.{Index, Optional, Required}
 use Rattle.schema_version.specs.declared.element.ElementDef.{ElementDef}
-use Rattle.schema_version.specs.Edges.{work_by, wanted}
+use Rattle.schema_version.specs.Edges.{edge_by, needed_by, is_filled, work_by, wanted}
 use Rattle.schema_version.specs.Version.{Version, element_at, state_of, state_or_absent}
 use Rattle.element_state.specs.Core.{Core, Invariant, MayRun}
 use Rattle.element_state.specs.Core as core
 use Rattle.element_state.specs.Schemas.{state_of as state_in}
+use Rattle.element_state.specs.Sources.{source_in}
 use Rattle.element_state.specs.Versions.{ElementKind, Of, the_kinds, meaning_of, schema_of, entry_of, IsLawfulOf}
 use Rattle.element_state.proofs.Whole.{begin_kept, number_one}
 use Rattle.schema_version.specs.declared.element.Work.{Work}
@@ -51,38 +52,52 @@ none_some e = absurd cc
 
 -- ---- what an element wants may run
 
-may_run : (n table : ℕ) (kind : Kind) (way : Way) (state : ElementState) (work : Work) → work_by kind way state ≡ Some work → MayRun the_kinds work (Of table kind) state
-may_run n table (Index columns) Adding Absent work e = none_some e
-may_run n table (Index columns) Adding DeleteOnly work e = none_some e
-may_run n table (Index columns) Adding WriteOnly work e = subst (λ (u : Work). MayRun the_kinds u (Of table (Index columns)) WriteOnly) (some_one e) tt
-may_run n table (Index columns) Adding Public work e = none_some e
-may_run n table (Index columns) Dropping Absent work e = none_some e
-may_run n table (Index columns) Dropping DeleteOnly work e = subst (λ (u : Work). MayRun the_kinds u (Of table (Index columns)) DeleteOnly) (some_one e) (λ g. g)
-may_run n table (Index columns) Dropping WriteOnly work e = none_some e
-may_run n table (Index columns) Dropping Public work e = none_some e
-may_run n table (Optional type) Adding Absent work e = none_some e
-may_run n table (Optional type) Adding DeleteOnly work e = none_some e
-may_run n table (Optional type) Adding WriteOnly work e = none_some e
-may_run n table (Optional type) Adding Public work e = none_some e
-may_run n table (Optional type) Dropping Absent work e = none_some e
-may_run n table (Optional type) Dropping DeleteOnly work e = subst (λ (u : Work). MayRun the_kinds u (Of table (Optional type)) DeleteOnly) (some_one e) (λ g. g)
-may_run n table (Optional type) Dropping WriteOnly work e = none_some e
-may_run n table (Optional type) Dropping Public work e = none_some e
+-- what the next move on a way needs, by whether the kind is filled
+abbrev WantedBy : Bool → Way → ElementState → Option Work
+WantedBy filled way from =
+    if is_some (edge_by filled way from Public) then needed_by filled Public
+    else (if is_some (edge_by filled way from Absent) then needed_by filled Absent
+    else None)
+
+runs_by : (filled : Bool) (source : ElementKind) (way : Way) (state : ElementState) (work : Work) → WantedBy filled way state ≡ Some work → MayRun the_kinds work source state
+runs_by true source Adding Absent work e = none_some e
+runs_by true source Adding DeleteOnly work e = none_some e
+runs_by true source Adding WriteOnly work e = subst (λ (u : Work). MayRun the_kinds u source WriteOnly) (some_one e) tt
+runs_by true source Adding Public work e = none_some e
+runs_by true source Dropping Absent work e = none_some e
+runs_by true source Dropping DeleteOnly work e = subst (λ (u : Work). MayRun the_kinds u source DeleteOnly) (some_one e) (λ g. g)
+runs_by true source Dropping WriteOnly work e = none_some e
+runs_by true source Dropping Public work e = none_some e
+runs_by false source Adding Absent work e = none_some e
+runs_by false source Adding DeleteOnly work e = none_some e
+runs_by false source Adding WriteOnly work e = none_some e
+runs_by false source Adding Public work e = none_some e
+runs_by false source Dropping Absent work e = none_some e
+runs_by false source Dropping DeleteOnly work e = subst (λ (u : Work). MayRun the_kinds u source DeleteOnly) (some_one e) (λ g. g)
+runs_by false source Dropping WriteOnly work e = none_some e
+runs_by false source Dropping Public work e = none_some e
+
+may_run : (kind : Kind) (source : ElementKind) (way : Way) (state : ElementState) (work : Work) → work_by kind way state ≡ Some work → MayRun the_kinds work source state
+may_run kind source way state work e = runs_by (is_filled kind) source way state work e
 
 clear_fill : {B : Type 0} → Clear ≡ Fill → B
 clear_fill e = absurd cc
 
+no_fill : (way : Way) (state : ElementState) (work : Work) → WantedBy false way state ≡ Some work → work ≡ Fill → ⊥
+no_fill Adding Absent work e f = none_some e
+no_fill Adding DeleteOnly work e f = none_some e
+no_fill Adding WriteOnly work e f = none_some e
+no_fill Adding Public work e f = none_some e
+no_fill Dropping Absent work e f = none_some e
+no_fill Dropping DeleteOnly work e f = clear_fill (some_one e ∙ f)
+no_fill Dropping WriteOnly work e f = none_some e
+no_fill Dropping Public work e f = none_some e
+
 -- a fill is one of a kind that is filled
-filled_so : (n table : ℕ) (kind : Kind) (way : Way) (state : ElementState) (work : Work) → work_by kind way state ≡ Some work → work ≡ Fill → IsTrue ((meaning_of n (Of table kind)).filled)
-filled_so n table (Index columns) way state work e f = refl
-filled_so n table (Optional type) Adding Absent work e f = none_some e
-filled_so n table (Optional type) Adding DeleteOnly work e f = none_some e
-filled_so n table (Optional type) Adding WriteOnly work e f = none_some e
-filled_so n table (Optional type) Adding Public work e f = none_some e
-filled_so n table (Optional type) Dropping Absent work e f = none_some e
-filled_so n table (Optional type) Dropping DeleteOnly work e f = clear_fill (some_one e ∙ f)
-filled_so n table (Optional type) Dropping WriteOnly work e f = none_some e
-filled_so n table (Optional type) Dropping Public work e f = none_some e
+filled_so : (version : Version) (n table : ℕ) (kind : Kind) (way : Way) (state : ElementState) (work : Work) → work_by kind way state ≡ Some work → work ≡ Fill → IsTrue ((meaning_of n (Of table (source_in version kind))).filled)
+filled_so version n table (Index columns) way state work e f = refl
+filled_so version n table (Required type fallback) way state work e f = refl
+filled_so version n table (Optional type) way state work e f = absurd (no_fill way state work e f)
 
 -- ---- one reorganisation more
 
@@ -131,9 +146,9 @@ all_append P (x ∷ xs) ys a b = (a.0, all_append P xs ys a.1 b)
 state_seen : (version : Version) (n : ℕ) → 1 ≤ n → (o : Option ElementDef) → element_at version n ≡ o → state_in (map.get (schema_of version) n) ≡ state_of version n
 state_seen version n above o is = ap state_in (at_number version n above) ∙ by o is
   where
-    by : (o : Option ElementDef) → element_at version n ≡ o → state_in (option_map entry_of (element_at version n)) ≡ state_of version n
-    by None is = ap (λ (x : Option ElementDef). state_in (option_map entry_of x)) is ∙ sym (ap state_or_absent is)
-    by (Some e) is = ap (λ (x : Option ElementDef). state_in (option_map entry_of x)) is ∙ sym (ap state_or_absent is)
+    by : (o : Option ElementDef) → element_at version n ≡ o → state_in (option_map (entry_of version) (element_at version n)) ≡ state_of version n
+    by None is = ap (λ (x : Option ElementDef). state_in (option_map (entry_of version) x)) is ∙ sym (ap state_or_absent is)
+    by (Some e) is = ap (λ (x : Option ElementDef). state_in (option_map (entry_of version) x)) is ∙ sym (ap state_or_absent is)
 
 -- ---- the begin
 
@@ -151,11 +166,11 @@ module _ (facts : Facts) (now number pieces : ℕ) (element : ElementDef) (work 
   own : element.number ≡ number
   own = (kept.sound.elements number element there).own
 
-  entry : map.get (schema_of facts.newest) number ≡ Some (entry_of element)
-  entry = at_number facts.newest number above ∙ ap (option_map entry_of) there
+  entry : map.get (schema_of facts.newest) number ≡ Some (entry_of facts.newest element)
+  entry = at_number facts.newest number above ∙ ap (option_map (entry_of facts.newest)) there
 
-  lawful_element : IsLawfulOf number element.table element.kind
-  lawful_element = lawful facts.newest kept.sound number (entry_of element) entry
+  lawful_element : IsLawfulOf number element.table (source_in facts.newest element.kind)
+  lawful_element = lawful facts.newest kept.sound number (entry_of facts.newest element) entry
 
   is_begun : IsBegun facts.newest b
   is_begun = record {
@@ -173,9 +188,9 @@ module _ (facts : Facts) (now number pieces : ℕ) (element : ElementDef) (work 
   begun_core =
       subst (λ (n : ℕ). Invariant the_kinds (record (core_at (at facts now) now) { progress = map.insert (all_passed facts.progress) n (passed b) })) (sym own)
       (subst (λ spans. Invariant the_kinds (record (core_at (at facts now) now) { progress = map.insert (all_passed facts.progress) number (let c : core.Progress = record { work = work; spans = spans } in c) })) (sym (begins_fresh element work facts.pairs pieces))
-      (begin_kept the_kinds (core_at (at facts now) now) number (entry_of element) work lows entry (filled_so number element.table element.kind element.way element.state work wants)
-      (subst (MayRun the_kinds work (Of element.table element.kind)) (sym (state_seen (used_before facts now) number above (element_at (used_before facts now) number) refl ∙ settled)) (may_run number element.table element.kind element.way element.state work wants))
-      (subst (MayRun the_kinds work (Of element.table element.kind)) (sym (ap state_in entry)) (may_run number element.table element.kind element.way element.state work wants))
+      (begin_kept the_kinds (core_at (at facts now) now) number (entry_of facts.newest element) work lows entry (filled_so facts.newest number element.table element.kind element.way element.state work wants)
+      (subst (MayRun the_kinds work (Of element.table (source_in facts.newest element.kind))) (sym (state_seen (used_before facts now) number above (element_at (used_before facts now) number) refl ∙ settled)) (may_run element.kind (Of element.table (source_in facts.newest element.kind)) element.way element.state work wants))
+      (subst (MayRun the_kinds work (Of element.table (source_in facts.newest element.kind))) (sym (ap state_in entry)) (may_run element.kind (Of element.table (source_in facts.newest element.kind)) element.way element.state work wants))
       k.core_kept))
 
   one_more : IsKept (record (at facts now) { progress = facts.progress ++ b ∷ [] })

@@ -94,4 +94,4 @@ public_state version table n type column =
   where
     option_of : Option ElementDef → Option (Entry ElementKind)
     option_of None = None
-    option_of (Some e) = Some (entry_of e)
+    option_of (Some e) = Some (entry_of version e)

@@ -1,5 +1,5 @@
 -- What an allowed step makes of a version, as the elements' laws see it.
-use Rattle.std.proofs.Common.{◌≡◌, ℕ, ◌≤◌, List, [], ◌∷◌, Option, Some, None, option_map, refl, sym, subst, ◌∙◌, ◌⊎◌, inl, inr, Bool, true, false, cond, arith}
+use Rattle.std.proofs.Common.{◌≡◌, ℕ, ◌≤◌, List, [], ◌∷◌, Option, Some, None, option_map, refl, sym, ap, ap₂, subst, Contains, ◌∙◌, ◌⊎◌, inl, inr, Bool, true, false, cond, arith}
 use Rattle.std.specs.Prelude.{◌≢◌, IsTrue}
 use Rattle.std.specs.FinMap as map
 use Rattle.std.specs.Ordering.{nat_cmp, eq_by_cmp}
@@ -8,12 +8,18 @@ use Rattle.schema_version.specs.declared.element.ElementState.TheVariants.{Absen
 use Rattle.schema_version.specs.declared.element.Way.{Way}
 use Rattle.schema_version.specs.declared.element.Way.TheVariants.{Adding, Dropping}
 use Rattle.schema_version.specs.declared.element.Kind.{Kind}
-use Rattle.schema_version.specs.declared.element.Kind.TheVariants.{Index, Optional}
+use Rattle.schema_version.specs.declared.element.Kind.TheVariants.{Index, Optional, Required}
 use Rattle.schema_version.specs.declared.element.ElementDef.{ElementDef}
 use Rattle.schema_version.specs.declared.step.Move.{Move}
 use Rattle.schema_version.specs.declared.step.Move.TheVariants.{Enter, Go, Turn}
-use Rattle.schema_version.specs.Edges.{edge, HasEdge}
-use Rattle.schema_version.specs.Version.{Version, element_at}
+use Rattle.schema_version.specs.Edges.{edge, edge_by, is_filled, HasEdge}
+use Rattle.schema_version.specs.Version.{Version, element_at, listed}
+use Rattle.schema_version.proofs.Lists.{here, later}
+use Rattle.keycode.specs.declared.value.Value.{Value}
+use Rattle.element_state.specs.Column.{column_edge}
+use Rattle.element_state.specs.Index.{index_edge}
+use Rattle.element_state.specs.Sources.{Source, IndexOn, OptionalIn, RequiredIn, source_in, stand_in_at, fallback_or_null}
+use mathlib.Core.List.{map as each}
 use Rattle.schema_version.specs.Moves.{moved, turned, after_move, after_step}
 use Rattle.schema_version.specs.Steps.{in_state_or_none, StepOf, Same, New, Next, Back}
 use Rattle.schema_version.proofs.Changes.{moved_next, turned_next}
@@ -27,61 +33,107 @@ use Rattle.replay.proofs.Time.{joined_itself}
 no_way : {B : Type 0} {next : Way} → None ≡ Some next → B
 no_way e = absurd cc
 
+-- ---- edges
+
+-- whether a fill puts the pairs that are built so
+abbrev pub filled_of : Source → Bool
+filled_of (IndexOn columns) = true
+filled_of (OptionalIn type) = false
+filled_of (RequiredIn type fallback) = true
+
+pub filled_in : (version : Version) (kind : Kind) → filled_of (source_in version kind) ≡ is_filled kind
+filled_in version (Index columns) = refl
+filled_in version (Optional type) = refl
+filled_in version (Required type fallback) = refl
+
+filled_edge : (way : Way) (from to : ElementState) (next : Way) → edge_by true way from to ≡ Some next → IsTrue (index_edge from to)
+filled_edge Adding Absent DeleteOnly next e = refl
+filled_edge Adding DeleteOnly WriteOnly next e = refl
+filled_edge Adding WriteOnly Public next e = refl
+filled_edge way Public WriteOnly next e = refl
+filled_edge Dropping WriteOnly DeleteOnly next e = refl
+filled_edge Dropping DeleteOnly Absent next e = refl
+filled_edge way from to next e = no_way e
+
+plain_edge : (way : Way) (from to : ElementState) (next : Way) → edge_by false way from to ≡ Some next → IsTrue (column_edge from to)
+plain_edge Adding Absent DeleteOnly next e = refl
+plain_edge Adding DeleteOnly Public next e = refl
+plain_edge way Public DeleteOnly next e = refl
+plain_edge Dropping DeleteOnly Absent next e = refl
+plain_edge way from to next e = no_way e
+
 -- an edge of a kind is one in the words of the laws
-edge_in : (table n : ℕ) (kind : Kind) (way : Way) (from to : ElementState) (next : Way) → edge kind way from to ≡ Some next → IsTrue ((meaning_of n (Of table kind)).edge from to)
-edge_in table n (Index columns) Adding Absent DeleteOnly next e = refl
-edge_in table n (Index columns) Adding DeleteOnly WriteOnly next e = refl
-edge_in table n (Index columns) Adding WriteOnly Public next e = refl
-edge_in table n (Index columns) way Public WriteOnly next e = refl
-edge_in table n (Index columns) Dropping WriteOnly DeleteOnly next e = refl
-edge_in table n (Index columns) Dropping DeleteOnly Absent next e = refl
-edge_in table n (Optional type) Adding Absent DeleteOnly next e = refl
-edge_in table n (Optional type) Adding DeleteOnly Public next e = refl
-edge_in table n (Optional type) way Public DeleteOnly next e = refl
-edge_in table n (Optional type) Dropping DeleteOnly Absent next e = refl
-edge_in table n kind way from to next e = no_way e
+edges_in : (table n : ℕ) (source : Source) (filled : Bool) (way : Way) (from to : ElementState) (next : Way) → filled_of source ≡ filled → edge_by filled way from to ≡ Some next → IsTrue ((meaning_of n (Of table source)).edge from to)
+edges_in table n (IndexOn columns) true way from to next is e = filled_edge way from to next e
+edges_in table n (RequiredIn type fallback) true way from to next is e = filled_edge way from to next e
+edges_in table n (OptionalIn type) false way from to next is e = plain_edge way from to next e
+edges_in table n (IndexOn columns) false way from to next is e = absurd cc
+edges_in table n (RequiredIn type fallback) false way from to next is e = absurd cc
+edges_in table n (OptionalIn type) true way from to next is e = absurd cc
+
+pub edge_in : (version : Version) (table n : ℕ) (kind : Kind) (way : Way) (from to : ElementState) (next : Way) → edge kind way from to ≡ Some next → IsTrue ((meaning_of n (Of table (source_in version kind))).edge from to)
+edge_in version table n kind way from to next e = edges_in table n (source_in version kind) (is_filled kind) way from to next (filled_in version kind) e
 
 -- nothing enters as public
+none_at_once : (filled : Bool) (way next : Way) → edge_by filled way Absent Public ≡ Some next → ⊥
+none_at_once true Adding next e = no_way e
+none_at_once true Dropping next e = no_way e
+none_at_once false Adding next e = no_way e
+none_at_once false Dropping next e = no_way e
+
 pub not_at_once : (kind : Kind) → HasEdge kind Absent Public → ⊥
-not_at_once (Index columns) (Adding, next, e) = no_way e
-not_at_once (Index columns) (Dropping, next, e) = no_way e
-not_at_once (Optional type) (Adding, next, e) = no_way e
-not_at_once (Optional type) (Dropping, next, e) = no_way e
+not_at_once kind (way, next, e) = none_at_once (is_filled kind) way next e
 
 -- ---- a version as the laws see it
 
 -- the `exists` pairs under number 0, and else the element
-abbrev pub seen : Bool → Option ElementDef → Option (Entry ElementKind)
-seen b o = cond b (Some row_entry) (option_map entry_of o)
+abbrev pub seen : Version → Bool → Option ElementDef → Option (Entry ElementKind)
+seen version b o = cond b (Some row_entry) (option_map (entry_of version) o)
 
 abbrev pub is_zero : ℕ → Bool
 is_zero n = eq_by_cmp nat_cmp n 0
 
-pub get_seen : (version : Version) (n : ℕ) → map.get (schema_of version) n ≡ seen (is_zero n) (element_at version n)
+pub get_seen : (version : Version) (n : ℕ) → map.get (schema_of version) n ≡ seen version (is_zero n) (element_at version n)
 get_seen version n = get-schema_of version n
 
-next_joined : (n : ℕ) (x : ElementDef) (to : ElementState) (way : Way) → edge x.kind x.way x.state to ≡ Some way → JoinedAt the_kinds n (Some (entry_of x)) (option_map entry_of (in_state_or_none x to))
-next_joined n x Absent way e = inr (edge_in x.table n x.kind x.way x.state Absent way e)
-next_joined n x DeleteOnly way e = (refl, inr (edge_in x.table n x.kind x.way x.state DeleteOnly way e))
-next_joined n x WriteOnly way e = (refl, inr (edge_in x.table n x.kind x.way x.state WriteOnly way e))
-next_joined n x Public way e = (refl, inr (edge_in x.table n x.kind x.way x.state Public way e))
+module _ (version : Version) where
+  next_joined : (n : ℕ) (x : ElementDef) (to : ElementState) (way : Way) → edge x.kind x.way x.state to ≡ Some way → JoinedAt the_kinds n (Some (entry_of version x)) (option_map (entry_of version) (in_state_or_none x to))
+  next_joined n x Absent way e = inr (edge_in version x.table n x.kind x.way x.state Absent way e)
+  next_joined n x DeleteOnly way e = (refl, inr (edge_in version x.table n x.kind x.way x.state DeleteOnly way e))
+  next_joined n x WriteOnly way e = (refl, inr (edge_in version x.table n x.kind x.way x.state WriteOnly way e))
+  next_joined n x Public way e = (refl, inr (edge_in version x.table n x.kind x.way x.state Public way e))
 
-joined_def : (n next : ℕ) (old new : Option ElementDef) → StepOf next n old new → JoinedAt the_kinds n (option_map entry_of old) (option_map entry_of new)
-joined_def n next old new (Same e) = subst (λ (o : Option ElementDef). JoinedAt the_kinds n (option_map entry_of old) (option_map entry_of o)) (sym e) (joined_itself n (option_map entry_of old))
-joined_def n next old new (New fresh to le has none is) =
-    subst (λ (o : Option ElementDef). JoinedAt the_kinds n (option_map entry_of o) (option_map entry_of new)) (sym none)
-    (subst (λ (o : Option ElementDef). JoinedAt the_kinds n None (option_map entry_of o)) (sym is) (inr (edge_in fresh.table n fresh.kind has.0 Absent to has.1 has.2)))
-joined_def n next old new (Next x to way e was is) =
-    subst (λ (o : Option ElementDef). JoinedAt the_kinds n (option_map entry_of o) (option_map entry_of new)) (sym was)
-    (subst (λ (o : Option ElementDef). JoinedAt the_kinds n (Some (entry_of x)) (option_map entry_of o)) (sym is) (next_joined n x to way e))
-joined_def n next old new (Back x private way was is) =
-    subst (λ (o : Option ElementDef). JoinedAt the_kinds n (option_map entry_of o) (option_map entry_of new)) (sym was)
-    (subst (λ (o : Option ElementDef). JoinedAt the_kinds n (Some (entry_of x)) (option_map entry_of o)) (sym is) (refl, inl refl))
+  abbrev Joins : ℕ → Option ElementDef → Option ElementDef → Type 0
+  Joins n a b = JoinedAt the_kinds n (option_map (entry_of version) a) (option_map (entry_of version) b)
 
--- an element and what a step makes of it are of one kind, and in equal states or in states that an edge joins
-pub joined_step : (b : Bool) (n next : ℕ) (old new : Option ElementDef) → StepOf next n old new → JoinedAt the_kinds n (seen b old) (seen b new)
-joined_step true n next old new st = joined_itself n (Some row_entry)
-joined_step false n next old new st = joined_def n next old new st
+  joined_def : (n next : ℕ) (old new : Option ElementDef) → StepOf next n old new → Joins n old new
+  joined_def n next old new (Same e) = subst (λ (o : Option ElementDef). Joins n old o) (sym e) (joined_itself n (option_map (entry_of version) old))
+  joined_def n next old new (New fresh to le has none is) =
+      subst (λ (o : Option ElementDef). Joins n o new) (sym none)
+      (subst (λ (o : Option ElementDef). JoinedAt the_kinds n None (option_map (entry_of version) o)) (sym is) (inr (edge_in version fresh.table n fresh.kind has.0 Absent to has.1 has.2)))
+  joined_def n next old new (Next x to way e was is) =
+      subst (λ (o : Option ElementDef). Joins n o new) (sym was)
+      (subst (λ (o : Option ElementDef). JoinedAt the_kinds n (Some (entry_of version x)) (option_map (entry_of version) o)) (sym is) (next_joined n x to way e))
+  joined_def n next old new (Back x private way was is) =
+      subst (λ (o : Option ElementDef). Joins n o new) (sym was)
+      (subst (λ (o : Option ElementDef). JoinedAt the_kinds n (Some (entry_of version x)) (option_map (entry_of version) o)) (sym is) (refl, inl refl))
+
+  -- an element and what a step makes of it, seen by one version, are built from the same, and in equal states or in states that an edge joins
+  pub joined_step : (b : Bool) (n next : ℕ) (old new : Option ElementDef) → StepOf next n old new → JoinedAt the_kinds n (seen version b old) (seen version b new)
+  joined_step true n next old new st = joined_itself n (Some row_entry)
+  joined_step false n next old new st = joined_def n next old new st
+
+-- ---- what pairs are built from, in a version and in one where the columns that an index lists are the same
+
+listed_same : (v s : Version) (cs : List ℕ) → ((c : ℕ) → Contains cs c → element_at s c ≡ element_at v c) → each (λ c. (c, stand_in_at s c)) cs ≡ each (λ c. (c, stand_in_at v c)) cs
+listed_same v s [] same = refl
+listed_same v s (c ∷ cs) same =
+    ap₂ (λ (x : ℕ × Value) (xs : List (ℕ × Value)). x ∷ xs) (ap (λ o. (c, fallback_or_null o)) (same c (here c cs))) (listed_same v s cs (λ d there. same d (later c d cs there)))
+
+pub source_same : (v s : Version) (kind : Kind) → ((c : ℕ) → Contains (listed kind) c → element_at s c ≡ element_at v c) → source_in s kind ≡ source_in v kind
+source_same v s (Index columns) same = ap IndexOn (listed_same v s columns same)
+source_same v s (Optional type) same = refl
+source_same v s (Required type fallback) same = refl
 
 pub live_state : (q : ElementState) → q ≢ Absent → IsLive q
 live_state Absent ne = absurd (ne refl)

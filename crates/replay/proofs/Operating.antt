@@ -14,10 +14,8 @@ use Rattle.row_map.specs.Keys.{AreKeyValues}
 use Rattle.row_map.specs.Rows.{RowKey, Cells, Rows, IsStorableRow}
 use Rattle.row_map.specs.Shape.{has_type}
 use Rattle.schema_version.specs.declared.element.ElementState.TheVariants.{Public}
-use Rattle.schema_version.specs.declared.element.Kind.{Kind}
-use Rattle.schema_version.specs.declared.element.Kind.TheVariants.{Optional}
 use Rattle.schema_version.specs.declared.element.ElementDef.{ElementDef}
-use Rattle.schema_version.specs.Version.{Version, element_at}
+use Rattle.schema_version.specs.Version.{Version, element_at, type_of_kind}
 use Rattle.element_state.specs.Effects.{row_here, row_apart, key_one}
 use Rattle.element_state.specs.Elements.{Change, rows_after, cell}
 use Rattle.element_state.specs.Schemas.{state_of}
@@ -86,17 +84,11 @@ cell_not_null (Flag b) v e = λ null. flag_null (some_one (Flag b) v e ∙ null)
     flag_null : Flag b ≡ Null → ⊥
     flag_null s = cc
 
-one_type : (k : Kind) (s t : ColumnType) → k ≡ Optional s → k ≡ Optional t → s ≡ t
-one_type k s t p q = types (sym p ∙ q)
-  where
-    types : Optional s ≡ Optional t → s ≡ t
-    types e = cc
-
 -- a value that a column of the version may hold
 pub record IsFine (version : Version) (column : ℕ) (value : Value) : Type 0 where
   pub storable : IsStorable value
   pub not_null : value ≢ Null
-  pub typed : (element : ElementDef) (type : ColumnType) → element_at version column ≡ Some element → element.kind ≡ Optional type → IsTrue (has_type type value)
+  pub typed : (element : ElementDef) (type : ColumnType) → element_at version column ≡ Some element → type_of_kind element.kind ≡ Some type → IsTrue (has_type type value)
 
 -- what one named cell gives
 given_one : (version : Version) (table : ℕ) (m : ℕ × Value) → HasColumn version table m.0 → ((type : ColumnType) → IsPublicColumn version table m.0 type → Suits type m.1) → (v : Value) → cell_of m.1 ≡ Some v → IsFine version m.0 v
@@ -109,7 +101,7 @@ given_one version table m has suits v is = elim (suits has.0 has.1) [
         not_null = cell_not_null m.1 v is;
         typed = λ element type at kind.
             let one : has.1.element ≡ element = some_one has.1.element element (sym has.1.known ∙ at) in
-            let same_type : has.0 ≡ type = one_type element.kind has.0 type (ap (λ (e : ElementDef). e.kind) (sym one) ∙ has.1.column) kind in
+            let same_type : has.0 ≡ type = some_one has.0 type (sym (ap (λ (e : ElementDef). type_of_kind e.kind) (sym one) ∙ has.1.column) ∙ kind) in
             subst (λ (t : ColumnType). IsTrue (has_type t v)) same_type (subst (λ (w : Value). IsTrue (has_type has.0 w)) same fits.0);
       }
 ]

@@ -15,14 +15,12 @@ use Rattle.schema_version.specs.declared.element.ElementState.{ElementState}
 use Rattle.schema_version.specs.declared.element.ElementState.TheVariants.{Absent, DeleteOnly, WriteOnly, Public}
 use Rattle.schema_version.specs.declared.element.Way.{Way}
 use Rattle.schema_version.specs.declared.element.Way.TheVariants.{Adding, Dropping}
-use Rattle.schema_version.specs.declared.element.Kind.{Kind}
-use Rattle.schema_version.specs.declared.element.Kind.TheVariants.{Index, Optional}
 use Rattle.schema_version.specs.declared.element.ElementDef.{ElementDef}
 use Rattle.schema_version.specs.declared.step.Move.{Move}
 use Rattle.schema_version.specs.declared.step.Move.TheVariants.{Enter, Go, Turn}
 use Rattle.schema_version.specs.declared.step.StepFault.TheVariants.{NotAdjacent}
-use Rattle.schema_version.specs.Edges.{edge, HasEdge}
-use Rattle.schema_version.specs.Version.{Version, table_at, element_at}
+use Rattle.schema_version.specs.Edges.{edge, is_filled, needed_by, HasEdge}
+use Rattle.schema_version.specs.Version.{Version, table_at, element_at, type_of_kind}
 use Rattle.schema_version.specs.Moves.{is_move_of, moves_element, in_state, after_step, IsAllowed}
 use Rattle.schema_version.specs.Sound.{IsSoundVersion}
 use Rattle.schema_version.specs.Steps.{Change, Stays, Enters, Goes, Turns, in_state_or_none, StepOf, Same, New, Next, Back, IsOrdered}
@@ -30,7 +28,7 @@ use Rattle.schema_version.proofs.Lists.{any_from, not_both}
 use Rattle.schema_version.proofs.Stepping.{split_at, some_edge, adding_to_public, adding_before, own_way, may_turn, change_at, steps_keep_to_edges}
 use Rattle.schema_version.proofs.Along.{ordered_of}
 use Rattle.schema_version.proofs.Changes.{its_go, its_turn}
-use Rattle.schema_version.proofs.Served.{steps_stay_sound}
+use Rattle.schema_version.proofs.Served.{steps_stay_sound, indexed_columns_stay}
 use Rattle.element_state.specs.Consistent.{IsLawfulRow, AreLawfulRows}
 use Rattle.element_state.specs.Core.{Core, Invariant, NeverPublic}
 use Rattle.element_state.specs.Core as core
@@ -42,7 +40,8 @@ use Rattle.element_state.specs.Publishing.{MayBePublic, Was, Filled, Unfilled, M
 use Rattle.element_state.proofs.Publishing.{publish_kept}
 use Rattle.element_state.proofs.Reaches.{fill_ended, clear_ended}
 use Rattle.element_state.specs.Schemas.{Entry, state_of}
-use Rattle.element_state.specs.Versions.{ElementKind, Of, the_kinds, meaning_of, schema_of, entry_of, is_adding, laws, IsLawfulOf}
+use Rattle.element_state.specs.Sources.{Source, IndexOn, OptionalIn, RequiredIn, source_in}
+use Rattle.element_state.specs.Versions.{ElementKind, Of, the_kinds, meaning_of, schema_of, entry_of, row_entry, is_adding, laws, IsLawfulOf}
 use Rattle.element_state.proofs.Versions.{one_table}
 use Rattle.schema_version.specs.declared.element.Work.{Work}
 use Rattle.schema_version.specs.declared.element.Work.TheVariants.{Fill, Clear}
@@ -53,10 +52,10 @@ use Rattle.reorganise.proofs.Bounding.{pieces_join, pieces_end, fill_range, clea
 use Rattle.replay.specs.declared.entry.What.TheVariants.{Publish}
 use Rattle.replay.specs.Replay.{Facts, after, stays, progress_of}
 use Rattle.replay.specs.Kept.{IsKept, IsBegun, core_at, all_passed}
-use Rattle.replay.specs.Laws.{IsDone, Needs, AreFinished, PublicationsKeep}
+use Rattle.replay.specs.Laws.{IsDone, IsFinished, AreFinished, PublicationsKeep}
 use Rattle.replay.proofs.Agree.{at_number}
 use Rattle.replay.proofs.Begun.{found, stayed, all_stayed, passed_at, from_passed}
-use Rattle.replay.proofs.Moved.{seen, is_zero, get_seen, joined_step, live_state, not_at_once, same_tables, next_rises}
+use Rattle.replay.proofs.Moved.{filled_of, filled_in, seen, is_zero, get_seen, joined_step, source_same, live_state, not_at_once, same_tables, next_rises}
 use Rattle.replay.proofs.Cursors.{stay_in_pieces}
 use Rattle.replay.proofs.Soundness.{lawful}
 use Rattle.replay.proofs.Time.{retired}
@@ -82,13 +81,14 @@ goes_away x DeleteOnly is = none_some (sym is)
 goes_away x WriteOnly is = none_some (sym is)
 goes_away x Public is = none_some (sym is)
 
--- a move to public of a live index, or of a column
-needs_fill : (facts : Facts) (n : ℕ) (kind : Kind) (columns : List ℕ) → kind ≡ Index columns → Needs facts kind n Public → IsDone facts n Fill
-needs_fill facts n kind columns is needs = subst (λ (k : Kind). Needs facts k n Public) is needs
+-- a move to public of what is filled, and one to absent
+fill_needed : (facts : Facts) (n : ℕ) (filled : Bool) → filled ≡ true → IsFinished facts n (needed_by filled Public) → IsDone facts n Fill
+fill_needed facts n true is needs = needs
+fill_needed facts n false is needs = absurd cc
 
-needs_clear : (facts : Facts) (n : ℕ) (kind : Kind) → Needs facts kind n Absent → IsDone facts n Clear
-needs_clear facts n (Index columns) needs = needs
-needs_clear facts n (Optional type) needs = needs
+clear_needed : (facts : Facts) (n : ℕ) (filled : Bool) → IsFinished facts n (needed_by filled Absent) → IsDone facts n Clear
+clear_needed facts n true needs = needs
+clear_needed facts n false needs = needs
 
 -- what was never public was not before a move either
 never_before : (x : ElementDef) (to : ElementState) (way : Way) → edge x.kind x.way x.state to ≡ Some way → is_adding (in_state x to).way ≡ true → (is_adding x.way ≡ true) × (x.state ≢ Public)
@@ -98,11 +98,11 @@ never_before x to way own adding = by way own (sym (ap (λ (o : Option Way). is_
     by Adding e a = let before = adding_before x.kind x.way x.state to e in (ap is_adding before.0, before.1)
     by Dropping e a = absurd cc
 
-never_next : (n next : ℕ) (x : ElementDef) (to : ElementState) (way : Way) → edge x.kind x.way x.state to ≡ Some way → to ≢ Absent → NeverPublic the_kinds next n (option_map entry_of (in_state_or_none x to)) → (is_adding x.way ≡ true) × (x.state ≢ Public)
-never_next n next x Absent way own live h = absurd (live refl)
-never_next n next x DeleteOnly way own live h = never_before x DeleteOnly way own h.0
-never_next n next x WriteOnly way own live h = never_before x WriteOnly way own h.0
-never_next n next x Public way own live h = never_before x Public way own h.0
+never_next : (version : Version) (n next : ℕ) (x : ElementDef) (to : ElementState) (way : Way) → edge x.kind x.way x.state to ≡ Some way → to ≢ Absent → NeverPublic the_kinds next n (option_map (entry_of version) (in_state_or_none x to)) → (is_adding x.way ≡ true) × (x.state ≢ Public)
+never_next version n next x Absent way own live h = absurd (live refl)
+never_next version n next x DeleteOnly way own live h = never_before x DeleteOnly way own h.0
+never_next version n next x WriteOnly way own live h = never_before x WriteOnly way own h.0
+never_next version n next x Public way own live h = never_before x Public way own h.0
 
 module _ (facts : Facts) (step : List Move) (allowed : IsAllowed facts.newest step) (finished : AreFinished facts step) (k : IsKept facts) where
   abbrev pub v : Version
@@ -130,6 +130,16 @@ module _ (facts : Facts) (step : List Move) (allowed : IsAllowed facts.newest st
   pub sound_after : IsSoundVersion s
   sound_after = steps_stay_sound v step k.sound allowed
 
+  -- the next version has its elements built from what they are built from in this one: no index lists a column that moves
+  get_after : (n : ℕ) → map.get (schema_of s) n ≡ seen v (is_zero n) (element_at s n)
+  get_after n = get_seen s n ∙ by (element_at s n) refl
+    where
+      by : (o : Option ElementDef) → element_at s n ≡ o → seen s (is_zero n) o ≡ seen v (is_zero n) o
+      by None is = refl
+      by (Some d) is =
+          ap (λ (source : Source). cond (is_zero n) (Some row_entry) (Some (let e : Entry ElementKind = record { kind = Of d.table source; state = d.state; adding = is_adding d.way } in e)))
+          (source_same v s d.kind (λ c there. indexed_columns_stay v step k.sound allowed n c d (inr is) there))
+
   -- an element of a begun reorganisation is the version's
   begun_at : (n : ℕ) (p : Progress) → progress_of facts.progress n ≡ Some p → IsBegun v p × (p.element.number ≡ n)
   begun_at n p at = found (IsBegun v) facts.progress n p k.begun at
@@ -137,18 +147,18 @@ module _ (facts : Facts) (step : List Move) (allowed : IsAllowed facts.newest st
   element_of : (n : ℕ) (p : Progress) → progress_of facts.progress n ≡ Some p → element_at v n ≡ Some p.element
   element_of n p at = let b = begun_at n p at in subst (λ (m : ℕ). element_at v m ≡ Some p.element) b.1 b.0.element
 
-  lawful_at : (n : ℕ) (x : ElementDef) → 1 ≤ n → element_at v n ≡ Some x → IsLawfulOf n x.table x.kind
-  lawful_at n x above at = lawful v k.sound n (entry_of x) (at_number v n above ∙ ap (option_map entry_of) at)
+  lawful_at : (n : ℕ) (x : ElementDef) → 1 ≤ n → element_at v n ≡ Some x → IsLawfulOf n x.table (source_in v x.kind)
+  lawful_at n x above at = lawful v k.sound n (entry_of v x) (at_number v n above ∙ ap (option_map (entry_of v)) at)
 
-  entry_at : (n : ℕ) (x : ElementDef) → element_at v n ≡ Some x → map.get (schema_of v) n ≡ Some (entry_of x)
-  entry_at n x at = at_number v n (k.sound.elements n x at).first ∙ ap (option_map entry_of) at
+  entry_at : (n : ℕ) (x : ElementDef) → element_at v n ≡ Some x → map.get (schema_of v) n ≡ Some (entry_of v x)
+  entry_at n x at = at_number v n (k.sound.elements n x at).first ∙ ap (option_map (entry_of v)) at
 
   -- ---- what is finished
 
   passed_so : (n : ℕ) (work : Work) (d : IsDone facts n work) → map.get (all_passed facts.progress) n ≡ Some (record { work = work; spans = passed_by d.progress.pieces })
   passed_so n work d = passed_at facts.progress n d.progress d.here ∙ ap (λ (x : Work). Some (let c : core.Progress = record { work = x; spans = passed_by d.progress.pieces } in c)) d.work_is
 
-  filled : (n : ℕ) (x : ElementDef) → element_at v n ≡ Some x → IsDone facts n Fill → FillEnded the_kinds w n (Of x.table x.kind)
+  filled : (n : ℕ) (x : ElementDef) → element_at v n ≡ Some x → IsDone facts n Fill → FillEnded the_kinds w n (Of x.table (source_in v x.kind))
   filled n x at d =
       let own = lawful_at n x (k.sound.elements n x at).first at in
       let b = begun_at n d.progress d.here in
@@ -157,7 +167,7 @@ module _ (facts : Facts) (step : List Move) (allowed : IsAllowed facts.newest st
       let joined : ended.AreJoined (front (region_of x Fill)) (back (region_of x Fill)) (pieces_of d.progress.pieces)
       = subst (λ (e : ElementDef). ended.AreJoined (front (region_of e Fill)) (back (region_of e Fill)) (pieces_of d.progress.pieces)) element
       (subst (λ (u : Work). ended.AreJoined (front (region_of d.progress.element u)) (back (region_of d.progress.element u)) (pieces_of d.progress.pieces)) d.work_is (pieces_join _ _ d.progress.pieces b.0.joined)) in
-      fill_ended the_kinds w n (Of x.table x.kind) x.table (pieces_of d.progress.pieces) (laws n (Of x.table x.kind) own) (one_table n x.table x.kind) own.range.table_below (passed_so n Fill d)
+      fill_ended the_kinds w n (Of x.table (source_in v x.kind)) x.table (pieces_of d.progress.pieces) (laws n (Of x.table (source_in v x.kind)) own) (one_table n x.table (source_in v x.kind)) own.range.table_below (passed_so n Fill d)
       (subst (λ high. ended.AreJoined (table_prefix x.table) high (pieces_of d.progress.pieces)) range.1 (subst (λ low. ended.AreJoined low (back (region_of x Fill)) (pieces_of d.progress.pieces)) range.0 joined))
       ((pieces_end d.progress.pieces).0 d.ended)
 
@@ -171,9 +181,9 @@ module _ (facts : Facts) (step : List Move) (allowed : IsAllowed facts.newest st
       let joined : ended.AreJoined (front (region_of x Clear)) (back (region_of x Clear)) (pieces_of d.progress.pieces)
       = subst (λ (e : ElementDef). ended.AreJoined (front (region_of e Clear)) (back (region_of e Clear)) (pieces_of d.progress.pieces)) element
       (subst (λ (u : Work). ended.AreJoined (front (region_of d.progress.element u)) (back (region_of d.progress.element u)) (pieces_of d.progress.pieces)) d.work_is (pieces_join _ _ d.progress.pieces b.0.joined)) in
-      Cleared (clear_ended the_kinds w n (entry_of x) (kind_clear x.table n x.kind) (pieces_of d.progress.pieces) (kind_clears x.table n x.kind own.lawful own.range) kept_core (entry_at n x at) (passed_so n Clear d)
-      (subst (λ (m : ℕ). ended.AreJoined (kind_clear x.table m x.kind).low (kind_clear x.table m x.kind).high (pieces_of d.progress.pieces)) number
-      (subst (λ high. ended.AreJoined (kind_clear x.table x.number x.kind).low high (pieces_of d.progress.pieces)) range.1 (subst (λ low. ended.AreJoined low (back (region_of x Clear)) (pieces_of d.progress.pieces)) range.0 joined)))
+      Cleared (clear_ended the_kinds w n (entry_of v x) (kind_clear x.table n (source_in v x.kind)) (pieces_of d.progress.pieces) (kind_clears x.table n (source_in v x.kind) own.lawful own.range) kept_core (entry_at n x at) (passed_so n Clear d)
+      (subst (λ (m : ℕ). ended.AreJoined (kind_clear x.table m (source_in v x.kind)).low (kind_clear x.table m (source_in v x.kind)).high (pieces_of d.progress.pieces)) number
+      (subst (λ high. ended.AreJoined (kind_clear x.table x.number (source_in v x.kind)).low high (pieces_of d.progress.pieces)) range.1 (subst (λ low. ended.AreJoined low (back (region_of x Clear)) (pieces_of d.progress.pieces)) range.0 joined)))
       ((pieces_end d.progress.pieces).0 d.ended))
 
   -- ---- a step to public, and one to absent
@@ -185,15 +195,20 @@ module _ (facts : Facts) (step : List Move) (allowed : IsAllowed facts.newest st
   private_at : (n : ℕ) (x : ElementDef) → Contains step (Turn n) → element_at v n ≡ Some x → x.state ≢ Public
   private_at n x there at = let p = split_at step (Turn n) there in (may_turn v step allowed p.0 p.1 n x p.2 at).0
 
-  to_public : (n : ℕ) (x : ElementDef) (kind : Kind) → x.kind ≡ kind → Contains step (Go n Public) → element_at v n ≡ Some x → MayBePublic the_kinds w n (Of x.table x.kind)
-  to_public n x (Index columns) is there at = Filled (filled n x at (needs_fill facts n x.kind columns is (finished n Public x there at)))
-  to_public n x (Optional type) is there at =
+  to_public : (n : ℕ) (x : ElementDef) (filled_is : Bool) → is_filled x.kind ≡ filled_is → Contains step (Go n Public) → element_at v n ≡ Some x → MayBePublic the_kinds w n (Of x.table (source_in v x.kind))
+  to_public n x true is there at = Filled (filled n x at (fill_needed facts n (is_filled x.kind) is (finished n Public x there at)))
+  to_public n x false is there at =
       let way = way_of n Public x there at in
       let own = adding_to_public x.kind x.way x.state way.0 way.1 in
-      Unfilled (ap (λ (y : Kind). (meaning_of n (Of x.table y)).filled) is) (subst (NeverPublic the_kinds v.next n) (sym (entry_at n x at)) (ap is_adding own.0, own.1))
+      Unfilled (unfilled n x.table (source_in v x.kind) (filled_in v x.kind ∙ is)) (subst (NeverPublic the_kinds v.next n) (sym (entry_at n x at)) (ap is_adding own.0, own.1))
+    where
+      unfilled : (n table : ℕ) (source : Source) → filled_of source ≡ false → (meaning_of n (Of table source)).filled ≡ false
+      unfilled n table (IndexOn columns) e = e
+      unfilled n table (OptionalIn type) e = refl
+      unfilled n table (RequiredIn type fallback) e = e
 
-  public_def : (n : ℕ) (d : ElementDef) → element_at s n ≡ Some d → is_zero n ≡ false → d.state ≡ Public → Change step v.next n (element_at v n) (element_at s n) → MayBePublic the_kinds w n (Of d.table d.kind)
-  public_def n d at b public (Stays same) = Was (ap state_of (get_seen v n ∙ ap (λ c. seen c (element_at v n)) b ∙ ap (option_map entry_of) (sym same ∙ at)) ∙ public)
+  public_def : (n : ℕ) (d : ElementDef) → element_at s n ≡ Some d → is_zero n ≡ false → d.state ≡ Public → Change step v.next n (element_at v n) (element_at s n) → MayBePublic the_kinds w n (Of d.table (source_in v d.kind))
+  public_def n d at b public (Stays same) = Was (ap state_of (get_seen v n ∙ ap (λ c. seen v c (element_at v n)) b ∙ ap (option_map (entry_of v)) (sym same ∙ at)) ∙ public)
   public_def n d at b public (Enters fresh to there le none is) =
       let p = split_at step (Enter fresh to) there in
       let entered : to ≡ Public = ap (λ (e : ElementDef). e.state) (some_one (sym is ∙ at)) ∙ public in
@@ -201,31 +216,31 @@ module _ (facts : Facts) (step : List Move) (allowed : IsAllowed facts.newest st
   public_def n d at b public (Goes x to there was is) =
       let goes = goes_to x d to (sym is ∙ at) in
       let target : to ≡ Public = ap (λ (e : ElementDef). e.state) (sym goes.0) ∙ public in
-      subst (λ (e : ElementDef). MayBePublic the_kinds w n (Of e.table e.kind)) (sym goes.0) (to_public n x x.kind refl (subst (λ (q : ElementState). Contains step (Go n q)) target there) was)
+      subst (λ (e : ElementDef). MayBePublic the_kinds w n (Of e.table (source_in v e.kind))) (sym goes.0) (to_public n x (is_filled x.kind) refl (subst (λ (q : ElementState). Contains step (Go n q)) target there) was)
   public_def n d at b public (Turns x there was is) = absurd (private_at n x there was (ap (λ (e : ElementDef). e.state) (some_one (sym is ∙ at)) ∙ public))
 
   public_step : (n : ℕ) (e : Entry ElementKind) → map.get (schema_of s) n ≡ Some e → e.state ≡ Public → MayBePublic the_kinds w n e.kind
-  public_step n e at public = by (is_zero n) refl (element_at s n) refl (sym (get_seen s n) ∙ at)
+  public_step n e at public = by (is_zero n) refl (element_at s n) refl (sym (get_after n) ∙ at)
     where
-      by : (b : Bool) → is_zero n ≡ b → (o : Option ElementDef) → element_at s n ≡ o → seen b o ≡ Some e → MayBePublic the_kinds w n e.kind
-      by true b o there is = Was (ap state_of (get_seen v n ∙ ap (λ c. seen c (element_at v n)) b))
+      by : (b : Bool) → is_zero n ≡ b → (o : Option ElementDef) → element_at s n ≡ o → seen v b o ≡ Some e → MayBePublic the_kinds w n e.kind
+      by true b o there is = Was (ap state_of (get_seen v n ∙ ap (λ c. seen v c (element_at v n)) b))
       by false b None there is = none_some is
       by false b (Some d) there is =
           subst (λ (x : Entry ElementKind). MayBePublic the_kinds w n x.kind) (some_one is)
           (public_def n d there b (ap (λ (x : Entry ElementKind). x.state) (some_one is) ∙ public) (change n))
 
   absent_def : (n : ℕ) → element_at s n ≡ None → is_zero n ≡ false → Change step v.next n (element_at v n) (element_at s n) → MayBeAbsent the_kinds w n
-  absent_def n at b (Stays same) = Was_not (get_seen v n ∙ ap (λ c. seen c (element_at v n)) b ∙ ap (option_map entry_of) (sym same ∙ at))
+  absent_def n at b (Stays same) = Was_not (get_seen v n ∙ ap (λ c. seen v c (element_at v n)) b ∙ ap (option_map (entry_of v)) (sym same ∙ at))
   absent_def n at b (Enters fresh to there le none is) = none_some (sym at ∙ is)
   absent_def n at b (Goes x to there was is) =
       let target : to ≡ Absent = goes_away x to (sym is ∙ at) in
-      cleared n x was (needs_clear facts n x.kind (finished n Absent x (subst (λ (q : ElementState). Contains step (Go n q)) target there) was))
+      cleared n x was (clear_needed facts n (is_filled x.kind) (finished n Absent x (subst (λ (q : ElementState). Contains step (Go n q)) target there) was))
   absent_def n at b (Turns x there was is) = none_some (sym at ∙ is)
 
   absent_step : (n : ℕ) → map.get (schema_of s) n ≡ None → MayBeAbsent the_kinds w n
-  absent_step n at = by (is_zero n) refl (element_at s n) refl (sym (get_seen s n) ∙ at)
+  absent_step n at = by (is_zero n) refl (element_at s n) refl (sym (get_after n) ∙ at)
     where
-      by : (b : Bool) → is_zero n ≡ b → (o : Option ElementDef) → element_at s n ≡ o → seen b o ≡ None → MayBeAbsent the_kinds w n
+      by : (b : Bool) → is_zero n ≡ b → (o : Option ElementDef) → element_at s n ≡ o → seen v b o ≡ None → MayBeAbsent the_kinds w n
       by true b o there is = none_some (sym is)
       by false b None there is = absent_def n there b (change n)
       by false b (Some d) there is = none_some (sym is)
@@ -242,7 +257,7 @@ module _ (facts : Facts) (step : List Move) (allowed : IsAllowed facts.newest st
   progress_kept n c at =
       let f = from_passed (filter (stays step) facts.progress) n c at in
       let t = stayed step facts.progress n f.0 f.1 in
-      (passed_at facts.progress n f.0 t.0 ∙ ap Some f.2, get_seen s n ∙ ap (seen (is_zero n)) (still_def n f.0 t.0 t.1 (change n)) ∙ sym (get_seen v n))
+      (passed_at facts.progress n f.0 t.0 ∙ ap Some f.2, get_after n ∙ ap (seen v (is_zero n)) (still_def n f.0 t.0 t.1 (change n)) ∙ sym (get_seen v n))
 
   begun_after : AllByRecursion (IsBegun s) (filter (stays step) facts.progress)
   begun_after = all_stayed (λ p. IsBegun v p × (progress_of facts.progress p.element.number ≡ progress_of facts.progress p.element.number)) (IsBegun s) step facts.progress
@@ -259,35 +274,35 @@ module _ (facts : Facts) (step : List Move) (allowed : IsAllowed facts.newest st
       unmoved p at still (Goes x to there was is) = absurd (not_both (any_from (is_move_of p.element.number) step (Go p.element.number to) there (its_go p.element.number to)) still)
       unmoved p at still (Turns x there was is) = absurd (not_both (any_from (is_move_of p.element.number) step (Turn p.element.number) there (its_turn p.element.number)) still)
 
-  fresh_def : (n : ℕ) → NeverPublic the_kinds s.next n (option_map entry_of (element_at s n)) → Change step v.next n (element_at v n) (element_at s n) → NeverPublic the_kinds v.next n (option_map entry_of (element_at v n))
-  fresh_def n never (Stays same) = fresher (element_at v n) (subst (λ (o : Option ElementDef). NeverPublic the_kinds s.next n (option_map entry_of o)) same never)
+  fresh_def : (n : ℕ) → NeverPublic the_kinds s.next n (option_map (entry_of v) (element_at s n)) → Change step v.next n (element_at v n) (element_at s n) → NeverPublic the_kinds v.next n (option_map (entry_of v) (element_at v n))
+  fresh_def n never (Stays same) = fresher (element_at v n) (subst (λ (o : Option ElementDef). NeverPublic the_kinds s.next n (option_map (entry_of v) o)) same never)
     where
-      fresher : (o : Option ElementDef) → NeverPublic the_kinds s.next n (option_map entry_of o) → NeverPublic the_kinds v.next n (option_map entry_of o)
+      fresher : (o : Option ElementDef) → NeverPublic the_kinds s.next n (option_map (entry_of v) o) → NeverPublic the_kinds v.next n (option_map (entry_of v) o)
       fresher None h = omega (arith, h, next_rises facts.newest step)
       fresher (Some d) h = h
-  fresh_def n never (Enters fresh to there le none is) = subst (λ (o : Option ElementDef). NeverPublic the_kinds v.next n (option_map entry_of o)) (sym none) le
-  fresh_def n never (Goes x to there was is) = subst (λ (o : Option ElementDef). NeverPublic the_kinds v.next n (option_map entry_of o)) (sym was) (by to refl)
+  fresh_def n never (Enters fresh to there le none is) = subst (λ (o : Option ElementDef). NeverPublic the_kinds v.next n (option_map (entry_of v) o)) (sym none) le
+  fresh_def n never (Goes x to there was is) = subst (λ (o : Option ElementDef). NeverPublic the_kinds v.next n (option_map (entry_of v) o)) (sym was) (by to refl)
     where
       way : (way : Way) × (edge x.kind x.way x.state to ≡ Some way)
       way = way_of n to x there was
 
-      after_is : NeverPublic the_kinds s.next n (option_map entry_of (in_state_or_none x to))
-      after_is = subst (λ (o : Option ElementDef). NeverPublic the_kinds s.next n (option_map entry_of o)) is never
+      after_is : NeverPublic the_kinds s.next n (option_map (entry_of v) (in_state_or_none x to))
+      after_is = subst (λ (o : Option ElementDef). NeverPublic the_kinds s.next n (option_map (entry_of v) o)) is never
 
       by : (q : ElementState) → to ≡ q → (is_adding x.way ≡ true) × (x.state ≢ Public)
-      by Absent e = absurd (omega (arith, next_rises facts.newest step, ordered.below n x was, subst (λ (q : ElementState). NeverPublic the_kinds s.next n (option_map entry_of (in_state_or_none x q))) e after_is))
-      by DeleteOnly e = never_next n s.next x to way.0 way.1 (λ a. absurd cc) after_is
-      by WriteOnly e = never_next n s.next x to way.0 way.1 (λ a. absurd cc) after_is
-      by Public e = never_next n s.next x to way.0 way.1 (λ a. absurd cc) after_is
-  fresh_def n never (Turns x there was is) = dropped (subst (λ (o : Option ElementDef). NeverPublic the_kinds s.next n (option_map entry_of o)) is never).0
+      by Absent e = absurd (omega (arith, next_rises facts.newest step, ordered.below n x was, subst (λ (q : ElementState). NeverPublic the_kinds s.next n (option_map (entry_of v) (in_state_or_none x q))) e after_is))
+      by DeleteOnly e = never_next v n s.next x to way.0 way.1 (λ a. absurd cc) after_is
+      by WriteOnly e = never_next v n s.next x to way.0 way.1 (λ a. absurd cc) after_is
+      by Public e = never_next v n s.next x to way.0 way.1 (λ a. absurd cc) after_is
+  fresh_def n never (Turns x there was is) = dropped (subst (λ (o : Option ElementDef). NeverPublic the_kinds s.next n (option_map (entry_of v) o)) is never).0
     where
       dropped : {B : Type 0} → false ≡ true → B
       dropped e = absurd cc
 
   fresh_step : (n : ℕ) → NeverPublic the_kinds s.next n (map.get (schema_of s) n) → NeverPublic the_kinds v.next n (map.get w.newest n)
-  fresh_step n never = subst (NeverPublic the_kinds v.next n) (sym (get_seen v n)) (by (is_zero n) refl (subst (NeverPublic the_kinds s.next n) (get_seen s n) never))
+  fresh_step n never = subst (NeverPublic the_kinds v.next n) (sym (get_seen v n)) (by (is_zero n) refl (subst (NeverPublic the_kinds s.next n) (get_after n) never))
     where
-      by : (b : Bool) → is_zero n ≡ b → NeverPublic the_kinds s.next n (seen b (element_at s n)) → NeverPublic the_kinds v.next n (seen b (element_at v n))
+      by : (b : Bool) → is_zero n ≡ b → NeverPublic the_kinds s.next n (seen v b (element_at s n)) → NeverPublic the_kinds v.next n (seen v b (element_at v n))
       by true b h = absurd (h.1 refl)
       by false b h = fresh_def n h (change n)
 
@@ -295,7 +310,7 @@ module _ (facts : Facts) (step : List Move) (allowed : IsAllowed facts.newest st
 
   steps : Steps the_kinds w (schema_of s) s.next (all_passed (filter (stays step) facts.progress))
   steps = record {
-    joined = λ n. subst (λ a. core.JoinedAt the_kinds n a (map.get (schema_of s) n)) (sym (get_seen v n)) (subst (core.JoinedAt the_kinds n (seen (is_zero n) (element_at v n))) (sym (get_seen s n)) (joined_step (is_zero n) n v.next (element_at v n) (element_at s n) (step_at n)));
+    joined = λ n. subst (λ a. core.JoinedAt the_kinds n a (map.get (schema_of s) n)) (sym (get_seen v n)) (subst (core.JoinedAt the_kinds n (seen v (is_zero n) (element_at v n))) (sym (get_after n)) (joined_step v (is_zero n) n v.next (element_at v n) (element_at s n) (step_at n)));
     lawful = lawful s sound_after;
     live = λ n e at. live_at n e at;
     to_public = public_step;
@@ -305,9 +320,9 @@ module _ (facts : Facts) (step : List Move) (allowed : IsAllowed facts.newest st
   }
     where
       live_at : (n : ℕ) (e : Entry ElementKind) → map.get (schema_of s) n ≡ Some e → IsLive e.state
-      live_at n e at = by (is_zero n) (element_at s n) refl (sym (get_seen s n) ∙ at)
+      live_at n e at = by (is_zero n) (element_at s n) refl (sym (get_after n) ∙ at)
         where
-          by : (b : Bool) (o : Option ElementDef) → element_at s n ≡ o → seen b o ≡ Some e → IsLive e.state
+          by : (b : Bool) (o : Option ElementDef) → element_at s n ≡ o → seen v b o ≡ Some e → IsLive e.state
           by true o there is = subst IsLive (ap (λ (x : Entry ElementKind). x.state) (some_one is)) tt
           by false None there is = none_some is
           by false (Some d) there is = live_state e.state (λ a. (sound_after.elements n d there).live (ap (λ (x : Entry ElementKind). x.state) (some_one is) ∙ a))
@@ -318,17 +333,17 @@ module _ (facts : Facts) (step : List Move) (allowed : IsAllowed facts.newest st
   -- ---- the rows
 
   -- the cells of a column of the new version are of its type: a column that enters has none
-  typed : (key : RowKey) (cells : Cells) → map.get facts.rows key ≡ Some cells → (column : ℕ) (element : ElementDef) (type : ColumnType) (value : Value) → element_at s column ≡ Some element → element.kind ≡ Optional type
+  typed : (key : RowKey) (cells : Cells) → map.get facts.rows key ≡ Some cells → (column : ℕ) (element : ElementDef) (type : ColumnType) (value : Value) → element_at s column ≡ Some element → type_of_kind element.kind ≡ Some type
       → map.get cells column ≡ Some value → StepOf v.next column (element_at v column) (element_at s column) → IsTrue (has_type type value)
   typed key cells at column element type value there kind is (Same e) = (k.rows key cells at).types column element type value (sym e ∙ there) kind is
   typed key cells at column element type value there kind is (New fresh to le has none new) =
       let above : 1 ≤ column = omega (arith, le, k.sound.begun) in
-      let never : NeverPublic the_kinds v.next column (map.get w.newest column) = subst (NeverPublic the_kinds v.next column) (sym (at_number v column above ∙ ap (option_map entry_of) none)) le in
+      let never : NeverPublic the_kinds v.next column (map.get w.newest column) = subst (NeverPublic the_kinds v.next column) (sym (at_number v column above ∙ ap (option_map (entry_of v)) none)) le in
       none_some (sym ((kept_core.bare column never).0 key cells at) ∙ is)
   typed key cells at column element type value there kind is (Next x to way own was new) =
-      (k.rows key cells at).types column x type value was (ap (λ (e : ElementDef). e.kind) (sym (goes_to x element to (sym new ∙ there)).0) ∙ kind) is
+      (k.rows key cells at).types column x type value was (ap (λ (e : ElementDef). type_of_kind e.kind) (sym (goes_to x element to (sym new ∙ there)).0) ∙ kind) is
   typed key cells at column element type value there kind is (Back x private way was new) =
-      (k.rows key cells at).types column x type value was (ap (λ (e : ElementDef). e.kind) (some_one (sym new ∙ there)) ∙ kind) is
+      (k.rows key cells at).types column x type value was (ap (λ (e : ElementDef). type_of_kind e.kind) (some_one (sym new ∙ there)) ∙ kind) is
 
   rows_after : AreLawfulRows s facts.rows
   rows_after key cells at =

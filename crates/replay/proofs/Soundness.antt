@@ -5,13 +5,10 @@ use Rattle.std.specs.List.{AllByRecursion}
 use Rattle.std.specs.FinMap.{nat_cmp-IsAntisymmetric}
 use Rattle.std.specs.Cmp.{Equal-is}
 use Rattle.std.specs.Ordering.{nat_cmp, eq_by_cmp}
-use Rattle.schema_version.specs.declared.element.Kind.{Kind}
-use Rattle.schema_version.specs.declared.element.Kind.TheVariants.{Index, Optional}
 use Rattle.schema_version.specs.declared.element.ElementDef.{ElementDef}
-use Rattle.schema_version.specs.Moves.{IsColumnList}
 use Rattle.schema_version.specs.Sound.{IsSoundTable, IsSoundElement, IsSoundVersion}
 use Rattle.schema_version.specs.Version.{Version, Table, element_at}
-use Rattle.element_state.specs.Kinds.{IsLawfulKind}
+use Rattle.element_state.proofs.Sources.{lawful_source}
 use Rattle.element_state.specs.Schemas.{Entry, AreLawful}
 use Rattle.element_state.specs.Versions.{ElementKind, the_kinds, schema_of, entry_of, row_entry, IsLawful}
 use Rattle.element_state.proofs.Versions.{get-schema_of}
@@ -46,11 +43,7 @@ small version sound number table at =
     let found = table_in version.tables number table sound.tables at in
     (omega (arith, found.1, sound.few_tables), found.0.some_key, found.0.short_key)
 
-lawful_kind : (n : ℕ) (d : ElementDef) (kind : Kind) → 1 ≤ n → n ≤ 1000000 → IsColumnList kind → IsLawfulKind n kind
-lawful_kind n d (Index columns) first few list = record { number = omega (arith, few); some_columns = list.0; few_columns = list.1 }
-lawful_kind n d (Optional type) first few list = record { above = omega (arith, first); below = omega (arith, few) }
-
-lawful_entry : (version : Version) → IsSoundVersion version → (n : ℕ) (d : ElementDef) → element_at version n ≡ Some d → IsLawful n (entry_of d).kind
+lawful_entry : (version : Version) → IsSoundVersion version → (n : ℕ) (d : ElementDef) → element_at version n ≡ Some d → IsLawful n (entry_of version d).kind
 lawful_entry version sound n d at =
     let e : IsSoundElement version n d = sound.elements n d at in
     let fit = fits version sound n d at in
@@ -58,13 +51,13 @@ lawful_entry version sound n d at =
     let tables = table_in version.tables d.table e.placed.0 sound.tables e.placed.1 in
     record {
       range = record { number_below = omega (arith, fit.1); table_below = omega (arith, tables.1, sound.few_tables) };
-      lawful = lawful_kind n d d.kind fit.0 fit.1 e.list;
+      lawful = lawful_source version (λ m x there. (sound.elements m x there).fair) n fit.0 fit.1 d.kind e.fair;
     }
 
 pub lawful : (version : Version) → IsSoundVersion version → AreLawful the_kinds (schema_of version)
 lawful version sound n e at = by (eq_by_cmp nat_cmp n 0) (element_at version n) refl refl (sym (get-schema_of version n) ∙ at)
   where
-    by : (b : Bool) (o : Option ElementDef) → eq_by_cmp nat_cmp n 0 ≡ b → element_at version n ≡ o → cond b (Some row_entry) (option_map entry_of o) ≡ Some e → IsLawful n e.kind
+    by : (b : Bool) (o : Option ElementDef) → eq_by_cmp nat_cmp n 0 ≡ b → element_at version n ≡ o → cond b (Some row_entry) (option_map (entry_of version) o) ≡ Some e → IsLawful n e.kind
     by true o zero_is known is = subst (λ (x : Entry ElementKind). IsLawful n x.kind) (some_one row_entry e is) (nat_cmp-IsAntisymmetric n 0 ((Equal-is (nat_cmp n 0)).0 zero_is))
     by false None zero_is known is = none_some e is
-    by false (Some d) zero_is known is = subst (λ (x : Entry ElementKind). IsLawful n x.kind) (some_one (entry_of d) e is) (lawful_entry version sound n d known)
+    by false (Some d) zero_is known is = subst (λ (x : Entry ElementKind). IsLawful n x.kind) (some_one (entry_of version d) e is) (lawful_entry version sound n d known)

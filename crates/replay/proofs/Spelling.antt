@@ -1,6 +1,7 @@
 -- Where a store agrees with a version and rows, reads that hold spell those rows.
 use Rattle.std.proofs.Common.{◌≡◌, ℕ, suc, ◌≤◌, List, [], ◌∷◌, Option, Some, None, option_map, refl, sym, ap, subst, ◌∙◌, ◌⊎◌, inl, inr, Bool, false, cond, eqb, eq-eqb, arith}
-use Rattle.std.specs.Prelude.{◌≢◌, Contains, ◌↔◌}
+use Rattle.std.specs.Prelude.{◌≢◌, ◌==◌, ◌&&◌, Contains, ◌↔◌, unwrap_or}
+use Rattle.keycode.specs.declared.value.Value.{Value}
 use Rattle.std.specs.List.{AllByRecursion}
 use Rattle.std.specs.FinMap as map
 use Rattle.std.specs.FinMap.{nat_cmp-IsAntisymmetric}
@@ -16,13 +17,19 @@ use Rattle.row_map.specs.Rows.{Bytes, RowKey, Cells, Rows, Pairs, IsStorableRow,
 use Rattle.schema_version.specs.declared.element.ElementState.{ElementState}
 use Rattle.schema_version.specs.declared.element.ElementState.TheVariants.{Public}
 use Rattle.schema_version.specs.declared.element.Kind.{Kind}
-use Rattle.schema_version.specs.declared.element.Kind.TheVariants.{Optional}
+use Rattle.schema_version.specs.declared.element.Kind.TheVariants.{Index, Optional, Required}
 use Rattle.schema_version.specs.declared.element.ElementDef.{ElementDef}
-use Rattle.schema_version.specs.Version.{Version, element_at}
-use Rattle.element_state.specs.Column.{column_meaning, IsLawfulColumn, coded}
+use Rattle.schema_version.specs.Version.{Version, element_at, is_public, type_of_kind}
+use Rattle.schema_version.specs.Sound.{IsSoundVersion}
+use Rattle.element_state.specs.Column.{column_meaning, IsLawfulColumn}
+use Rattle.element_state.specs.Required.{required_meaning}
+use Rattle.element_state.specs.RequiredLaws.{required_laws}
+use Rattle.element_state.specs.Seen.{default_of, default_at, own_or, seen_value, seen_cells}
+use Rattle.element_state.specs.Sources.{source_in}
+use Rattle.element_state.proofs.Seen.{optional_seen, seen_get, seen_there, lawful_seen}
 use Rattle.element_state.specs.ColumnLaws.{column_laws}
 use Rattle.element_state.specs.Core.{IsConsistent as Consistent, Meets}
-use Rattle.element_state.specs.Elements.{Demand, Exact, IsFromScratch, owner, owner_named}
+use Rattle.element_state.specs.Elements.{Meaning, Demand, Exact, IsFromScratch, IsKeyOfElement, owner, owner_named}
 use Rattle.element_state.specs.Effects.{none_where}
 use Rattle.element_state.specs.Apart.{not_none}
 use Rattle.element_state.specs.Kinds.{kind_meaning}
@@ -69,15 +76,15 @@ read_is version ops view P keys holds key read =
 
 -- ---- a public column's pairs are those of the rows
 
--- what a column's cell gives: nothing where there is no row
-abbrev pub pair_value : ℕ → Option Cells → Option Bytes
-pair_value n None = None
-pair_value n (Some cells) = option_map code (map.get cells n)
+-- what a column's pair holds of a row, by what is seen of its cell: nothing where there is no row
+abbrev pub pair_value : ℕ → (Option Value → Option Value) → Option Cells → Option Bytes
+pair_value n see None = None
+pair_value n see (Some cells) = option_map code (see (map.get cells n))
 
-pub at_number : (version : Version) (n : ℕ) → 1 ≤ n → map.get (schema_of version) n ≡ option_map entry_of (element_at version n)
+pub at_number : (version : Version) (n : ℕ) → 1 ≤ n → map.get (schema_of version) n ≡ option_map (entry_of version) (element_at version n)
 at_number version n above =
     get-schema_of version n
-    ∙ ap (λ (b : Bool). cond b (Some row_entry) (option_map entry_of (map.get version.elements n))) (apart_zero n above)
+    ∙ ap (λ (b : Bool). cond b (Some row_entry) (option_map (entry_of version) (map.get version.elements n))) (apart_zero n above)
   where
     apart_zero : (m : ℕ) → 1 ≤ m → eq_by_cmp nat_cmp m 0 ≡ false
     apart_zero m le = apart nat_cmp_total nat_cmp-IsAntisymmetric m 0 (λ e. zero_above (subst (λ (x : ℕ). 1 ≤ x) e le))
@@ -85,47 +92,72 @@ at_number version n above =
         zero_above : 1 ≤ 0 → ⊥
         zero_above h = absurd (omega (arith, h))
 
-column_exact : (version : Version) (P : Pairs) (R : Rows) → Consistent the_kinds (schema_of version) P R → AreNumbersFit version → (table n : ℕ) (type : ColumnType) → IsPublicColumn version table n type
-    → Exact (within table (column_meaning n)) P R
+column_exact : (version : Version) (P : Pairs) (R : Rows) → Consistent the_kinds (schema_of version) P R → AreNumbersFit version → (table n : ℕ) (type : ColumnType) (column : IsPublicColumn version table n type)
+    → Exact (within table (kind_meaning n (source_in version column.element.kind))) P R
 column_exact version P R all fit table n type column =
-    in_words column.element column.home column.column column.public
-    (subst (λ o. Meets the_kinds n o P R) (at_number version n (fit n column.element column.known).0 ∙ ap (option_map entry_of) column.known) (all n))
+    in_words column.element column.home column.public
+    (subst (λ o. Meets the_kinds n o P R) (at_number version n (fit n column.element column.known).0 ∙ ap (option_map (entry_of version)) column.known) (all n))
   where
-    in_words : (element : ElementDef) → element.table ≡ table → element.kind ≡ Optional type → element.state ≡ Public → Demand (within element.table (kind_meaning n element.kind)) element.state P R → Exact (within table (column_meaning n)) P R
-    in_words element home kind public d =
-        subst (λ (t : ℕ). Demand (within t (column_meaning n)) Public P R) home
-        (subst (λ (k : Kind). Demand (within element.table (kind_meaning n k)) Public P R) kind
-        (subst (λ (q : ElementState). Demand (within element.table (kind_meaning n element.kind)) q P R) public d))
+    in_words : (element : ElementDef) → element.table ≡ table → element.state ≡ Public → Demand (within element.table (kind_meaning n (source_in version element.kind))) element.state P R → Exact (within table (kind_meaning n (source_in version element.kind))) P R
+    in_words element home public d =
+        subst (λ (t : ℕ). Demand (within t (kind_meaning n (source_in version element.kind))) Public P R) home
+        (subst (λ (q : ElementState). Demand (within element.table (kind_meaning n (source_in version element.kind))) q P R) public d)
 
 in_table : (table : ℕ) (o : Option Bytes) (v : Bytes) → o ≡ Some v → cond (eqb table table) o None ≡ Some v
 in_table table o v e = ap (λ (b : Bool). cond b o None) (eq-eqb table table refl) ∙ e
 
--- the pair of a row that can be named
-column_value : (P : Pairs) (R : Rows) (n : ℕ) → IsLawfulColumn n → AreStorable R → (k : RowKey) → Exact (within k.0 (column_meaning n)) P R → IsStorableRow k map.empty → (o : Option Cells) → map.get R k ≡ o
-    → map.get P (row_code k.0 k.1 n) ≡ pair_value n o
-column_value P R n lawful held k exact named o at = by (pair_value n o) refl
+-- the pair of a row that can be named, of an element that has one pair for a row under the column's key of the row
+column_value : (P : Pairs) (R : Rows) (n : ℕ) (m : Meaning) (see : Option Value → Option Value) → AreStorable R → (k : RowKey) → Laws (within k.0 m) → m.number ≡ n → ((l : RowKey) (r : Cells) → m.pair_key l r ≡ row_code l.0 l.1 n)
+    → ((r : Cells) → m.pair_value k r ≡ option_map code (see (map.get r n))) → Exact (within k.0 m) P R → IsStorableRow k map.empty → (o : Option Cells) → map.get R k ≡ o → map.get P (row_code k.0 k.1 n) ≡ pair_value n see o
+column_value P R n m see held k m_laws numbered keyed valued exact named o at = by (pair_value n see o) refl
   where
-    m_laws : Laws (within k.0 (column_meaning n))
-    m_laws = column_laws k.0 n lawful
-
     -- a pair that is there is the one that the row gives
-    gives : (v : Bytes) → map.get P (row_code k.0 k.1 n) ≡ Some v → pair_value n o ≡ Some v
+    gives : (v : Bytes) → map.get P (row_code k.0 k.1 n) ≡ Some v → pair_value n see o ≡ Some v
     gives v is =
-        let own : owner (row_code k.0 k.1 n) ≡ Some n = owner_named n (row_code k.0 k.1 n) (m_laws.owned k map.empty named) in
-        let s : IsFromScratch (within k.0 (column_meaning n)) R (row_code k.0 k.1 n) v = exact.subset (row_code k.0 k.1 n) v own is in
-        let same : s.key ≡ k = m_laws.one_row s.key k s.cells map.empty (held s.key s.cells s.there) named (m_laws.served s.key s.cells v s.value_is) (eq-eqb k.0 k.0 refl) s.key_is in
+        let own : owner (row_code k.0 k.1 n) ≡ Some m.number = owner_named m.number (row_code k.0 k.1 n) (subst (IsKeyOfElement m.number) (keyed k map.empty) (m_laws.owned k map.empty named)) in
+        let s : IsFromScratch (within k.0 m) R (row_code k.0 k.1 n) v = exact.subset (row_code k.0 k.1 n) v own is in
+        let same : s.key ≡ k = m_laws.one_row s.key k s.cells map.empty (held s.key s.cells s.there) named (m_laws.served s.key s.cells v s.value_is) (eq-eqb k.0 k.0 refl) (s.key_is ∙ sym (keyed k map.empty)) in
         let row : o ≡ Some s.cells = sym at ∙ ap (map.get R) (sym same) ∙ s.there in
-        let value : coded (map.get s.cells n) ≡ Some v = (some_in (eqb s.key.0 k.0) (coded (map.get s.cells n)) v s.value_is).1 in
-        ap (pair_value n) row ∙ value
+        let value : m.pair_value k s.cells ≡ Some v = ap (λ (l : RowKey). m.pair_value l s.cells) (sym same) ∙ (some_in (eqb s.key.0 k.0) (m.pair_value s.key s.cells) v s.value_is).1 in
+        ap (pair_value n see) row ∙ sym (valued s.cells) ∙ value
 
     -- a pair that the row gives is there
-    covers : (c : Option Cells) (v : Bytes) → map.get R k ≡ c → pair_value n c ≡ Some v → map.get P (row_code k.0 k.1 n) ≡ Some v
+    covers : (c : Option Cells) (v : Bytes) → map.get R k ≡ c → pair_value n see c ≡ Some v → map.get P (row_code k.0 k.1 n) ≡ Some v
     covers None v there e = none_some v e
-    covers (Some cells) v there e = exact.covered k cells v there (in_table k.0 (coded (map.get cells n)) v e)
+    covers (Some cells) v there e = ap (map.get P) (sym (keyed k cells)) ∙ exact.covered k cells v there (in_table k.0 (m.pair_value k cells) v (valued cells ∙ e))
 
-    by : (u : Option Bytes) → pair_value n o ≡ u → map.get P (row_code k.0 k.1 n) ≡ u
-    by None e = none_where (map.get P (row_code k.0 k.1 n)) (λ v is. not_none v (pair_value n o) (gives v is) e)
+    by : (u : Option Bytes) → pair_value n see o ≡ u → map.get P (row_code k.0 k.1 n) ≡ u
+    by None e = none_where (map.get P (row_code k.0 k.1 n)) (λ v is. not_none v (pair_value n see o) (gives v is) e)
     by (Some v) e = covers o v at e
+
+-- a public column, of whichever kind, has the pair of what is seen of the row's cell
+pub seen_pair : (version : Version) (table n : ℕ) (type : ColumnType) (column : IsPublicColumn version table n type) (P : Pairs) (R : Rows) → AreStorable R → IsLawfulColumn n → (k : RowKey) → k.0 ≡ table
+    → Exact (within table (kind_meaning n (source_in version column.element.kind))) P R → IsStorableRow k map.empty → (o : Option Cells) → map.get R k ≡ o → map.get P (row_code k.0 k.1 n) ≡ pair_value n (seen_value version table n) o
+seen_pair version table n type column P R held lawful k home exact named o at = by column.element.kind refl
+  where
+    placed : (m : Meaning) → Exact (within table m) P R → Exact (within k.0 m) P R
+    placed m e = subst (λ (t : ℕ). Exact (within t m) P R) (sym home) e
+
+    here : {A : Type 0} (x y : A) → cond ((column.element.table == table) && is_public column.element.state) x y ≡ x
+    here x y = ap (λ (b : Bool). cond (b && is_public column.element.state) x y) (eq-eqb column.element.table table column.home) ∙ ap (λ (q : ElementState). cond (is_public q) x y) column.public
+
+    by : (kind : Kind) → column.element.kind ≡ kind → map.get P (row_code k.0 k.1 n) ≡ pair_value n (seen_value version table n) o
+    by (Index columns) is = none_some type (sym (ap type_of_kind is) ∙ column.column)
+    by (Optional own) is =
+        column_value P R n (column_meaning n) (seen_value version table n) held k (column_laws k.0 n lawful) refl (λ l r. refl)
+        (λ r. ap (option_map code) (sym (optional_seen version n column.element own table (map.get r n) column.known is)))
+        (placed (column_meaning n) (subst (λ (q : Kind). Exact (within table (kind_meaning n (source_in version q))) P R) is exact)) named o at
+    by (Required own fallback) is =
+        column_value P R n (required_meaning n fallback) (seen_value version table n) held k (required_laws k.0 n fallback lawful) refl (λ l r. refl)
+        (λ r. valued (map.get r n))
+        (placed (required_meaning n fallback) (subst (λ (q : Kind). Exact (within table (kind_meaning n (source_in version q))) P R) is exact)) named o at
+      where
+        default : default_at table (element_at version n) ≡ Some fallback
+        default = ap (default_at table) column.known ∙ here (default_of column.element.kind) None ∙ ap default_of is
+
+        valued : (c : Option Value) → Some (code (unwrap_or c fallback)) ≡ option_map code (seen_value version table n c)
+        valued None = sym (ap (option_map code) default)
+        valued (Some v) = refl
 
 -- ---- the rows that the reads spell
 
@@ -137,6 +169,7 @@ behind op ops other c = (suc c.0, omega (arith, c.1), c.2)
 
 -- what the version, the rows and the pairs are to each other
 pub record Agreeing (version : Version) (P : Pairs) (R : Rows) : Type 0 where
+  pub sound : IsSoundVersion version
   pub small : AreTablesSmall version
   pub fit : AreNumbersFit version
   pub lawful : AreLawfulRows version R
@@ -156,17 +189,30 @@ spelled_row version ops view P R op agreeing keys holds here sound =
     let exists_read = read (row_code (table_of op) (key_of op) 0) (op, here, (sound.table, sound.known), inl refl) in
     let column_read : (number : ℕ) (type : ColumnType) → IsPublicColumn version (table_of op) number type → map.get view (row_code (table_of op) (key_of op) number) ≡ Some (map.get P (row_code (table_of op) (key_of op) number))
     = λ number type column. read (row_code (table_of op) (key_of op) number) (op, here, (sound.table, sound.known), inr (number, type, column, refl)) in
-    let value : (number : ℕ) (type : ColumnType) → IsPublicColumn version (table_of op) number type → (o : Option Cells) → map.get R (row_of op) ≡ o → map.get P (row_code (table_of op) (key_of op) number) ≡ pair_value number o
-    = λ number type column o at. column_value P R number (column_lawful number (agreeing.fit number column.element column.known)) agreeing.held (row_of op) (column_exact version P R agreeing.consistent agreeing.fit (table_of op) number type column) named o at in
+    let value : (number : ℕ) (type : ColumnType) → IsPublicColumn version (table_of op) number type → (o : Option Cells) → map.get R (row_of op) ≡ o
+        → map.get P (row_code (table_of op) (key_of op) number) ≡ pair_value number (seen_value version (table_of op) number) o
+    = λ number type column o at. seen_pair version (table_of op) number type column P R agreeing.held (column_lawful number (agreeing.fit number column.element column.known)) (row_of op) refl
+        (column_exact version P R agreeing.consistent agreeing.fit (table_of op) number type column) named o at in
     record {
       absent = λ none. exists_read ∙ ap Some (row_missing version P R agreeing.held agreeing.consistent (row_of op) (t.0, primary) none);
       present = λ cells at. exists_read ∙ ap Some (row_there version P R agreeing.consistent (row_of op) cells at);
       no_columns = λ number type column none. column_read number type column ∙ ap Some (value number type column None none);
-      columns = λ number type cells column at. column_read number type column ∙ ap Some (value number type column (Some cells) at);
-      typed = λ number type cells v column at is.
-          let row : IsLawfulRow version (row_of op) cells = agreeing.lawful (row_of op) cells at in
-          (row.types number column.element type v column.known column.column is, (row.values number v is).0);
+      columns = λ number type cells column at.
+          let row : IsLawfulRow version (row_of op) (seen_cells version (table_of op) cells) = lawful_seen version R agreeing.sound agreeing.lawful (row_of op) (seen_cells version (table_of op) cells) (seen_there version R (row_of op) cells at) in
+          record {
+            own = seen_value version (table_of op) number (map.get cells number);
+            held = column_read number type column ∙ ap Some (value number type column (Some cells) at);
+            typed = λ v is.
+                let own : map.get (seen_cells version (table_of op) cells) number ≡ Some v = seen_get version (table_of op) cells number ∙ is in
+                (row.types number column.element type v column.known column.column own, (row.values number v own).0);
+            same = seen_twice (map.get cells number) (default_at (table_of op) (element_at version number));
+          };
     }
+  where
+    seen_twice : (own default : Option Value) → own_or (own_or own default) default ≡ own_or own default
+    seen_twice None None = refl
+    seen_twice None (Some v) = refl
+    seen_twice (Some v) default = refl
 
 spelled_all : (version : Version) (ops : List RowOp) (view : View) (P : Pairs) (R : Rows) (some : List RowOp) → Agreeing version P R → HasKeys version ops view → Holds (expects view) P
     → ((op : RowOp) → Contains some op → Contains ops op) → AllByRecursion (IsSound version) some → AllByRecursion (IsSpelledRow version view R) some

@@ -12,15 +12,16 @@ use Rattle.row_map.specs.Shape.{has_type}
 use Rattle.row_map.specs.Writes.{Batch, written_all, laid}
 use Rattle.schema_version.specs.declared.element.ElementState.TheVariants.{Absent, Public}
 use Rattle.schema_version.specs.declared.element.Kind.{Kind}
-use Rattle.schema_version.specs.declared.element.Kind.TheVariants.{Optional}
+use Rattle.schema_version.specs.declared.element.Kind.TheVariants.{Index, Optional, Required}
 use Rattle.schema_version.specs.declared.element.ElementDef.{ElementDef}
-use Rattle.schema_version.specs.Version.{Version, table_at, element_at}
+use Rattle.schema_version.specs.Version.{Version, table_at, element_at, type_of_kind}
 use Rattle.schema_version.specs.Sound.{IsSoundVersion}
 use Rattle.element_state.specs.Consistent.{IsLawfulRow, AreLawfulRows}
 use Rattle.element_state.specs.Core.{Invariant, Runs, JoinedAt}
 use Rattle.element_state.specs.Effects.{row_here, row_apart, key_one}
 use Rattle.element_state.specs.Elements.{Change, rows_after, cell}
 use Rattle.element_state.specs.Schemas.{state_of}
+use Rattle.element_state.specs.Sources.{Source, IndexOn, OptionalIn, RequiredIn, source_in}
 use Rattle.element_state.specs.Versions.{Of, the_kinds, schema_of, entry_of}
 use Rattle.element_state.specs.Whole.{RunsAll, all_writes, rows_after_all}
 use Rattle.element_state.proofs.Whole.{commit_all_kept}
@@ -71,13 +72,13 @@ all_kept version n P (c ∷ cs) R hidden runs all = all_kept version n P cs (row
 
 -- ---- rows that are lawful in one version are in the other
 
-abbrev SameKinds : Version → Version → Type 0
-SameKinds u v = (n : ℕ) (e d : ElementDef) → element_at u n ≡ Some e → element_at v n ≡ Some d → e.kind ≡ d.kind
+abbrev SameTypes : Version → Version → Type 0
+SameTypes u v = (n : ℕ) (e d : ElementDef) → element_at u n ≡ Some e → element_at v n ≡ Some d → type_of_kind e.kind ≡ type_of_kind d.kind
 
 absent_public : Absent ≡ Public → ⊥
 absent_public e = absurd cc
 
-lawful_other : (u v : Version) (R : Rows) (cs : List Change) → IsSoundVersion u → u.tables ≡ v.tables → SameKinds u v → RunsAll the_kinds (schema_of v) R cs → AreLawfulRows u R → AreLawfulRows v (rows_after_all the_kinds R cs)
+lawful_other : (u v : Version) (R : Rows) (cs : List Change) → IsSoundVersion u → u.tables ≡ v.tables → SameTypes u v → RunsAll the_kinds (schema_of v) R cs → AreLawfulRows u R → AreLawfulRows v (rows_after_all the_kinds R cs)
     → AreLawfulRows u (rows_after_all the_kinds R cs)
 lawful_other u v R cs sound tables kinds runs before after key cells at =
     let r : IsLawfulRow v key cells = after key cells at in
@@ -89,14 +90,26 @@ lawful_other u v R cs sound tables kinds runs before after key cells at =
       values = r.values;
     }
   where
-    by : IsLawfulRow v key cells → (column : ℕ) (element : ElementDef) (type : ColumnType) (value : Value) → element_at u column ≡ Some element → element.kind ≡ Optional type → map.get cells column ≡ Some value → (o : Option ElementDef) → element_at v column ≡ o → IsTrue (has_type type value)
+    by : IsLawfulRow v key cells → (column : ℕ) (element : ElementDef) (type : ColumnType) (value : Value) → element_at u column ≡ Some element → type_of_kind element.kind ≡ Some type → map.get cells column ≡ Some value → (o : Option ElementDef) → element_at v column ≡ o → IsTrue (has_type type value)
     by r column element type value there kind is (Some d) at_v = r.types column d type value at_v (sym (kinds column element d there at_v) ∙ kind) is
     by r column element type value there kind is None at_v =
-        let hidden : state_of (map.get (schema_of v) column) ≢ Public = λ e. absent_public (sym (ap state_of (at_number v column (sound.elements column element there).first ∙ ap (option_map entry_of) at_v)) ∙ e) in
+        let hidden : state_of (map.get (schema_of v) column) ≢ Public = λ e. absent_public (sym (ap state_of (at_number v column (sound.elements column element there).first ∙ ap (option_map (entry_of v)) at_v)) ∙ e) in
         all_kept v column (λ x. IsTrue (has_type type x)) cs R hidden runs (λ k c a x i. (before k c a).types column element type x there kind i) key cells at value is
 
-of_kind : (a b : ℕ) (x y : Kind) → Of a x ≡ Of b y → x ≡ y
-of_kind a b x y e = cc
+of_source : (a b : ℕ) (x y : Source) → Of a x ≡ Of b y → x ≡ y
+of_source a b x y e = cc
+
+-- what pairs are built from tells the type of a column
+type_of_source : Source → Option ColumnType
+type_of_source (IndexOn columns) = None
+type_of_source (OptionalIn type) = Some type
+type_of_source (RequiredIn type fallback) = Some type
+
+type_told : (version : Version) (kind : Kind) → type_of_source (source_in version kind) ≡ type_of_kind kind
+unfolding type_of_source
+type_told version (Index columns) = refl
+type_told version (Optional type) = refl
+type_told version (Required type fallback) = refl
 
 -- ---- what was prepared
 
@@ -124,10 +137,10 @@ module _ (facts : Facts) (now : ℕ) (prepared : PreparedTxn) (later : facts.mom
   counts = counts_still (at facts now) k prepared.lease.version version due.usable due.schema
 
   agreeing_before : Agreeing before facts.pairs facts.rows
-  agreeing_before = record { small = small before k.sound_before; fit = fits before k.sound_before; lawful = k.rows_before; held = k.core_kept.held; consistent = k.core_kept.before }
+  agreeing_before = record { sound = k.sound_before; small = small before k.sound_before; fit = fits before k.sound_before; lawful = k.rows_before; held = k.core_kept.held; consistent = k.core_kept.before }
 
   agreeing_newest : Agreeing facts.newest facts.pairs facts.rows
-  agreeing_newest = record { small = small facts.newest k.sound; fit = fits facts.newest k.sound; lawful = k.rows; held = k.core_kept.held; consistent = k.core_kept.newest }
+  agreeing_newest = record { sound = k.sound; small = small facts.newest k.sound; fit = fits facts.newest k.sound; lawful = k.rows; held = k.core_kept.held; consistent = k.core_kept.newest }
 
   agreeing : Agreeing version facts.pairs facts.rows
   agreeing = elim counts [
@@ -173,16 +186,16 @@ module _ (facts : Facts) (now : ℕ) (prepared : PreparedTxn) (later : facts.mom
         (subst (λ (R : Rows). Invariant the_kinds (record (core_at (at facts now) now) { pairs = written_all facts.pairs (all_writes the_kinds (schema_of version) (changes facts.rows ops)); rows = R })) rows_are
         (commit_all_kept the_kinds (changes facts.rows ops) (core_at (at facts now) now) (schema_of version) (elim counts [ inl e ↦ inl (ap schema_of e) | inr e ↦ inr (ap schema_of e) ]) steps.0 k.core_kept))
 
-    -- an element has one kind in both
-    kinds : SameKinds before facts.newest
+    -- a column has one type in both
+    kinds : SameTypes before facts.newest
     kinds n e d at_before at_newest =
         let above = (k.sound_before.elements n e at_before).first in
-        let joined : JoinedAt the_kinds n (Some (entry_of e)) (Some (entry_of d))
-        = subst (λ o. JoinedAt the_kinds n o (Some (entry_of d))) (at_number before n above ∙ ap (option_map entry_of) at_before)
-        (subst (JoinedAt the_kinds n (map.get (schema_of before) n)) (at_number facts.newest n above ∙ ap (option_map entry_of) at_newest) (k.core_kept.joined n)) in
-        of_kind e.table d.table e.kind d.kind joined.0
+        let joined : JoinedAt the_kinds n (Some (entry_of before e)) (Some (entry_of facts.newest d))
+        = subst (λ o. JoinedAt the_kinds n o (Some (entry_of facts.newest d))) (at_number before n above ∙ ap (option_map (entry_of before)) at_before)
+        (subst (JoinedAt the_kinds n (map.get (schema_of before) n)) (at_number facts.newest n above ∙ ap (option_map (entry_of facts.newest)) at_newest) (k.core_kept.joined n)) in
+        sym (type_told before e.kind) ∙ ap type_of_source (of_source e.table d.table (source_in before e.kind) (source_in facts.newest d.kind) joined.0) ∙ type_told facts.newest d.kind
 
-    lawful_of : (u : Version) → IsSoundVersion u → u.tables ≡ version.tables → SameKinds u version → AreLawfulRows u facts.rows → AreLawfulRows u (transacted facts.rows ops)
+    lawful_of : (u : Version) → IsSoundVersion u → u.tables ≡ version.tables → SameTypes u version → AreLawfulRows u facts.rows → AreLawfulRows u (transacted facts.rows ops)
     lawful_of u sound tables same rows = subst (AreLawfulRows u) rows_are (lawful_other u version facts.rows (changes facts.rows ops) sound tables same steps.0 rows steps.1)
 
     lawful_self : AreLawfulRows version (transacted facts.rows ops)
@@ -192,10 +205,10 @@ module _ (facts : Facts) (now : ℕ) (prepared : PreparedTxn) (later : facts.mom
     both_lawful = elim counts [
       | inl e ↦ (
         subst (λ (v : Version). AreLawfulRows v (transacted facts.rows ops)) e lawful_self,
-        lawful_of facts.newest k.sound (sym k.tables ∙ ap (λ (v : Version). v.tables) (sym e)) (subst (SameKinds facts.newest) (sym e) (λ n a b p q. sym (kinds n b a q p))) k.rows,
+        lawful_of facts.newest k.sound (sym k.tables ∙ ap (λ (v : Version). v.tables) (sym e)) (subst (SameTypes facts.newest) (sym e) (λ n a b p q. sym (kinds n b a q p))) k.rows,
       )
       | inr e ↦ (
-        lawful_of before k.sound_before (k.tables ∙ ap (λ (v : Version). v.tables) (sym e)) (subst (SameKinds before) (sym e) kinds) k.rows_before,
+        lawful_of before k.sound_before (k.tables ∙ ap (λ (v : Version). v.tables) (sym e)) (subst (SameTypes before) (sym e) kinds) k.rows_before,
         subst (λ (v : Version). AreLawfulRows v (transacted facts.rows ops)) e lawful_self,
       )
     ]
