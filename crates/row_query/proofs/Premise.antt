@@ -204,6 +204,7 @@ module _ (version : Version) (sound : IsSoundVersion version) (rows : Rows) (pai
   has_value element table n type fallback key cells here at home of public =
       sym (ap (own_or (map.get cells n)) (default_is element table n type fallback at home of public)) ∙ full table key cells n here
 
+  -- its pair holds that value
   required_pair : (table : ℕ) (key : List Value) (cells : Cells) (n : ℕ) (type kept : ColumnType) (fallback : Value) → map.get rows (table, key) ≡ Some cells → (column : IsColumn version table n type) → column.element.kind ≡ kind.Required kept fallback
       → map.get pairs (row_code table key n) ≡ option_map code (map.get cells n)
   required_pair table key cells n type kept fallback here column of =
@@ -217,6 +218,7 @@ module _ (version : Version) (sound : IsSoundVersion version) (rows : Rows) (pai
       by None e = absurd (none_some fallback (sym e))
       by (Some v) e = refl
 
+  -- an optional column has the pair of its value, and none where the row has no value
   optional_pair : (table : ℕ) (key : List Value) (cells : Cells) (n : ℕ) (type kept : ColumnType) → map.get rows (table, key) ≡ Some cells → (column : IsColumn version table n type) → column.element.kind ≡ kind.Optional kept → map.get pairs (row_code table key n) ≡ option_map code (map.get cells n)
   optional_pair table key cells n type kept here column of = by (map.get cells n) refl
     where
