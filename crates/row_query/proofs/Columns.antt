@@ -14,7 +14,7 @@ use Rattle.row_map.proofs.Entries.{each_entry}
 use Rattle.schema_version.specs.declared.element.ElementState.{ElementState}
 use Rattle.schema_version.specs.declared.element.ElementState.TheVariants.{Absent, DeleteOnly, WriteOnly, Public}
 use Rattle.schema_version.specs.declared.element.Kind.{Kind}
-use Rattle.schema_version.specs.declared.element.Kind.TheVariants.{Index, Optional}
+use Rattle.schema_version.specs.declared.element.Kind.TheVariants.{Index, Optional, Required}
 use Rattle.schema_version.specs.declared.element.ElementDef.{ElementDef}
 use Rattle.schema_version.specs.Sound.{IsSoundVersion}
 use Rattle.schema_version.specs.Version.{Version, element_at, live, is_public, is_column, type_of_kind, is_public_column}
@@ -66,13 +66,15 @@ public_is DeleteOnly e = absurd cc
 public_is WriteOnly e = absurd cc
 public_is Public e = refl
 
-typed_kind : (k : Kind) (type : ColumnType) → type_of_kind k ≡ Some type → k ≡ Optional type
-typed_kind (Index columns) type e = absurd cc
-typed_kind (Optional t) type e = ap Optional (some_same e)
-
-column_kind : (k : Kind) → is_column k ≡ true → (type : ColumnType) × (k ≡ Optional type)
+column_kind : (k : Kind) → is_column k ≡ true → (type : ColumnType) × (type_of_kind k ≡ Some type)
 column_kind (Index columns) e = absurd cc
 column_kind (Optional type) e = (type, refl)
+column_kind (Required type fallback) e = (type, refl)
+
+kind_column : (k : Kind) (type : ColumnType) → type_of_kind k ≡ Some type → is_column k ≡ true
+kind_column (Index columns) type e = absurd cc
+kind_column (Optional t) type e = refl
+kind_column (Required t fallback) type e = refl
 
 record Shown (table number : ℕ) (element : ElementDef) : Type 0 where
   named : element.number ≡ number
@@ -172,7 +174,7 @@ module _ (v : Version) (sound : IsSoundVersion v) where
               element = element;
               known = ap (element_at v) (sym p.named) ∙ found_at element s.0;
               home = p.home;
-              column = typed_kind element.kind type e;
+              column = e;
               public = p.public;
             }
       ] refl
@@ -187,14 +189,14 @@ module _ (v : Version) (sound : IsSoundVersion v) where
             let s = find_says (is_shown table number) (live v) element f in
             let q = shown_says table number element s.1 in
             let same : element ≡ p.element = some_same (sym (ap (element_at v) (sym q.named) ∙ found_at element s.0) ∙ p.known) in
-            ap (λ (e : ElementDef). type_of_kind e.kind) same ∙ ap type_of_kind p.column
+            ap (λ (e : ElementDef). type_of_kind e.kind) same ∙ p.column
       ] refl
 
   -- a public column is among the numbers
   pub column_named : (table number : ℕ) (type : ColumnType) → IsColumn v table number type → is_named (public_numbers (live v) table) number ≡ true
   column_named table number type p =
       let public : is_public_column table p.element ≡ true =
-      and_true ((p.element.table == table) && is_public p.element.state) _ (and_true (p.element.table == table) _ (eq-eqb p.element.table table p.home) (ap is_public p.public)) (ap is_column p.column) in
+      and_true ((p.element.table == table) && is_public p.element.state) _ (and_true (p.element.table == table) _ (eq-eqb p.element.table table p.home) (ap is_public p.public)) (kind_column p.element.kind type p.column) in
       subst (λ n. is_named (public_numbers (live v) table) n ≡ true) (own number p.element p.known) (named_in table (live v) p.element (live_has v number p.element p.known) public)
 
   pub type_named : (table number : ℕ) → is_some (column_type (live v) table number) ≡ true → is_named (public_numbers (live v) table) number ≡ true

@@ -131,6 +131,7 @@ kind_is : (conditions : List Cond) (k : Kind) (c : Cond) → leading conditions 
 kind_is conditions (kind.Index []) c e = absurd cc
 kind_is conditions (kind.Index (first ∷ others)) c e = (first, others, refl, e)
 kind_is conditions (kind.Optional type) c e = absurd cc
+kind_is conditions (kind.Required type fallback) c e = absurd cc
 
 first_met : (number : ℕ) (conditions : List Cond) (c : Cond) (key : List Value) (value : ℕ → Value) → find (is_on number) conditions ≡ Some c → list_all (meets key value) conditions ≡ true → AreKnown conditions → (is_on number c ≡ true) × (meets key value c ≡ true) × IsKnown c
 first_met number [] c key value e all known = absurd cc

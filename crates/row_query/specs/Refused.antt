@@ -8,9 +8,8 @@ use Rattle.keycode.specs.declared.value.Value.{Value}
 use Rattle.keycode.specs.declared.value.Value.TheVariants.{Null}
 use Rattle.row_map.specs.declared.shape.ColumnType.{ColumnType}
 use Rattle.schema_version.specs.declared.element.ElementState.TheVariants.{Public}
-use Rattle.schema_version.specs.declared.element.Kind.TheVariants.{Optional}
 use Rattle.schema_version.specs.declared.element.ElementDef.{ElementDef}
-use Rattle.schema_version.specs.Version.{Version, Table, table_at, element_at}
+use Rattle.schema_version.specs.Version.{Version, Table, table_at, element_at, type_of_kind}
 use Rattle.schema_version.specs.Shape.{key_types}
 use Rattle.row_query.specs.declared.query.Cond.{Cond}
 use Rattle.row_query.specs.declared.query.Cond.TheVariants.{Key, Equal, Between}
@@ -19,12 +18,12 @@ use Rattle.row_query.specs.declared.fault.QueryFault.{QueryFault}
 use Rattle.row_query.specs.declared.fault.QueryFault.TheVariants.{NoTable, NotPublic, WrongType, Memory}
 use Rattle.row_query.specs.Kinds.{has_kind}
 
--- the number names a public column of the table, of this type
+-- the number names a public column of the table, optional or required, of this type
 pub record IsColumn (version : Version) (table number : ℕ) (type : ColumnType) : Type 0 where
   pub element : ElementDef
   pub known : element_at version number ≡ Some element
   pub home : element.table ≡ table
-  pub column : element.kind ≡ Optional type
+  pub column : type_of_kind element.kind ≡ Some type
   pub public : element.state ≡ Public
 
 -- it names none

@@ -2,6 +2,7 @@
 ghost use Rattle.std.specs.Prelude.{◌≡◌, ◌⊎◌, IfOk, IfErr, OnOk, Ok};
 ghost use Rattle.row_map.specs.Rows.{Rows};
 ghost use Rattle.element_state.specs.Consistent.{IsConsistent};
+ghost use Rattle.element_state.specs.Seen.{seen};
 ghost use Rattle.row_query.specs.declared.fault.QueryFault.TheVariants.{Memory};
 ghost use Rattle.row_query.specs.Answer.{plain_answer};
 ghost use Rattle.row_query.specs.Checked.{query_check, AreKnown};
@@ -43,14 +44,14 @@ fn by_key<V: PairView>(
     Ok(rows)
 }
 
-/// The rows of a query that has no fault, by its path.
+/// The rows of a query that has no fault, by its path. A required column's pair holds the default where a row has no value of its own.
 fn find<V: PairView>(
     alloc: Global,
     schema: &Schema,
     view: &V,
     query: &Query,
 ) -> Result<Vec<Row>, AllocError>
-    ensures { (rows : Rows) → IsConsistent schema.now rows (V.pairs view.now) → query_check schema.now query.now ≡ Ok tt → AreKnown query.now.conditions → IfOk result (λ found. found.items ≡ plain_answer rows query.now) }
+    ensures { (rows : Rows) → IsConsistent schema.now rows (V.pairs view.now) → query_check schema.now query.now ≡ Ok tt → AreKnown query.now.conditions → IfOk result (λ found. found.items ≡ plain_answer (seen schema.now rows) query.now) }
 {
     schema.known();
     let elements = schema.elements();
@@ -73,14 +74,14 @@ fn find<V: PairView>(
 /// The rows that a query asks for, in the order of their primary keys, each with its values in the named columns.
 ///
 /// - `schema`: the version under which the query runs. It reads the columns and indexes that are public there.
-/// - `view`: the pairs of a store. Where they agree with the version and with rows, those rows are what is answered.
-/// - `query`: a table, columns and conditions. Equal with Null finds the rows without a value; Between has its bounds
-///   included and never finds a row without a value. A text over 1,024 bytes is no fault: in a key and with Equal it finds
-///   nothing, as a bound it is compared as every value is.
+/// - `view`: the pairs of a store. Where they agree with the version and with rows, those rows are what is answered, as
+///   the version sees them: in a public required column the default stands where a row has no value of its own.
+/// - `query`: a table, columns and conditions. Equal with Null finds the rows without a value, hence none by a required
+///   column; Between has its bounds included and never finds a row without a value. A text over 1,024 bytes is no fault: in
+///   a key and with Equal it finds nothing, as a bound it is compared as every value is.
 ///
 /// The rows are found by the path that `path_of` tells. By a key one row is read, by an index only the pairs between the
-/// condition's values. An index that isn't public is never read: some rows may have no pair there (Rae et al., PVLDB
-/// 6(11), 2013).
+/// condition's values. An index that isn't public is never read: some rows may have no pair there.
 ///
 /// The refusals, in their order: `NoTable`; then of the named columns in their order and the conditions in theirs, the
 /// first with a fault by its lowest, `NotPublic` and then `WrongType`. `Memory` comes last: the whole query is looked at
@@ -93,7 +94,7 @@ pub fn answer<V: PairView>(
 ) -> Result<Listed<Row>, QueryFault>
     ensures refused { IfErr result (λ fault. ((fault ≡ Memory) × IsSound schema.now query.now) ⊎ IsRefused schema.now query.now fault) }
     ensures clear { OnOk result (IsSound schema.now query.now) }
-    ensures rows { (rows : Rows) → IsConsistent schema.now rows (V.pairs view.now) → IfOk result (λ found. found ≡ plain_answer rows query.now) }
+    ensures rows { (rows : Rows) → IsConsistent schema.now rows (V.pairs view.now) → IfOk result (λ found. found ≡ plain_answer (seen schema.now rows) query.now) }
 {
     check_query(schema, query)?;
     Ok(Listed::new(find(alloc, schema, view, query)?))

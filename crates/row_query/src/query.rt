@@ -12,7 +12,7 @@ pub enum Cond {
     Equal {
         /// The number of the column.
         column: u32,
-        /// The value. With Null the row has no value in the column.
+        /// The value. With Null the row has no value in the column, which no row lacks in a required one: it has the default.
         value: Value,
     },
     /// The row has a value in a column, and it lies between two bounds, both included.
@@ -31,7 +31,8 @@ pub enum Cond {
 pub struct Query {
     /// The number of the table.
     pub table: u32,
-    /// The numbers of the columns whose values are answered. Their order says nothing, nor does a number that stands twice.
+    /// The numbers of the columns whose values are answered, of a required column the default where a row has no value of its
+    /// own. Their order says nothing, nor does a number that stands twice.
     pub columns: Listed<u32>,
     /// What the rows must meet, all of it.
     pub conditions: Listed<Cond>,

@@ -1,6 +1,7 @@
 use Rattle.std.proofs.Common.{List, ℕ, [], length, sym, ap, ◌∙◌}
 use Rattle.row_map.specs.Ranges.{table_prefix}
 use Rattle.row_map.specs.Walk.{stretch}
+use Rattle.element_state.specs.Seen.{seen}
 use Rattle.row_query.specs.Bounds.{table_end, leading, first_key, gathered, low_bound, high_bound}
 use Rattle.row_query.specs.Checked.{public_numbers}
 use Rattle.row_query.specs.Found.{row_in, one_row, rows_at, rows_in}
@@ -18,7 +19,7 @@ returns-in-Some g c = λ rows agree passed known. ok_then c.by_key.result _ _ (�
     is
     ∙ ap (λ (columns : List ℕ). one_row (row_in (g.V.PairView.pairs c.args.view.now) columns c.args.query.now c.in-Some.key.now))
     (c.as_slice-columns.ensures.value ∙ c.in_ok-public.ensures ∙ ap (λ elements. public_numbers elements c.args.query.now.table) c.elements-elements.ensures)
-    ∙ key_is c.args.schema.now rows (g.V.PairView.pairs c.args.view.now) (reads_from c.args.schema.now c.known.ensures rows (g.V.PairView.pairs c.args.view.now) agree) c.args.query.now c.in-Some.key.now passed
+    ∙ key_is c.args.schema.now (seen c.args.schema.now rows) (g.V.PairView.pairs c.args.view.now) (reads_from c.args.schema.now c.known.ensures rows (g.V.PairView.pairs c.args.view.now) agree) c.args.query.now c.in-Some.key.now passed
     (query_open c.args.schema.now c.known.ensures c.args.query.now passed) known (sym (c.in-Some.ensures ∙ ap first_key c.as_slice-conditions.ensures))) c.by_key.ensures
 
 pub returns-in-Some-leading_condition : goal.returns-in-Some-leading_condition
@@ -27,7 +28,7 @@ returns-in-Some-leading_condition g c = λ rows agree passed known. ok_then c.wa
     ∙ ap (λ (columns : List ℕ). rows_in (g.V.PairView.pairs c.args.view.now) columns c.args.query.now (gathered c.in-Some-serving_index.element.now.number (length c.listed-listed.result.now) [] (stretch (g.V.PairView.pairs c.args.view.now) (low_bound c.in-Some-serving_index.element.now.number c.in-Some-leading_condition.condition.now) (high_bound c.in-Some-serving_index.element.now.number c.in-Some-leading_condition.condition.now))))
     (c.as_slice-columns.ensures.value ∙ c.in_ok-public.ensures ∙ ap (λ elements. public_numbers elements c.args.query.now.table) c.elements-elements.ensures)
     ∙ ap (λ (listed : List ℕ). rows_in (g.V.PairView.pairs c.args.view.now) (public_numbers (live c.args.schema.now) c.args.query.now.table) c.args.query.now (gathered c.in-Some-serving_index.element.now.number (length listed) [] (stretch (g.V.PairView.pairs c.args.view.now) (low_bound c.in-Some-serving_index.element.now.number c.in-Some-leading_condition.condition.now) (high_bound c.in-Some-serving_index.element.now.number c.in-Some-leading_condition.condition.now)))) c.listed-listed.ensures
-    ∙ index_answers c.args.schema.now rows (g.V.PairView.pairs c.args.view.now) (reads_from c.args.schema.now c.known.ensures rows (g.V.PairView.pairs c.args.view.now) agree) c.args.query.now (query_open c.args.schema.now c.known.ensures c.args.query.now passed) known c.in-Some-serving_index.element.now c.in-Some-leading_condition.condition.now
+    ∙ index_answers c.args.schema.now (seen c.args.schema.now rows) (g.V.PairView.pairs c.args.view.now) (reads_from c.args.schema.now c.known.ensures rows (g.V.PairView.pairs c.args.view.now) agree) c.args.query.now (query_open c.args.schema.now c.known.ensures c.args.query.now passed) known c.in-Some-serving_index.element.now c.in-Some-leading_condition.condition.now
     (sym (c.in-Some-serving_index.ensures ∙ ap (find (serves c.args.query.now)) c.elements-elements.ensures))
     (sym (c.in-Some-leading_condition.ensures ∙ ap (λ conditions. leading conditions c.listed-listed.result.now) c.as_slice-conditions.ensures ∙ ap (leading c.args.query.now.conditions) c.listed-listed.ensures))) c.walk_index.ensures
 
@@ -36,4 +37,4 @@ returns g c = λ rows agree passed known. ok_then c.scan.result _ _ (λ found is
     is
     ∙ ap (λ (columns : List ℕ). rows_at (g.V.PairView.pairs c.args.view.now) columns c.args.query.now (stretch (g.V.PairView.pairs c.args.view.now) (table_prefix c.args.query.now.table) (table_end c.args.query.now.table)))
     (c.as_slice-columns.ensures.value ∙ c.in_ok-public.ensures ∙ ap (λ elements. public_numbers elements c.args.query.now.table) c.elements-elements.ensures)
-    ∙ scan_is c.args.schema.now rows (g.V.PairView.pairs c.args.view.now) (reads_from c.args.schema.now c.known.ensures rows (g.V.PairView.pairs c.args.view.now) agree) c.args.query.now (query_open c.args.schema.now c.known.ensures c.args.query.now passed)) c.scan.ensures
+    ∙ scan_is c.args.schema.now (seen c.args.schema.now rows) (g.V.PairView.pairs c.args.view.now) (reads_from c.args.schema.now c.known.ensures rows (g.V.PairView.pairs c.args.view.now) agree) c.args.query.now (query_open c.args.schema.now c.known.ensures c.args.query.now passed)) c.scan.ensures
