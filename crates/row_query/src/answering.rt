@@ -81,7 +81,8 @@ fn find<V: PairView>(
 ///   a key and with Equal it finds nothing, as a bound it is compared as every value is.
 ///
 /// The rows are found by the path that `path_of` tells. By a key one row is read, by an index only the pairs between the
-/// condition's values. An index that isn't public is never read: some rows may have no pair there.
+/// condition's values. An index that isn't public is never read: some rows may have no pair there (Rae et al., PVLDB
+/// 6(11), 2013).
 ///
 /// The refusals, in their order: `NoTable`; then of the named columns in their order and the conditions in theirs, the
 /// first with a fault by its lowest, `NotPublic` and then `WrongType`. `Memory` comes last: the whole query is looked at

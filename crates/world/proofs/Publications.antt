@@ -153,14 +153,8 @@ same_list [] (y ∷ ys) h = absurd h
 same_list (x ∷ xs) [] h = absurd h
 same_list (x ∷ xs) (y ∷ ys) h = λ i. h.0 i ∷ same_list xs ys h.1 i
 
-same_kind : (kind copy : Kind) → KindClone.by_variants kind copy → copy ≡ kind
-same_kind (Index columns) (Index others) h = ap Index (same_list columns others h)
-same_kind (Index columns) (Optional type) h = absurd h
-same_kind (Optional type) (Index columns) h = absurd h
-same_kind (Optional type) (Optional other) h = ap Optional h
-
 same_move : (move copy : Move) → MoveClone.by_variants move copy → copy ≡ move
-same_move (Enter fresh to) (Enter other state) h = λ i. Enter (record { table = h.0.0 i; name = h.0.1.0 i; kind = same_kind fresh.kind other.kind h.0.1.1 i }) (h.1 i)
+same_move (Enter fresh to) (Enter other state) h = λ i. Enter (record { table = h.0.0 i; name = h.0.1.0 i; kind = h.0.1.1 i }) (h.1 i)
 same_move (Enter fresh to) (Go other state) h = absurd h
 same_move (Enter fresh to) (Turn other) h = absurd h
 same_move (Go number to) (Enter other state) h = absurd h

@@ -9,6 +9,7 @@ use Rattle.lease.specs.Timeline.{Timeline}
 use Rattle.row_map.specs.declared.shape.Row.{Row}
 use Rattle.row_map.specs.Rows.{Rows, Pairs}
 use Rattle.element_state.specs.Consistent.{IsConsistent}
+use Rattle.element_state.specs.Seen.{seen}
 use Rattle.row_query.specs.declared.fault.QueryFault.{QueryFault}
 use Rattle.row_query.specs.declared.fault.QueryFault.TheVariants.{NoTable, NotPublic, WrongType, Memory}
 use Rattle.row_query.specs.declared.query.Query.{Query as Asked}
@@ -135,7 +136,7 @@ consistent_held f s moment now lease schema goes agrees v =
     (consistent_now (facts_of s) now lease schema goes agrees (kept_of f s v.held v.view) (later f s moment now v.counts) v.serves v.schema_is)
 
 pub query_answered : (f : Inside) (s : State) (moment now : ℕ) (lease : Lease) (query : Asked) (schema : Version) (found : List Row) → LeasesKeep → KeptAgrees → IsServed f s moment now lease schema → HasOneRefusal → IsSound schema query
-    → ((rows : Rows) → IsConsistent schema rows f.store → found ≡ plain_answer rows query) → QueryStep s moment lease query (Ok found)
+    → ((rows : Rows) → IsConsistent schema rows f.store → found ≡ plain_answer (seen schema rows) query) → QueryStep s moment lease query (Ok found)
 query_answered f s moment now lease query schema found goes agrees v one sound answers =
     subst (λ (n : ℕ). QueryAt s n lease query (Ok found)) v.counts
-    (clear s now lease query schema (served_lower s now lease query v.serves) v.schema_is sound one, answers (facts_of s).rows (consistent_held f s moment now lease schema goes agrees v))
+    (clear s now lease query schema (served_lower s now lease query v.serves) v.schema_is sound one, (schema, v.schema_is, answers (facts_of s).rows (consistent_held f s moment now lease schema goes agrees v)))

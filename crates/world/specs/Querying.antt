@@ -1,5 +1,6 @@
 -- What a query under a lease answers.
 use Rattle.std.specs.Prelude.{◌≡◌, ℕ, ◌<◌, List, Some, Result, Ok, Err}
+use Rattle.element_state.specs.Seen.{seen}
 use Rattle.lease.specs.declared.lease.Lease.{Lease}
 use Rattle.lease.specs.Timeline.{IsHonest, IsInForce, max_moment}
 use Rattle.listed.specs.Refusal.{IsRefusal, IsClear}
@@ -35,9 +36,13 @@ QueryCondition old now lease query (refusal.LeaseEnded until counted) = (until �
 QueryCondition old now lease query (refusal.Query Memory) = ⊥
 QueryCondition old now lease query (refusal.Query fault) = IsFaulty old lease query fault
 
--- now is the moment that counts: the plain answer from the rows of the log, in whichever way it is found
+-- the rows of the log that are asked for, as the lease's version sees them, in whichever way they are found
+abbrev pub IsAnsweredBy : State → Lease → Asked → List Row → Type 0
+IsAnsweredBy old lease query found = (version : Version) × (version_at (facts_of old) lease.version ≡ Some version) × (found ≡ plain_answer (seen version (facts_of old).rows) query)
+
+-- now is the moment that counts
 abbrev pub QueryAt : State → ℕ → Lease → Asked → Result (List Row) QueryRefusal → Type 0
-QueryAt old now lease query (Ok found) = IsClear (QueryCondition old now lease query) × (found ≡ plain_answer (facts_of old).rows query)
+QueryAt old now lease query (Ok found) = IsClear (QueryCondition old now lease query) × IsAnsweredBy old lease query found
 QueryAt old now lease query (Err fault) = IsRefusal query_rank (QueryCondition old now lease query) (refusal.Query Memory) fault
 
 abbrev pub QueryStep : State → ℕ → Lease → Asked → Result (List Row) QueryRefusal → Type 0

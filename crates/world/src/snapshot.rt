@@ -1,6 +1,7 @@
 //! Snapshots of the core: what its rows were under the version of a lease, whatever is committed later.
 ghost use Rattle.std.specs.Prelude.{◌≡◌, ◌⊎◌, IfOk, IfErr, OnOk};
 ghost use Rattle.element_state.specs.Consistent.{IsConsistent};
+ghost use Rattle.element_state.specs.Seen.{seen};
 ghost use Rattle.row_map.specs.Rows.{Rows};
 ghost use Rattle.row_query.specs.declared.fault.QueryFault.TheVariants.{Memory};
 ghost use Rattle.row_query.specs.Answer.{plain_answer};
@@ -87,7 +88,7 @@ impl Model for Snapshot {
 
 impl Snapshot {
     /// The rows that a query asks for, as they were when the snapshot was taken: in the order of their primary keys, each
-    /// with its values in the named columns.
+    /// with its values in the named columns, or the default of a required column where it has none.
     ///
     /// `query` is asked under the schema of the version of the lease that the snapshot was taken under. It is answered as by
     /// `row_query::answer`, and refused as there: `NoTable`; then of the named columns in their order and the conditions in
@@ -96,7 +97,7 @@ impl Snapshot {
     pub fn query(&self, alloc: Global, query: &Query) -> Result<Listed<Row>, QueryFault>
         ensures refused { IfErr result (λ fault. ((fault ≡ Memory) × IsSound self.now.version query.now) ⊎ IsRefused self.now.version query.now fault) }
         ensures clear { OnOk result (IsSound self.now.version query.now) }
-        ensures rows { (rows : Rows) → IsConsistent self.now.version rows self.now.pairs → IfOk result (λ found. found ≡ plain_answer rows query.now) }
+        ensures rows { (rows : Rows) → IsConsistent self.now.version rows self.now.pairs → IfOk result (λ found. found ≡ plain_answer (seen self.now.version rows) query.now) }
     {
         answer(alloc, self.schema.get(), &self.pairs, query)
     }

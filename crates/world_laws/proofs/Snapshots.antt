@@ -24,7 +24,7 @@ answer_their_log old now lease taken query found at is = is.1 (facts_of old).row
 pub answer_as_queries : SnapshotsAnswerAsQueries
 answer_as_queries old now lease taken query (Ok found) at is = (
   clear old now lease query taken.version (none_below old now lease query at.0) at.1.version is.0 sound_clear,
-  is.1 (facts_of old).rows at.1.consistent,
+  (taken.version, at.1.version, is.1 (facts_of old).rows at.1.consistent),
 )
 answer_as_queries old now lease taken query (Err fault) at is = faulty_at old now lease query taken.version fault (none_below old now lease query at.0) at.1.version sound_clear is
 

@@ -8,6 +8,7 @@ use Rattle.schema_version.specs.Version.{element_at, state_of}
 use Rattle.element_state.specs.Consistent.{IsConsistent}
 use Rattle.element_state.specs.Elements.{Empty, Exact}
 use Rattle.element_state.specs.Kinds.{kind_meaning}
+use Rattle.element_state.specs.Sources.{source_in}
 use Rattle.element_state.specs.Tables.{within}
 use Rattle.world.specs.declared.entry.Receipt.{Receipt}
 use Rattle.world.specs.Publishing.{PublishAt}
@@ -29,7 +30,7 @@ abbrev pub FindsExact : Type 0
 FindsExact =
     (old new : State) (now : ℕ) (step : List Move) (number : ℕ) (element : ElementDef) → IsPublication old now step new → 1 ≤ number
     → element_at (facts_of new).newest number ≡ Some element → element.state ≡ Public
-    → Exact (within element.table (kind_meaning number element.kind)) old.pairs (facts_of old).rows
+    → Exact (within element.table (kind_meaning number (source_in (facts_of new).newest element.kind))) old.pairs (facts_of old).rows
 
 -- an element that is absent after it had no pairs
 abbrev pub FindsEmpty : Type 0
