@@ -1,6 +1,7 @@
 -- The productions of changes to the schema: elements, what is to enter, named moves and named changes, read whole unless a name ends in `_at`.
 use Rattle.std.specs.Prelude.{ℕ, List, [], ◌∷◌, Option, Some, None, if◌then◌else◌, codes}
 use Rattle.std.specs.Option.{option_map}
+use Rattle.keycode.specs.declared.value.Value.{Value}
 use Rattle.schema_version.specs.declared.element.ElementState.{ElementState}
 use Rattle.schema_version.specs.declared.element.ElementState.TheVariants.{DeleteOnly}
 use Rattle.tokens.specs.declared.token.Token.{Token}
@@ -12,7 +13,7 @@ use Rattle.grammar.specs.declared.named.NamedMove.{NamedMove}
 use Rattle.grammar.specs.declared.named.NamedMove.TheVariants.{Enter, Go, Turn}
 use Rattle.grammar.specs.declared.named.NamedChange.{NamedChange}
 use Rattle.grammar.specs.declared.named.NamedChange.TheVariants.{Add, DropIndex, DropColumn, Abandon}
-use Rattle.tokens.specs.Productions.{◌>>=◌, first_by, after_first, at_end, is_mark, is_word, name_in, type_in, state_in, bracketed, each_between, name_of}
+use Rattle.tokens.specs.Productions.{◌>>=◌, first_by, after_first, at_end, is_mark, is_word, name_in, type_in, value_in, state_in, bracketed, each_between, name_of}
 
 -- `TABLE.NAME`, and the tokens behind it
 unfoldable pub element_at : List Token → Option (ElementName × List Token)
@@ -61,13 +62,19 @@ new_index_at ts = do
   index ← index_at ts
   Some (Index index.0.0.name index.0.0.table index.0.1, index.1)
 
--- `NAME TYPE on TABLE`, behind `column`, and the tokens behind it
+-- `[default VALUE]`, and the tokens behind it
+unfoldable pub default_at : List Token → Option (Option Value × List Token)
+default_at [] = Some (None, [])
+default_at (t ∷ ts) = if is_word (codes "default") t then option_map (λ x. (Some x.0, x.1)) (first_by value_in ts) else Some (None, t ∷ ts)
+
+-- `NAME TYPE [default VALUE] on TABLE`, behind `column`, and the tokens behind it
 unfoldable pub new_column_at : List Token → Option (New × List Token)
 new_column_at ts = do
   name ← first_by name_in ts
   type ← first_by type_in name.1
-  table ← on_table_at type.1
-  Some (Column name.0 type.0 table.0, table.1)
+  fallback ← default_at type.1
+  table ← on_table_at fallback.1
+  Some (Column name.0 type.0 fallback.0 table.0, table.1)
 
 -- NEW, by its first word, and the tokens behind it
 unfoldable pub new_at : List Token → Option (New × List Token)

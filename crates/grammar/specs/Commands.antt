@@ -17,7 +17,7 @@ use Rattle.grammar.specs.declared.element.ElementName.{ElementName}
 use Rattle.grammar.specs.declared.command.Command.{Command}
 use Rattle.grammar.specs.declared.command.Command.TheVariants as command
 use Rattle.tokens.specs.Tokens.{tokens_of}
-use Rattle.tokens.specs.Productions.{◌>>=◌, first_by, after_first, at_end, is_mark, is_word, name_in, count_in, small_count_in, type_in, value_in, bracketed, each_between, name_of, value_of, set_of}
+use Rattle.tokens.specs.Productions.{◌>>=◌, first_by, after_first, at_end, is_mark, is_word, name_in, count_in, small_count_in, type_in, value_in, bracketed, each_between, value_of, set_of}
 use Rattle.grammar.specs.Changes.{element_at, index_at, move_of, change_of}
 
 -- `[key]`

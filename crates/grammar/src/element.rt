@@ -1,15 +1,15 @@
 //! Elements by their names, and what is to enter.
 ghost use Rattle.tokens.specs.Productions.{Gives};
-ghost use Rattle.grammar.specs.Changes.{element_at, element_of, on_table_at, named_on_at, named_on, index_at, new_index_at, new_column_at, new_at, to_state_of, optional_to_state_of};
+ghost use Rattle.grammar.specs.Changes.{element_at, element_of, on_table_at, named_on_at, named_on, index_at, new_index_at, default_at, new_column_at, new_at, to_state_of, optional_to_state_of};
 
-use keycode::Text;
+use keycode::{Text, Value};
 use listed::Listed;
 use row_map::ColumnType;
 use schema_version::ElementState;
 use std::alloc::Global;
 use tokens::{
     LineFault, Mark, Token, after_mark, after_word, at_end, bracketed, column_type, is_word, name,
-    read_each, state,
+    read_each, state, value,
 };
 
 /// An element by the names of its table and of itself: `TABLE.NAME`.
@@ -28,10 +28,11 @@ pub enum New {
         table: Text,
         columns: Listed<Text>,
     },
-    /// `column NAME TYPE on TABLE`
+    /// `column NAME TYPE [default VALUE] on TABLE`: with a default, each row has a value.
     Column {
         name: Text,
         column_type: ColumnType,
+        fallback: Option<Value>,
         table: Text,
     },
 }
@@ -123,6 +124,23 @@ fn new_index<'t, 'a>(
     Ok((fresh, rest))
 }
 
+/// `default VALUE` at the front, or nothing.
+#[tactic(auto, unfolding(crate::specs::Changes::default_at))]
+fn optional_default<'t, 'a>(
+    alloc: Global,
+    tokens: &'t [Token<'a>],
+) -> Result<(Option<Value>, &'t [Token<'a>]), LineFault>
+    ensures { Gives (λ x. (x.0, x.1.now)) result (default_at tokens.entry.now) }
+{
+    match tokens {
+        [first, rest @ ..] if is_word(first, b"default") => {
+            let (fallback, rest) = value(alloc, rest)?;
+            Ok((Some(fallback), rest))
+        }
+        _ => Ok((None, tokens)),
+    }
+}
+
 #[tactic(auto, unfolding(crate::specs::Changes::new_column_at))]
 fn new_column<'t, 'a>(
     alloc: Global,
@@ -132,10 +150,12 @@ fn new_column<'t, 'a>(
 {
     let (name, rest) = name(alloc, tokens)?;
     let (column_type, rest) = column_type(rest)?;
+    let (fallback, rest) = optional_default(alloc, rest)?;
     let (table, rest) = on_table(alloc, rest)?;
     let fresh = New::Column {
         name,
         column_type,
+        fallback,
         table,
     };
     Ok((fresh, rest))

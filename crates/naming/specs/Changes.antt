@@ -7,14 +7,14 @@ use Rattle.grammar.specs.declared.element.New.{New}
 use Rattle.grammar.specs.declared.element.New.TheVariants as new
 use Rattle.grammar.specs.declared.named.NamedChange.{NamedChange}
 use Rattle.grammar.specs.declared.named.NamedChange.TheVariants as named
-use Rattle.schema_version.specs.declared.element.Kind.TheVariants.{Optional}
 use Rattle.schema_version.specs.Version.{Version}
 use Rattle.naming.specs.Names.{table_number}
+use Rattle.naming.specs.Kinds.{column_kind}
 
 -- what is added, with its table looked up
 abbrev pub added : Version → New → Change
 added version (new.Index name table columns) = AddIndex (table_number version table) name columns
-added version (new.Column name type table) = AddColumn (table_number version table) name (Optional type)
+added version (new.Column name type fallback table) = AddColumn (table_number version table) name (column_kind type fallback)
 
 -- a change with its table looked up: elements keep their names
 abbrev pub changed : Version → NamedChange → Change

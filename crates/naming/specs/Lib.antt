@@ -1,3 +1,4 @@
+pub mod Kinds
 pub mod Names
 pub mod Moves
 pub mod Changes

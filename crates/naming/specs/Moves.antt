@@ -5,12 +5,13 @@ use Rattle.grammar.specs.declared.element.New.{New}
 use Rattle.grammar.specs.declared.element.New.TheVariants as new
 use Rattle.grammar.specs.declared.named.NamedMove.{NamedMove}
 use Rattle.grammar.specs.declared.named.NamedMove.TheVariants as named
-use Rattle.schema_version.specs.declared.element.Kind.TheVariants.{Index, Optional}
+use Rattle.schema_version.specs.declared.element.Kind.TheVariants.{Index}
 use Rattle.schema_version.specs.declared.element.NewElement.{NewElement}
 use Rattle.schema_version.specs.declared.step.Move.{Move}
 use Rattle.schema_version.specs.declared.step.Move.TheVariants.{Enter, Go, Turn}
 use Rattle.schema_version.specs.Version.{Version}
 use Rattle.naming.specs.Names.{table_number, element_number, numbered}
+use Rattle.naming.specs.Kinds.{column_kind}
 
 -- the elements of the table of this number under these names
 abbrev pub element_numbers : Version → ℕ → List (List ℕ) → List ℕ
@@ -20,7 +21,7 @@ element_numbers version table names = each (element_number version table) names
 abbrev pub entered : Version → New → NewElement
 entered version (new.Index name table columns) =
     record { table = table_number version table; name = name; kind = Index (element_numbers version (table_number version table) columns) }
-entered version (new.Column name type table) = record { table = table_number version table; name = name; kind = Optional type }
+entered version (new.Column name type fallback table) = record { table = table_number version table; name = name; kind = column_kind type fallback }
 
 -- a move with its names looked up
 abbrev pub moved : Version → NamedMove → Move

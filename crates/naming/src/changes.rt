@@ -2,11 +2,12 @@
 ghost use Rattle.std.specs.Prelude.{◌≡◌, IfOk};
 ghost use Rattle.naming.specs.Changes.{added, changed, changes_of};
 
+use crate::kinds::column_kind;
 use crate::rows::table_number;
 use change_plan::Change;
 use grammar::{ElementName, NamedChange, New};
 use listed::Listed;
-use schema_version::{Kind, Schema};
+use schema_version::Schema;
 use std::alloc::{AllocError, Global};
 
 fn added(schema: &Schema, fresh: New) -> Change
@@ -28,10 +29,11 @@ fn added(schema: &Schema, fresh: New) -> Change
         New::Column {
             name,
             column_type,
+            fallback,
             table,
         } => {
             let table = table_number(schema, &table);
-            let kind = Kind::Optional(column_type);
+            let kind = column_kind(column_type, fallback);
             Change::AddColumn { table, name, kind }
         }
     }

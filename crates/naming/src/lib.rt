@@ -3,6 +3,7 @@
 #![tactic(auto)]
 
 mod changes;
+mod kinds;
 mod moves;
 mod rows;
 

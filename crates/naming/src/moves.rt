@@ -2,6 +2,7 @@
 ghost use Rattle.std.specs.Prelude.{◌≡◌, IfOk};
 ghost use Rattle.naming.specs.Moves.{element_numbers, entered, moved, step_of};
 
+use crate::kinds::column_kind;
 use crate::rows::{element_number, element_of, table_number};
 use grammar::{NamedMove, New};
 use keycode::Text;
@@ -40,10 +41,11 @@ fn entered(alloc: Global, schema: &Schema, fresh: New) -> Result<NewElement, All
         New::Column {
             name,
             column_type,
+            fallback,
             table,
         } => {
             let table = table_number(schema, &table);
-            let kind = Kind::Optional(column_type);
+            let kind = column_kind(column_type, fallback);
             Ok(NewElement { table, name, kind })
         }
     }
