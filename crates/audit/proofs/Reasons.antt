@@ -53,7 +53,7 @@ column_typed (Index columns) type e = absurd (none_some type e)
 column_typed (Optional t) type e = refl
 column_typed (Required t fallback) type e = refl
 
--- no key is both an index's and another
+-- what tells the key of an index's pair from others
 abbrev is_index_key : Option KeyOf → Bool
 is_index_key (Some (IndexKey number values)) = true
 is_index_key _ = false
@@ -119,7 +119,7 @@ module _ (version : Version) (sound : IsSoundVersion version) (pairs : Pairs) (s
             row_says pairs strings table primary form.0 form.1.values (right_true ((element.table == table) && is_column element.kind) (is_row pairs table primary) is),
           )
 
-  -- the key of a live element's pair of a row is no index's
+  -- a key can name a live element beside a row that is there
   column_key : (number : ℕ) (element : ElementDef) → element_at version number ≡ Some element → (primary : List Value) → HasExistsPair pairs (element.table, primary) → IsKey (Column element.table primary element.number)
   column_key number element at primary exists =
       let e = sound.elements number element at in
