@@ -7,25 +7,21 @@ use Rattle.std.specs.FinMap.{nat_cmp-IsAntisymmetric}
 use Rattle.std.specs.FinMap.Entries.{find}
 use Rattle.std.specs.List.{AllByRecursion, filter_map, cons_option}
 use Rattle.std.specs.Ordering.{nat_cmp, eq_by_cmp}
-use Rattle.std.proofs.lemmas.Option.{same_Some}
 use mathlib.Core.List.{map as each}
 use Rattle.keycode.specs.declared.value.Value.{Value}
-use Rattle.keycode.specs.declared.value.Value.TheVariants.{Null}
 use Rattle.row_map.specs.declared.shape.ColumnType.{ColumnType}
 use Rattle.row_map.specs.Keys.{row_code}
-use Rattle.row_map.specs.Rows.{Bytes, Cells, Pairs, value_or_null}
+use Rattle.row_map.specs.Rows.{Bytes, Cells, Pairs}
 use Rattle.row_map.proofs.Cells.{typed_reads, typed_from as value_typed}
 use Rattle.row_map.proofs.Entries.{each_entry}
 use Rattle.schema_version.specs.declared.element.ElementState.{ElementState}
 use Rattle.schema_version.specs.declared.element.ElementState.TheVariants.{Absent, DeleteOnly, WriteOnly, Public}
-use Rattle.schema_version.specs.declared.element.Kind.{Kind}
-use Rattle.schema_version.specs.declared.element.Kind.TheVariants.{Index, Optional}
 use Rattle.schema_version.specs.declared.element.ElementDef.{ElementDef}
 use Rattle.schema_version.specs.Sound.{IsSoundVersion}
 use Rattle.schema_version.specs.Version.{Version, element_at, is_public, type_of_kind}
 use Rattle.element_state.specs.Apart.{none_some}
 use Rattle.element_state.specs.Clears.{left_true, right_true}
-use Rattle.element_state.specs.Index.{indexed}
+use Rattle.element_state.specs.Index.{indexed, value_in}
 use Rattle.element_state.specs.Operations.{cells_of}
 use Rattle.audit.specs.Spelled.{spelled, public_type, cell_by, stored_cell, row_at}
 use Rattle.audit.specs.Meaning.{HasExistsPair, HasCell, IsSpelled}
@@ -38,13 +34,9 @@ public_is DeleteOnly e = absurd cc
 public_is WriteOnly e = absurd cc
 public_is Public e = refl
 
-kind_typed : (k : Kind) (type : ColumnType) → type_of_kind k ≡ Some type → k ≡ Optional type
-kind_typed (Index columns) type e = absurd cc
-kind_typed (Optional t) type e = ap Optional (same_Some t type e)
-
 record IsTyped (table : ℕ) (element : ElementDef) (type : ColumnType) : Type 0 where
   home : element.table ≡ table
-  kind : element.kind ≡ Optional type
+  kind : type_of_kind element.kind ≡ Some type
   public : element.state ≡ Public
 
 typed_says : (table : ℕ) (element : ElementDef) (type : ColumnType) → public_type table element ≡ Some type → IsTyped table element type
@@ -52,17 +44,17 @@ typed_says table element type e =
     elim ((element.table == table) && is_public element.state) as (λ b. ((element.table == table) && is_public element.state) ≡ b → cond b (type_of_kind element.kind) None ≡ Some type → IsTyped table element type) [
       | true ↦ λ own is. record {
         home = eqb-true element.table table (left_true (element.table == table) (is_public element.state) own);
-        kind = kind_typed element.kind type is;
+        kind = is;
         public = public_is element.state (right_true (element.table == table) (is_public element.state) own);
       }
       | false ↦ λ own is. absurd (none_some type is)
     ] refl e
 
-typed_from : (table : ℕ) (element : ElementDef) (type : ColumnType) → element.table ≡ table → element.kind ≡ Optional type → element.state ≡ Public → public_type table element ≡ Some type
+typed_from : (table : ℕ) (element : ElementDef) (type : ColumnType) → element.table ≡ table → type_of_kind element.kind ≡ Some type → element.state ≡ Public → public_type table element ≡ Some type
 typed_from table element type home kind public =
     ap (λ (b : Bool). cond (b && is_public element.state) (type_of_kind element.kind) None) (eq-eqb element.table table home)
     ∙ ap (λ (q : ElementState). cond (is_public q) (type_of_kind element.kind) None) public
-    ∙ ap type_of_kind kind
+    ∙ kind
 
 -- ---- the cells
 
@@ -179,13 +171,13 @@ module _ (version : Version) (pairs : Pairs) (table : ℕ) (primary : List Value
     read_is_spelled exists = record { exists = exists; values = cells_spelled }
 
     -- and a row that is spelled has its values
-    same_value : (n : ℕ) (cells : Cells) → IsSpelled version pairs (table, primary) cells → (o p : Option Value) → map.get cells n ≡ o → map.get read_cells n ≡ p → p ≡ o
+    pub same_value : (n : ℕ) (cells : Cells) → IsSpelled version pairs (table, primary) cells → (o p : Option Value) → map.get cells n ≡ o → map.get read_cells n ≡ p → p ≡ o
     same_value n cells is None None e f = refl
     same_value n cells is None (Some v) e f = absurd (none_some v (sym e ∙ (is.values n v).1 ((cells_spelled n v).0 f)))
     same_value n cells is (Some v) p e f = sym f ∙ (cells_spelled n v).1 ((is.values n v).0 e)
 
-    pub same_indexed : (columns : List ℕ) (cells : Cells) → IsSpelled version pairs (table, primary) cells → indexed columns read_cells ≡ indexed columns cells
+    pub same_indexed : (columns : List (ℕ × Value)) (cells : Cells) → IsSpelled version pairs (table, primary) cells → indexed columns read_cells ≡ indexed columns cells
     same_indexed [] cells is = refl
     same_indexed (c ∷ columns) cells is =
-        ap (λ (o : Option Value). unwrap_or o Null ∷ indexed columns read_cells) (same_value c cells is (map.get cells c) (map.get read_cells c) refl refl)
-        ∙ ap (λ (vs : List Value). value_or_null cells c ∷ vs) (same_indexed columns cells is)
+        ap (λ (o : Option Value). unwrap_or o c.1 ∷ indexed columns read_cells) (same_value c.0 cells is (map.get cells c.0) (map.get read_cells c.0) refl refl)
+        ∙ ap (λ (vs : List Value). value_in cells c ∷ vs) (same_indexed columns cells is)

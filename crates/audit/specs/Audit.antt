@@ -11,34 +11,35 @@ use Rattle.schema_version.specs.declared.element.ElementDef.{ElementDef}
 use Rattle.schema_version.specs.Version.{Version, live, is_public, is_column, listed}
 use Rattle.element_state.specs.Kinds.{kind_meaning}
 use Rattle.element_state.specs.Operations.{cells_of, fill_pair}
+use Rattle.element_state.specs.Sources.{source_in}
 use Rattle.audit.specs.declared.report.CheckReport.{CheckReport}
 use Rattle.audit.specs.Spelled.{key_read, is_exists, is_row, row_at}
 
 abbrev pub Pair : Type 0
 Pair = Bytes × Bytes
 
--- the pair that an index gives a row of its table. A column gives none
-abbrev pub given : ElementDef → Row → Option Pair
-given element row = fill_pair (kind_meaning element.number element.kind) (element.table, row.key) (cells_of row)
+-- the pair that an index gives a row of its table, or a required column: that of the row's own value or of the default. An optional column gives none
+abbrev pub given : Version → ElementDef → Row → Option Pair
+given version element row = fill_pair (kind_meaning element.number (source_in version element.kind)) (element.table, row.key) (cells_of row)
 
 abbrev pub differs : Option Bytes → Bytes → Bool
 differs None value = true
 differs (Some found) value = not (bytes_eq found value)
 
--- whether a pair is wanted that the store hasn't got
+-- whether a pair is wanted that the store hasn't got with just this value
 abbrev pub is_absent : Pairs → Option Pair → Bool
 is_absent pairs None = false
 is_absent pairs (Some pair) = differs (map.get pairs pair.0) pair.1
 
--- whether the element is a public index of the table, and the store lacks the pair that it gives the row
-abbrev pub lacks : Pairs → ℕ → Row → ElementDef → Bool
-lacks pairs table row element = ((element.table == table) && is_public element.state) && is_absent pairs (given element row)
+-- whether the element is a public index or required column of the table, and the store lacks the pair that it gives the row
+abbrev pub lacks : Version → Pairs → ℕ → Row → ElementDef → Bool
+lacks version pairs table row element = ((element.table == table) && is_public element.state) && is_absent pairs (given version element row)
 
 abbrev pub missing_by : Version → Pairs → Option KeyOf → ℕ
-missing_by version pairs (Some (Exists table primary)) = count_by (lacks pairs table (row_at version pairs table primary)) (live version)
+missing_by version pairs (Some (Exists table primary)) = count_by (lacks version pairs table (row_at version pairs table primary)) (live version)
 missing_by version pairs _ = 0
 
--- how many pairs the public indexes lack for the row of an `exists` pair
+-- how many pairs the public indexes and required columns lack for the row of an `exists` pair
 abbrev pub missing_beside : Version → Pairs → Pair → ℕ
 missing_beside version pairs pair = missing_by version pairs (key_read pair.0)
 
@@ -59,7 +60,7 @@ is_same_pair (Some own) pair = bytes_eq own.0 pair.0 && bytes_eq own.1 pair.1
 abbrev pub is_given : Version → Pairs → List Value → Pair → ElementDef → Bool
 is_given version pairs values pair element =
     let primary : List Value = drop (length (listed element.kind)) values in
-    is_row pairs element.table primary && is_same_pair (given element (row_at version pairs element.table primary)) pair
+    is_row pairs element.table primary && is_same_pair (given version element (row_at version pairs element.table primary)) pair
 
 abbrev pub is_index_pair : Version → Pairs → List Value → Pair → Option ElementDef → Bool
 is_index_pair version pairs values pair None = false
@@ -78,7 +79,7 @@ has_reason version pairs pair = reason_by version pairs pair (key_read pair.0)
 abbrev pub is_exists_pair : Pair → Bool
 is_exists_pair pair = is_exists (key_read pair.0)
 
--- the rows are the `exists` pairs; missing are the pairs that public indexes lack for them; extra are the pairs without a reason
+-- the rows are the `exists` pairs; missing are the pairs that public indexes and required columns lack for them; extra are the pairs without a reason
 pub record IsAudit (version : Version) (pairs : Pairs) (report : CheckReport) : Type 0 where
   pub rows : report.rows ≡ count_by is_exists_pair (map.entries pairs)
   pub missing : report.missing ≡ sum_by (missing_beside version pairs) (map.entries pairs)

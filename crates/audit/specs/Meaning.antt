@@ -1,8 +1,10 @@
 -- The plain meaning of an audit: the rows that the pairs of a store spell, and the pairs that these rows call for.
-use Rattle.std.specs.Prelude.{◌≡◌, ◌↔◌, ℕ, ◌<◌, ◌^◌, List, [], Some, IsTrue}
+use Rattle.std.specs.Prelude.{◌≡◌, ◌↔◌, ℕ, ◌<◌, ◌^◌, List, [], Some, IsTrue, unwrap_or}
 use Rattle.std.specs.FinMap as map
 use Rattle.std.specs.List.{AllByRecursion}
+use mathlib.Core.List.{map as each}
 use Rattle.keycode.specs.declared.value.Value.{Value}
+use Rattle.keycode.specs.Code.{code}
 use Rattle.row_map.specs.declared.key.KeyOf.TheVariants.{Exists, Column}
 use Rattle.row_map.specs.declared.shape.ColumnType.{ColumnType}
 use Rattle.row_map.specs.Cell.{only_value}
@@ -10,11 +12,12 @@ use Rattle.row_map.specs.Keys.{row_code}
 use Rattle.row_map.specs.Rows.{Bytes, RowKey, Cells, Pairs}
 use Rattle.row_map.specs.Shape.{has_type}
 use Rattle.schema_version.specs.declared.element.ElementState.TheVariants.{Public}
-use Rattle.schema_version.specs.declared.element.Kind.TheVariants.{Index, Optional}
+use Rattle.schema_version.specs.declared.element.Kind.TheVariants.{Index, Required}
 use Rattle.schema_version.specs.declared.element.ElementDef.{ElementDef}
 use Rattle.schema_version.specs.Sound.{IsSoundVersion}
-use Rattle.schema_version.specs.Version.{Version, element_at, IsLiveColumn}
+use Rattle.schema_version.specs.Version.{Version, element_at, type_of_kind, IsLiveColumn}
 use Rattle.element_state.specs.Index.{index_pair}
+use Rattle.element_state.specs.Sources.{stand_in_at}
 use Rattle.audit.specs.declared.report.CheckReport.{CheckReport}
 use Rattle.audit.specs.Audit.{IsAudit}
 use Rattle.audit.specs.Spelled.{key_read}
@@ -32,7 +35,7 @@ pub record HasCell (version : Version) (pairs : Pairs) (row : RowKey) (column : 
   pub type : ColumnType
   pub known : element_at version column ≡ Some element
   pub home : element.table ≡ row.0
-  pub kind : element.kind ≡ Optional type
+  pub kind : type_of_kind element.kind ≡ Some type
   pub public : element.state ≡ Public
   pub bytes : Bytes
   pub there : map.get pairs (row_code row.0 row.1 column) ≡ Some bytes
@@ -44,13 +47,22 @@ pub record IsSpelled (version : Version) (pairs : Pairs) (row : RowKey) (cells :
   pub exists : HasExistsPair pairs row
   pub values : (column : ℕ) (value : Value) → (map.get cells column ≡ Some value) ↔ HasCell version pairs row column value
 
+-- the columns that an index lists, each with what stands in the version for a value that a row lacks in it: a required column's default, else Null
+abbrev pub with_stand_ins : Version → List ℕ → List (ℕ × Value)
+with_stand_ins version columns = each (λ column. (column, stand_in_at version column)) columns
+
 -- each public index has its pair, with the empty value, of each row of its table that the pairs spell
 abbrev pub HasIndexPairs : Version → Pairs → Type 0
 HasIndexPairs version pairs = (number : ℕ) (element : ElementDef) (columns : List ℕ) → element_at version number ≡ Some element → element.kind ≡ Index columns → element.state ≡ Public
-    → (primary : List Value) (cells : Cells) → IsSpelled version pairs (element.table, primary) cells → map.get pairs (index_pair number columns (element.table, primary) cells) ≡ Some []
+    → (primary : List Value) (cells : Cells) → IsSpelled version pairs (element.table, primary) cells → map.get pairs (index_pair number (with_stand_ins version columns) (element.table, primary) cells) ≡ Some []
+
+-- each public required column has its pair of each row of its table that the pairs spell, with the code of just the row's own value or of the default
+abbrev pub HasRequiredPairs : Version → Pairs → Type 0
+HasRequiredPairs version pairs = (number : ℕ) (element : ElementDef) (type : ColumnType) (fallback : Value) → element_at version number ≡ Some element → element.kind ≡ Required type fallback → element.state ≡ Public
+    → (primary : List Value) (cells : Cells) → IsSpelled version pairs (element.table, primary) cells → map.get pairs (row_code element.table primary number) ≡ Some (code (unwrap_or (map.get cells number) fallback))
 
 abbrev pub NothingIsMissingWhen : Type 0
-NothingIsMissingWhen = (version : Version) (pairs : Pairs) (report : CheckReport) → IsSoundVersion version → IsAudit version pairs report → (report.missing ≡ 0) ↔ HasIndexPairs version pairs
+NothingIsMissingWhen = (version : Version) (pairs : Pairs) (report : CheckReport) → IsSoundVersion version → IsAudit version pairs report → (report.missing ≡ 0) ↔ (HasIndexPairs version pairs × HasRequiredPairs version pairs)
 
 -- keys and values are strings of bytes, as those of every store are
 abbrev pub AreByteStrings : Pairs → Type 0
@@ -61,7 +73,7 @@ pub data Belongs (version : Version) (pairs : Pairs) (key value : Bytes) : Type 
   ExistsPair : (row : RowKey) → key_read key ≡ Some (Exists row.0 row.1) → Belongs version pairs key value
   ColumnPair : (row : RowKey) (column : ℕ) → key_read key ≡ Some (Column row.0 row.1 column) → IsLiveColumn version row.0 column → HasExistsPair pairs row → Belongs version pairs key value
   IndexPair : (number : ℕ) (element : ElementDef) (columns : List ℕ) → element_at version number ≡ Some element → element.kind ≡ Index columns
-      → (primary : List Value) (cells : Cells) → IsSpelled version pairs (element.table, primary) cells → key ≡ index_pair number columns (element.table, primary) cells → value ≡ [] → Belongs version pairs key value
+      → (primary : List Value) (cells : Cells) → IsSpelled version pairs (element.table, primary) cells → key ≡ index_pair number (with_stand_ins version columns) (element.table, primary) cells → value ≡ [] → Belongs version pairs key value
 
 abbrev pub EachPairBelongs : Version → Pairs → Type 0
 EachPairBelongs version pairs = (key value : Bytes) → map.get pairs key ≡ Some value → Belongs version pairs key value

@@ -11,7 +11,7 @@ use row_map::{KeyOf, PairView};
 use schema_version::Schema;
 use std::alloc::{AllocError, Global};
 
-// How many pairs public indexes lack for the row, where the key is that of a row's `exists` pair.
+// How many pairs public indexes and required columns lack for the row, where the key is that of a row's `exists` pair.
 fn missing<V: PairView>(
     alloc: Global,
     schema: &Schema,
@@ -23,7 +23,7 @@ fn missing<V: PairView>(
     match read {
         Some(KeyOf::Exists { table, key }) => {
             let row = row_at(alloc, schema, view, *table, key)?;
-            lacking(alloc, schema.elements(), view, *table, &row)
+            lacking(alloc, schema, view, *table, &row)
         }
         _ => Ok(0),
     }
@@ -69,10 +69,12 @@ fn tallied<V: PairView>(alloc: Global, schema: &Schema, view: &V) -> Result<Chec
 /// Counts the rows of a store, the pairs that it lacks and the pairs that it has too much, by a version of the schema and
 /// the pairs alone.
 ///
-/// A row is an `exists` pair. Its values are those of its table's public columns; what isn't the code of just one value of
-/// the column's type counts as none. A pair is missing where a public index gives it to a row and the store hasn't got it,
-/// and extra where it is no `exists` pair, no pair of a live column of its table beside its row's `exists` pair, and no
-/// pair that a row gives a live index.
+/// A row is an `exists` pair. Its values are those of its table's public columns, optional and required; what isn't the code
+/// of just one value of the column's type counts as none. A pair is missing where a public index or required column gives
+/// it to a row and the store hasn't got it with just its value. A required column's is that of the row's own value, or of
+/// the default, and an index takes the default for a value that a row lacks in a required column. A pair is extra where it
+/// is no `exists` pair, no pair of a live column of its table beside its row's `exists` pair, and no pair that a row gives a
+/// live index.
 ///
 /// The only refusal is want of memory.
 pub fn audit<V: PairView>(

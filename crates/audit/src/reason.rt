@@ -11,7 +11,7 @@ use byte_map::Bytes;
 use keycode::{Value, Values};
 use listed::Listed;
 use row_map::{KeyOf, PairView};
-use schema_version::{ElementDef, Kind, Schema};
+use schema_version::{ElementDef, Schema};
 use std::alloc::{AllocError, Global};
 
 // The live element of this number.
@@ -25,10 +25,7 @@ fn numbered(schema: &Schema, number: u32) -> Option<&ElementDef>
 fn width(element: &ElementDef) -> usize
     ensures { result ≡ length (listed_of element.now.kind) }
 {
-    match &element.kind {
-        Kind::Index(columns) => columns.len(),
-        Kind::Optional(_) => 0,
-    }
+    element.kind.listed().len()
 }
 
 // The values behind the first ones.
@@ -85,7 +82,7 @@ fn is_given<V: PairView>(
         return Ok(false);
     }
     let row = row_at(alloc, schema, view, element.table, &primary)?;
-    let own = given(alloc, element, &row)?;
+    let own = given(alloc, schema, element, &row)?;
     Ok(is_same(own.as_ref(), key, value))
 }
 
@@ -103,7 +100,7 @@ fn is_column<V: PairView>(
     match numbered(schema, number) {
         None => Ok(false),
         Some(element) => {
-            if element.table == table && matches!(element.kind, Kind::Optional(_)) {
+            if element.table == table && element.kind.is_column() {
                 is_row(alloc, view, table, primary)
             } else {
                 Ok(false)
