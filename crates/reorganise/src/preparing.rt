@@ -125,9 +125,9 @@ fn batch_of(
 
 /// Prepares a piece: its batch puts what `fill_of` gives for each item that was read, or removes each item's pair of the
 /// element, and writes for no other. Of a row it takes the values that the pairs of its columns spell; one that is not
-/// the code of just one value counts as none. A required column that is filled has the value of the row's own pair, if
-/// that is of the column's type, or else the default. The piece expects that all pairs which were read are the only ones in
-/// their range, so a pair that came since is a conflict too.
+/// the code of just one value counts as none. For a required column it puts the value that the column's own pair of the
+/// row spells, if that is of the column's type, or else the default. The piece expects that all pairs which were read
+/// are the only ones in their range, so a pair that came since is a conflict too.
 ///
 /// Refused for want of memory alone, and `view` is then given back.
 pub fn prepare_piece(
