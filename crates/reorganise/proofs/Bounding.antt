@@ -20,11 +20,12 @@ use Rattle.row_map.proofs.KeyLaws.{key_again}
 use Rattle.row_map.proofs.Entries.{each_found}
 use Rattle.row_map.proofs.Stretches.{find_stretch, stretch_sorted}
 use Rattle.schema_version.specs.declared.element.Kind.{Kind}
-use Rattle.schema_version.specs.declared.element.Kind.TheVariants.{Index, Optional}
+use Rattle.schema_version.specs.declared.element.Kind.TheVariants.{Index, Optional, Required}
 use Rattle.schema_version.specs.declared.element.ElementDef.{ElementDef}
 use Rattle.element_state.specs.Elements.{HasForm, AreFormed}
 use Rattle.element_state.specs.Items.{Bounds, AnyKey, RowsOf, IsBound}
 use Rattle.element_state.specs.Kinds.{kind_clear}
+use Rattle.element_state.specs.Sources.{source_in, source_alone}
 use Rattle.element_state.specs.Ended.{HaveEnded}
 use Rattle.schema_version.specs.declared.element.Work.{Work}
 use Rattle.schema_version.specs.declared.element.Work.TheVariants.{Fill, Clear}
@@ -35,7 +36,7 @@ use Rattle.reorganise.specs.Regions.{region_of, cleared, prefix, prefix_end, fro
 use Rattle.reorganise.specs.Pieces.{bound, span_at, spans, is_ended, are_ended}
 use Rattle.element_state.specs.Whole.{fresh_spans}
 use mathlib.Core.List.{map as each}
-use Rattle.reorganise.specs.Laws.{pieces_of, passed_by, PiecesJoin, PiecesEnd, BeginsFresh, CursorStands, CursorMoves, JoinStays, bounds_of, FillRange, ClearRangeIs, HasBounds, BeginsAtBounds, BoundsStay, ComesToBound}
+use Rattle.reorganise.specs.Laws.{pieces_of, passed_by, PiecesJoin, PiecesEnd, BeginsFresh, CursorStands, CursorMoves, JoinStays, bounds_of, FillRange, ClearRangeIs, HasBounds, ClearIsOfKind, BeginsAtBounds, BoundsStay, ComesToBound}
 use Rattle.reorganise.proofs.Items.{Pair, item_keys-cons}
 use Rattle.reorganise.proofs.Order.{and_true, some_in}
 
@@ -122,9 +123,18 @@ fill_range element fits = (refl, end_is 82 element.table fits)
 pub clear_range : ClearRangeIs
 clear_range element range = by_kind element.kind
   where
-    by_kind : (k : Kind) → (front (cleared k element) ≡ (kind_clear element.table element.number k).low) × (back (cleared k element) ≡ (kind_clear element.table element.number k).high)
+    by_kind : (k : Kind) → (front (cleared k element) ≡ (kind_clear element.table element.number (source_alone k)).low) × (back (cleared k element) ≡ (kind_clear element.table element.number (source_alone k)).high)
     by_kind (Index columns) = (refl, end_is 88 element.number range.number_below)
     by_kind (Optional type) = (refl, end_is 82 element.table range.table_below)
+    by_kind (Required type fallback) = (refl, end_is 82 element.table range.table_below)
+
+pub clear_is_of_kind : ClearIsOfKind
+clear_is_of_kind version element = by_kind element.kind
+  where
+    by_kind : (k : Kind) → kind_clear element.table element.number (source_alone k) ≡ kind_clear element.table element.number (source_in version k)
+    by_kind (Index columns) = refl
+    by_kind (Optional type) = refl
+    by_kind (Required type fallback) = refl
 
 -- ---- bounds
 
@@ -137,9 +147,10 @@ bounds_are : (element : ElementDef) (kind : Work) → bounds_in (region_of eleme
 bounds_are element Fill = refl
 bounds_are element Clear = by_kind element.kind
   where
-    by_kind : (k : Kind) → bounds_in (cleared k element) ≡ (kind_clear element.table element.number k).bounds
+    by_kind : (k : Kind) → bounds_in (cleared k element) ≡ (kind_clear element.table element.number (source_alone k)).bounds
     by_kind (Index columns) = refl
     by_kind (Optional type) = refl
+    by_kind (Required type fallback) = refl
 
 item_bound : (region : Region) (x : Bytes) → IsItemKey region x → IsBound (bounds_in region) x
 item_bound (Rows table) x i = At i.0 i.1.1.values i.2
@@ -218,6 +229,7 @@ fits_rows element Clear fits = by_kind element.kind
     by_kind : (k : Kind) → FitsRows (cleared k element)
     by_kind (Index columns) = tt
     by_kind (Optional type) = fits
+    by_kind (Required type fallback) = fits
 
 pub begins_at_bounds : BeginsAtBounds
 begins_at_bounds element kind pairs pieces fits formed =

@@ -18,11 +18,12 @@ use Rattle.row_map.proofs.KeyLaws.{key_again}
 use Rattle.row_map.proofs.Entries.{each_entry}
 use Rattle.row_map.proofs.Ranges.{index_not_before, index_before_next, index_number, row_no_index}
 use Rattle.schema_version.specs.declared.element.Kind.{Kind}
-use Rattle.schema_version.specs.declared.element.Kind.TheVariants.{Index, Optional}
+use Rattle.schema_version.specs.declared.element.Kind.TheVariants.{Index, Optional, Required}
 use Rattle.schema_version.specs.declared.element.ElementDef.{ElementDef}
 use Rattle.element_state.specs.Elements.{HasForm, AreFormed, Exact}
 use Rattle.element_state.specs.Exists.{exists_meaning}
 use Rattle.element_state.specs.Kinds.{kind_clear}
+use Rattle.element_state.specs.Sources.{source_alone}
 use Rattle.element_state.specs.Index.{index_items}
 use Rattle.element_state.specs.Column.{column_pair, column_items}
 use Rattle.element_state.specs.Items.{clear_writes, row_items}
@@ -129,15 +130,16 @@ cell_gives element (Some key) = (refl, tt)
 column_cleared : (element : ElementDef) (P : Pairs) (R : Rows) (low high : Bytes) → AreStorable R → AreFormed P → Exact exists_meaning P R
     → written_all P (flat_map (λ (e : Pair). cell_removed element (row_at element.table e.0)) (map.entries (part P low high))) ≡ written_all P (clear_writes (column_items element.table element.number R P low high))
 column_cleared element P R low high held formed exact =
-    rows_same P R low high element.table held formed exact (cell_removed element) (λ (i : RowKey × Cells). taken (column_pair element.number i.0)) None refl (cell_gives element) (λ i. (refl, tt)) (λ key r. refl)
+    rows_same P R low high element.table held formed exact (cell_removed element) (λ (i : RowKey × Cells). taken (column_pair element.number i.0)) None refl (λ key r. cell_gives element (Some key)) (λ key r. refl)
     ∙ ap (written_all P) (sym (removals_each element.number (row_items (λ t. eqb t element.table) R low high)))
 
 -- ---- either
 
 cleared_by : (kind : Kind) (element : ElementDef) (P : Pairs) (R : Rows) (low high : Bytes) → AreStorable R → AreFormed P → Exact exists_meaning P R → element.number + 1 < 2 ^ 32
-    → written_all P (flat_map (λ (e : Pair). removed_of kind element e.0) (map.entries (part P low high))) ≡ written_all P (clear_writes ((kind_clear element.table element.number kind).items R P low high))
+    → written_all P (flat_map (λ (e : Pair). removed_of kind element e.0) (map.entries (part P low high))) ≡ written_all P (clear_writes ((kind_clear element.table element.number (source_alone kind)).items R P low high))
 cleared_by (Index columns) element P R low high held formed exact fits = ap (written_all P) (index_cleared element.number fits R P low high formed)
 cleared_by (Optional type) element P R low high held formed exact fits = column_cleared element P R low high held formed exact
+cleared_by (Required type fallback) element P R low high held formed exact fits = column_cleared element P R low high held formed exact
 
 pub clear_lays : ClearLays
 clear_lays read P R r kind holds held formed exact range =

@@ -7,6 +7,7 @@ pub mod Naming
 pub mod Holding
 pub mod Rowwise
 pub mod Spelling
+pub mod Columns
 pub mod Filling
 pub mod Clearing
 pub mod Cursors

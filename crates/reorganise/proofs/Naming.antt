@@ -21,9 +21,9 @@ pub AllGive-append : (o : Option Bytes) (ws us : Writes) → AllGive o ws → Al
 AllGive-append o [] us p q = q
 AllGive-append o (w ∷ ws) us p q = (p.0, AllGive-append o ws us p.1 q)
 
-pub all_give : {A : Type 0} (o : Option Bytes) (f : A → Writes) → ((x : A) → AllGive o (f x)) → (xs : List A) → AllGive o (flat_map f xs)
-all_give o f h [] = tt
-all_give o f h (x ∷ xs) = AllGive-append o (f x) (flat_map f xs) (h x) (all_give o f h xs)
+pub all_give : {A : Type 0} (o : Option Bytes) (f : A → Writes) (F : A → Type 0) → ((x : A) → F x → AllGive o (f x)) → (xs : List A) → AllByRecursion F xs → AllGive o (flat_map f xs)
+all_give o f F h [] all = tt
+all_give o f F h (x ∷ xs) all = AllGive-append o (f x) (flat_map f xs) (h x all.0) (all_give o f F h xs all.1)
 
 named_left : (q : Bytes) (ws us : Writes) → Named q ws → Named q (ws ++ us)
 named_left q [] us h = absurd h

@@ -104,10 +104,10 @@ module _ (P : Pairs) (R : Rows) (low high : Bytes) (table : ℕ) (held : AreStor
       ap (row_read table) (key_again (Exists k.0 k.1) (row.table, row.primary)) ∙ ap (λ b. cond b (Some k.1) None) (eq-eqb k.0 table tables)
 
   -- what is written for each `exists` pair that was read is what is written for each row between the cursors
-  pub rows_same : (g : Option (List Value) → Writes) (h : RowKey × Cells → Writes) (o : Option Bytes) → g None ≡ [] → ((k : Option (List Value)) → AllGive o (g k)) → ((i : RowKey × Cells) → AllGive o (h i))
+  pub rows_same : (g : Option (List Value) → Writes) (h : RowKey × Cells → Writes) (o : Option Bytes) → g None ≡ [] → ((key : List Value) (r : RowThere key) → AllGive o (g (Some key)))
       → ((key : List Value) (r : RowThere key) → g (Some key) ≡ h ((table, key), r.cells))
       → written_all P (flat_map (λ (e : Pair). g (row_at table e.0)) (map.entries (part P low high))) ≡ written_all P (flat_map h (row_items (λ t. eqb t table) R low high))
-  rows_same g h o none give also same =
+  rows_same g h o none give same =
       let f : Pair → Writes = λ (e : Pair). g (row_at table e.0) in
       let test : RowKey × Cells → Bool = λ (e : RowKey × Cells). eqb e.0.0 table && is_within low high (row_key e.0) in
       let pairs_there : AllByRecursion (λ (e : Pair). map.get (part P low high) e.0 ≡ Some e.1) (map.entries (part P low high)) =
@@ -115,13 +115,31 @@ module _ (P : Pairs) (R : Rows) (low high : Bytes) (table : ℕ) (held : AreStor
       let rows_there : AllByRecursion (λ (e : RowKey × Cells). (map.get R e.0 ≡ Some e.1) × (test e ≡ true)) (filter test (map.entries R)) =
       facts_kept row_cmp_total row_cmp-IsAntisymmetric test (λ (e : RowKey × Cells). map.get R e.0 ≡ Some e.1) (map.entries R)
       (each_entry row_cmp row_cmp_total row_cmp-IsAntisymmetric (λ k r. map.get R k ≡ Some r) R (λ k r at. at)) in
-      written_same o (flat_map f (map.entries (part P low high))) (flat_map h (filter test (map.entries R))) (all_give o f (λ e. give (row_at table e.0)) (map.entries (part P low high))) (all_give o h also (filter test (map.entries R)))
+      written_same o (flat_map f (map.entries (part P low high))) (flat_map h (filter test (map.entries R))) (all_give o f (λ (e : Pair). map.get (part P low high) e.0 ≡ Some e.1) (λ e at. gives_at e.0 e.1 at (row_at table e.0) refl) (map.entries (part P low high)) pairs_there)
+      (all_give o h (λ (e : RowKey × Cells). (map.get R e.0 ≡ Some e.1) × ((eqb e.0.0 table && is_within low high (row_key e.0)) ≡ true)) gives_row (filter test (map.entries R)) rows_there)
       (λ q at.
       let i = named_from q f (λ (e : Pair). map.get (part P low high) e.0 ≡ Some e.1) (map.entries (part P low high)) pairs_there at in
       by_row q i.item.0 i.item.1 i.fact (row_at table i.item.0) refl i.named)
       (λ q at. from q (named_from q h (λ (e : RowKey × Cells). (map.get R e.0 ≡ Some e.1) × ((eqb e.0.0 table && is_within low high (row_key e.0)) ≡ true)) (filter test (map.entries R)) rows_there at))
       P
     where
+      gives_at : (x v : Bytes) → map.get (part P low high) x ≡ Some v → (k : Option (List Value)) → row_at table x ≡ k → AllGive o (g k)
+      gives_at x v at None is = subst (AllGive o) (sym none) tt
+      gives_at x v at (Some key) is = give key (row_of_item x v key at is)
+
+      -- a row between the cursors, as one of the table
+      at_row : (i : RowKey × Cells) → (map.get R i.0 ≡ Some i.1) × ((eqb i.0.0 table && is_within low high (row_key i.0)) ≡ true) → (r : RowThere i.0.1) × (g (Some i.0.1) ≡ h i)
+      at_row i fact =
+          let k : RowKey = i.0 in
+          let t = and_true (eqb k.0 table) (is_within low high (row_key k)) fact.1 in
+          let tables : k.0 ≡ table = eqb-true k.0 table t.0 in
+          let k_is : k ≡ (table, k.1) = λ j. (tables j, k.1) in
+          let r : RowThere k.1 = record { cells = i.1; there = ap (map.get R) (sym k_is) ∙ fact.0; inside = ap (λ (l : RowKey). is_within low high (row_key l)) (sym k_is) ∙ t.1 } in
+          (r, same k.1 r ∙ ap (λ (l : RowKey). h (l, i.1)) (sym k_is))
+
+      gives_row : (i : RowKey × Cells) → (map.get R i.0 ≡ Some i.1) × ((eqb i.0.0 table && is_within low high (row_key i.0)) ≡ true) → AllGive o (h i)
+      gives_row i fact = let a = at_row i fact in subst (AllGive o) a.1 (give i.0.1 a.0)
+
       row_named : (q : Bytes) (key : List Value) (r : RowThere key) → Named q (g (Some key)) → Named q (flat_map h (row_items (λ t. eqb t table) R low high))
       row_named q key r n =
           let k : RowKey = (table, key) in
@@ -141,9 +159,7 @@ module _ (P : Pairs) (R : Rows) (low high : Bytes) (table : ℕ) (held : AreStor
           let k : RowKey = i.item.0 in
           let t = and_true (eqb k.0 table) (is_within low high (row_key k)) i.fact.1 in
           let tables : k.0 ≡ table = eqb-true k.0 table t.0 in
-          let k_is : k ≡ (table, k.1) = λ j. (tables j, k.1) in
-          let r : RowThere k.1 = record { cells = i.item.1; there = ap (map.get R) (sym k_is) ∙ i.fact.0; inside = ap (λ (l : RowKey). is_within low high (row_key l)) (sym k_is) ∙ t.1 } in
-          let n : Named q (g (Some k.1)) = subst (Named q) (ap (λ (l : RowKey). h (l, i.item.1)) k_is ∙ sym (same k.1 r)) i.named in
+          let n : Named q (g (Some k.1)) = subst (Named q) (sym (at_row i.item i.fact).1) i.named in
           named_among q (λ (e : Pair). g (row_at table e.0)) (λ (e : Pair). e.0 ≡ row_key k)
           (λ e is. subst (λ o. Named q (g o)) (sym (ap (row_at table) is ∙ item_of_row k i.item.1 i.fact.0 tables)) n)
           (map.entries (part P low high)) (pair_among (part P low high) (row_key k) [] (item_there k i.item.1 i.fact.0 t.1))

@@ -1,7 +1,8 @@
--- What the pairs of exact columns spell are the rows' values.
-use Rattle.std.proofs.Common.{◌≡◌, ℕ, ◌+◌, ◌<◌, ◌^◌, Bool, true, false, ◌||◌, cond, eqb, eq-eqb, List, [], ◌∷◌, Option, Some, None, unwrap_or, option_map, refl, sym, ap, ◌∙◌, arith, lit<}
+-- What the pairs of columns spell are the rows' values, or what stands for them.
+use Rattle.std.proofs.Common.{◌≡◌, ℕ, ◌+◌, ◌<◌, ◌^◌, Bool, true, false, ◌||◌, cond, eqb, eq-eqb, List, [], ◌∷◌, Option, Some, None, unwrap_or, option_map, refl, sym, ap, subst, ◌∙◌, arith, lit<}
 use Rattle.std.specs.Prelude.{filter_map, if◌then◌else◌}
 use Rattle.std.specs.List.{AllByRecursion, list_any}
+use mathlib.Core.List.{map as each}
 use Rattle.std.specs.FinMap as map
 use Rattle.std.specs.FinMap.{nat_cmp-IsAntisymmetric}
 use Rattle.std.specs.FinMap.Entries.{find}
@@ -21,21 +22,33 @@ use Rattle.keycode.proofs.Orders.{values_cmp_total}
 use Rattle.row_map.specs.declared.key.KeyOf.{KeyOf}
 use Rattle.row_map.specs.declared.key.KeyOf.TheVariants.{Exists, Column, Index as IndexKey}
 use Rattle.row_map.specs.Keys.{row_code}
-use Rattle.row_map.specs.Shape.{is_null}
-use Rattle.row_map.specs.Rows.{Bytes, RowKey, Cells, Rows, Pairs, AreStorable, value_or_null}
+use Rattle.row_map.specs.Cell.{only_value, of_type}
+use Rattle.row_map.specs.Shape.{is_null, has_type}
+use Rattle.row_map.specs.declared.shape.ColumnType.{ColumnType}
+use Rattle.row_map.specs.Rows.{Bytes, RowKey, Cells, Rows, Pairs, AreStorable}
 use Rattle.row_map.specs.Ranges.{is_within, IsRowBound}
 use Rattle.row_map.proofs.Cells.{only_again}
 use Rattle.row_map.proofs.Ranges.{row_then_pair}
 use Rattle.row_map.proofs.KeyLaws.{same_key}
 use Rattle.row_map.proofs.KeyOrder.{row_keys}
-use Rattle.element_state.specs.Elements.{Exact, IsFromScratch, owner, owner_named}
+use Rattle.schema_version.specs.declared.element.ElementState.{ElementState}
+use Rattle.schema_version.specs.declared.element.Kind.{Kind}
+use Rattle.schema_version.specs.declared.element.Kind.TheVariants.{Index, Optional, Required}
+use Rattle.schema_version.specs.Version.{Version, fallback_of, type_of_kind}
+use Rattle.element_state.specs.Elements.{Meaning, Subset, Exact, Demand, IsFromScratch, owner, owner_named}
+use Rattle.element_state.specs.Tables.{within}
+use Rattle.element_state.specs.Consistent.{DemandOf}
+use Rattle.element_state.specs.Kinds.{kind_meaning}
+use Rattle.element_state.specs.Sources.{source_in, stand_in_at, fallback_or_null}
+use Rattle.element_state.specs.Required.{required_meaning, required_value}
 use Rattle.element_state.specs.Exists.{row_key}
 use Rattle.element_state.specs.Operations.{cells_of}
-use Rattle.element_state.specs.Column.{coded, column_of, IsLawfulColumn}
+use Rattle.element_state.specs.Column.{coded, column_pair, column_meaning, IsLawfulColumn}
 use Rattle.element_state.specs.ColumnLaws.{column_is_key, column_owned_key}
-use Rattle.element_state.specs.Index.{indexed}
+use Rattle.element_state.specs.Index.{value_in, indexed}
 use Rattle.reorganise.specs.Pieces.{part}
-use Rattle.reorganise.specs.Batches.{but_null, spelled, cell_in, cells_in}
+use Rattle.reorganise.specs.Batches.{but_null, spelled, cell_in, cells_in, typed, typed_in, one_cell}
+use Rattle.reorganise.specs.Laws.{HasColumn}
 use Rattle.reorganise.proofs.Order.{get-part, some_in, within_parts, parts_within, le_trans, less_le}
 
 -- ---- values
@@ -145,30 +158,63 @@ none_where None h = refl
 none_where (Some v) h = absurd (h v refl)
 
 module _ (P : Pairs) (R : Rows) (table : ℕ) (held : AreStorable R) (key : List Value) (cells : Cells) (there : map.get R (table, key) ≡ Some cells) where
-  -- an exact column's pair of the row
-  pair_exact : (c : ℕ) → IsLawfulColumn c → Exact (column_of table c) P R → map.get P (row_code table key c) ≡ coded (map.get cells c)
-  pair_exact c lawful exact = by_cell (map.get cells c) refl
-    where
-      k : RowKey
-      k = (table, key)
+  -- of a kind that has one pair for a row, under the column's key of the row
+  module _ (c : ℕ) (lawful : IsLawfulColumn c) (m : Meaning) (named : m.number ≡ c) (keyed : (k : RowKey) (r : Cells) → m.pair_key k r ≡ column_pair c k) where
+    -- a pair under the row's key is the row's
+    pub pair_of_row : Subset (within table m) P R → (v : Bytes) → map.get P (row_code table key c) ≡ Some v → m.pair_value (table, key) cells ≡ Some v
+    pair_of_row subset v at =
+        let row = held (table, key) cells there in
+        let own : owner (row_code table key c) ≡ Some m.number = owner_named c (row_code table key c) (column_owned_key c lawful (table, key) cells row) ∙ ap Some (sym named) in
+        let s : IsFromScratch (within table m) R (row_code table key c) v = subset (row_code table key c) v own at in
+        let w = some_in (eqb s.key.0 table) (m.pair_value s.key s.cells) v s.value_is in
+        let same : Column s.key.0 s.key.1 c ≡ Column table key c = same_key (Column s.key.0 s.key.1 c) (Column table key c) (column_is_key c lawful s.key s.cells (held s.key s.cells s.there)) (column_is_key c lawful (table, key) cells row) (sym (keyed s.key s.cells) ∙ s.key_is) in
+        let keys : s.key ≡ (table, key) = λ i. (key_table (same i), key_values (same i)) in
+        let cells_are : s.cells ≡ cells = same_some s.cells cells (sym s.there ∙ ap (map.get R) keys ∙ there) in
+        (λ i. m.pair_value (sym keys i) (sym cells_are i)) ∙ w.1
 
-      value_in : (r : Cells) (o : Option Value) → map.get r c ≡ o → cond (eqb table table) (coded (map.get r c)) None ≡ coded o
-      value_in r o is = ap (λ b. cond b (coded (map.get r c)) None) (eq-eqb table table refl) ∙ ap coded is
+    -- an exact column's pair of the row
+    pub pair_exact : Exact (within table m) P R → map.get P (row_code table key c) ≡ m.pair_value (table, key) cells
+    pair_exact exact = by_value (m.pair_value (table, key) cells) refl
+      where
+        by_value : (o : Option Bytes) → m.pair_value (table, key) cells ≡ o → map.get P (row_code table key c) ≡ o
+        by_value None is = none_where (map.get P (row_code table key c)) (λ v at. some_none v (sym (pair_of_row exact.subset v at) ∙ is))
+        by_value (Some v) is =
+            ap (map.get P) (sym (keyed (table, key) cells))
+            ∙ exact.covered (table, key) cells v there (ap (λ b. cond b (m.pair_value (table, key) cells) None) (eq-eqb table table refl) ∙ is)
 
-      no_pair : map.get cells c ≡ None → (v : Bytes) → map.get P (row_code table key c) ≡ Some v → ⊥
-      no_pair none v at =
-          let row = held (table, key) cells there in
-          let own : owner (row_code table key c) ≡ Some c = owner_named c (row_code table key c) (column_owned_key c lawful (table, key) cells row) in
-          let s : IsFromScratch (column_of table c) R (row_code table key c) v = exact.subset (row_code table key c) v own at in
-          let w = some_in (eqb s.key.0 table) (coded (map.get s.cells c)) v s.value_is in
-          let same : Column s.key.0 s.key.1 c ≡ Column table key c = same_key (Column s.key.0 s.key.1 c) (Column table key c) (column_is_key c lawful s.key s.cells (held s.key s.cells s.there)) (column_is_key c lawful (table, key) cells row) s.key_is in
-          let keys : s.key ≡ (table, key) = λ i. (key_table (same i), key_values (same i)) in
-          let cells_are : s.cells ≡ cells = same_some s.cells cells (sym s.there ∙ ap (map.get R) keys ∙ there) in
-          some_none v (sym w.1 ∙ ap (λ (r : Cells). coded (map.get r c)) cells_are ∙ ap coded none)
+  -- what a public column's pair spells is the row's value, or what stands for it
+  module _ (version : Version) where
+    exact_in : (c : ℕ) (column : HasColumn version table P R c) → Exact (within table (kind_meaning c (source_in version column.public.0.kind))) P R
+    exact_in c column =
+        let element = column.public.0 in
+        let demand : DemandOf version c (Some element) P R = subst (λ o. DemandOf version c o P R) column.public.2 column.demand in
+        subst (λ (t : ℕ). Exact (within t (kind_meaning c (source_in version element.kind))) P R) column.public.3
+        (subst (λ (q : ElementState). Demand (within element.table (kind_meaning c (source_in version element.kind))) q P R) column.public.5 demand)
 
-      by_cell : (o : Option Value) → map.get cells c ≡ o → map.get P (row_code table key c) ≡ coded o
-      by_cell None is = none_where (map.get P (row_code table key c)) (no_pair is)
-      by_cell (Some v) is = exact.covered (table, key) cells (code v) there (value_in cells (Some v) is)
+    stand_in_of : (c : ℕ) (column : HasColumn version table P R c) → stand_in_at version c ≡ fallback_of column.public.0.kind
+    stand_in_of c column = ap fallback_or_null column.public.2
+
+    pub value_spelled : (c : ℕ) → HasColumn version table P R c → unwrap_or (spelled (map.get P (row_code table key c))) Null ≡ value_in cells (c, stand_in_at version c)
+    value_spelled c column = by column.public.0.kind (exact_in c column) (stand_in_of c column) column.public.4
+      where
+        own : (v : Value) → map.get cells c ≡ Some v → IsStorable v
+        own v is = (held (table, key) cells there).values c v is
+
+        either_storable : (o : Option Value) (stand_in : Value) → ((v : Value) → o ≡ Some v → IsStorable v) → IsStorable stand_in → IsStorable (unwrap_or o stand_in)
+        either_storable None stand_in h s = s
+        either_storable (Some v) stand_in h s = h v refl
+
+        by : (k : Kind) → Exact (within table (kind_meaning c (source_in version k))) P R → stand_in_at version c ≡ fallback_of k → type_of_kind k ≡ Some column.public.1
+            → unwrap_or (spelled (map.get P (row_code table key c))) Null ≡ value_in cells (c, stand_in_at version c)
+        by (Index columns) exact stand_in type = absurd cc
+        by (Optional kind) exact stand_in type =
+            ap (λ o. unwrap_or (spelled o) Null) (pair_exact c column.lawful (column_meaning c) refl (λ k r. refl) exact)
+            ∙ spelled_cell (map.get cells c) own
+            ∙ ap (unwrap_or (map.get cells c)) (sym stand_in)
+        by (Required kind fallback) exact stand_in type =
+            ap (λ o. unwrap_or (spelled o) Null) (pair_exact c column.lawful (required_meaning c fallback) refl (λ k r. refl) exact)
+            ∙ spelled_code (unwrap_or (map.get cells c) fallback) (either_storable (map.get cells c) fallback own (subst IsStorable stand_in column.stand_in))
+            ∙ ap (unwrap_or (map.get cells c)) (sym stand_in)
 
   module _ (low high : Bytes) (fits : table + 1 < 2 ^ 32) (bound : IsRowBound table high) (inside : is_within low high (row_key (table, key)) ≡ true) where
     -- the pair stands between the cursors
@@ -184,23 +230,42 @@ module _ (P : Pairs) (R : Rows) (table : ℕ) (held : AreStorable R) (key : List
         parts_within low high (row_code table key c) (le_trans low (row_code table key 0) (row_code table key c) w.0 (less_le (row_code table key 0) (row_code table key c) later))
         (row_then_pair table fits key row.primary.values c lawful.below high bound w.1)
 
-    cell_same : (c : ℕ) → IsLawfulColumn c → Exact (column_of table c) P R → unwrap_or (cell_in (part P low high) table key c) Null ≡ value_or_null cells c
-    cell_same c lawful exact =
-        ap (λ o. unwrap_or (spelled o) Null) (get-part P low high (row_code table key c) ∙ ap (λ b. cond b (map.get P (row_code table key c)) None) (pair_inside c lawful) ∙ pair_exact c lawful exact)
-        ∙ spelled_cell (map.get cells c) (λ v is. (held (table, key) cells there).values c v is)
+    -- so it is read as it is there
+    pub pair_read : (c : ℕ) → IsLawfulColumn c → map.get (part P low high) (row_code table key c) ≡ map.get P (row_code table key c)
+    pair_read c lawful = get-part P low high (row_code table key c) ∙ ap (λ b. cond b (map.get P (row_code table key c)) None) (pair_inside c lawful)
 
-    value_same : (columns : List ℕ) (c : ℕ) → is_one_of c columns ≡ true → IsLawfulColumn c × Exact (column_of table c) P R
-        → value_or_null (cells_of (record { key = key; cells = cells_in (part P low high) table key columns })) c ≡ value_or_null cells c
-    value_same columns c one facts =
-        ap (λ o. unwrap_or o Null) (map.get-from_entries nat_cmp_total (cells_in (part P low high) table key columns) c ∙ find_cell (cell_in (part P low high) table key) c columns one)
-        ∙ cell_same c facts.0 facts.1
+    -- the row's values in the columns of an index, with what stands for missing ones, are those that its pairs spell
+    module _ (version : Version) where
+      value_same : (columns : List ℕ) (c : ℕ) → is_one_of c columns ≡ true → HasColumn version table P R c
+          → value_in (cells_of (record { key = key; cells = cells_in (part P low high) table key columns })) (c, Null) ≡ value_in cells (c, stand_in_at version c)
+      value_same columns c one column =
+          ap (λ o. unwrap_or o Null) (map.get-from_entries nat_cmp_total (cells_in (part P low high) table key columns) c ∙ find_cell (cell_in (part P low high) table key) c columns one)
+          ∙ ap (λ o. unwrap_or (spelled o) Null) (pair_read c column.lawful)
+          ∙ value_spelled version c column
 
-    values_same : (columns cs : List ℕ) → AllByRecursion (λ c. is_one_of c columns ≡ true) cs → AllByRecursion (λ c. IsLawfulColumn c × Exact (column_of table c) P R) cs
-        → indexed cs (cells_of (record { key = key; cells = cells_in (part P low high) table key columns })) ≡ indexed cs cells
-    values_same columns [] ones facts = refl
-    values_same columns (c ∷ cs) ones facts = λ i. value_same columns c ones.0 facts.0 i ∷ values_same columns cs ones.1 facts.1 i
+      values_same : (columns cs : List ℕ) → AllByRecursion (λ c. is_one_of c columns ≡ true) cs → AllByRecursion (HasColumn version table P R) cs
+          → indexed (each (λ c. (c, Null)) cs) (cells_of (record { key = key; cells = cells_in (part P low high) table key columns })) ≡ indexed (each (λ c. (c, stand_in_at version c)) cs) cells
+      values_same columns [] ones facts = refl
+      values_same columns (c ∷ cs) ones facts = λ i. value_same columns c ones.0 facts.0 i ∷ values_same columns cs ones.1 facts.1 i
 
-    -- the row's values in the columns of an index are those that its pairs spell
-    pub indexed_same : (columns : List ℕ) → AllByRecursion (λ c. IsLawfulColumn c × Exact (column_of table c) P R) columns
-        → indexed columns (cells_of (record { key = key; cells = cells_in (part P low high) table key columns })) ≡ indexed columns cells
-    indexed_same columns facts = values_same columns columns (all_of columns) facts
+      pub indexed_same : (columns : List ℕ) → AllByRecursion (HasColumn version table P R) columns
+          → indexed (each (λ c. (c, Null)) columns) (cells_of (record { key = key; cells = cells_in (part P low high) table key columns })) ≡ indexed (each (λ c. (c, stand_in_at version c)) columns) cells
+      indexed_same columns facts = values_same columns columns (all_of columns) facts
+
+    -- the value of a required column in which no row has one of its own: the default, whether its pair is there or not
+    pub default_same : (n : ℕ) (fallback : Value) (type : ColumnType) → IsLawfulColumn n → IsStorable fallback → map.get cells n ≡ None → Subset (within table (required_meaning n fallback)) P R
+        → required_value n fallback (cells_of (record { key = key; cells = one_cell n (typed_in (part P low high) type table key n) })) ≡ fallback
+    default_same n fallback type lawful storable bare subset =
+        ap (λ o. required_value n fallback (cells_of (record { key = key; cells = one_cell n (typed type o) }))) (pair_read n lawful)
+        ∙ by_pair (map.get P (row_code table key n)) refl
+      where
+        by_typed : (b : Bool) → required_value n fallback (cells_of (record { key = key; cells = one_cell n (cond b (Some fallback) None) })) ≡ fallback
+        by_typed true = ap (λ o. unwrap_or o fallback) (map.get-from_entries nat_cmp_total ((n, fallback) ∷ []) n ∙ ap (λ b. cond b (Some fallback) None) (ap is_eq (tied_itself nat_cmp_total n)))
+        by_typed false = ap (λ o. unwrap_or o fallback) (map.get-from_entries nat_cmp_total (let es : List (ℕ × Value) = [] in es) n)
+
+        by_pair : (o : Option Bytes) → map.get P (row_code table key n) ≡ o → required_value n fallback (cells_of (record { key = key; cells = one_cell n (typed type o) })) ≡ fallback
+        by_pair None at = by_typed false
+        by_pair (Some v) at =
+            let v_is : code (unwrap_or (map.get cells n) fallback) ≡ v = same_some _ v (pair_of_row n lawful (required_meaning n fallback) refl (λ k r. refl) subset v at) in
+            let spells : only_value v ≡ Some fallback = ap only_value (sym v_is ∙ ap (λ o. code (unwrap_or o fallback)) bare) ∙ only_again fallback storable in
+            ap (λ o. required_value n fallback (cells_of (record { key = key; cells = one_cell n (of_type type o) }))) spells ∙ by_typed (has_type type fallback)

@@ -4,7 +4,8 @@ use Rattle.std.specs.List.{flat_map}
 use Rattle.std.specs.FinMap as map
 use Rattle.keycode.specs.declared.value.Value.{Value}
 use Rattle.row_map.specs.declared.key.KeyOf.TheVariants.{Column}
-use Rattle.row_map.specs.Cell.{only_value}
+use Rattle.row_map.specs.Cell.{only_value, typed_value}
+use Rattle.row_map.specs.declared.shape.ColumnType.{ColumnType}
 use Rattle.row_map.specs.Keys.{key_code}
 use Rattle.row_map.specs.Rows.{Bytes, Pairs}
 use Rattle.row_map.specs.Shape.{is_null}
@@ -13,11 +14,12 @@ use Rattle.row_map.specs.declared.shape.Row.{Row}
 use Rattle.row_map.specs.declared.expect.Stretch.{Stretch}
 use Rattle.row_map.specs.declared.expect.Expect.{Expect}
 use Rattle.schema_version.specs.declared.element.Kind.{Kind}
-use Rattle.schema_version.specs.declared.element.Kind.TheVariants.{Index, Optional}
+use Rattle.schema_version.specs.declared.element.Kind.TheVariants.{Index, Optional, Required}
 use Rattle.schema_version.specs.declared.element.ElementDef.{ElementDef}
 use Rattle.element_state.specs.Items.{put_pair}
 use Rattle.element_state.specs.Operations.{cells_of, fill_pair}
 use Rattle.element_state.specs.Kinds.{kind_meaning}
+use Rattle.element_state.specs.Sources.{source_alone}
 use Rattle.schema_version.specs.declared.element.Work.{Work}
 use Rattle.schema_version.specs.declared.element.Work.TheVariants.{Fill, Clear}
 use Rattle.reorganise.specs.declared.region.Region.TheVariants.{Entries}
@@ -45,21 +47,35 @@ cell_in pairs table key column = spelled (map.get pairs (key_code (Column table 
 abbrev pub cells_in : Pairs → ℕ → List Value → List ℕ → List (ℕ × Value)
 cells_in pairs table key columns = filter_map (λ c. option_map (λ v. (c, v)) (cell_in pairs table key c)) columns
 
--- the columns that an element's pairs are made from
-abbrev pub columns_of : Kind → List ℕ
-columns_of (Index columns) = columns
-columns_of (Optional type) = []
+-- the value of the type that a column's pair spells, if there is one
+abbrev pub typed : ColumnType → Option Bytes → Option Value
+typed type None = None
+typed type (Some bytes) = typed_value type bytes
+
+abbrev pub typed_in : Pairs → ColumnType → ℕ → List Value → ℕ → Option Value
+typed_in pairs type table key column = typed type (map.get pairs (key_code (Column table key column)))
+
+-- one cell, if there is a value for it
+abbrev pub one_cell : ℕ → Option Value → List (ℕ × Value)
+one_cell column None = []
+one_cell column (Some v) = (column, v) ∷ []
+
+-- the cells of a row that an element's pair is made from: an index's columns, or the required column itself
+abbrev pub cells_for : Pairs → ElementDef → List Value → Kind → List (ℕ × Value)
+cells_for pairs element key (Index columns) = cells_in pairs element.table key columns
+cells_for pairs element key (Optional type) = []
+cells_for pairs element key (Required type fallback) = one_cell element.number (typed_in pairs type element.table key element.number)
 
 -- the row of a primary key, as far as the element asks for it
 abbrev pub row_in : Pairs → ElementDef → List Value → Row
-row_in pairs element key = record { key = key; cells = cells_in pairs element.table key (columns_of element.kind) }
+row_in pairs element key = record { key = key; cells = cells_for pairs element key element.kind }
 
 -- ---- the writes
 
 -- a fill puts the pair of the row
 abbrev pub row_put : Pairs → ElementDef → Option (List Value) → Writes
 row_put pairs element None = []
-row_put pairs element (Some key) = put_pair (fill_pair (kind_meaning element.number element.kind) (element.table, key) (cells_of (row_in pairs element key)))
+row_put pairs element (Some key) = put_pair (fill_pair (kind_meaning element.number (source_alone element.kind)) (element.table, key) (cells_of (row_in pairs element key)))
 
 -- a clear of a column takes the column's pair of the row away
 abbrev pub cell_removed : ElementDef → Option (List Value) → Writes
@@ -70,6 +86,7 @@ cell_removed element (Some key) = (key_code (Column element.table key element.nu
 abbrev pub removed_of : Kind → ElementDef → Bytes → Writes
 removed_of (Index columns) element name = if is_item (Entries element.number) name then (name, None) ∷ [] else []
 removed_of (Optional type) element name = cell_removed element (row_at element.table name)
+removed_of (Required type fallback) element name = cell_removed element (row_at element.table name)
 
 -- what is written for the pair of a key: nothing, where it is no item
 abbrev pub pair_writes : Pairs → ElementDef → Work → Bytes → Writes

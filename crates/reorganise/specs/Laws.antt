@@ -1,19 +1,28 @@
 -- What pieces come to, in the words in which elements keep their laws.
-use Rattle.std.specs.Prelude.{◌≡◌, ℕ, zero, suc, true, ◌+◌, ◌<◌, ◌^◌, ◌↔◌, List, [], ◌∷◌, Some, slice_get}
+use Rattle.std.specs.Prelude.{◌≡◌, ℕ, ◌≤◌, zero, suc, true, ◌+◌, ◌<◌, ◌^◌, ◌↔◌, List, [], ◌∷◌, Some, slice_get}
 use Rattle.std.specs.List.{AllByRecursion}
 use mathlib.Core.List.{map as each}
+use Rattle.keycode.specs.declared.value.Value.{Value}
+use Rattle.keycode.specs.Valid.{IsStorable}
 use Rattle.row_map.specs.Rows.{Bytes, Rows, Pairs, AreStorable}
 use Rattle.row_map.specs.Writes.{written_all, laid}
 use Rattle.row_map.specs.Ranges.{table_prefix, IsRowBound}
 use Rattle.row_map.specs.Expect.{Holds}
+use Rattle.schema_version.specs.declared.element.Kind.{Kind}
+use Rattle.schema_version.specs.declared.element.Kind.TheVariants.{Index, Optional, Required}
 use Rattle.schema_version.specs.declared.element.ElementDef.{ElementDef}
-use Rattle.element_state.specs.Elements.{Meaning, AreFormed, Exact}
+use Rattle.schema_version.specs.Version.{Version, element_at, IsPublicColumn}
+use Rattle.element_state.specs.Elements.{Meaning, AreFormed, Subset, Exact}
 use Rattle.element_state.specs.Exists.{exists_meaning}
-use Rattle.element_state.specs.Column.{column_of, IsLawfulColumn}
+use Rattle.element_state.specs.Column.{IsLawfulColumn}
+use Rattle.element_state.specs.Required.{required_of}
+use Rattle.element_state.specs.Sources.{source_in, source_alone, stand_in_at}
+use Rattle.element_state.specs.Consistent.{DemandOf}
+use Rattle.schema_version.specs.Sound.{IsSoundVersion}
 use Rattle.element_state.specs.Items.{ClearRange, Bounds, RowsOf, IsBound, HasRange, row_items, fill_puts, clear_writes}
 use Rattle.element_state.specs.Kinds.{kind_clear}
 use Rattle.element_state.specs.Versions.{meaning_of, Of}
-use Rattle.element_state.specs.Core.{Span as Passed}
+use Rattle.element_state.specs.Core.{Span as Passed, NoCell}
 use Rattle.element_state.specs.Whole.{fresh_spans}
 use Rattle.element_state.specs.Reaches as reaches
 use Rattle.element_state.specs.Ended.{Piece, passed_spans, HaveEnded}
@@ -25,7 +34,7 @@ use Rattle.reorganise.specs.declared.reading.Reading.{Reading}
 use Rattle.reorganise.specs.Regions.{region_of, front, back}
 use Rattle.reorganise.specs.Pieces.{begun, are_ended, IsReading}
 use Rattle.reorganise.specs.Partition.{AreJoined}
-use Rattle.reorganise.specs.Batches.{columns_of, expect_of, batch_for}
+use Rattle.reorganise.specs.Batches.{expect_of, batch_for}
 
 -- ---- the pieces of a reorganisation
 
@@ -73,9 +82,12 @@ JoinStays = (low high : Bytes) (pieces : List Span) (place : ℕ) (to : Bytes) �
 
 -- ---- where they stand
 
--- what a clear of the element goes through
+-- what a clear of the element goes through, which is the same in every version
 abbrev pub clear_of : ElementDef → ClearRange
-clear_of element = kind_clear element.table element.number element.kind
+clear_of element = kind_clear element.table element.number (source_alone element.kind)
+
+abbrev pub ClearIsOfKind : Type 0
+ClearIsOfKind = (version : Version) (element : ElementDef) → clear_of element ≡ kind_clear element.table element.number (source_in version element.kind)
 
 -- where the pieces may begin and end
 abbrev pub bounds_of : ElementDef → Work → Bounds
@@ -116,20 +128,45 @@ ComesToBound = (read : Reading) → IsReading read → IsBound (bounds_of read.e
 
 -- ---- what they write
 
--- the columns are lawful, and have exactly the pairs that the rows give them
-abbrev pub HasColumns : ElementDef → Pairs → Rows → Type 0
-HasColumns element P R = AllByRecursion (λ c. IsLawfulColumn c × Exact (column_of element.table c) P R) (columns_of element.kind)
+-- a public column of the table, which has the pairs that the version demands. Pairs can hold what stands for a missing value
+pub record HasColumn (version : Version) (table : ℕ) (P : Pairs) (R : Rows) (column : ℕ) : Type 0 where
+  pub lawful : IsLawfulColumn column
+  pub public : IsPublicColumn version table column
+  pub demand : DemandOf version column (element_at version column) P R
+  pub stand_in : IsStorable (stand_in_at version column)
 
-abbrev pub meaning_in : ElementDef → Meaning
-meaning_in element = meaning_of element.number (Of element.table element.kind)
+-- a required column in which no row has a value of its own yet, and that has only pairs of the default
+pub record HasDefaults (element : ElementDef) (fallback : Value) (P : Pairs) (R : Rows) : Type 0 where
+  pub lawful : IsLawfulColumn element.number
+  pub bare : NoCell element.number R
+  pub subset : Subset (required_of element.table element.number fallback) P R
+  pub storable : IsStorable fallback
+
+-- what a fill reads of a row is right: an index's columns are public, and a required column has no value but the default
+abbrev pub HasColumnsOf : Version → ElementDef → Pairs → Rows → Kind → Type 0
+HasColumnsOf version element P R (Index columns) = AllByRecursion (HasColumn version element.table P R) columns
+HasColumnsOf version element P R (Optional type) = Unit {0}
+HasColumnsOf version element P R (Required type fallback) = HasDefaults element fallback P R
+
+abbrev pub HasColumns : Version → ElementDef → Pairs → Rows → Type 0
+HasColumns version element P R = HasColumnsOf version element P R element.kind
+
+-- a store that agrees with a sound version of the element has it so, where no row has a cell of the element's own number
+abbrev pub ColumnsAgree : Type 0
+ColumnsAgree =
+    (version : Version) (element : ElementDef) (P : Pairs) (R : Rows) → IsSoundVersion version → element_at version element.number ≡ Some element
+    → ((n : ℕ) → 1 ≤ n → DemandOf version n (element_at version n) P R) → NoCell element.number R → HasColumns version element P R
+
+abbrev pub meaning_in : Version → ElementDef → Meaning
+meaning_in version element = meaning_of element.number (Of element.table (source_in version element.kind))
 
 -- a prepared piece of a fill, where its expectation holds, puts what `fill_of` gives for each row from the old cursor to below the new one
 abbrev pub FillLays : Type 0
 FillLays =
-    (read : Reading) (P : Pairs) (R : Rows) → IsReading read → read.kind ≡ Fill → Holds (expect_of read.stretch) P
-    → AreStorable R → AreFormed P → Exact exists_meaning P R → HasColumns read.element P R
+    (version : Version) (read : Reading) (P : Pairs) (R : Rows) → IsReading read → read.kind ≡ Fill → Holds (expect_of read.stretch) P
+    → AreStorable R → AreFormed P → Exact exists_meaning P R → HasColumns version read.element P R
     → read.element.table + 1 < 2 ^ 32 → IsRowBound read.element.table read.stretch.high
-    → laid (batch_for read) P ≡ written_all P (fill_puts (meaning_in read.element) (row_items (meaning_in read.element).serves R read.stretch.low read.stretch.high))
+    → laid (batch_for read) P ≡ written_all P (fill_puts (meaning_in version read.element) (row_items (meaning_in version read.element).serves R read.stretch.low read.stretch.high))
 
 -- a prepared piece of a clear, where its expectation holds, removes each item from the old cursor to below the new one
 abbrev pub ClearLays : Type 0

@@ -10,7 +10,7 @@ use Rattle.row_map.specs.Reading.{key_at}
 use Rattle.row_map.specs.Rows.{Bytes, Pairs}
 use Rattle.row_map.specs.Walk.{stretch}
 use Rattle.schema_version.specs.declared.element.Kind.{Kind}
-use Rattle.schema_version.specs.declared.element.Kind.TheVariants.{Index, Optional}
+use Rattle.schema_version.specs.declared.element.Kind.TheVariants.{Index, Optional, Required}
 use Rattle.schema_version.specs.declared.element.ElementDef.{ElementDef}
 use Rattle.schema_version.specs.declared.element.Work.{Work}
 use Rattle.schema_version.specs.declared.element.Work.TheVariants.{Fill, Clear}
@@ -20,6 +20,7 @@ use Rattle.reorganise.specs.declared.region.Region.TheVariants.{Rows, Entries}
 abbrev pub cleared : Kind → ElementDef → Region
 cleared (Index columns) element = Entries element.number
 cleared (Optional type) element = Rows element.table
+cleared (Required type fallback) element = Rows element.table
 
 -- a fill and a clear of a column go by the rows of the table, a clear of an index by its own pairs
 abbrev pub region_of : ElementDef → Work → Region

@@ -1,7 +1,7 @@
 //! What pieces come to, in the words in which elements keep their laws: each is a call without a body, so that a
 //! contract names it. Whoever keeps a store consistent has from these that a piece is one of the fills and clears that
 //! `element_state` speaks of.
-ghost use Rattle.reorganise.specs.Laws.{PiecesJoin, PiecesEnd, BeginsFresh, CursorStands, CursorMoves, JoinStays, FillRange, ClearRangeIs, BeginsAtBounds, BoundsStay, ComesToBound, FillLays, ClearLays};
+ghost use Rattle.reorganise.specs.Laws.{PiecesJoin, PiecesEnd, BeginsFresh, CursorStands, CursorMoves, JoinStays, FillRange, ClearRangeIs, ClearIsOfKind, BeginsAtBounds, BoundsStay, ComesToBound, ColumnsAgree, FillLays, ClearLays};
 
 /// Pieces that join one another are such in the words of `element_state`, and have all ended just where `finished`
 /// says so.
@@ -19,10 +19,11 @@ pub fn cursors_pass()
     ensures joined { JoinStays }
 {}
 
-/// A fill goes through the range of its table's rows, a clear through the range that its kind says.
+/// A fill goes through the range of its table's rows, a clear through the range that its kind says in every version.
 pub fn ranges_are()
     ensures fill { FillRange }
     ensures clear { ClearRangeIs }
+    ensures kind { ClearIsOfKind }
 {}
 
 /// Pieces begin and end where they may, and a cursor comes to such a place again.
@@ -32,8 +33,15 @@ pub fn bounds_hold()
     ensures comes { ComesToBound }
 {}
 
+/// In a store that agrees with a sound version, what a fill of an element of it reads of a row is right: the columns of an
+/// index have the rows' values or their defaults, and a required column has no value but its default, where no row has a
+/// cell of it yet.
+pub fn columns_agree()
+    ensures { ColumnsAgree }
+{}
+
 /// What a prepared piece of a fill writes, laid over pairs of which its expectation holds, is what `fill_of` gives for
-/// each row between its cursors, where the pairs are those of the rows.
+/// each row between its cursors under the version, where the pairs are those of the rows.
 pub fn fill_lays()
     ensures { FillLays }
 {}

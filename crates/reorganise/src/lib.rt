@@ -15,11 +15,14 @@ mod preparing;
 mod reading;
 mod region;
 mod row;
+mod same;
 mod view;
 mod work;
 
 pub use fault::ViewFault;
-pub use laws::{bounds_hold, clear_lays, cursors_pass, fill_lays, pieces_share, ranges_are};
+pub use laws::{
+    bounds_hold, clear_lays, columns_agree, cursors_pass, fill_lays, pieces_share, ranges_are,
+};
 pub use prepared::PreparedPiece;
 pub use preparing::prepare_piece;
 pub use schema_version::Work;

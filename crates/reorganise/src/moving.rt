@@ -8,10 +8,11 @@ ghost use Rattle.reorganise.specs.Moving.{come_on, IsSpanOf};
 ghost use Rattle.reorganise.specs.Pieces.{are_ended};
 
 use crate::prepared::PreparedPiece;
+use crate::same::is_same;
 use crate::work::{Progress, Span};
 use byte_map::Bytes;
 use listed::Listed;
-use schema_version::{ElementDef, Work};
+use schema_version::Work;
 use std::alloc::AllocError;
 
 /// A copy of a reorganisation.
@@ -31,13 +32,6 @@ fn with_moved(mut pieces: Vec<Span>, piece: u32, cursor: Bytes) -> Vec<Span>
     }
     pieces[place].cursor = cursor;
     pieces
-}
-
-/// Whether two definitions of an element are the same.
-fn is_same(one: &ElementDef, other: &ElementDef) -> bool
-    ensures { Decides result (one.now ≡ other.now) }
-{
-    one == other
 }
 
 /// Whether two keys are the same.

@@ -3,6 +3,7 @@ ghost use Rattle.std.specs.Prelude.{◌≡◌, IfOk, IfErr, OnOk};
 ghost use Rattle.std.specs.FinMap as map;
 ghost use Rattle.row_map.specs.Writes.{noted};
 ghost use Rattle.element_state.specs.Kinds.{kind_meaning, table_of_any, meaning_of_any};
+ghost use Rattle.element_state.specs.Sources.{source_alone};
 ghost use Rattle.schema_version.specs.declared.element.Work.TheVariants.{Fill, Clear};
 ghost use Rattle.reorganise.specs.Batches.{pair_writes, piece_writes};
 
@@ -27,7 +28,7 @@ fn note_put(
     name: &Bytes,
 ) -> Result<(), AllocError>
     requires table { table_of_any filled.now ≡ element.now.table }
-    requires meaning { meaning_of_any filled.now ≡ kind_meaning element.now.number element.now.kind }
+    requires meaning { meaning_of_any filled.now ≡ kind_meaning element.now.number (source_alone element.now.kind) }
     ensures { OnOk result (batch.new ≡ noted batch.old (pair_writes pairs.now element.now Fill name.now)) }
 {
     let key = match row_at(alloc, element.table, name.as_slice())? {
@@ -59,7 +60,11 @@ fn note_removal(
                 Ok(())
             }
         }
-        Kind::Optional(_) => match row_at(alloc, element.table, name.as_slice())? {
+        Kind::Optional(_) | Kind::Required { .. } => match row_at(
+            alloc,
+            element.table,
+            name.as_slice(),
+        )? {
             None => Ok(()),
             Some(key) => batch.remove(column_key(
                 alloc,
@@ -79,7 +84,7 @@ fn puts(
     pairs: &KeyMap<Bytes>,
 ) -> Result<Batch, AllocError>
     requires table { table_of_any filled.now ≡ element.now.table }
-    requires meaning { meaning_of_any filled.now ≡ kind_meaning element.now.number element.now.kind }
+    requires meaning { meaning_of_any filled.now ≡ kind_meaning element.now.number (source_alone element.now.kind) }
     ensures { IfOk result (λ batch. batch ≡ noted map.empty (piece_writes pairs.now element.now Fill)) }
 {
     let mut batch = Batch::new(alloc);
@@ -111,7 +116,7 @@ fn batch_of(
 {
     match kind {
         Work::Fill => {
-            let filled = AnyElement::of(element)?;
+            let filled = AnyElement::alone(alloc, element)?;
             puts(alloc, element, &filled, pairs)
         }
         Work::Clear => removals(alloc, element, pairs),
@@ -120,8 +125,9 @@ fn batch_of(
 
 /// Prepares a piece: its batch puts what `fill_of` gives for each item that was read, or removes each item's pair of the
 /// element, and writes for no other. Of a row it takes the values that the pairs of its columns spell; one that is not
-/// the code of just one value counts as none. The piece expects that all pairs which were read are the only ones in
-/// their range, so a pair that came since is a conflict too.
+/// the code of just one value counts as none. For a required column it puts the value that the column's own pair of the
+/// row spells, if that is of the column's type, or else the default. The piece expects that all pairs which were read
+/// are the only ones in their range, so a pair that came since is a conflict too.
 ///
 /// Refused for want of memory alone, and `view` is then given back.
 pub fn prepare_piece(

@@ -27,7 +27,7 @@ pub(crate) fn region_of(element: &ElementDef, kind: Work) -> Region
         Work::Fill => Region::Rows(element.table),
         Work::Clear => match element.kind {
             Kind::Index(_) => Region::Entries(element.number),
-            Kind::Optional(_) => Region::Rows(element.table),
+            Kind::Optional(_) | Kind::Required { .. } => Region::Rows(element.table),
         },
     }
 }

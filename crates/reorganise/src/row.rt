@@ -1,11 +1,11 @@
 //! The row of an item, as the pairs that were read spell it.
 ghost use Rattle.std.specs.Prelude.{◌≡◌, IfOk};
-ghost use Rattle.reorganise.specs.Batches.{but_null as but_null_of, cell_in, cells_in, row_in, columns_of};
+ghost use Rattle.reorganise.specs.Batches.{but_null as but_null_of, cell_in, cells_in, typed_in, one_cell as one_cell_of, cells_for, row_in};
 
 use byte_map::{Bytes, KeyMap};
 use keycode::{Value, Values};
 use listed::Listed;
-use row_map::{Row, column_key, read_only_value};
+use row_map::{ColumnType, Row, column_key, read_only_value, read_typed_value};
 use schema_version::{ElementDef, Kind};
 use std::alloc::{AllocError, Global};
 
@@ -55,17 +55,59 @@ fn cells(
     Ok(Listed::new(cells))
 }
 
-/// The columns that the element's pairs are made from.
-fn columns(element: &ElementDef) -> &[u32]
-    ensures { result.now ≡ columns_of element.now.kind }
+/// The value of a row in a column of this type, if its pair spells one.
+fn typed_cell(
+    alloc: Global,
+    pairs: &KeyMap<Bytes>,
+    kind: ColumnType,
+    table: u32,
+    key: &[Value],
+    column: u32,
+) -> Result<Option<Value>, AllocError>
+    ensures { IfOk result (λ v. v ≡ typed_in pairs.now kind table key.now column) }
 {
-    match &element.kind {
-        Kind::Index(columns) => columns.as_slice(),
-        Kind::Optional(_) => &[],
+    let name = column_key(alloc, table, key, column)?;
+    match pairs.get(name.as_slice()) {
+        None => Ok(None),
+        Some(bytes) => read_typed_value(alloc, kind, bytes.as_slice()),
     }
 }
 
-/// The row of a primary key, with its cells in the element's columns, in the element's order.
+/// One cell, if there is a value for it.
+fn one_cell(
+    alloc: Global,
+    column: u32,
+    value: Option<Value>,
+) -> Result<Listed<(u32, Value)>, AllocError>
+    ensures { IfOk result (λ cells. cells ≡ one_cell_of column value) }
+{
+    let mut cells = Vec::new(alloc);
+    if let Some(value) = value {
+        cells.push((column, value))?;
+    }
+    Ok(Listed::new(cells))
+}
+
+/// The cells of a row that the element's pair is made from: those of an index's columns, or that of a required column.
+fn needed_cells(
+    alloc: Global,
+    pairs: &KeyMap<Bytes>,
+    element: &ElementDef,
+    key: &[Value],
+) -> Result<Listed<(u32, Value)>, AllocError>
+    ensures { IfOk result (λ found. found ≡ cells_for pairs.now element.now key.now element.now.kind) }
+{
+    match &element.kind {
+        Kind::Index(columns) => cells(alloc, pairs, element.table, key, columns.as_slice()),
+        Kind::Optional(_) => Ok(Listed::new(Vec::new(alloc))),
+        Kind::Required { column, .. } => {
+            let value = typed_cell(alloc, pairs, *column, element.table, key, element.number)?;
+            one_cell(alloc, element.number, value)
+        }
+    }
+}
+
+/// The row of a primary key, with the cells that the element's pair is made from, in the element's order.
 pub(crate) fn row(
     alloc: Global,
     pairs: &KeyMap<Bytes>,
@@ -74,12 +116,6 @@ pub(crate) fn row(
 ) -> Result<Row, AllocError>
     ensures { IfOk result (λ row. row ≡ row_in pairs.now element.now key) }
 {
-    let cells = cells(
-        alloc,
-        pairs,
-        element.table,
-        key.as_slice(),
-        columns(element),
-    )?;
+    let cells = needed_cells(alloc, pairs, element, key.as_slice())?;
     Ok(Row { key, cells })
 }
