@@ -15,7 +15,6 @@ mod preparing;
 mod reading;
 mod region;
 mod row;
-mod same;
 mod view;
 mod work;
 

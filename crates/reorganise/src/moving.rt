@@ -8,7 +8,6 @@ ghost use Rattle.reorganise.specs.Moving.{come_on, IsSpanOf};
 ghost use Rattle.reorganise.specs.Pieces.{are_ended};
 
 use crate::prepared::PreparedPiece;
-use crate::same::is_same;
 use crate::work::{Progress, Span};
 use byte_map::Bytes;
 use listed::Listed;
@@ -79,7 +78,7 @@ impl Progress {
     pub fn span_of(&self, prepared: &PreparedPiece) -> Option<&Span>
         ensures { MatchOption result ((span : SpanOf) → ¬ (IsSpanOf self.now prepared.now span)) (λ span. IsSpanOf self.now prepared.now span.now) }
     {
-        if !is_same(prepared.element(), &self.element) || prepared.kind() != self.kind {
+        if !prepared.element().is_same(&self.element) || prepared.kind() != self.kind {
             return None;
         }
         let span = self.piece(prepared.piece())?;

@@ -53,7 +53,7 @@ none_some e = absurd cc
 -- ---- what an element wants may run
 
 -- what the next move on a way needs, by whether the kind is filled
-abbrev WantedBy : Bool → Way → ElementState → Option Work
+abbrev pub WantedBy : Bool → Way → ElementState → Option Work
 WantedBy filled way from =
     if is_some (edge_by filled way from Public) then needed_by filled Public
     else (if is_some (edge_by filled way from Absent) then needed_by filled Absent
@@ -80,7 +80,7 @@ runs_by false source Dropping Public work e = none_some e
 may_run : (kind : Kind) (source : ElementKind) (way : Way) (state : ElementState) (work : Work) → work_by kind way state ≡ Some work → MayRun the_kinds work source state
 may_run kind source way state work e = runs_by (is_filled kind) source way state work e
 
-clear_fill : {B : Type 0} → Clear ≡ Fill → B
+pub clear_fill : {B : Type 0} → Clear ≡ Fill → B
 clear_fill e = absurd cc
 
 no_fill : (way : Way) (state : ElementState) (work : Work) → WantedBy false way state ≡ Some work → work ≡ Fill → ⊥

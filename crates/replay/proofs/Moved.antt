@@ -125,7 +125,7 @@ module _ (version : Version) where
 
 -- ---- what pairs are built from, in a version and in one where the columns that an index lists are the same
 
-listed_same : (v s : Version) (cs : List ℕ) → ((c : ℕ) → Contains cs c → element_at s c ≡ element_at v c) → each (λ c. (c, stand_in_at s c)) cs ≡ each (λ c. (c, stand_in_at v c)) cs
+listed_same : (v s : Version) (cs : List ℕ) → ((c : ℕ) → Contains cs c → element_at s c ≡ element_at v c) → each {B = ℕ × Value} (λ c. (c, stand_in_at s c)) cs ≡ each (λ c. (c, stand_in_at v c)) cs
 listed_same v s [] same = refl
 listed_same v s (c ∷ cs) same =
     ap₂ (λ (x : ℕ × Value) (xs : List (ℕ × Value)). x ∷ xs) (ap (λ o. (c, fallback_or_null o)) (same c (here c cs))) (listed_same v s cs (λ d there. same d (later c d cs there)))

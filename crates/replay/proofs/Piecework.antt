@@ -12,24 +12,23 @@ use Rattle.keycode.proofs.Orders.{bytes_cmp_total, bytes_cmp-IsAntisymmetric}
 use Rattle.keycode.specs.Order.{bytes_cmp}
 use Rattle.row_map.specs.Rows.{Bytes, Rows, Pairs}
 use Rattle.row_map.specs.Writes.{written_all, laid}
-use Rattle.schema_version.specs.declared.element.Kind.{Kind}
-use Rattle.schema_version.specs.declared.element.Kind.TheVariants.{Index, Optional}
+use Rattle.schema_version.specs.declared.element.Way.{Way}
+use Rattle.schema_version.specs.declared.element.Way.TheVariants.{Adding, Dropping}
 use Rattle.schema_version.specs.declared.element.ElementState.{ElementState}
-use Rattle.schema_version.specs.declared.element.ElementState.TheVariants.{Public}
+use Rattle.schema_version.specs.declared.element.ElementState.TheVariants.{Absent, DeleteOnly, WriteOnly, Public}
 use Rattle.schema_version.specs.declared.element.ElementDef.{ElementDef}
-use Rattle.schema_version.specs.Edges.{wanted}
-use Rattle.schema_version.specs.Version.{Version, element_at, listed, IsPublicColumn}
-use Rattle.element_state.specs.Column.{column_of, column_meaning, IsLawfulColumn}
-use Rattle.element_state.specs.Core.{Core, Invariant, Meets, IsConsistent as Consistent}
+use Rattle.schema_version.specs.Edges.{is_filled, wanted}
+use Rattle.schema_version.specs.Version.{Version, element_at}
+use Rattle.element_state.specs.Consistent.{IsConsistent}
+use Rattle.element_state.specs.Core.{Core, Invariant, NeverPublic, NoCell}
 use Rattle.element_state.specs.Core as core
-use Rattle.element_state.specs.Elements.{Exact, Demand}
-use Rattle.element_state.specs.Items.{IsBound, RowsOf, HasRange, fill_puts, clear_writes, row_items}
-use Rattle.element_state.specs.Kinds.{kind_meaning, kind_clear, kind_clears}
+use Rattle.element_state.specs.Sources.{Source, source_in}
+use Rattle.element_state.specs.Items.{ClearRange, IsBound, RowsOf, HasRange, fill_puts, clear_writes, row_items}
+use Rattle.element_state.specs.Kinds.{kind_clear, kind_clears}
 use Rattle.element_state.specs.Pieces.{moved}
 use Rattle.element_state.specs.Reaches as reaches
 use Rattle.element_state.proofs.Reaches.{fill_puts_kept, clear_piece_kept}
-use Rattle.element_state.specs.Tables.{within}
-use Rattle.element_state.specs.Versions.{ElementKind, Of, the_kinds, meaning_of, schema_of, entry_of, IsLawfulOf}
+use Rattle.element_state.specs.Versions.{ElementKind, Of, the_kinds, meaning_of, schema_of, entry_of, is_adding, IsLawfulOf}
 use Rattle.element_state.proofs.Versions.{exists_exact}
 use Rattle.element_state.proofs.Whole.{number_one}
 use Rattle.schema_version.specs.declared.element.Work.{Work}
@@ -39,20 +38,21 @@ use Rattle.reorganise.specs.declared.work.Progress.{Progress}
 use Rattle.reorganise.specs.declared.reading.Reading.{Reading}
 use Rattle.reorganise.specs.Regions.{region_of, front, back}
 use Rattle.reorganise.specs.Pieces.{part}
-use Rattle.reorganise.specs.Batches.{batch_for, piece_writes, columns_of}
-use Rattle.reorganise.specs.Laws.{passed_by, bounds_of, HasBounds, HasColumns}
-use Rattle.reorganise.proofs.Bounding.{cursor_stands, cursor_moves, join_stays, bounds_stay, comes_to_bound}
+use Rattle.reorganise.specs.Batches.{batch_for, piece_writes}
+use Rattle.reorganise.specs.Laws.{passed_by, bounds_of, clear_of, HasBounds, HasColumns}
+use Rattle.reorganise.proofs.Bounding.{cursor_stands, cursor_moves, join_stays, bounds_stay, comes_to_bound, clear_is_of_kind}
 use Rattle.reorganise.proofs.Clearing.{clear_lays}
+use Rattle.reorganise.proofs.Columns.{columns_agree}
 use Rattle.reorganise.proofs.Filling.{fill_lays}
 use Rattle.reorganise.proofs.Holding.{part_is}
 use Rattle.replay.specs.Replay.{Facts, after, is_of, progress_of, come_to, moved_to, writes_by_piece, span_writes}
 use Rattle.replay.specs.Kept.{IsKept, IsBegun, AreInPieces, core_at, all_passed, passed}
 use Rattle.replay.specs.Laws.{IsNextOf, piece_entry, PiecesKeep}
-use Rattle.replay.proofs.Agree.{at_number}
+use Rattle.replay.proofs.Agree.{at_number, consistent}
 use Rattle.replay.proofs.Begun.{found, get_passed, passed_at, progress_moved}
 use Rattle.replay.proofs.Cursors.{move_in_pieces}
-use Rattle.replay.proofs.Beginning.{with_progress}
-use Rattle.replay.proofs.Soundness.{lawful, fits}
+use Rattle.replay.proofs.Beginning.{WantedBy, clear_fill, with_progress}
+use Rattle.replay.proofs.Soundness.{lawful}
 use Rattle.replay.proofs.Time.{at, kept_later}
 
 some_one : {A : Type 0} {v w : A} → Some v ≡ (let o : Option A = Some w in o) → v ≡ w
@@ -77,17 +77,29 @@ all_moved P n piece cursor f (p ∷ ps) all = (by (is_of n p) refl, all_moved P 
     by true e = f p all.0 (eqb-true p.element.number n e)
     by false e = all.0
 
--- ---- the columns of an index have exactly the pairs that the rows give them
+-- ---- what wants a fill was never public
 
-column_exact : (version : Version) (P : Pairs) (R : Rows) → Consistent the_kinds (schema_of version) P R → (table n : ℕ) → 1 ≤ n → IsPublicColumn version table n → Exact (column_of table n) P R
-column_exact version P R all table n above column =
-    in_words column.0 column.3 column.4 column.5 (subst (λ o. Meets the_kinds n o P R) (at_number version n above ∙ ap (option_map entry_of) column.2) (all n))
-  where
-    in_words : (element : ElementDef) → element.table ≡ table → element.kind ≡ Optional column.1 → element.state ≡ Public → Demand (within element.table (kind_meaning n element.kind)) element.state P R → Exact (column_of table n) P R
-    in_words element home kind public d =
-        subst (λ (t : ℕ). Demand (within t (column_meaning n)) Public P R) home
-        (subst (λ (k : Kind). Demand (within element.table (kind_meaning n k)) Public P R) kind
-        (subst (λ (q : ElementState). Demand (within element.table (kind_meaning n element.kind)) q P R) public d))
+-- the state that wants one, by whether a fill puts the kind's pairs
+fill_state : (filled : Bool) (way : Way) (q : ElementState) → WantedBy filled way q ≡ Some Fill → (is_adding way ≡ true) × (q ≢ Public)
+fill_state true Adding WriteOnly e = (refl, λ x. cc)
+fill_state true Adding Absent e = none_some e
+fill_state true Adding DeleteOnly e = none_some e
+fill_state true Adding Public e = none_some e
+fill_state true Dropping Absent e = none_some e
+fill_state true Dropping DeleteOnly e = clear_fill (some_one e)
+fill_state true Dropping WriteOnly e = none_some e
+fill_state true Dropping Public e = none_some e
+fill_state false Adding Absent e = none_some e
+fill_state false Adding DeleteOnly e = none_some e
+fill_state false Adding WriteOnly e = none_some e
+fill_state false Adding Public e = none_some e
+fill_state false Dropping Absent e = none_some e
+fill_state false Dropping DeleteOnly e = clear_fill (some_one e)
+fill_state false Dropping WriteOnly e = none_some e
+fill_state false Dropping Public e = none_some e
+
+never_public : (element : ElementDef) → wanted element ≡ Some Fill → (is_adding element.way ≡ true) × (element.state ≢ Public)
+never_public element wants = fill_state (is_filled element.kind) element.way element.state wants
 
 module _ (facts : Facts) (now number : ℕ) (read : Reading) (later : facts.moment ≤ now) (next : IsNextOf facts number read) (kept : IsKept facts) where
   k : IsKept (at facts now)
@@ -111,11 +123,15 @@ module _ (facts : Facts) (now number : ℕ) (read : Reading) (later : facts.mome
   above : 1 ≤ number
   above = (kept.sound.elements number p.element there).first
 
-  entry : map.get (schema_of facts.newest) number ≡ Some (entry_of p.element)
-  entry = at_number facts.newest number above ∙ ap (option_map entry_of) there
+  entry : map.get (schema_of facts.newest) number ≡ Some (entry_of facts.newest p.element)
+  entry = at_number facts.newest number above ∙ ap (option_map (entry_of facts.newest)) there
 
-  own : IsLawfulOf number p.element.table p.element.kind
-  own = lawful facts.newest kept.sound number (entry_of p.element) entry
+  -- what the element's pairs are built from
+  abbrev pub source : ElementDef → Source
+  source element = source_in facts.newest element.kind
+
+  own : IsLawfulOf number p.element.table (source p.element)
+  own = lawful facts.newest kept.sound number (entry_of facts.newest p.element) entry
 
   passed_p : map.get w.progress number ≡ Some (passed p)
   passed_p = passed_at facts.progress number p next.here
@@ -154,23 +170,13 @@ module _ (facts : Facts) (now number : ℕ) (read : Reading) (later : facts.mome
   cursor_is : reaches.cursor_at read.piece (passed_by p.pieces) ≡ read.stretch.low
   cursor_is = cursor_stands p.pieces read.piece next.span next.piece ∙ sym next.cursor
 
-  columns_fit : HasColumns read.element facts.pairs facts.rows
-  columns_fit = subst (λ (e : ElementDef). HasColumns e facts.pairs facts.rows) (sym next.element) (by p.element.kind refl)
-    where
-      each_fits : (cs : List ℕ) → ((c : ℕ) → Contains cs c → IsPublicColumn facts.newest p.element.table c) → AllByRecursion (λ c. IsLawfulColumn c × Exact (column_of p.element.table c) facts.pairs facts.rows) cs
-      each_fits [] f = tt
-      each_fits (c ∷ cs) f =
-          let column = f c (zero, omega arith, refl) in
-          let fit = fits facts.newest kept.sound c column.0 column.2 in (
-            (record { above = omega (arith, fit.0); below = omega (arith, fit.1) }, column_exact facts.newest facts.pairs facts.rows kept.core_kept.newest p.element.table c fit.0 column),
-            each_fits cs (λ d has. f d (suc has.0, omega (arith, has.1), has.2)),
-          )
-
-      by : (kind : Kind) → p.element.kind ≡ kind → AllByRecursion (λ c. IsLawfulColumn c × Exact (column_of p.element.table c) facts.pairs facts.rows) (columns_of p.element.kind)
-      by (Index columns) is =
-          subst (λ (q : Kind). AllByRecursion (λ c. IsLawfulColumn c × Exact (column_of p.element.table c) facts.pairs facts.rows) (columns_of q)) (sym is)
-          (each_fits columns (λ c has. (kept.sound.elements number p.element there).columns c (subst (λ (q : Kind). Contains (listed q) c) (sym is) has)))
-      by (Optional type) is = subst (λ (q : Kind). AllByRecursion (λ c. IsLawfulColumn c × Exact (column_of p.element.table c) facts.pairs facts.rows) (columns_of q)) (sym is) tt
+  columns_fit : p.kind ≡ Fill → HasColumns facts.newest read.element facts.pairs facts.rows
+  columns_fit is =
+      let wants : wanted p.element ≡ Some Fill = begun_p.0.wanted_so ∙ ap Some is in
+      let never : NeverPublic the_kinds facts.newest.next number (map.get (schema_of facts.newest) number) = subst (NeverPublic the_kinds facts.newest.next number) (sym entry) (never_public p.element wants) in
+      let agrees : IsConsistent facts.newest facts.rows facts.pairs = consistent facts.newest facts.rows facts.pairs kept.core_kept.newest kept.core_kept.formed kept.rows in
+      subst (λ (e : ElementDef). HasColumns facts.newest e facts.pairs facts.rows) (sym next.element)
+      (columns_agree facts.newest p.element facts.pairs facts.rows kept.sound begun_p.0.element agrees.elements (subst (λ (n : ℕ). NoCell n facts.rows) (sym begun_p.1) (kept.core_kept.bare number never).0))
 
   abbrev pub After : Pairs → Type 0
   After pairs = Invariant the_kinds (moved the_kinds w number come pairs)
@@ -179,32 +185,34 @@ module _ (facts : Facts) (now number : ℕ) (read : Reading) (later : facts.mome
   core_by Fill is =
       let bound = subst (λ (u : Work). IsBound (bounds_of p.element u) to) is bound_to in
       let same : read.element ≡ p.element = next.element in
-      let laying = fill_lays read facts.pairs facts.rows next.read_so (next.work ∙ is) next.holds kept.core_kept.held kept.core_kept.formed (exists_exact facts.newest facts.pairs facts.rows kept.core_kept.newest) columns_fit
+      let laying = fill_lays facts.newest read facts.pairs facts.rows next.read_so (next.work ∙ is) next.holds kept.core_kept.held kept.core_kept.formed (exists_exact facts.newest facts.pairs facts.rows kept.core_kept.newest) (columns_fit is)
       (subst (λ (e : ElementDef). e.table + 1 < 2 ^ 32) (sym same) own.range.table_below) (subst (λ (e : ElementDef). IsBound (RowsOf e.table) to) (sym same) bound) in
       subst After (sym laying)
-      (subst (λ (e : ElementDef). After (written_all facts.pairs (fill_puts (meaning_of e.number (Of e.table e.kind)) (row_items (meaning_of e.number (Of e.table e.kind)).serves facts.rows read.stretch.low to)))) (sym same)
-      (subst (λ (n : ℕ). After (written_all facts.pairs (fill_puts (meaning_of n (Of p.element.table p.element.kind)) (row_items (meaning_of n (Of p.element.table p.element.kind)).serves facts.rows read.stretch.low to)))) (sym begun_p.1)
-      (subst (λ (low : Bytes). After (written_all facts.pairs (fill_puts (meaning_of number (Of p.element.table p.element.kind)) (row_items (meaning_of number (Of p.element.table p.element.kind)).serves facts.rows low to)))) cursor_is
+      (subst (λ (e : ElementDef). After (written_all facts.pairs (fill_puts (meaning_of e.number (Of e.table (source e))) (row_items (meaning_of e.number (Of e.table (source e))).serves facts.rows read.stretch.low to)))) (sym same)
+      (subst (λ (n : ℕ). After (written_all facts.pairs (fill_puts (meaning_of n (Of p.element.table (source p.element))) (row_items (meaning_of n (Of p.element.table (source p.element))).serves facts.rows read.stretch.low to)))) (sym begun_p.1)
+      (subst (λ (low : Bytes). After (written_all facts.pairs (fill_puts (meaning_of number (Of p.element.table (source p.element))) (row_items (meaning_of number (Of p.element.table (source p.element))).serves facts.rows low to)))) cursor_is
       (subst (λ (u : Work). Invariant the_kinds (moved the_kinds w number (let c : core.Progress = record { work = u; spans = reaches.with_cursor read.piece to (passed_by p.pieces) } in c)
-      (written_all facts.pairs (fill_puts (meaning_of number (Of p.element.table p.element.kind)) (row_items (meaning_of number (Of p.element.table p.element.kind)).serves facts.rows (reaches.cursor_at read.piece (passed_by p.pieces)) to))))) (sym is)
-      (fill_puts_kept the_kinds w number (entry_of p.element) (passed_by p.pieces) read.piece to k.core_kept entry
+      (written_all facts.pairs (fill_puts (meaning_of number (Of p.element.table (source p.element))) (row_items (meaning_of number (Of p.element.table (source p.element))).serves facts.rows (reaches.cursor_at read.piece (passed_by p.pieces)) to))))) (sym is)
+      (fill_puts_kept the_kinds w number (entry_of facts.newest p.element) (passed_by p.pieces) read.piece to k.core_kept entry
       (passed_p ∙ ap (λ (u : Work). Some (let c : core.Progress = record { work = u; spans = passed_by p.pieces } in c)) is))))))
   core_by Clear is =
+      let of_source = λ (key : Bytes) (b : IsBound (clear_of p.element).bounds key). subst (λ (c : ClearRange). IsBound c.bounds key) (clear_is_of_kind facts.newest p.element) b in
       let bound = subst (λ (u : Work). IsBound (bounds_of p.element u) to) is bound_to in
       let from = subst (λ (u : Work). IsBound (bounds_of p.element u) next.span.cursor) is bounds_p.cursor in
       let same : read.element ≡ p.element = next.element in
       let laying = clear_lays read facts.pairs facts.rows next.read_so (next.work ∙ is) next.holds kept.core_kept.held kept.core_kept.formed (exists_exact facts.newest facts.pairs facts.rows kept.core_kept.newest)
       (subst (λ (e : ElementDef). HasRange e.table e.number) (sym same) (subst (HasRange p.element.table) (sym begun_p.1) own.range)) in
       subst After (sym laying)
-      (subst (λ (e : ElementDef). After (written_all facts.pairs (clear_writes ((kind_clear e.table e.number e.kind).items facts.rows facts.pairs read.stretch.low to)))) (sym same)
-      (subst (λ (n : ℕ). After (written_all facts.pairs (clear_writes ((kind_clear p.element.table n p.element.kind).items facts.rows facts.pairs read.stretch.low to)))) (sym begun_p.1)
-      (subst (λ (low : Bytes). After (written_all facts.pairs (clear_writes ((kind_clear p.element.table number p.element.kind).items facts.rows facts.pairs low to)))) cursor_is
+      (subst (λ (e : ElementDef). After (written_all facts.pairs (clear_writes ((clear_of e).items facts.rows facts.pairs read.stretch.low to)))) (sym same)
+      (subst (λ (c : ClearRange). After (written_all facts.pairs (clear_writes (c.items facts.rows facts.pairs read.stretch.low to)))) (sym (clear_is_of_kind facts.newest p.element))
+      (subst (λ (n : ℕ). After (written_all facts.pairs (clear_writes ((kind_clear p.element.table n (source p.element)).items facts.rows facts.pairs read.stretch.low to)))) (sym begun_p.1)
+      (subst (λ (low : Bytes). After (written_all facts.pairs (clear_writes ((kind_clear p.element.table number (source p.element)).items facts.rows facts.pairs low to)))) cursor_is
       (subst (λ (u : Work). Invariant the_kinds (moved the_kinds w number (let c : core.Progress = record { work = u; spans = reaches.with_cursor read.piece to (passed_by p.pieces) } in c)
-      (written_all facts.pairs (clear_writes ((kind_clear p.element.table number p.element.kind).items facts.rows facts.pairs (reaches.cursor_at read.piece (passed_by p.pieces)) to))))) (sym is)
-      (clear_piece_kept the_kinds w number (entry_of p.element) (passed_by p.pieces) read.piece to (kind_clear p.element.table number p.element.kind) (kind_clears p.element.table number p.element.kind own.lawful own.range) k.core_kept entry
+      (written_all facts.pairs (clear_writes ((kind_clear p.element.table number (source p.element)).items facts.rows facts.pairs (reaches.cursor_at read.piece (passed_by p.pieces)) to))))) (sym is)
+      (clear_piece_kept the_kinds w number (entry_of facts.newest p.element) (passed_by p.pieces) read.piece to (kind_clear p.element.table number (source p.element)) (kind_clears p.element.table number (source p.element) own.lawful own.range) k.core_kept entry
       (passed_p ∙ ap (λ (u : Work). Some (let c : core.Progress = record { work = u; spans = passed_by p.pieces } in c)) is)
-      (subst (λ (n : ℕ). IsBound (kind_clear p.element.table n p.element.kind).bounds (reaches.cursor_at read.piece (passed_by p.pieces))) begun_p.1 (subst (IsBound (bounds_of p.element Clear)) (sym (cursor_stands p.pieces read.piece next.span next.piece)) from))
-      (subst (λ (n : ℕ). IsBound (kind_clear p.element.table n p.element.kind).bounds to) begun_p.1 bound))))))
+      (subst (λ (n : ℕ). IsBound (kind_clear p.element.table n (source p.element)).bounds (reaches.cursor_at read.piece (passed_by p.pieces))) begun_p.1 (of_source (reaches.cursor_at read.piece (passed_by p.pieces)) (subst (IsBound (bounds_of p.element Clear)) (sym (cursor_stands p.pieces read.piece next.span next.piece)) from)))
+      (subst (λ (n : ℕ). IsBound (kind_clear p.element.table n (source p.element)).bounds to) begun_p.1 (of_source to bound))))))))
 
   -- the map of the moved list has what the moved map has
   fewer : (m : ℕ) (c : core.Progress) → map.get (all_passed (each (moved_to number read.piece to) facts.progress)) m ≡ Some c → map.get (map.insert (all_passed facts.progress) number come) m ≡ Some c

@@ -33,7 +33,7 @@ use Rattle.element_state.specs.Consistent.{IsLawfulRow, AreLawfulRows}
 use Rattle.element_state.specs.Core.{Core, Invariant, NeverPublic}
 use Rattle.element_state.specs.Core as core
 use Rattle.element_state.specs.Laws.{IsLive}
-use Rattle.element_state.specs.Items.{HasRange}
+use Rattle.element_state.specs.Items.{ClearRange, HasRange}
 use Rattle.element_state.specs.Kinds.{kind_clear, kind_clears}
 use Rattle.element_state.specs.Ended as ended
 use Rattle.element_state.specs.Publishing.{MayBePublic, Was, Filled, Unfilled, MayBeAbsent, Was_not, Cleared, FillEnded, Steps}
@@ -48,7 +48,7 @@ use Rattle.schema_version.specs.declared.element.Work.TheVariants.{Fill, Clear}
 use Rattle.reorganise.specs.declared.work.Progress.{Progress}
 use Rattle.reorganise.specs.Regions.{region_of, front, back}
 use Rattle.reorganise.specs.Laws.{pieces_of, passed_by}
-use Rattle.reorganise.proofs.Bounding.{pieces_join, pieces_end, fill_range, clear_range}
+use Rattle.reorganise.proofs.Bounding.{pieces_join, pieces_end, fill_range, clear_range, clear_is_of_kind}
 use Rattle.replay.specs.declared.entry.What.TheVariants.{Publish}
 use Rattle.replay.specs.Replay.{Facts, after, stays, progress_of}
 use Rattle.replay.specs.Kept.{IsKept, IsBegun, core_at, all_passed}
@@ -183,7 +183,7 @@ module _ (facts : Facts) (step : List Move) (allowed : IsAllowed facts.newest st
       (subst (λ (u : Work). ended.AreJoined (front (region_of d.progress.element u)) (back (region_of d.progress.element u)) (pieces_of d.progress.pieces)) d.work_is (pieces_join _ _ d.progress.pieces b.0.joined)) in
       Cleared (clear_ended the_kinds w n (entry_of v x) (kind_clear x.table n (source_in v x.kind)) (pieces_of d.progress.pieces) (kind_clears x.table n (source_in v x.kind) own.lawful own.range) kept_core (entry_at n x at) (passed_so n Clear d)
       (subst (λ (m : ℕ). ended.AreJoined (kind_clear x.table m (source_in v x.kind)).low (kind_clear x.table m (source_in v x.kind)).high (pieces_of d.progress.pieces)) number
-      (subst (λ high. ended.AreJoined (kind_clear x.table x.number (source_in v x.kind)).low high (pieces_of d.progress.pieces)) range.1 (subst (λ low. ended.AreJoined low (back (region_of x Clear)) (pieces_of d.progress.pieces)) range.0 joined)))
+      (subst (λ high. ended.AreJoined (kind_clear x.table x.number (source_in v x.kind)).low high (pieces_of d.progress.pieces)) (range.1 ∙ ap (λ (c : ClearRange). c.high) (clear_is_of_kind v x)) (subst (λ low. ended.AreJoined low (back (region_of x Clear)) (pieces_of d.progress.pieces)) (range.0 ∙ ap (λ (c : ClearRange). c.low) (clear_is_of_kind v x)) joined)))
       ((pieces_end d.progress.pieces).0 d.ended))
 
   -- ---- a step to public, and one to absent

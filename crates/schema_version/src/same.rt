@@ -1,11 +1,12 @@
-//! Whether two versions are equal.
+//! Whether two versions, or parts of them, are equal. That the derived `==` decides is not found by search, for the values inside.
 ghost use Rattle.std.specs.Prelude.{◌≡◌};
 ghost use Rattle.std.specs.Bool.{Decides};
 ghost use Rattle.std.specs.String.{string_bytes};
 ghost use mathlib.Core.List.{map as each};
 ghost use Rattle.schema_version.specs.Held.{table_held};
 
-use crate::element::{ElementDef, Kind};
+use crate::element::{ElementDef, Kind, NewElement};
+use crate::step::Move;
 use crate::table::Columns;
 use indexmap::IndexMap;
 use keycode::{Text, Value};
@@ -47,15 +48,60 @@ fn same_kind(a: &Kind, b: &Kind) -> bool
     }
 }
 
-fn same_element(a: &ElementDef, b: &ElementDef) -> bool
+impl ElementDef {
+    /// Whether the other element is the same in all its parts. Never refused.
+    pub fn is_same(&self, other: &ElementDef) -> bool
+        ensures { Decides result (self.now ≡ other.now) }
+    {
+        self.number == other.number
+            && self.table == other.table
+            && self.name == other.name
+            && same_kind(&self.kind, &other.kind)
+            && self.state == other.state
+            && self.way == other.way
+    }
+}
+
+fn same_entry(a: &NewElement, b: &NewElement) -> bool
     ensures { Decides result (a.now ≡ b.now) }
 {
-    a.number == b.number
-        && a.table == b.table
-        && a.name == b.name
-        && same_kind(&a.kind, &b.kind)
-        && a.state == b.state
-        && a.way == b.way
+    a.table == b.table && a.name == b.name && same_kind(&a.kind, &b.kind)
+}
+
+fn same_move(a: &Move, b: &Move) -> bool
+    ensures { Decides result (a.now ≡ b.now) }
+{
+    match (a, b) {
+        (
+            Move::Enter { fresh, to },
+            Move::Enter {
+                fresh: other,
+                to: second,
+            },
+        ) => same_entry(fresh, other) && *to == *second,
+        (
+            Move::Go { element, to },
+            Move::Go {
+                element: other,
+                to: second,
+            },
+        ) => *element == *other && *to == *second,
+        (Move::Turn { element }, Move::Turn { element: other }) => *element == *other,
+        _ => false,
+    }
+}
+
+/// Whether these are the same moves in the same order. Never refused.
+pub fn are_same_moves(a: &[Move], b: &[Move]) -> bool
+    ensures { Decides result (a.now ≡ b.now) }
+{
+    match (a, b) {
+        ([], []) => true,
+        ([first, rest @ ..], [other, others @ ..]) => {
+            same_move(first, other) && are_same_moves(rest, others)
+        }
+        _ => false,
+    }
 }
 
 /// Whether these are the same elements in the same order.
@@ -65,7 +111,7 @@ pub(crate) fn same_elements(a: &[ElementDef], b: &[ElementDef]) -> bool
     match (a, b) {
         ([], []) => true,
         ([first, rest @ ..], [other, others @ ..]) => {
-            same_element(first, other) && same_elements(rest, others)
+            first.is_same(other) && same_elements(rest, others)
         }
         _ => false,
     }
