@@ -1,5 +1,5 @@
 -- What an allowed step makes of a version, as the elements' laws see it.
-use Rattle.std.proofs.Common.{◌≡◌, ℕ, ◌≤◌, List, [], ◌∷◌, Option, Some, None, option_map, refl, sym, ap, ap₂, subst, Contains, ◌∙◌, ◌⊎◌, inl, inr, Bool, true, false, cond, arith}
+use Rattle.std.proofs.Common.{◌≡◌, ℕ, ◌≤◌, List, [], ◌∷◌, Option, Some, None, option_map, refl, sym, ap, ap₂, subst, Contains, ◌∙◌, inl, inr, Bool, true, false, cond, arith}
 use Rattle.std.specs.Prelude.{◌≢◌, IsTrue}
 use Rattle.std.specs.FinMap as map
 use Rattle.std.specs.Ordering.{nat_cmp, eq_by_cmp}

@@ -1,5 +1,5 @@
 -- A piece of a reorganisation: what it writes is what its entry says, and it keeps all.
-use Rattle.std.proofs.Common.{◌≡◌, ℕ, zero, suc, ◌+◌, ◌<◌, ◌≤◌, ◌^◌, List, [], ◌∷◌, Option, Some, None, option_map, refl, sym, ap, subst, ◌∙◌, ◌⊎◌, inl, inr, Bool, true, false, cond, eqb-true, eq-eqb, ne_eqb, arith, Contains}
+use Rattle.std.proofs.Common.{◌≡◌, ℕ, zero, suc, ◌+◌, ◌<◌, ◌≤◌, ◌^◌, List, [], ◌∷◌, Option, Some, None, option_map, refl, sym, ap, subst, ◌∙◌, ◌⊎◌, inl, inr, Bool, true, false, cond, eqb-true, eq-eqb, ne_eqb}
 use Rattle.std.specs.Prelude.{◌≢◌, slice_get}
 use Rattle.std.specs.List.{AllByRecursion}
 use mathlib.Core.List.{map as each}
@@ -10,7 +10,7 @@ use Rattle.std.specs.Ordering.{is_le}
 use Rattle.byte_map.proofs.Written.{laid-noted, written_here, written_apart}
 use Rattle.keycode.proofs.Orders.{bytes_cmp_total, bytes_cmp-IsAntisymmetric}
 use Rattle.keycode.specs.Order.{bytes_cmp}
-use Rattle.row_map.specs.Rows.{Bytes, Rows, Pairs}
+use Rattle.row_map.specs.Rows.{Bytes, Pairs}
 use Rattle.row_map.specs.Writes.{written_all, laid}
 use Rattle.schema_version.specs.declared.element.Way.{Way}
 use Rattle.schema_version.specs.declared.element.Way.TheVariants.{Adding, Dropping}
@@ -18,7 +18,7 @@ use Rattle.schema_version.specs.declared.element.ElementState.{ElementState}
 use Rattle.schema_version.specs.declared.element.ElementState.TheVariants.{Absent, DeleteOnly, WriteOnly, Public}
 use Rattle.schema_version.specs.declared.element.ElementDef.{ElementDef}
 use Rattle.schema_version.specs.Edges.{is_filled, wanted}
-use Rattle.schema_version.specs.Version.{Version, element_at}
+use Rattle.schema_version.specs.Version.{element_at}
 use Rattle.element_state.specs.Consistent.{IsConsistent}
 use Rattle.element_state.specs.Core.{Core, Invariant, NeverPublic, NoCell}
 use Rattle.element_state.specs.Core as core

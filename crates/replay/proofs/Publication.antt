@@ -1,5 +1,5 @@
 -- An allowed step, once what its moves need is finished, takes what is kept to the next version.
-use Rattle.std.proofs.Common.{◌≡◌, ℕ, zero, suc, ◌+◌, ◌≤◌, List, [], ◌∷◌, length, Option, Some, None, option_map, refl, sym, ap, subst, ◌∙◌, inl, inr, Bool, true, false, cond, arith, Contains, nat_lt}
+use Rattle.std.proofs.Common.{◌≡◌, ℕ, zero, suc, ◌+◌, ◌≤◌, List, [], ◌∷◌, length, Option, Some, None, option_map, refl, sym, ap, subst, ◌∙◌, inr, Bool, true, false, cond, arith, Contains, nat_lt}
 use Rattle.std.specs.Prelude.{◌≢◌, IsTrue, filter}
 use Rattle.std.specs.List.{All, AllByRecursion}
 use Rattle.std.specs.Option.{unwrap_or}

@@ -190,9 +190,9 @@ spelled_row version ops view P R op agreeing keys holds here sound =
     let column_read : (number : ℕ) (type : ColumnType) → IsPublicColumn version (table_of op) number type → map.get view (row_code (table_of op) (key_of op) number) ≡ Some (map.get P (row_code (table_of op) (key_of op) number))
     = λ number type column. read (row_code (table_of op) (key_of op) number) (op, here, (sound.table, sound.known), inr (number, type, column, refl)) in
     let value : (number : ℕ) (type : ColumnType) → IsPublicColumn version (table_of op) number type → (o : Option Cells) → map.get R (row_of op) ≡ o
-        → map.get P (row_code (table_of op) (key_of op) number) ≡ pair_value number (seen_value version (table_of op) number) o
+    → map.get P (row_code (table_of op) (key_of op) number) ≡ pair_value number (seen_value version (table_of op) number) o
     = λ number type column o at. seen_pair version (table_of op) number type column P R agreeing.held (column_lawful number (agreeing.fit number column.element column.known)) (row_of op) refl
-        (column_exact version P R agreeing.consistent agreeing.fit (table_of op) number type column) named o at in
+    (column_exact version P R agreeing.consistent agreeing.fit (table_of op) number type column) named o at in
     record {
       absent = λ none. exists_read ∙ ap Some (row_missing version P R agreeing.held agreeing.consistent (row_of op) (t.0, primary) none);
       present = λ cells at. exists_read ∙ ap Some (row_there version P R agreeing.consistent (row_of op) cells at);

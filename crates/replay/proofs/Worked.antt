@@ -18,7 +18,7 @@ use Rattle.row_map.specs.declared.shape.ColumnType.TheVariants.{Int as IntColumn
 use Rattle.schema_version.specs.declared.element.ElementState.{ElementState}
 use Rattle.schema_version.specs.declared.element.ElementState.TheVariants.{DeleteOnly, WriteOnly, Public}
 use Rattle.schema_version.specs.declared.element.Kind.{Kind}
-use Rattle.schema_version.specs.declared.element.Kind.TheVariants.{Index, Optional}
+use Rattle.schema_version.specs.declared.element.Kind.TheVariants.{Index, Optional, Required}
 use Rattle.schema_version.specs.declared.element.ElementDef.{ElementDef}
 use Rattle.schema_version.specs.declared.step.Move.TheVariants.{Enter, Go}
 use Rattle.schema_version.specs.Accepting.{are_lawful}
@@ -166,7 +166,6 @@ spelled_row =
       present = λ cells there. no_row cells there;
       no_columns = λ number type column _. subst (λ n. map.get view (row_code 1 (Int (pos 7) ∷ []) n) ≡ Some None) (sym (only_a number type column)) absent_column;
       columns = λ number type cells column there. no_row cells there;
-      typed = λ number type cells value column there _. no_row cells there;
     }
 
 spelled : Spells opening.schema insertion view map.empty
@@ -262,6 +261,7 @@ one_move n number s to moved use_it =
 needs_nothing : (facts : Facts) (kind : Kind) (number : ℕ) → Needs facts kind number WriteOnly
 needs_nothing facts (Index columns) number = tt
 needs_nothing facts (Optional type) number = tt
+needs_nothing facts (Required type fallback) number = tt
 
 step_finished : AreFinished leased_again to_write_only
 step_finished number to element moved at =
