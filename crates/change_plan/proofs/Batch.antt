@@ -1,5 +1,5 @@
 -- The trips of a batch that can be planned are trips of a lawful plan.
-use Rattle.std.specs.Prelude.{◌≡◌, ◌≢◌, ℕ, zero, suc, ◌+◌, ◌<◌, List, [], ◌∷◌, ◌++◌, Bool, true, false, ◌&&◌, ◌||◌, ◌==◌, if◌then◌else◌, Option, Some, None, Contains, ◌⊎◌, count_by, flat_map, cond, bytes_eq, refl}
+use Rattle.std.specs.Prelude.{◌≡◌, ◌≢◌, ℕ, zero, suc, ◌+◌, ◌<◌, List, [], ◌∷◌, ◌++◌, Bool, true, false, ◌&&◌, ◌||◌, ◌==◌, if◌then◌else◌, Option, Some, None, Contains, ◌⊎◌, count_by, flat_map, cond, refl}
 use Rattle.std.specs.List.{list_any}
 use Rattle.std.proofs.Common.{sym, ap, subst, ◌∙◌, inl, inr, true≢false, arith}
 use Rattle.std.proofs.lemmas.List.{append_assoc, append-nil}
@@ -8,29 +8,28 @@ use Rattle.std.proofs.lemmas.Grind.{flat_map-append}
 use Rattle.std.proofs.lemmas.List.Sums.{sum_by-append}
 use Rattle.std.proofs.lemmas.Bool.{cases_lt}
 use Rattle.std.proofs.lemmas.List.Folds.{list_any-append}
-use Rattle.std.proofs.lemmas.List.Elements.{Contains-append_cases, Contains-append_left}
+use Rattle.std.proofs.lemmas.List.Elements.{Contains-append_cases}
 use Rattle.schema_version.specs.declared.element.ElementState.{ElementState}
 use Rattle.schema_version.specs.declared.element.ElementState.TheVariants.{Absent, DeleteOnly, WriteOnly, Public}
 use Rattle.schema_version.specs.declared.element.Kind.{Kind}
 use Rattle.schema_version.specs.declared.element.ElementDef.{ElementDef}
 use Rattle.schema_version.specs.declared.step.Move.{Move}
-use Rattle.schema_version.specs.Version.{Version, element_at, is_index, listed}
+use Rattle.schema_version.specs.Version.{Version, element_at}
 use Rattle.schema_version.specs.Sound.{IsSoundVersion}
 use Rattle.schema_version.specs.Edges.{is_filled}
 use Rattle.schema_version.specs.Moves.{is_entry}
 use Rattle.change_plan.specs.declared.change.Change.{Change}
 use Rattle.change_plan.specs.declared.change.Change.TheVariants.{AddIndex, DropIndex, AddColumn, DropColumn, Abandon}
 use Rattle.std.proofs.lemmas.Bool.Decides.{Decides-eqb}
-use Rattle.std.proofs.lemmas.Slice.Eq.{bytes_eq-Decides}
 use Rattle.change_plan.specs.declared.fault.PlanFault.TheVariants.{Unknown}
 use Rattle.change_plan.specs.Batches.{leaving, drops}
-use Rattle.change_plan.specs.Refusals.{ChangeFault, IsPlannable}
+use Rattle.change_plan.specs.Refusals.{IsPlannable}
 use Rattle.change_plan.specs.declared.trip.Act.TheVariants.{Appear}
 use Rattle.change_plan.specs.declared.trip.Course.TheVariants.{PlainIn, FilledIn}
 use Rattle.change_plan.specs.declared.trip.Trip.{Trip}
 use Rattle.change_plan.specs.Schedule.{course_in, course_out, act_at, move_of, out_trip, trip_out, index_trip, column_trip, trip_of, trips_from, trips, wait_in, enters_at, enters_before, number_of}
 use Rattle.change_plan.proofs.Steps.{not_both}
-use Rattle.change_plan.proofs.Named.{contains_cases, contains_middle, split_at, ordered, same_name_is}
+use Rattle.change_plan.proofs.Named.{contains_cases, contains_middle, split_at, ordered}
 use Rattle.change_plan.proofs.Trips.{is_in, appears, no_entry, entries}
 use Rattle.change_plan.proofs.Numbers.{count_first, count_split, one_if, before_next, before_more, none_before}
 use Rattle.change_plan.proofs.Leaving.{from_public, index_there, column_there, entering_there, Departs, departs}

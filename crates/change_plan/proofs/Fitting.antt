@@ -1,5 +1,5 @@
 -- Each trip of a batch that can be planned fits the version and the other trips.
-use Rattle.std.specs.Prelude.{◌≡◌, ◌≢◌, ℕ, ◌+◌, ◌<◌, ◌≤◌, List, [], ◌∷◌, ◌++◌, Bool, true, false, ◌&&◌, ◌||◌, ◌==◌, not, if◌then◌else◌, Option, Some, None, IsNone, Contains, ◌⊎◌, count_by, cond, bytes_eq, is_some, refl}
+use Rattle.std.specs.Prelude.{◌≡◌, ◌≢◌, ℕ, ◌+◌, ◌<◌, ◌≤◌, List, [], ◌∷◌, ◌++◌, Bool, true, false, ◌&&◌, ◌||◌, ◌==◌, not, if◌then◌else◌, Option, Some, None, IsNone, Contains, ◌⊎◌, count_by, bytes_eq, is_some, refl}
 use Rattle.std.specs.List.{list_any}
 use mathlib.Core.List.{map as each}
 use Rattle.std.proofs.Common.{sym, ap, subst, ◌∙◌, inl, inr, true≢false, arith}
@@ -24,7 +24,6 @@ use Rattle.schema_version.specs.Version.{Version, table_at, element_at, is_index
 use Rattle.schema_version.specs.Sound.{IsSoundVersion}
 use Rattle.change_plan.specs.declared.change.Change.{Change}
 use Rattle.change_plan.specs.declared.change.Change.TheVariants.{AddIndex, DropIndex, AddColumn, DropColumn, Abandon}
-use Rattle.change_plan.specs.declared.fault.PlanFault.{PlanFault}
 use Rattle.change_plan.specs.declared.fault.PlanFault.TheVariants.{Unknown, NameTaken, StillIndexed, InChange, Limit}
 use Rattle.change_plan.specs.Batches.{named, named_index, named_column, only_if, leaving, drops_index, drops_column, adds, adds_column, lists}
 use Rattle.change_plan.specs.Refusals.{ChangeFault, IsPlannable, IsListed, IsTaken, is_addition, IsColumnList as IsNameList}
@@ -35,7 +34,7 @@ use Rattle.change_plan.proofs.Steps.{not_both}
 use Rattle.change_plan.proofs.Named.{contains_first, contains_later, contains_cases, contains_none, contains_middle, split_at, any_element, same_name, same_name_is, both_true, named_there, not_named, and_true, ordered}
 use Rattle.change_plan.proofs.Leaving.{index_there, column_there, entering_there, abandoned, public_if_not_in_change, from_public, column_type, has_type, column_if, none_if_not_some, Departs, departs, clear}
 use Rattle.change_plan.proofs.Least.{adds_column_is}
-use Rattle.change_plan.proofs.Trips.{find_trip, is_in, suits, At, departure, here, element_of}
+use Rattle.change_plan.proofs.Trips.{find_trip, is_in, suits, At, departure, here}
 use Rattle.change_plan.proofs.Lawful.{ColumnFits, Steady, Added, Dropped, IsAdded, AreTrips}
 use Rattle.change_plan.proofs.Batch.{From, NewIndex, NewColumn, Leaves, Placed, placed, any_middle, same_element, comes_in, out_of, Role, Enters, Goes, role, one_is, apart_is, number_is}
 use Rattle.change_plan.proofs.Numbers.{count_split, one_if, all_additions}

@@ -36,7 +36,7 @@ use Rattle.change_plan.specs.declared.trip.Trip.{Trip}
 use Rattle.change_plan.specs.Schedule.{act_at, duration, steps_from, work_by, move_of, work_of_trip}
 use Rattle.std.proofs.lemmas.List.Elements.{Contains-append_left as contains_left}
 use Rattle.change_plan.proofs.Named.{contains_first, contains_later, contains_middle, split_at}
-use Rattle.change_plan.proofs.Trips.{is_in, suits, Stop, Away, At, departure, destination, stop_at, element_of, here, reached, reaches, Leg, Rests, Starts, Runs, Turns as TurnsBack, leg, waits, waits_last, at_departure, at_destination, appears, moved_by, moving, Source, source, find_trip, quiet}
+use Rattle.change_plan.proofs.Trips.{is_in, suits, Stop, Away, At, departure, destination, stop_at, element_of, here, reaches, Leg, Rests, Starts, Runs, Turns as TurnsBack, leg, waits, waits_last, at_departure, at_destination, appears, moved_by, moving, Source, source, find_trip, quiet}
 
 -- ---- what makes trips a plan
 

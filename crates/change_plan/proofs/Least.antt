@@ -1,5 +1,5 @@
 -- No lawful plan has fewer steps than the schedule.
-use Rattle.std.specs.Prelude.{◌≡◌, ◌≢◌, ℕ, zero, suc, ◌+◌, ◌≤◌, List, [], ◌∷◌, ◌++◌, length, Bool, true, false, ◌==◌, if◌then◌else◌, Option, Some, None, IsSome, Contains, IsTrue, ◌⊎◌, refl}
+use Rattle.std.specs.Prelude.{◌≡◌, ℕ, zero, suc, ◌+◌, ◌≤◌, List, [], ◌∷◌, ◌++◌, length, Bool, true, false, ◌==◌, if◌then◌else◌, Option, Some, None, Contains, ◌⊎◌, refl}
 use Rattle.std.specs.List.{list_any, AllZip}
 use Rattle.std.proofs.Common.{sym, ap, subst, ◌∙◌, inl, inr, true≢false, arith}
 use Rattle.std.proofs.lemmas.List.{append_assoc}
@@ -9,8 +9,7 @@ use Rattle.schema_version.specs.Edges.{is_filled}
 use Rattle.std.proofs.Math.Nat.{max-le, le-max_left, le-max_right}
 use Rattle.std.proofs.lemmas.Bool.{cases_lt}
 use Rattle.std.proofs.lemmas.Bool.Decides.{Decides-eqb}
-use Rattle.schema_version.specs.declared.element.ElementState.{ElementState}
-use Rattle.schema_version.specs.declared.element.ElementState.TheVariants.{Absent, DeleteOnly, WriteOnly, Public}
+use Rattle.schema_version.specs.declared.element.ElementState.TheVariants.{Public}
 use Rattle.schema_version.specs.declared.element.Kind.{Kind}
 use Rattle.schema_version.specs.declared.element.ElementDef.{ElementDef}
 use Rattle.schema_version.specs.Version.{Version, element_at, listed, type_of_kind}
@@ -18,13 +17,13 @@ use Rattle.schema_version.specs.Sound.{IsSoundVersion}
 use Rattle.schema_version.specs.Steps.{IsOrdered}
 use Rattle.change_plan.proofs.Steps.{not_both}
 use Rattle.change_plan.specs.declared.change.Change.{Change}
-use Rattle.change_plan.specs.declared.change.Change.TheVariants.{AddIndex, DropIndex, AddColumn, DropColumn}
+use Rattle.change_plan.specs.declared.change.Change.TheVariants.{AddIndex, AddColumn}
 use Rattle.change_plan.specs.declared.fault.PlanFault.{PlanFault}
-use Rattle.change_plan.specs.declared.fault.PlanFault.TheVariants.{Unknown, NameTaken, InChange}
+use Rattle.change_plan.specs.declared.fault.PlanFault.TheVariants.{NameTaken}
 use Rattle.change_plan.specs.declared.least_plan.PlanStep.{PlanStep}
 use Rattle.change_plan.specs.Plans.{after_plan, AreAllowed, IsTarget, IsLawful, Adds, IsAddition, IsColumnNamed}
-use Rattle.change_plan.specs.Batches.{named, named_index, named_column, only_if, leaving, is_same_name, adds, adds_column, lists}
-use Rattle.change_plan.specs.Refusals.{ChangeFault, IsPlannable, IsInChange}
+use Rattle.change_plan.specs.Batches.{named, leaving, is_same_name, adds, adds_column, lists}
+use Rattle.change_plan.specs.Refusals.{ChangeFault, IsPlannable}
 use Rattle.change_plan.specs.declared.trip.Course.TheVariants.{PlainIn, FilledIn}
 use Rattle.change_plan.specs.declared.trip.Trip.{Trip}
 use Rattle.change_plan.specs.Schedule.{steps, course_in, course_out, steps_to, steps_until, wait_in, duration, longest, steps_from, steps_on, wait_out, out_trip, trip_out, trip_of, trips_from, trips, schedule}

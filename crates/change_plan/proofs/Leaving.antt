@@ -1,5 +1,5 @@
 -- What a change that takes an element out finds of it.
-use Rattle.std.specs.Prelude.{◌≡◌, ◌≢◌, ℕ, List, Bool, true, false, ◌&&◌, not, is_some, if◌then◌else◌, Option, Some, None, IsSome, Contains, refl}
+use Rattle.std.specs.Prelude.{◌≡◌, ◌≢◌, ℕ, List, Bool, true, false, not, is_some, if◌then◌else◌, Option, Some, None, IsSome, Contains, refl}
 use Rattle.std.proofs.Common.{sym, ap, subst, ◌∙◌, inl, true≢false}
 use Rattle.schema_version.specs.declared.element.ElementState.{ElementState}
 use Rattle.schema_version.specs.declared.element.ElementState.TheVariants.{Absent, DeleteOnly, WriteOnly, Public}
@@ -25,7 +25,7 @@ use Rattle.change_plan.specs.Refusals.{ChangeFault, IsPlannable, IsInChange}
 use Rattle.change_plan.specs.Schedule.{steps, course_out, fresh_of}
 use Rattle.change_plan.proofs.Named.{named_there, split_at, ordered, same_name_is, and_true}
 use Rattle.change_plan.proofs.Bounds.{distance, moves_by, moves_out}
-use Rattle.change_plan.proofs.Trips.{Stop, Away, At, is_in, suits, departure, element_of, here}
+use Rattle.change_plan.proofs.Trips.{At, is_in, suits, departure, element_of, here}
 
 -- ---- what the refusals leave
 

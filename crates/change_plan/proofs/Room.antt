@@ -1,29 +1,22 @@
 -- There is room for each element of a batch that can be planned.
-use Rattle.std.specs.Prelude.{◌≡◌, ℕ, zero, suc, ◌+◌, ◌<◌, ◌≤◌, List, [], ◌∷◌, Bool, true, false, ◌&&◌, ◌==◌, if◌then◌else◌, Option, Some, None, Contains, count_by, flat_map, cond, refl}
+use Rattle.std.specs.Prelude.{◌≡◌, ℕ, zero, suc, ◌+◌, ◌<◌, ◌≤◌, List, [], ◌∷◌, Bool, true, false, ◌&&◌, ◌==◌, Option, Some, None, Contains, count_by, flat_map, cond, refl}
 use mathlib.Core.List.{map as each}
 use Rattle.std.proofs.Common.{sym, ap, subst, ◌∙◌, inl, inr, true≢false, arith}
 use Rattle.std.proofs.lemmas.Bool.{cases_lt}
 use Rattle.std.proofs.lemmas.Bool.Decides.{Decides-eqb}
-use Rattle.std.proofs.lemmas.Grind.{flat_map-append}
-use Rattle.std.proofs.lemmas.List.{append-nil}
-use Rattle.std.proofs.lemmas.List.Concat.{flat_map-cons}
-use Rattle.std.proofs.lemmas.List.Sums.{sum_by-append}
 use Rattle.schema_version.specs.declared.element.Kind.TheVariants.{Index}
 use Rattle.schema_version.specs.declared.element.ElementDef.{ElementDef}
-use Rattle.schema_version.specs.declared.step.Move.{Move}
 use Rattle.schema_version.specs.Version.{Version, is_index, is_column, is_like, count_live}
 use Rattle.schema_version.specs.Sound.{IsSoundVersion}
 use Rattle.schema_version.specs.Moves.{is_entry_like, count_like, max_like}
 use Rattle.change_plan.specs.declared.change.Change.{Change}
-use Rattle.change_plan.specs.declared.change.Change.TheVariants.{AddIndex, DropIndex, AddColumn, DropColumn}
+use Rattle.change_plan.specs.declared.change.Change.TheVariants.{AddIndex, AddColumn}
 use Rattle.change_plan.specs.declared.fault.PlanFault.TheVariants.{Limit}
 use Rattle.change_plan.specs.Plans.{IsLeast}
 use Rattle.change_plan.specs.Batches.{leaving}
 use Rattle.change_plan.specs.Refusals.{IsPlannable, adds_like, is_addition, IsOver}
-use Rattle.change_plan.specs.declared.trip.Act.TheVariants.{Appear}
-use Rattle.change_plan.specs.declared.trip.Course.TheVariants.{FilledIn}
 use Rattle.change_plan.specs.declared.trip.Trip.{Trip}
-use Rattle.change_plan.specs.Schedule.{act_at, move_of, out_trip, trip_out, index_trip, column_trip, trip_of, trips, schedule, enters_at, enters_before, number_of, column_number}
+use Rattle.change_plan.specs.Schedule.{move_of, out_trip, trip_out, index_trip, column_trip, trip_of, trips, schedule, enters_at, enters_before, number_of, column_number}
 use Rattle.change_plan.proofs.Trips.{is_in, appears, no_entry, entries}
 use Rattle.change_plan.proofs.Numbers.{count_first, count_split, count_two, count_within, each_next, each_addition, none_before}
 use Rattle.change_plan.proofs.Leaving.{column_if, clear}

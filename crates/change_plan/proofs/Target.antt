@@ -1,15 +1,14 @@
 -- The schedule ends where the changes want, and is the least plan.
-use Rattle.std.specs.Prelude.{◌≡◌, ℕ, ◌+◌, ◌≤◌, max, List, [], ◌∷◌, length, Bool, true, false, if◌then◌else◌, Option, Some, None, Contains, count_by, refl}
+use Rattle.std.specs.Prelude.{◌≡◌, ℕ, ◌+◌, ◌≤◌, max, List, [], ◌∷◌, Bool, true, false, Option, Some, None, Contains, refl}
 use Rattle.std.specs.List.{list_any, AllZip, AllByRecursion as All}
 use mathlib.Core.List.{map as each}
-use Rattle.std.proofs.Common.{sym, ap, subst, ◌∙◌, inl, inr, true≢false, arith}
+use Rattle.std.proofs.Common.{sym, ap, subst, ◌∙◌, inl, inr, arith}
 use Rattle.std.proofs.Math.Nat.{le-max_left, le-max_right}
-use Rattle.schema_version.specs.declared.element.ElementState.TheVariants.{Absent, Public}
+use Rattle.schema_version.specs.declared.element.ElementState.TheVariants.{Public}
 use Rattle.schema_version.specs.declared.element.Way.TheVariants.{Adding}
-use Rattle.schema_version.specs.declared.element.Kind.{Kind}
-use Rattle.schema_version.specs.declared.element.Kind.TheVariants.{Index, Optional, Required}
+use Rattle.schema_version.specs.declared.element.Kind.TheVariants.{Index}
 use Rattle.schema_version.specs.declared.element.ElementDef.{ElementDef}
-use Rattle.schema_version.specs.Version.{Version, element_at, is_index, type_of_kind}
+use Rattle.schema_version.specs.Version.{Version, element_at, is_index}
 use Rattle.schema_version.specs.Sound.{IsSoundVersion}
 use Rattle.change_plan.proofs.Steps.{not_both, not_given}
 use Rattle.change_plan.specs.declared.change.Change.{Change}
@@ -18,17 +17,15 @@ use Rattle.change_plan.specs.declared.fault.PlanFault.TheVariants.{Unknown}
 use Rattle.change_plan.specs.Plans.{IsTarget, IsLeast, Drops, Adds, IsAddition, IsColumnNamed}
 use Rattle.change_plan.specs.Batches.{named, named_index, named_column, leaving, adds_column}
 use Rattle.change_plan.specs.Refusals.{IsPlannable}
-use Rattle.change_plan.specs.declared.trip.Course.{Course}
-use Rattle.change_plan.specs.declared.trip.Course.TheVariants.{FilledIn}
 use Rattle.change_plan.specs.declared.trip.Trip.{Trip}
 use Rattle.change_plan.specs.Schedule.{duration, longest, out_trip, index_trip, column_trip, trips, schedule, wait_in, number_of, column_number, added_number, number_or}
 use Rattle.change_plan.proofs.Named.{contains_first, contains_later, contains_cases, contains_none, ordered}
 use Rattle.change_plan.proofs.Leaving.{column_there, column_type, has_type, abandoned, departs, clear}
 use Rattle.change_plan.proofs.Least.{schedule_short}
-use Rattle.change_plan.proofs.Trips.{find_trip, is_in, suits, Away, At, element_of, here, at_destination}
+use Rattle.change_plan.proofs.Trips.{find_trip, is_in, element_of, here, at_destination}
 use Rattle.change_plan.proofs.Lawful.{IsAt, HasRoom, AreTrips, at_first, steps_allowed, after_steps, arrives_in, arrives_out}
 use Rattle.change_plan.proofs.Batch.{From, NewIndex, NewColumn, Leaves, comes_in, out_of}
-use Rattle.change_plan.proofs.Fitting.{made, made_leaving, made_added, own_name, index_named, column_named, any_of, is_true_if_not_false, are_trips, moved_element, no_trip_of, stays, column_kind, place_of, has_change, Place}
+use Rattle.change_plan.proofs.Fitting.{made, made_leaving, made_added, own_name, index_named, column_named, is_true_if_not_false, are_trips, moved_element, no_trip_of, stays, column_kind, place_of, has_change, Place}
 
 within_longest : (trips : List Trip) (trip : Trip) → Contains trips trip → duration trip ≤ longest trips
 within_longest [] trip has = absurd (contains_none trip has)

@@ -1,7 +1,6 @@
 -- Trips, one time after another.
 use Rattle.std.specs.Prelude.{◌≡◌, ◌≢◌, ℕ, zero, suc, ◌+◌, ◌-◌, ◌<◌, ◌≤◌, List, [], ◌∷◌, ◌++◌, length, nat_lt, count_by, cond, Bool, true, false, if◌then◌else◌, ◌&&◌, ◌||◌, ◌==◌, not, Option, Some, None, Contains, ◌⊎◌, flat_map, refl}
 use Rattle.std.proofs.Common.{sym, ap, subst, ◌∙◌, inl, inr, true≢false, arith}
-use Rattle.std.proofs.lemmas.List.{append-nil}
 use Rattle.std.proofs.lemmas.List.Concat.{flat_map-cons}
 use Rattle.std.proofs.lemmas.List.Sums.{sum_by-cons}
 use Rattle.std.proofs.lemmas.List.Folds.{list_any-append}
@@ -26,7 +25,7 @@ use Rattle.change_plan.specs.declared.trip.Act.TheVariants.{Wait, Appear, Reach,
 use Rattle.change_plan.specs.declared.trip.Course.{Course}
 use Rattle.change_plan.specs.declared.trip.Course.TheVariants.{PlainIn, FilledIn, FilledOut, PlainOut, DeleteOnlyBack, WriteOnlyBack}
 use Rattle.change_plan.specs.declared.trip.Trip.{Trip}
-use Rattle.change_plan.specs.Schedule.{acts, steps, course_out, nth_act, act_at, duration, move_by, move_of}
+use Rattle.change_plan.specs.Schedule.{acts, steps, nth_act, act_at, duration, move_by, move_of}
 use Rattle.change_plan.proofs.Named.{contains_first, contains_later, contains_cases, contains_none}
 
 abbrev pub is_in : Course → Bool

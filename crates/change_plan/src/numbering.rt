@@ -1,10 +1,11 @@
 //! The numbers that added elements will have.
-ghost use Rattle.std.specs.Prelude.{◌≡◌, ◌+◌, ◌≤◌, [], length, take, count_by, IfOk, option_to_list};
+ghost use Rattle.std.specs.Prelude.{◌≡◌, ◌+◌, ◌≤◌, [], ◌∷◌, length, take, count_by, IfOk, option_to_list};
 ghost use Rattle.std.specs.Option.{option_copied};
 ghost use mathlib.Core.List.{map as each};
 ghost use Rattle.schema_version.specs.Names.{max_elements};
+ghost use Rattle.change_plan.specs.declared.change.Change.TheVariants.{AddIndex};
 ghost use Rattle.change_plan.specs.Refusals.{is_addition as is_addition_of};
-ghost use Rattle.change_plan.specs.Schedule.{enters_at as enters_at_of, enters_before as enters_before_of, number_of as number_of_change, added_number as added_number_of, column_number as column_number_of, course_out as course_out_of, steps_on as steps_on_of, wait_out as wait_out_of, out_trip as out_trip_of, trip_out as trip_out_of, index_trip as index_trip_of, column_trip as column_trip_of, trip_of as trip_of_change, trips as trips_of_batch};
+ghost use Rattle.change_plan.specs.Schedule.{enters_at as enters_at_of, enters_before as enters_before_of, number_of as number_of_change, added_number as added_number_of, column_number as column_number_of, course_out as course_out_of, steps_on as steps_on_of, wait_out as wait_out_of, out_trip as out_trip_of, trip_out as trip_out_of, column_trip as column_trip_of, trip_of as trip_of_change, trips as trips_of_batch};
 
 use crate::change::Change;
 use crate::changes::{adds_column, enters_at, enters_before, wait_in};
@@ -148,7 +149,7 @@ fn index_trip(
     requires is_next { next ≡ schema.now.next }
     requires place { place ≤ length all.now }
     requires room { next + count_by is_addition_of all.now ≤ max_elements + 1 }
-    ensures { IfOk result (λ trip. trip ≡ index_trip_of schema.now all.now (take place all.now) table name.now columns.now) }
+    ensures { IfOk result (λ trip. trip ∷ [] ≡ trip_of_change schema.now all.now (take place all.now) (AddIndex table name.now columns.now)) }
 {
     let wait = wait_in(all, table, columns);
     let listed = column_numbers(alloc, schema, next, all, table, columns)?;
