@@ -9,13 +9,13 @@ use Rattle.schema_version.specs.declared.element.ElementState.TheVariants.{Absen
 use Rattle.schema_version.specs.declared.element.Way.{Way}
 use Rattle.schema_version.specs.declared.element.Way.TheVariants.{Adding, Dropping}
 use Rattle.schema_version.specs.declared.element.Kind.{Kind}
-use Rattle.schema_version.specs.declared.element.Kind.TheVariants.{Index, Optional}
 use Rattle.schema_version.specs.declared.element.ElementDef.{ElementDef}
 use Rattle.schema_version.specs.declared.step.Move.{Move}
-use Rattle.schema_version.specs.Version.{Version, element_at, state_of, state_or_absent, is_public, listed}
+use Rattle.schema_version.specs.Version.{Version, element_at, state_of, state_or_absent, is_public, listed, type_of_kind}
 use Rattle.std.specs.Option.{unwrap_or}
-use Rattle.schema_version.specs.Edges.{edge}
-use Rattle.schema_version.specs.Moves.{turned_back, after_step, moves_element, is_unready, IsIndexOn, IsLeastIndexOn, DependsOn}
+use Rattle.schema_version.specs.Edges.{edge, edge_by, is_filled}
+use Rattle.schema_version.proofs.Decides.{column_depends}
+use Rattle.schema_version.specs.Moves.{turned_back, after_step, moves_element, is_unready, IsIndexOn, IsLeastIndexOn}
 use Rattle.schema_version.specs.Steps.{IsOrdered, in_state_or_none}
 use Rattle.change_plan.proofs.Steps.{Becomes, Stays, Comes, Goes, Turns, Midway, AreReady, ready_go, after_allowed, not_both}
 use Rattle.change_plan.specs.declared.least_plan.PlanStep.{PlanStep}
@@ -23,70 +23,77 @@ use Rattle.change_plan.specs.Plans.{after_plan, AreAllowed}
 
 -- ---- how far an element has come, and how far it is from being gone
 
+-- by whether a fill serves it
+abbrev pub height_by : Bool → ElementState → ℕ
+height_by filled Absent = 0
+height_by filled DeleteOnly = 1
+height_by filled WriteOnly = 2
+height_by true Public = 3
+height_by false Public = 2
+
 abbrev pub height_in : Kind → ElementState → ℕ
-height_in kind Absent = 0
-height_in kind DeleteOnly = 1
-height_in kind WriteOnly = 2
-height_in (Index columns) Public = 3
-height_in (Optional type) Public = 2
+height_in kind state = height_by (is_filled kind) state
 
 abbrev pub height : Option ElementDef → ℕ
 height None = 0
 height (Some element) = height_in element.kind element.state
 
 -- one that is being added turns back first
+abbrev pub moves_by : Bool → ElementState → Way → ℕ
+moves_by filled Absent way = 0
+moves_by filled DeleteOnly Dropping = 1
+moves_by filled DeleteOnly Adding = 2
+moves_by filled WriteOnly Dropping = 2
+moves_by filled WriteOnly Adding = 3
+moves_by true Public way = 3
+moves_by false Public way = 2
+
 abbrev pub moves_out : Kind → ElementState → Way → ℕ
-moves_out kind Absent way = 0
-moves_out kind DeleteOnly Dropping = 1
-moves_out kind DeleteOnly Adding = 2
-moves_out kind WriteOnly Dropping = 2
-moves_out kind WriteOnly Adding = 3
-moves_out (Index columns) Public way = 3
-moves_out (Optional type) Public way = 2
+moves_out kind state way = moves_by (is_filled kind) state way
 
 abbrev pub distance : Option ElementDef → ℕ
 distance None = 0
 distance (Some element) = moves_out element.kind element.state element.way
 
 -- an edge goes at most one up
-edge_rises : (kind : Kind) (way after : Way) (from to : ElementState) → edge kind way from to ≡ Some after → height_in kind to ≤ height_in kind from + 1
-edge_rises (Index columns) Adding after Absent DeleteOnly e = omega arith
-edge_rises (Index columns) Adding after DeleteOnly WriteOnly e = omega arith
-edge_rises (Index columns) Adding after WriteOnly Public e = omega arith
-edge_rises (Index columns) way after Public WriteOnly e = omega arith
-edge_rises (Index columns) Dropping after WriteOnly DeleteOnly e = omega arith
-edge_rises (Index columns) Dropping after DeleteOnly Absent e = omega arith
-edge_rises (Optional type) Adding after Absent DeleteOnly e = omega arith
-edge_rises (Optional type) Adding after DeleteOnly Public e = omega arith
-edge_rises (Optional type) way after Public DeleteOnly e = omega arith
-edge_rises (Optional type) Dropping after DeleteOnly Absent e = omega arith
-edge_rises kind way after from to e = absurd cc
+edge_rises : (filled : Bool) (way after : Way) (from to : ElementState) → edge_by filled way from to ≡ Some after → height_by filled to ≤ height_by filled from + 1
+edge_rises true Adding after Absent DeleteOnly e = omega arith
+edge_rises true Adding after DeleteOnly WriteOnly e = omega arith
+edge_rises true Adding after WriteOnly Public e = omega arith
+edge_rises true way after Public WriteOnly e = omega arith
+edge_rises true Dropping after WriteOnly DeleteOnly e = omega arith
+edge_rises true Dropping after DeleteOnly Absent e = omega arith
+edge_rises false Adding after Absent DeleteOnly e = omega arith
+edge_rises false Adding after DeleteOnly Public e = omega arith
+edge_rises false way after Public DeleteOnly e = omega arith
+edge_rises false Dropping after DeleteOnly Absent e = omega arith
+edge_rises filled way after from to e = absurd cc
 
 -- and at most one nearer to being gone
-edge_falls : (kind : Kind) (way after : Way) (from to : ElementState) → edge kind way from to ≡ Some after → moves_out kind from way ≤ moves_out kind to after + 1
-edge_falls (Index columns) Adding after Absent DeleteOnly e = omega arith
-edge_falls (Index columns) Adding Adding DeleteOnly WriteOnly e = omega arith
-edge_falls (Index columns) Adding Dropping DeleteOnly WriteOnly e = omega arith
-edge_falls (Index columns) Adding after WriteOnly Public e = omega arith
-edge_falls (Index columns) way Adding Public WriteOnly e = omega arith
-edge_falls (Index columns) way Dropping Public WriteOnly e = omega arith
-edge_falls (Index columns) Dropping Adding WriteOnly DeleteOnly e = omega arith
-edge_falls (Index columns) Dropping Dropping WriteOnly DeleteOnly e = omega arith
-edge_falls (Index columns) Dropping after DeleteOnly Absent e = omega arith
-edge_falls (Optional type) Adding after Absent DeleteOnly e = omega arith
-edge_falls (Optional type) Adding after DeleteOnly Public e = omega arith
-edge_falls (Optional type) way Adding Public DeleteOnly e = omega arith
-edge_falls (Optional type) way Dropping Public DeleteOnly e = omega arith
-edge_falls (Optional type) Dropping after DeleteOnly Absent e = omega arith
-edge_falls kind way after from to e = absurd cc
+edge_falls : (filled : Bool) (way after : Way) (from to : ElementState) → edge_by filled way from to ≡ Some after → moves_by filled from way ≤ moves_by filled to after + 1
+edge_falls true Adding after Absent DeleteOnly e = omega arith
+edge_falls true Adding Adding DeleteOnly WriteOnly e = omega arith
+edge_falls true Adding Dropping DeleteOnly WriteOnly e = omega arith
+edge_falls true Adding after WriteOnly Public e = omega arith
+edge_falls true way Adding Public WriteOnly e = omega arith
+edge_falls true way Dropping Public WriteOnly e = omega arith
+edge_falls true Dropping Adding WriteOnly DeleteOnly e = omega arith
+edge_falls true Dropping Dropping WriteOnly DeleteOnly e = omega arith
+edge_falls true Dropping after DeleteOnly Absent e = omega arith
+edge_falls false Adding after Absent DeleteOnly e = omega arith
+edge_falls false Adding after DeleteOnly Public e = omega arith
+edge_falls false way Adding Public DeleteOnly e = omega arith
+edge_falls false way Dropping Public DeleteOnly e = omega arith
+edge_falls false Dropping after DeleteOnly Absent e = omega arith
+edge_falls filled way after from to e = absurd cc
 
 -- and so does a turn
-turn_falls : (kind : Kind) (state : ElementState) → moves_out kind state Adding ≤ moves_out kind state Dropping + 1
-turn_falls kind Absent = omega arith
-turn_falls kind DeleteOnly = omega arith
-turn_falls kind WriteOnly = omega arith
-turn_falls (Index columns) Public = omega arith
-turn_falls (Optional type) Public = omega arith
+turn_falls : (filled : Bool) (state : ElementState) → moves_by filled state Adding ≤ moves_by filled state Dropping + 1
+turn_falls filled Absent = omega arith
+turn_falls filled DeleteOnly = omega arith
+turn_falls filled WriteOnly = omega arith
+turn_falls true Public = omega arith
+turn_falls false Public = omega arith
 
 height_gone : (element : ElementDef) (to : ElementState) → height (in_state_or_none element to) ≡ height_in element.kind to
 height_gone element Absent = refl
@@ -107,7 +114,7 @@ height_rises old step next n now (Comes earlier later fresh split place before a
 height_rises old step next n now (Goes earlier later to split may after) =
     let start : height (element_at old n) ≡ height_in may.element.kind may.element.state = ap height may.there in
     let end : height now ≡ height_in may.element.kind to = ap height after ∙ height_gone may.element to in
-    let up = edge_rises may.element.kind may.element.way may.way may.element.state to may.along in
+    let up = edge_rises (is_filled may.element.kind) may.element.way may.way may.element.state to may.along in
     omega arith
 height_rises old step next n now (Turns earlier later split may after) = let is : height now ≡ height (element_at old n) = ap height after ∙ sym (ap height may.there) in omega arith
 
@@ -117,12 +124,12 @@ distance_falls old step next n now (Comes earlier later fresh split place before
 distance_falls old step next n now (Goes earlier later to split may after) =
     let start : distance (element_at old n) ≡ moves_out may.element.kind may.element.state may.element.way = ap distance may.there in
     let end : distance now ≡ moves_out may.element.kind to may.way = ap distance after ∙ distance_gone may.element to may.way may.along in
-    let down = edge_falls may.element.kind may.element.way may.way may.element.state to may.along in
+    let down = edge_falls (is_filled may.element.kind) may.element.way may.way may.element.state to may.along in
     omega arith
 distance_falls old step next n now (Turns earlier later split may after) =
     let start : distance (element_at old n) ≡ moves_out may.element.kind may.element.state Adding = ap distance may.there ∙ ap (moves_out may.element.kind may.element.state) may.adding in
     let end : distance now ≡ moves_out may.element.kind may.element.state Dropping = ap distance after in
-    let down = turn_falls may.element.kind may.element.state in
+    let down = turn_falls (is_filled may.element.kind) may.element.state in
     omega arith
 
 -- ---- one element over a plan
@@ -256,7 +263,7 @@ none_below version column none (suc most) number below is =
     none number (is, λ other on. elim (cases_lt other number) [ inl less ↦ absurd (none_below version column none most other (omega (arith, less)) on) | inr le ↦ le ])
 
 -- no step moves a column that a live index lists
-column_stays : (old : Version) (step : List Move) (now : Version) → Midway old step step now → (index column : ℕ) (i c : ElementDef) (type : _) → element_at old index ≡ Some i → Contains (listed i.kind) column → element_at old column ≡ Some c → c.kind ≡ Optional type → c.state ≡ Public → element_at now column ≡ Some c
+column_stays : (old : Version) (step : List Move) (now : Version) → Midway old step step now → (index column : ℕ) (i c : ElementDef) (type : _) → element_at old index ≡ Some i → Contains (listed i.kind) column → element_at old column ≡ Some c → type_of_kind c.kind ≡ Some type → c.state ≡ Public → element_at now column ≡ Some c
 column_stays old step now mid index column i c type at_index lists at_column kind state = pick (mid.becomes column)
   where
     pick : Becomes old step step now.next column (element_at now column) → element_at now column ≡ Some c
@@ -269,11 +276,11 @@ column_stays old step now mid index column i c type at_index lists at_column kin
     pick (Goes earlier later to split may after) =
         let one : Some may.element ≡ Some c = sym may.there ∙ at_column in
         let is : may.element ≡ c = cc in
-        let of_kind : may.element.kind ≡ Optional type = ap (λ (e : ElementDef). e.kind) is ∙ kind in
-        absurd (none_below old column (λ on least. may.free on (subst (λ k. DependsOn old step column k on) (sym of_kind) least)) (suc index) index (omega arith) (i, at_index, lists))
+        let of_kind : type_of_kind may.element.kind ≡ Some type = ap (λ (e : ElementDef). type_of_kind e.kind) is ∙ kind in
+        absurd (none_below old column (λ on least. may.free on (column_depends old step column may.element.kind type on of_kind least)) (suc index) index (omega arith) (i, at_index, lists))
 
 -- the column is dropped behind the index
-pub two_dropped : (plan : List PlanStep) (old : Version) → IsOrdered old → AreAllowed old plan → (index column : ℕ) (i c : ElementDef) (type : _) → element_at old index ≡ Some i → Contains (listed i.kind) column → element_at old column ≡ Some c → c.kind ≡ Optional type → c.state ≡ Public
+pub two_dropped : (plan : List PlanStep) (old : Version) → IsOrdered old → AreAllowed old plan → (index column : ℕ) (i c : ElementDef) (type : _) → element_at old index ≡ Some i → Contains (listed i.kind) column → element_at old column ≡ Some c → type_of_kind c.kind ≡ Some type → c.state ≡ Public
     → element_at (after_plan old plan) index ≡ None → element_at (after_plan old plan) column ≡ None → distance (Some i) + distance (Some c) ≤ length plan
 two_dropped [] old numbered allowed index column i c type at_index lists at_column kind state no_index no_column = absurd (not_both i (element_at old index) at_index no_index)
 two_dropped (first ∷ rest) old numbered allowed index column i c type at_index lists at_column kind state no_index no_column =

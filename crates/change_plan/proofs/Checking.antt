@@ -1,8 +1,8 @@
 -- The tests of a batch decide whether it can be planned, and why it can't.
-use Rattle.std.proofs.Common.{◌≡◌, ℕ, ◌+◌, ◌≤◌, List, [], ◌∷◌, ◌++◌, Ok, Err, ◌⊎◌, inl, inr, refl, sym, ap, subst, ◌∙◌, arith, append_assoc, append-nil, cond, count_by, Bool, true, false, if◌then◌else◌}
+use Rattle.std.proofs.Common.{◌≡◌, ◌+◌, ◌≤◌, List, [], ◌∷◌, ◌++◌, Ok, Err, ◌⊎◌, inl, inr, refl, sym, ap, subst, ◌∙◌, arith, append_assoc, append-nil, count_by}
 use Rattle.std.specs.Prelude.{OnOk, IfErr}
 use Rattle.std.proofs.lemmas.Bool.{cases_lt}
-use Rattle.std.proofs.lemmas.List.Sums.{sum_by-cons}
+use Rattle.change_plan.proofs.Numbers.{count_first}
 use Rattle.listed.specs.Answers.{◌>>>=◌}
 use Rattle.listed.specs.Refusal.{IsFirst}
 use Rattle.schema_version.specs.Names.{max_elements}
@@ -11,9 +11,7 @@ use Rattle.change_plan.specs.declared.change.Change.{Change}
 use Rattle.change_plan.specs.declared.change.Change.TheVariants.{AddIndex, AddColumn}
 use Rattle.change_plan.specs.declared.fault.PlanFault.{PlanFault}
 use Rattle.change_plan.specs.declared.fault.PlanFault.TheVariants.{Limit}
-use Rattle.change_plan.specs.Batches.{lists_added}
 use Rattle.change_plan.specs.Refusals.{ChangeFault, IsPlannable, IsRefused, is_addition, rank}
-use Rattle.change_plan.specs.Schedule.{is_early, is_late}
 use Rattle.change_plan.specs.Deciding.{Answer, change_check, changes_check, batch_check}
 use Rattle.change_plan.proofs.Chain.{Says}
 use Rattle.change_plan.proofs.Decides.{change_says}
@@ -85,23 +83,6 @@ refused old all fault is =
 
 -- ---- the numbers that a batch gives
 
-first_of : (test : Change → Bool) (x : Change) (xs : List Change) → count_by test (x ∷ xs) ≡ cond (test x) 1 0 + count_by test xs
-first_of test x xs = sum_by-cons (λ y. cond (test y) 1 0) x xs
-
-early_or_late : (all : List Change) (x : Change) → ◌≡◌ {A = ℕ} (cond (is_early all x) 1 0 + cond (is_late all x) 1 0) (cond (is_addition x) 1 0)
-early_or_late all (AddIndex table name columns) = by (lists_added all table columns)
-  where
-    by : (b : Bool) → ◌≡◌ {A = ℕ} (cond (if b then false else true) 1 0 + cond b 1 0) 1
-    by true = refl
-    by false = refl
-early_or_late all (AddColumn table name kind) = refl
-early_or_late all change = refl
-
--- each addition enters early or late
-both_counts : (all changes : List Change) → count_by (is_early all) changes + count_by (is_late all) changes ≡ count_by is_addition changes
-both_counts all [] = refl
-both_counts all (x ∷ xs) = omega (arith, both_counts all xs, early_or_late all x, first_of (is_early all) x xs, first_of (is_late all) x xs, first_of is_addition x xs)
-
 -- a batch with an addition has one that isn't over the limit
 HasNumber : Version → List Change → List Change → Type 0
 HasNumber old all changes = (old.next + count_by is_addition all ≤ max_elements + 1) ⊎ (count_by is_addition changes ≡ 0)
@@ -113,11 +94,11 @@ one_has_number old all earlier changes (AddIndex table name columns) split clear
   | inr room ↦ inl room
 ]
 one_has_number old all earlier changes (AddColumn table name kind) split clear rest = elim (cases_lt (max_elements + 1) (old.next + count_by is_addition all)) [
-  | inl over ↦ absurd (clear earlier changes (AddColumn table name kind) Limit split (inr (inr over)))
+  | inl over ↦ absurd (clear earlier changes (AddColumn table name kind) Limit split (inr (inr (inr over))))
   | inr room ↦ inl room
 ]
 one_has_number old all earlier changes change split clear (inl room) = inl room
-one_has_number old all earlier changes change split clear (inr rest) = inr (omega (arith, rest, first_of is_addition change changes))
+one_has_number old all earlier changes change split clear (inr rest) = inr (omega (arith, rest, count_first is_addition change changes))
 
 has_number : (old : Version) (all changes earlier : List Change) → all ≡ earlier ++ changes → IsPlannable old all → HasNumber old all changes
 unfolding HasNumber
@@ -126,11 +107,11 @@ has_number old all (x ∷ changes) earlier split clear =
     one_has_number old all earlier changes x split clear (has_number old all changes (earlier ++ x ∷ []) (split ∙ sym (append_assoc earlier (x ∷ []) changes)) clear)
 
 -- there is a number for each addition
-numbers : (old : Version) (all : List Change) → old.next ≤ max_elements + 1 → IsPlannable old all → old.next + count_by (is_early all) all + count_by (is_late all) all ≤ max_elements + 1
+numbers : (old : Version) (all : List Change) → old.next ≤ max_elements + 1 → IsPlannable old all → old.next + count_by is_addition all ≤ max_elements + 1
 unfolding HasNumber
 numbers old all few clear = elim (has_number old all all [] refl clear) [
-  | inl room ↦ omega (arith, room, both_counts all all)
-  | inr none ↦ omega (arith, few, none, both_counts all all)
+  | inl room ↦ room
+  | inr none ↦ omega (arith, few, none)
 ]
 
 -- ---- at what the code answers
@@ -143,6 +124,6 @@ pub refused_by : (old : Version) (all : List Change) (r : Answer) → r ≡ batc
 refused_by old all (Ok done) e = tt
 refused_by old all (Err fault) e = refused old all fault (sym e)
 
-pub room_by : (old : Version) (all : List Change) → old.next ≤ max_elements + 1 → (r : Answer) → r ≡ batch_check old all → OnOk r (old.next + count_by (is_early all) all + count_by (is_late all) all ≤ max_elements + 1)
+pub room_by : (old : Version) (all : List Change) → old.next ≤ max_elements + 1 → (r : Answer) → r ≡ batch_check old all → OnOk r (old.next + count_by is_addition all ≤ max_elements + 1)
 room_by old all few (Ok done) e = numbers old all few (plannable old all (sym e))
 room_by old all few (Err fault) e = tt

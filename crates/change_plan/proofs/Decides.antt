@@ -9,14 +9,18 @@ use Rattle.row_map.specs.declared.shape.ColumnType.{ColumnType}
 use Rattle.schema_version.specs.declared.element.ElementState.{ElementState}
 use Rattle.schema_version.specs.declared.element.ElementState.TheVariants.{Absent, DeleteOnly, WriteOnly, Public}
 use Rattle.schema_version.specs.declared.element.ElementDef.{ElementDef}
+use Rattle.schema_version.specs.declared.element.Kind.{Kind}
+use Rattle.schema_version.specs.declared.element.Kind.TheVariants.{Index, Optional, Required}
 use Rattle.schema_version.specs.Names as names
 use Rattle.schema_version.specs.Names.{is_name, is_name_list, max_listed, max_elements}
 use Rattle.schema_version.specs.Version.{Version, Table, table_at, live, is_index, is_public, listed, IsKeyName, count_live}
-use Rattle.schema_version.specs.Moves.{max_like}
-use Rattle.schema_version.specs.Deciding.{has_key_column}
+use Rattle.schema_version.specs.Moves.{IsFairKind, is_distinct, max_like}
+use Rattle.schema_version.specs.Defaults.{is_value}
+use Rattle.row_map.specs.Shape.{has_type}
+use Rattle.schema_version.specs.Deciding.{has_key_column, is_fair_kind}
 use Rattle.schema_version.proofs.Lists.{any_says, any_from, some_same}
 use Rattle.schema_version.proofs.Live.{live_has, live_from}
-use Rattle.schema_version.proofs.Decides.{word, at_most, itself}
+use Rattle.schema_version.proofs.Decides.{word, at_most, itself, value_is}
 use Rattle.change_plan.specs.declared.change.Change.{Change}
 use Rattle.change_plan.specs.declared.change.Change.TheVariants.{AddIndex, DropIndex, AddColumn, DropColumn, Abandon}
 use Rattle.change_plan.specs.Batches.{named, named_index, named_column, named_entering, adds, adds_column, drops, drops_index, drops_column, lists}
@@ -80,6 +84,15 @@ column_list columns =
     Decides-like (is_name_list columns) (λ (some, (few, distinct)). (some, few, distinct)) (λ (some, few, distinct). (some, (few, distinct)))
     (Decides-and (nat_le 1 (length columns)) (nat_le (length columns) max_listed && names.is_distinct columns) (at_most 1 (length columns))
     (Decides-and (nat_le (length columns) max_listed) (names.is_distinct columns) (at_most (length columns) max_listed) (itself (names.is_distinct columns))))
+
+pub fair_kind : (kind : Kind) → Decides (is_fair_kind kind) (IsFairKind kind)
+fair_kind (Index columns) =
+    Decides-like (nat_le 1 (length columns) && (nat_le (length columns) max_listed && is_distinct columns))
+    (λ (some, (few, distinct)). (some, few, distinct)) (λ (some, few, distinct). (some, (few, distinct)))
+    (Decides-and (nat_le 1 (length columns)) (nat_le (length columns) max_listed && is_distinct columns) (at_most 1 (length columns))
+    (Decides-and (nat_le (length columns) max_listed) (is_distinct columns) (at_most (length columns) max_listed) (itself (is_distinct columns))))
+fair_kind (Optional type) = (λ e. tt, λ h. refl)
+fair_kind (Required type fallback) = Decides-and (has_type type fallback) (is_value fallback) (itself (has_type type fallback)) (value_is fallback)
 
 over : (old : Version) (all : List Change) (table : ℕ) (index : Bool) → Decides (is_over old all table index) (IsOver old all table index)
 over old all table index =
@@ -145,13 +158,15 @@ change_says old all earlier (DropIndex table name) =
       memory = λ h. h;
     })
 change_says old all earlier (AddColumn table name kind) =
-    chain_says (ChangeFault old all earlier (AddColumn table name kind)) (not (is_some (table_at old table)) || is_index kind) (is_taken old earlier table name) false false (not (is_name name) || is_over old all table false)
+    chain_says (ChangeFault old all earlier (AddColumn table name kind)) (not (is_some (table_at old table)) || is_index kind) (is_taken old earlier table name) false false
+    (not (is_name name) || (not (is_fair_kind kind) || is_over old all table false))
     (record {
       unknown = Decides-or (not (is_some (table_at old table))) (is_index kind) (is_false (is_some (table_at old table))) (itself (is_index kind));
       taken = taken old earlier table name;
       indexed = never;
       moving = never;
-      over = Decides-or (not (is_name name)) (is_over old all table false) (Decides-not (is_name name) (word name)) (over old all table false);
+      over = Decides-or (not (is_name name)) (not (is_fair_kind kind) || is_over old all table false) (Decides-not (is_name name) (word name))
+          (Decides-or (not (is_fair_kind kind)) (is_over old all table false) (Decides-not (is_fair_kind kind) (fair_kind kind)) (over old all table false));
       memory = λ h. h;
     })
 change_says old all earlier (DropColumn table name) =

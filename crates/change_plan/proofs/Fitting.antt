@@ -1,5 +1,5 @@
 -- Each trip of a batch that can be planned fits the version and the other trips.
-use Rattle.std.specs.Prelude.{◌≡◌, ◌≢◌, ℕ, ◌+◌, ◌<◌, ◌≤◌, List, [], ◌∷◌, ◌++◌, Bool, true, false, ◌&&◌, ◌||◌, ◌==◌, not, if◌then◌else◌, Option, Some, None, IsNone, Contains, ◌⊎◌, count_by, cond, bytes_eq, is_some, refl}
+use Rattle.std.specs.Prelude.{◌≡◌, ◌≢◌, ℕ, ◌+◌, ◌<◌, ◌≤◌, List, [], ◌∷◌, ◌++◌, Bool, true, false, ◌&&◌, ◌||◌, ◌==◌, not, if◌then◌else◌, Option, Some, None, IsNone, Contains, ◌⊎◌, count_by, bytes_eq, is_some, refl}
 use Rattle.std.specs.List.{list_any}
 use mathlib.Core.List.{map as each}
 use Rattle.std.proofs.Common.{sym, ap, subst, ◌∙◌, inl, inr, true≢false, arith}
@@ -7,79 +7,104 @@ use Rattle.std.proofs.lemmas.List.{append_assoc, length-map}
 use Rattle.std.proofs.lemmas.Bool.{cases_lt}
 use Rattle.schema_version.specs.Names as names
 use Rattle.schema_version.specs.Names.{IsName, is_among, max_elements, max_listed}
-use Rattle.schema_version.specs.Moves.{IsColumnList, is_distinct}
+use Rattle.schema_version.specs.Moves.{IsFairKind, is_distinct}
+use Rattle.schema_version.specs.Deciding.{is_fair_kind}
+use Rattle.schema_version.specs.Edges.{is_filled}
+use Rattle.change_plan.proofs.Decides.{fair_kind}
 use Rattle.std.proofs.lemmas.Bool.Decides.{Decides-eqb}
 use Rattle.std.proofs.lemmas.Slice.Eq.{bytes_eq-Decides}
 use Rattle.std.proofs.lemmas.List.Elements.{Contains-append_left, Contains-append_right, Contains-append_cases}
 use Rattle.schema_version.specs.declared.element.ElementState.TheVariants.{Public}
 use Rattle.schema_version.specs.declared.element.Way.TheVariants.{Adding}
 use Rattle.schema_version.specs.declared.element.Kind.{Kind}
-use Rattle.schema_version.specs.declared.element.Kind.TheVariants.{Index, Optional}
+use Rattle.schema_version.specs.declared.element.Kind.TheVariants.{Index, Optional, Required}
 use Rattle.schema_version.specs.declared.element.ElementDef.{ElementDef}
 use Rattle.schema_version.specs.declared.element.NewElement.{NewElement}
-use Rattle.schema_version.specs.Version.{Version, table_at, element_at, is_index, listed, is_column}
+use Rattle.schema_version.specs.Version.{Version, table_at, element_at, is_index, listed, is_column, type_of_kind}
 use Rattle.schema_version.specs.Sound.{IsSoundVersion}
 use Rattle.change_plan.specs.declared.change.Change.{Change}
 use Rattle.change_plan.specs.declared.change.Change.TheVariants.{AddIndex, DropIndex, AddColumn, DropColumn, Abandon}
-use Rattle.change_plan.specs.declared.fault.PlanFault.{PlanFault}
 use Rattle.change_plan.specs.declared.fault.PlanFault.TheVariants.{Unknown, NameTaken, StillIndexed, InChange, Limit}
-use Rattle.change_plan.specs.Batches.{named, named_index, named_column, only_if, leaving, lists_added, drops_index, drops_column, adds, adds_column, lists}
+use Rattle.change_plan.specs.Batches.{named, named_index, named_column, only_if, leaving, drops_index, drops_column, adds, adds_column, lists}
 use Rattle.change_plan.specs.Refusals.{ChangeFault, IsPlannable, IsListed, IsTaken, is_addition, IsColumnList as IsNameList}
-use Rattle.change_plan.specs.declared.trip.Course.TheVariants.{ColumnIn}
+use Rattle.change_plan.specs.declared.trip.Course.TheVariants.{PlainIn, FilledIn}
 use Rattle.change_plan.specs.declared.trip.Trip.{Trip}
-use Rattle.change_plan.specs.Schedule.{steps, course_out, duration, steps_on, wait_out, out_trip, trip_out, trip_of, trips_from, trips, is_early, is_late, column_number, added_number, number_or}
+use Rattle.change_plan.specs.Schedule.{steps, course_in, course_out, duration, steps_to, steps_until, wait_in, enters_at, number_of, steps_on, wait_out, out_trip, trip_out, column_trip, trip_of, trips_from, trips, column_number, added_number, number_or}
 use Rattle.change_plan.proofs.Steps.{not_both}
 use Rattle.change_plan.proofs.Named.{contains_first, contains_later, contains_cases, contains_none, contains_middle, split_at, any_element, same_name, same_name_is, both_true, named_there, not_named, and_true, ordered}
-use Rattle.change_plan.proofs.Leaving.{index_there, column_there, entering_there, abandoned, public_if_not_in_change, column_type, column_if, none_if_not_some, Departs, departs, clear}
+use Rattle.change_plan.proofs.Leaving.{index_there, column_there, entering_there, abandoned, public_if_not_in_change, from_public, column_type, has_type, column_if, none_if_not_some, Departs, departs, clear}
 use Rattle.change_plan.proofs.Least.{adds_column_is}
-use Rattle.change_plan.proofs.Trips.{find_trip, is_in, suits, At, departure, here, element_of}
+use Rattle.change_plan.proofs.Trips.{find_trip, is_in, suits, At, departure, here}
 use Rattle.change_plan.proofs.Lawful.{ColumnFits, Steady, Added, Dropped, IsAdded, AreTrips}
-use Rattle.change_plan.proofs.Batch.{From, EarlyIndex, LateIndex, NewColumn, Leaves, Placed, placed, any_middle, same_element, out_of, Role, IsEarly, IsLate, Goes, role, one_if, count_first, count_split, one_is, apart_is, number_is}
+use Rattle.change_plan.proofs.Batch.{From, NewIndex, NewColumn, Leaves, Placed, placed, any_middle, same_element, comes_in, out_of, Role, Enters, Goes, role, one_is, apart_is, number_is}
+use Rattle.change_plan.proofs.Numbers.{count_split, one_if, all_additions}
+use Rattle.std.proofs.Math.Nat.{le-max_left, le-max_right}
 
 -- ---- from a change to its trip
 
-pub made : (old : Version) (all changes : List Change) (change : Change) → Contains changes change → (early late : ℕ) → (e : ℕ) × (l : ℕ) × ((trip : Trip) → Contains (trip_of old all e l change) trip → Contains (trips_from old all early late changes) trip)
-made old all [] change has early late = absurd (contains_none change has)
-made old all (x ∷ xs) change has early late = elim (contains_cases x xs change has) [
-  | inl is ↦ (early, late, λ trip h. Contains-append_left (trip_of old all early late x) _ trip (subst (λ c. Contains (trip_of old all early late c) trip) (sym is) h))
+pub made : (old : Version) (all changes : List Change) (change : Change) → Contains changes change → (earlier : List Change) → (before : List Change) × ((trip : Trip) → Contains (trip_of old all before change) trip → Contains (trips_from old all earlier changes) trip)
+made old all [] change has earlier = absurd (contains_none change has)
+made old all (x ∷ xs) change has earlier = elim (contains_cases x xs change has) [
+  | inl is ↦ (earlier, λ trip h. Contains-append_left (trip_of old all earlier x) _ trip (subst (λ c. Contains (trip_of old all earlier c) trip) (sym is) h))
   | inr more ↦
-      let rest = made old all xs change more (if is_early all x then early + 1 else early) (if is_late all x then late + 1 else late) in
-      (rest.0, rest.1, λ trip h. Contains-append_right (trip_of old all early late x) _ trip (rest.2 trip h))
+      let rest = made old all xs change more (earlier ++ x ∷ []) in
+      (rest.0, λ trip h. Contains-append_right (trip_of old all earlier x) _ trip (rest.1 trip h))
 ]
 
 -- what leaves has a trip
-made_out : (old : Version) (all : List Change) (early late : ℕ) (change : Change) (e : ElementDef) → leaving old change ≡ Some e → Contains (trip_of old all early late change) (out_trip old all e)
-made_out old all early late (AddIndex table name columns) e is = absurd (not_both e None is refl)
-made_out old all early late (AddColumn table name kind) e is = absurd (not_both e None is refl)
-made_out old all early late change e is = subst (λ o. Contains (trip_out old all o) (out_trip old all e)) (sym is) (contains_first (out_trip old all e) [])
+made_out : (old : Version) (all earlier : List Change) (change : Change) (e : ElementDef) → leaving old change ≡ Some e → Contains (trip_of old all earlier change) (out_trip old all e)
+made_out old all earlier (AddIndex table name columns) e is = absurd (not_both e None is refl)
+made_out old all earlier (AddColumn table name kind) e is = absurd (not_both e None is refl)
+made_out old all earlier change e is = subst (λ o. Contains (trip_out old all o) (out_trip old all e)) (sym is) (contains_first (out_trip old all e) [])
 
 pub made_leaving : (old : Version) (all : List Change) (change : Change) (e : ElementDef) → Contains all change → leaving old change ≡ Some e → Contains (trips old all) (out_trip old all e)
 made_leaving old all change e has is =
-    let m = made old all all change has old.next (old.next + count_by (is_early all) all) in
-    m.2 (out_trip old all e) (made_out old all m.0 m.1 change e is)
+    let m = made old all all change has [] in
+    m.1 (out_trip old all e) (made_out old all m.0 change e is)
 
 -- the trip of an added column, by the number that its indexes list
-pub made_added : (old : Version) (all changes : List Change) (table : ℕ) (name : List ℕ) (early late : ℕ) → list_any (adds_column table name) changes ≡ true
-    → (kind : Kind) × Contains (trips_from old all early late changes) (record { wait = 0; course = ColumnIn; number = added_number all early table name changes; fresh = record { table = table; name = name; kind = kind } })
-made_added old all [] table name early late e = absurd (true≢false (sym e))
-made_added old all (x ∷ xs) table name early late e = pick (λ t. made_added old all xs table name (if is_early all x then early + 1 else early) (if is_late all x then late + 1 else late) t) (adds_column table name x) refl
+pub made_added : (old : Version) (all earlier changes : List Change) (table : ℕ) (name : List ℕ) → list_any (adds_column table name) changes ≡ true
+    → (kind : Kind) × Contains changes (AddColumn table name kind) × Contains (trips_from old all earlier changes) (column_trip (added_number old.next all earlier table name changes) table name kind)
+made_added old all earlier [] table name e = absurd (true≢false (sym e))
+made_added old all earlier (x ∷ xs) table name e = pick (λ t. made_added old all (earlier ++ x ∷ []) xs table name t) (adds_column table name x) refl
   where
-    pick : (list_any (adds_column table name) xs ≡ true → (kind : Kind) × Contains (trips_from old all (if is_early all x then early + 1 else early) (if is_late all x then late + 1 else late) xs) (record { wait = 0; course = ColumnIn; number = added_number all (if is_early all x then early + 1 else early) table name xs; fresh = record { table = table; name = name; kind = kind } }))
-        → (b : Bool) → adds_column table name x ≡ b → (kind : Kind) × Contains (trips_from old all early late (x ∷ xs)) (record { wait = 0; course = ColumnIn; number = added_number all early table name (x ∷ xs); fresh = record { table = table; name = name; kind = kind } })
+    pick : (list_any (adds_column table name) xs ≡ true → (kind : Kind) × Contains xs (AddColumn table name kind) × Contains (trips_from old all (earlier ++ x ∷ []) xs) (column_trip (added_number old.next all (earlier ++ x ∷ []) table name xs) table name kind))
+        → (b : Bool) → adds_column table name x ≡ b → (kind : Kind) × Contains (x ∷ xs) (AddColumn table name kind) × Contains (trips_from old all earlier (x ∷ xs)) (column_trip (added_number old.next all earlier table name (x ∷ xs)) table name kind)
     pick again true t =
         let is = adds_column_is table name x t in (
           is.0,
-          subst (λ n. Contains (trips_from old all early late (x ∷ xs)) (record { wait = 0; course = ColumnIn; number = n; fresh = record { table = table; name = name; kind = is.0 } }))
-              (sym (ap (λ b. if b then early else added_number all (if is_early all x then early + 1 else early) table name xs) t))
-              (Contains-append_left (trip_of old all early late x) _ _ (subst (λ c. Contains (trip_of old all early late c) (record { wait = 0; course = ColumnIn; number = early; fresh = record { table = table; name = name; kind = is.0 } })) (sym is.1) (contains_first _ []))),
+          subst (Contains (x ∷ xs)) is.1 (contains_first x xs),
+          subst (λ n. Contains (trips_from old all earlier (x ∷ xs)) (column_trip n table name is.0))
+              (sym (ap (λ b. if b then number_of old.next all earlier 0 else added_number old.next all (earlier ++ x ∷ []) table name xs) t))
+              (Contains-append_left (trip_of old all earlier x) _ _ (subst (λ c. Contains (trip_of old all earlier c) (column_trip (number_of old.next all earlier 0) table name is.0)) (sym is.1) (contains_first _ []))),
         )
     pick again false t =
         let rest = again (subst (λ b. (b || list_any (adds_column table name) xs) ≡ true) t e) in (
           rest.0,
-          subst (λ n. Contains (trips_from old all early late (x ∷ xs)) (record { wait = 0; course = ColumnIn; number = n; fresh = record { table = table; name = name; kind = rest.0 } }))
-              (sym (ap (λ b. if b then early else added_number all (if is_early all x then early + 1 else early) table name xs) t))
-              (Contains-append_right (trip_of old all early late x) _ _ rest.1),
+          contains_later x xs _ rest.1,
+          subst (λ n. Contains (trips_from old all earlier (x ∷ xs)) (column_trip n table name rest.0))
+              (sym (ap (λ b. if b then number_of old.next all earlier 0 else added_number old.next all (earlier ++ x ∷ []) table name xs) t))
+              (Contains-append_right (trip_of old all earlier x) _ _ rest.2),
         )
+
+-- an index waits for each column that the batch adds
+until_added : (changes : List Change) (table : ℕ) (name : List ℕ) (kind : Kind) → Contains changes (AddColumn table name kind) → steps (course_in kind) ≤ steps_until table name changes
+until_added [] table name kind has = absurd (contains_none _ has)
+until_added (x ∷ xs) table name kind has = elim (contains_cases x xs (AddColumn table name kind) has) [
+  | inl is ↦
+      let one : steps_to table name x ≡ steps (course_in kind) = ap (steps_to table name) is ∙ ap (λ b. if b then steps (course_in kind) else 0) (same_name_is table table name name refl refl) in
+      omega (arith, one, le-max_left (steps_to table name x) (steps_until table name xs))
+  | inr more ↦ omega (arith, until_added xs table name kind more, le-max_right (steps_to table name x) (steps_until table name xs))
+]
+
+waits_for_added : (all : List Change) (table : ℕ) (name : List ℕ) (columns : List (List ℕ)) (kind : Kind) → Contains columns name → Contains all (AddColumn table name kind) → steps (course_in kind) ≤ wait_in all table columns
+waits_for_added all table name [] kind among has = absurd (contains_none _ among)
+waits_for_added all table name (x ∷ xs) kind among has = elim (contains_cases x xs name among) [
+  | inl is ↦
+      let one : steps (course_in kind) ≤ steps_until table x all = subst (λ n. steps (course_in kind) ≤ steps_until table n all) (sym is) (until_added all table name kind has) in
+      omega (arith, one, le-max_left (steps_until table x all) (wait_in all table xs))
+  | inr more ↦ omega (arith, waits_for_added all table name xs kind more has, le-max_right (steps_until table x all) (wait_in all table xs))
+]
 
 -- ---- elements of their own names
 
@@ -127,12 +152,12 @@ module _ (old : Version) (sound : IsSoundVersion old) (all : List Change) (plann
     pub done : List Trip
     pub rest : List Trip
     pub split : trips old all ≡ done ++ trip ∷ rest
-    pub place : Placed old all old.next (old.next + count_by (is_early all) all) all done trip
+    pub place : Placed old all [] all done trip
 
   pub place_of : (trip : Trip) → Contains (trips old all) trip → Place trip
   place_of trip has =
       let s = split_at (trips old all) trip has in
-      record { done = s.0; rest = s.1; split = s.2; place = placed old all all old.next (old.next + count_by (is_early all) all) s.0 s.1 trip s.2 }
+      record { done = s.0; rest = s.1; split = s.2; place = placed old all [] all s.0 s.1 trip s.2 }
 
   pub has_change : (trip : Trip) (p : Place trip) → Contains all p.place.change
   has_change trip p = subst (λ cs. Contains cs p.place.change) (sym p.place.split) (contains_middle p.place.before p.place.after p.place.change)
@@ -147,10 +172,9 @@ module _ (old : Version) (sound : IsSoundVersion old) (all : List Change) (plann
       small : e.number < old.next
       small = (ordered sound).below e.number e at
 
-      pick : From old all p.place.now_early p.place.now_late p.place.change trip → (change : Change) × Contains all change × (leaving old change ≡ Some e) × (trip ≡ out_trip old all e)
-      pick (EarlyIndex table name columns change listed is) = let n : trip.number ≡ p.place.now_early = ap (λ (t : Trip). t.number) is in absurd (omega (arith, small, p.place.early_is, same))
-      pick (LateIndex table name columns change listed is) = let n : trip.number ≡ p.place.now_late = ap (λ (t : Trip). t.number) is in absurd (omega (arith, small, p.place.late_is, same))
-      pick (NewColumn table name kind change is) = let n : trip.number ≡ p.place.now_early = ap (λ (t : Trip). t.number) is in absurd (omega (arith, small, p.place.early_is, same))
+      pick : From old all p.place.before p.place.change trip → (change : Change) × Contains all change × (leaving old change ≡ Some e) × (trip ≡ out_trip old all e)
+      pick (NewIndex table name columns change is) = let n : trip.number ≡ number_of old.next all p.place.before (wait_in all table columns) = ap (λ (t : Trip). t.number) is in absurd (omega (arith, small, n, same))
+      pick (NewColumn table name kind change is) = let n : trip.number ≡ number_of old.next all p.place.before 0 = ap (λ (t : Trip). t.number) is in absurd (omega (arith, small, n, same))
       pick (Leaves g found is) =
           let d = departs old sound all plannable p.place.change (has_change trip p) g found in
           let one : g ≡ e = same_element old g e d.there at (sym (ap (λ (t : Trip). t.number) is) ∙ same) in
@@ -179,17 +203,25 @@ module _ (old : Version) (sound : IsSoundVersion old) (all : List Change) (plann
           clear old sound all plannable (AddIndex table name columns) has StillIndexed
           (λ earlier. (own, among, any_of (drops_column old table own) all (Abandon t n) has_it (both_true _ _ (same_name_is table t own n (sym there.1 ∙ gone.1) (sym there.2 ∙ gone.2)) (ap is_some found))))
 
+  not_true : (b : Bool) → (b ≡ true → ⊥) → b ≡ false
+  not_true true h = absurd (h refl)
+  not_true false h = refl
+
+  pub column_kind : (table : ℕ) (name : List ℕ) (kind : Kind) → Contains all (AddColumn table name kind) → is_index kind ≡ false
+  column_kind table name kind has = not_true (is_index kind) (λ t. clear old sound all plannable (AddColumn table name kind) has Unknown (λ earlier. inr t))
+
   -- a column of an added index
-  added_fits : (table : ℕ) (name : List ℕ) (columns : List (List ℕ)) → Contains all (AddIndex table name columns) → (trip : Trip) → trip.fresh.table ≡ table → is_in trip.course ≡ true → (lists_added all table columns ≡ true → trip.wait ≡ steps ColumnIn)
+  added_fits : (table : ℕ) (name : List ℕ) (columns : List (List ℕ)) → Contains all (AddIndex table name columns) → (trip : Trip) → trip.fresh.table ≡ table → is_in trip.course ≡ true → trip.wait ≡ wait_in all table columns
       → (own : List ℕ) → Contains columns own → ColumnFits old (trips old all) trip (column_number old all table own)
-  added_fits table name columns has trip is_table new is_late own among = pick (named_column old table own) refl
+  added_fits table name columns has trip is_table new waits own among = pick (named_column old table own) refl
     where
       pick : (o : Option ElementDef) → named_column old table own ≡ o → ColumnFits old (trips old all) trip (column_number old all table own)
       pick None none =
           let added : list_any (adds_column table own) all ≡ true = is_true_if_not_false _ (λ f. clear old sound all plannable (AddIndex table name columns) has Unknown (λ earlier. inr (own, among, ap is_some_test none, f))) in
-          let m = made_added old all all table own old.next (old.next + count_by (is_early all) all) added in
-          let waits : trip.wait ≡ steps ColumnIn = is_late (any_of (λ n. list_any (adds_column table n) all) columns own among added) in
-          Added _ m.1 (ap (λ o. number_or o (added_number all old.next table own all)) (sym none)) refl new (omega arith) (sym is_table)
+          let m = made_added old all [] all table own added in
+          let type = column_type m.0 (column_kind table own m.0 m.1) in
+          let long : steps (course_in m.0) ≤ wait_in all table columns = waits_for_added all table own columns m.0 among m.1 in
+          Added _ m.2 (ap (λ o. number_or o (added_number old.next all [] table own all)) (sym none)) (comes_in m.0) type.0 type.1 new (omega (arith, waits, long)) (sym is_table)
         where
           is_some_test : Option ElementDef → Bool
           is_some_test None = false
@@ -198,7 +230,7 @@ module _ (old : Version) (sound : IsSoundVersion old) (all : List Change) (plann
           let there = column_there old (ordered sound) table own e found in
           let type = column_type e.kind there.3 in
           let is_public : e.state ≡ Public = public_if_not_in_change (named_column old table own) (λ t. clear old sound all plannable (AddIndex table name columns) has InChange (λ earlier. (own, among, t))) e found in
-          subst (ColumnFits old (trips old all) trip) (ap (λ o. number_or o (added_number all old.next table own all)) (sym found))
+          subst (ColumnFits old (trips old all) trip) (ap (λ o. number_or o (added_number old.next all [] table own all)) (sym found))
           (Steady (no_trip_of e there.0 (stays table name columns has own among e found)) e type.0 there.0 (there.1 ∙ sym is_table) type.1 is_public)
 
   -- how long a column waits at least
@@ -228,6 +260,11 @@ module _ (old : Version) (sound : IsSoundVersion old) (all : List Change) (plann
               let found = any_element (λ other. other == number) (listed index.kind) t in
               absurd (none index.number index (departs old sound all plannable x (among x (contains_first x xs)) index is).there (subst (Contains (listed index.kind)) ((Decides-eqb found.0 number).0 found.2) found.1))
 
+  none_listed : (kind : Kind) → is_index kind ≡ false → (column : ℕ) → Contains (listed kind) column → ⊥
+  none_listed (Index columns) e column has = true≢false e
+  none_listed (Optional type) e column has = contains_none column has
+  none_listed (Required type fallback) e column has = contains_none column has
+
   -- a column of an index that leaves
   leaving_fits : (change : Change) → Contains all change → (e : ElementDef) → leaving old change ≡ Some e → (trip : Trip) → trip ≡ out_trip old all e → (column : ℕ) → Contains (listed e.kind) column → ColumnFits old (trips old all) trip column
   leaving_fits change has e found trip is column among = elim (find_trip (trips old all) column) [
@@ -245,7 +282,7 @@ module _ (old : Version) (sound : IsSoundVersion old) (all : List Change) (plann
       there : element_at old e.number ≡ Some e
       there = (departs old sound all plannable change has e found).there
 
-      f : (element : ElementDef) × (type : _) × (element_at old column ≡ Some element) × (element.table ≡ e.table) × (element.kind ≡ Optional type) × (element.state ≡ Public)
+      f : (element : ElementDef) × (type : _) × (element_at old column ≡ Some element) × (element.table ≡ e.table) × (type_of_kind element.kind ≡ Some type) × (element.state ≡ Public)
       f = (sound.elements e.number e there).columns column among
 
       own : f.0.number ≡ column
@@ -260,14 +297,10 @@ module _ (old : Version) (sound : IsSoundVersion old) (all : List Change) (plann
           let g = (sound.elements n index at).columns e.number lists_it in
           let same : Some e ≡ Some g.0 = sym there ∙ g.2 in
           let one : e ≡ g.0 = cc in
-          contains_none column (subst (λ k. Contains (listed k) column) (ap (λ (x : ElementDef). x.kind) one ∙ g.4) among)
+          none_listed e.kind (has_type e.kind g.1 (ap (λ (x : ElementDef). type_of_kind x.kind) one ∙ g.4)) column among
 
       public_start : {change : Change} → Departs old change f.0 → departure (course_out f.0.kind f.0.state) ≡ At Public Adding
-      public_start d = ap (λ s. departure (course_out f.0.kind s)) f.5 ∙ ap (λ k. departure (course_out k Public)) f.4
-
-  none_listed : (kind : Kind) → is_index kind ≡ false → (column : ℕ) → Contains (listed kind) column → ⊥
-  none_listed (Index columns) e column has = true≢false e
-  none_listed (Optional type) e column has = contains_none column has
+      public_start d = ap (λ s. departure (course_out f.0.kind s)) f.5 ∙ (from_public (is_filled f.0.kind)).0
 
   pub columns_fit : (trip : Trip) → Contains (trips old all) trip → (column : ℕ) → Contains (listed trip.fresh.kind) column → ColumnFits old (trips old all) trip column
   columns_fit trip has column among = pick p.place.from_change
@@ -275,20 +308,12 @@ module _ (old : Version) (sound : IsSoundVersion old) (all : List Change) (plann
       p : Place trip
       p = place_of trip has
 
-      pick : From old all p.place.now_early p.place.now_late p.place.change trip → ColumnFits old (trips old all) trip column
-      pick (EarlyIndex table name columns change listed_added is) =
+      pick : From old all p.place.before p.place.change trip → ColumnFits old (trips old all) trip column
+      pick (NewIndex table name columns change is) =
           let own = contains_each (column_number old all table) columns column (subst (λ (t : Trip). Contains (listed t.fresh.kind) column) is among) in
-          subst (ColumnFits old (trips old all) trip) (sym own.2) (added_fits table name columns (subst (Contains all) change (has_change trip p)) trip (ap (λ (t : Trip). t.fresh.table) is) (ap (λ (t : Trip). is_in t.course) is) (λ late. absurd (true≢false (sym late ∙ listed_added))) own.0 own.1)
-      pick (LateIndex table name columns change listed_added is) =
-          let own = contains_each (column_number old all table) columns column (subst (λ (t : Trip). Contains (listed t.fresh.kind) column) is among) in
-          subst (ColumnFits old (trips old all) trip) (sym own.2) (added_fits table name columns (subst (Contains all) change (has_change trip p)) trip (ap (λ (t : Trip). t.fresh.table) is) (ap (λ (t : Trip). is_in t.course) is) (λ late. ap (λ (t : Trip). t.wait) is) own.0 own.1)
+          subst (ColumnFits old (trips old all) trip) (sym own.2) (added_fits table name columns (subst (Contains all) change (has_change trip p)) trip (ap (λ (t : Trip). t.fresh.table) is) (ap (λ (t : Trip). is_in t.course) is) (ap (λ (t : Trip). t.wait) is) own.0 own.1)
       pick (NewColumn table name kind change is) =
-          let is_column : is_index kind ≡ false = not_true (is_index kind) (λ t. clear old sound all plannable (AddColumn table name kind) (subst (Contains all) change (has_change trip p)) Unknown (λ earlier. inr t)) in
-          absurd (none_listed kind is_column column (subst (λ (t : Trip). Contains (listed t.fresh.kind) column) is among))
-        where
-          not_true : (b : Bool) → (b ≡ true → ⊥) → b ≡ false
-          not_true true h = absurd (h refl)
-          not_true false h = refl
+          absurd (none_listed kind (column_kind table name kind (subst (Contains all) change (has_change trip p))) column (subst (λ (t : Trip). Contains (listed t.fresh.kind) column) is among))
       pick (Leaves e found is) = leaving_fits p.place.change (has_change trip p) e found trip is column (subst (λ (t : Trip). Contains (listed t.fresh.kind) column) is among)
 
   -- every index that lists a column which leaves does so too
@@ -324,6 +349,7 @@ module _ (old : Version) (sound : IsSoundVersion old) (all : List Change) (plann
       is_index_if_lists : (kind : Kind) → Contains (listed kind) e.number → is_index kind ≡ true
       is_index_if_lists (Index columns) h = refl
       is_index_if_lists (Optional type) h = absurd (contains_none e.number h)
+      is_index_if_lists (Required type fallback) h = absurd (contains_none e.number h)
 
   pub covered : (trip : Trip) → Contains (trips old all) trip → (number : ℕ) (index : ElementDef) → is_index trip.fresh.kind ≡ false → element_at old number ≡ Some index → Contains (listed index.kind) trip.number → (other : Trip) × Contains (trips old all) other × (other.number ≡ number)
   covered trip has number index is_column at among = pick p.place.from_change
@@ -334,20 +360,16 @@ module _ (old : Version) (sound : IsSoundVersion old) (all : List Change) (plann
       small : trip.number < old.next
       small = let f = (sound.elements number index at).columns trip.number among in (ordered sound).below trip.number f.0 f.2
 
-      pick : From old all p.place.now_early p.place.now_late p.place.change trip → (other : Trip) × Contains (trips old all) other × (other.number ≡ number)
-      pick (EarlyIndex table name columns change listed_added is) = let n : trip.number ≡ p.place.now_early = ap (λ (t : Trip). t.number) is in absurd (omega (arith, small, p.place.early_is))
-      pick (LateIndex table name columns change listed_added is) = let n : trip.number ≡ p.place.now_late = ap (λ (t : Trip). t.number) is in absurd (omega (arith, small, p.place.late_is))
-      pick (NewColumn table name kind change is) = let n : trip.number ≡ p.place.now_early = ap (λ (t : Trip). t.number) is in absurd (omega (arith, small, p.place.early_is))
+      pick : From old all p.place.before p.place.change trip → (other : Trip) × Contains (trips old all) other × (other.number ≡ number)
+      pick (NewIndex table name columns change is) = let n : trip.number ≡ number_of old.next all p.place.before (wait_in all table columns) = ap (λ (t : Trip). t.number) is in absurd (omega (arith, small, n))
+      pick (NewColumn table name kind change is) = let n : trip.number ≡ number_of old.next all p.place.before 0 = ap (λ (t : Trip). t.number) is in absurd (omega (arith, small, n))
       pick (Leaves e found is) = leaving_covered p.place.change (has_change trip p) e found (ap (λ (t : Trip). is_index t.fresh.kind) (sym is) ∙ is_column) number index at (subst (λ (t : Trip). Contains (listed index.kind) t.number) is among)
 
   -- ---- what an added element needs
 
-  not_true : (b : Bool) → (b ≡ true → ⊥) → b ≡ false
-  not_true true h = absurd (h refl)
-  not_true false h = refl
-
-  pub column_kind : (table : ℕ) (name : List ℕ) (kind : Kind) → Contains all (AddColumn table name kind) → is_index kind ≡ false
-  column_kind table name kind has = not_true (is_index kind) (λ t. clear old sound all plannable (AddColumn table name kind) has Unknown (λ earlier. inr t))
+  suits_in : (kind : Kind) (filled : Bool) → is_filled kind ≡ filled → suits (if filled then FilledIn else PlainIn) kind ≡ true
+  suits_in kind true is = is
+  suits_in kind false is = ap not is
 
   pub kind_is : (trip : Trip) → Contains (trips old all) trip → suits trip.course trip.fresh.kind ≡ true
   kind_is trip has = pick p.place.from_change
@@ -355,10 +377,9 @@ module _ (old : Version) (sound : IsSoundVersion old) (all : List Change) (plann
       p : Place trip
       p = place_of trip has
 
-      pick : From old all p.place.now_early p.place.now_late p.place.change trip → suits trip.course trip.fresh.kind ≡ true
-      pick (EarlyIndex table name columns change listed_added is) = ap (λ (t : Trip). suits t.course t.fresh.kind) is
-      pick (LateIndex table name columns change listed_added is) = ap (λ (t : Trip). suits t.course t.fresh.kind) is
-      pick (NewColumn table name kind change is) = ap (λ (t : Trip). suits t.course t.fresh.kind) is ∙ column_if kind (column_kind table name kind (subst (Contains all) change (has_change trip p)))
+      pick : From old all p.place.before p.place.change trip → suits trip.course trip.fresh.kind ≡ true
+      pick (NewIndex table name columns change is) = ap (λ (t : Trip). suits t.course t.fresh.kind) is
+      pick (NewColumn table name kind change is) = ap (λ (t : Trip). suits t.course t.fresh.kind) is ∙ suits_in kind (is_filled kind) refl
       pick (Leaves e found is) = ap (λ (t : Trip). suits t.course t.fresh.kind) is ∙ (departs old sound all plannable p.place.change (has_change trip p) e found).fits
 
   pub out_is : (trip : Trip) → Contains (trips old all) trip → is_in trip.course ≡ false → element_at old trip.number ≡ here trip.number trip.fresh (departure trip.course)
@@ -367,64 +388,42 @@ module _ (old : Version) (sound : IsSoundVersion old) (all : List Change) (plann
       p : Place trip
       p = place_of trip has
 
-      pick : From old all p.place.now_early p.place.now_late p.place.change trip → element_at old trip.number ≡ here trip.number trip.fresh (departure trip.course)
-      pick (EarlyIndex table name columns change listed_added is) = absurd (true≢false (ap (λ (t : Trip). is_in t.course) (sym is) ∙ out))
-      pick (LateIndex table name columns change listed_added is) = absurd (true≢false (ap (λ (t : Trip). is_in t.course) (sym is) ∙ out))
-      pick (NewColumn table name kind change is) = absurd (true≢false (ap (λ (t : Trip). is_in t.course) (sym is) ∙ out))
+      pick : From old all p.place.before p.place.change trip → element_at old trip.number ≡ here trip.number trip.fresh (departure trip.course)
+      pick (NewIndex table name columns change is) = absurd (true≢false (ap (λ (t : Trip). is_in t.course) (sym is) ∙ out))
+      pick (NewColumn table name kind change is) = absurd (true≢false (sym (comes_in kind) ∙ ap (λ (t : Trip). is_in t.course) (sym is) ∙ out))
       pick (Leaves e found is) =
           let d = departs old sound all plannable p.place.change (has_change trip p) e found in
           subst (λ (t : Trip). element_at old t.number ≡ here t.number t.fresh (departure t.course)) (sym is) (d.there ∙ sym d.stands)
 
   -- an added element's change, at its place
   data New (trip : Trip) (p : Place trip) : Type 0 where
-    NewIndex : (table : ℕ) (name : List ℕ) (columns : List (List ℕ)) → p.place.change ≡ AddIndex table name columns → trip.fresh ≡ record { table = table; name = name; kind = Index (each (column_number old all table) columns) } → New trip p
+    AnIndex : (table : ℕ) (name : List ℕ) (columns : List (List ℕ)) → p.place.change ≡ AddIndex table name columns → trip.fresh ≡ record { table = table; name = name; kind = Index (each (column_number old all table) columns) } → New trip p
     AColumn : (table : ℕ) (name : List ℕ) (kind : Kind) → p.place.change ≡ AddColumn table name kind → trip.fresh ≡ record { table = table; name = name; kind = kind } → New trip p
 
   new_is : (trip : Trip) (p : Place trip) → is_in trip.course ≡ true → New trip p
   new_is trip p new = pick p.place.from_change
     where
-      pick : From old all p.place.now_early p.place.now_late p.place.change trip → New trip p
-      pick (EarlyIndex table name columns change listed_added is) = NewIndex table name columns change (ap (λ (t : Trip). t.fresh) is)
-      pick (LateIndex table name columns change listed_added is) = NewIndex table name columns change (ap (λ (t : Trip). t.fresh) is)
+      pick : From old all p.place.before p.place.change trip → New trip p
+      pick (NewIndex table name columns change is) = AnIndex table name columns change (ap (λ (t : Trip). t.fresh) is)
       pick (NewColumn table name kind change is) = AColumn table name kind change (ap (λ (t : Trip). t.fresh) is)
       pick (Leaves e found is) = absurd (true≢false (sym new ∙ ap (λ (t : Trip). is_in t.course) is ∙ out_of e.kind e.state))
 
   -- the number of an added element, between those given and the limit
-  additions : (changes : List Change) → count_by is_addition changes ≡ count_by (is_early all) changes + count_by (is_late all) changes
-  additions [] = refl
-  additions (x ∷ xs) =
-      let rest : count_by is_addition xs ≡ count_by (is_early all) xs + count_by (is_late all) xs = additions xs in
-      let one : ◌≡◌ {A = ℕ} (cond (is_addition x) 1 0) (cond (is_early all x) 1 0 + cond (is_late all x) 1 0) = each_one x in
-      omega (arith, count_first is_addition x xs, count_first (is_early all) x xs, count_first (is_late all) x xs)
-    where
-      each_one : (x : Change) → ◌≡◌ {A = ℕ} (cond (is_addition x) 1 0) (cond (is_early all x) 1 0 + cond (is_late all x) 1 0)
-      each_one (AddIndex table name columns) = elim (lists_added all table columns) as (λ b. ◌≡◌ {A = ℕ} 1 (cond (if b then false else true) 1 0 + cond b 1 0)) [ true ↦ refl | false ↦ refl ]
-      each_one (AddColumn table name kind) = refl
-      each_one change = refl
-
   new_number : (trip : Trip) (p : Place trip) → is_in trip.course ≡ true → (old.next ≤ trip.number) × (trip.number < old.next + count_by is_addition all)
-  new_number trip p new = pick (role old all p.place.now_early p.place.now_late p.place.change trip p.place.from_change)
+  new_number trip p new = pick (role old all p.place.before p.place.change trip p.place.from_change)
     where
-      early_all : count_by (is_early all) all ≡ count_by (is_early all) p.place.before + (cond (is_early all p.place.change) 1 0 + count_by (is_early all) p.place.after)
-      early_all = count_split (is_early all) all p.place.before p.place.after p.place.change p.place.split
-
-      late_all : count_by (is_late all) all ≡ count_by (is_late all) p.place.before + (cond (is_late all p.place.change) 1 0 + count_by (is_late all) p.place.after)
-      late_all = count_split (is_late all) all p.place.before p.place.after p.place.change p.place.split
-
-      no_element : New trip p → (e : ElementDef) → leaving old p.place.change ≡ Some e → ⊥
-      no_element (NewIndex table name columns is fresh) e found = not_both e None (ap (leaving old) (sym is) ∙ found) refl
-      no_element (AColumn table name kind is fresh) e found = not_both e None (ap (leaving old) (sym is) ∙ found) refl
-
-      pick : Role old all p.place.now_early p.place.now_late p.place.change trip → (old.next ≤ trip.number) × (trip.number < old.next + count_by is_addition all)
-      pick (IsEarly e n) = (omega (arith, p.place.early_is, n), omega (arith, p.place.early_is, n, early_all, one_if (is_early all p.place.change) e, additions all))
-      pick (IsLate e n) = (omega (arith, p.place.late_is, n), omega (arith, p.place.late_is, n, late_all, one_if (is_late all p.place.change) e, additions all))
-      pick (Goes e found n) = absurd (no_element (new_is trip p new) e found)
+      pick : Role old all p.place.before p.place.change trip → (old.next ≤ trip.number) × (trip.number < old.next + count_by is_addition all)
+      pick (Enters e n) = (
+        omega (arith, n),
+        omega (arith, n, count_split (enters_at all trip.wait) all p.place.before p.place.after p.place.change p.place.split, one_if (enters_at all trip.wait p.place.change) e, all_additions all trip.wait all),
+      )
+      pick (Goes e found n out) = absurd (true≢false (sym new ∙ out))
 
   not_taken : (trip : Trip) (p : Place trip) → is_in trip.course ≡ true → IsTaken old p.place.before trip.fresh.table trip.fresh.name → ⊥
   not_taken trip p new taken = pick (new_is trip p new)
     where
       pick : New trip p → ⊥
-      pick (NewIndex table name columns is fresh) =
+      pick (AnIndex table name columns is fresh) =
           plannable p.place.before p.place.after p.place.change NameTaken p.place.split
           (subst (λ c. ChangeFault old all p.place.before c NameTaken) (sym is) (subst (λ (f : NewElement). IsTaken old p.place.before f.table f.name) fresh taken))
       pick (AColumn table name kind is fresh) =
@@ -432,23 +431,22 @@ module _ (old : Version) (sound : IsSoundVersion old) (all : List Change) (plann
           (subst (λ c. ChangeFault old all p.place.before c NameTaken) (sym is) (subst (λ (f : NewElement). IsTaken old p.place.before f.table f.name) fresh taken))
 
   -- the change of an added element adds its name
-  from_adds : (early late : ℕ) (change : Change) (trip : Trip) → From old all early late change trip → is_in trip.course ≡ true → (table : ℕ) (name : List ℕ) → trip.fresh.table ≡ table → trip.fresh.name ≡ name → adds table name change ≡ true
-  from_adds early late change trip (EarlyIndex t n columns c listed_added is) new table name is_t is_n = ap (adds table name) c ∙ same_name_is table t name n (sym is_t ∙ ap (λ (x : Trip). x.fresh.table) is) (sym is_n ∙ ap (λ (x : Trip). x.fresh.name) is)
-  from_adds early late change trip (LateIndex t n columns c listed_added is) new table name is_t is_n = ap (adds table name) c ∙ same_name_is table t name n (sym is_t ∙ ap (λ (x : Trip). x.fresh.table) is) (sym is_n ∙ ap (λ (x : Trip). x.fresh.name) is)
-  from_adds early late change trip (NewColumn t n kind c is) new table name is_t is_n = ap (adds table name) c ∙ same_name_is table t name n (sym is_t ∙ ap (λ (x : Trip). x.fresh.table) is) (sym is_n ∙ ap (λ (x : Trip). x.fresh.name) is)
-  from_adds early late change trip (Leaves e found is) new table name is_t is_n = absurd (true≢false (sym new ∙ ap (λ (t : Trip). is_in t.course) is ∙ out_of e.kind e.state))
+  from_adds : (earlier : List Change) (change : Change) (trip : Trip) → From old all earlier change trip → is_in trip.course ≡ true → (table : ℕ) (name : List ℕ) → trip.fresh.table ≡ table → trip.fresh.name ≡ name → adds table name change ≡ true
+  from_adds earlier change trip (NewIndex t n columns c is) new table name is_t is_n = ap (adds table name) c ∙ same_name_is table t name n (sym is_t ∙ ap (λ (x : Trip). x.fresh.table) is) (sym is_n ∙ ap (λ (x : Trip). x.fresh.name) is)
+  from_adds earlier change trip (NewColumn t n kind c is) new table name is_t is_n = ap (adds table name) c ∙ same_name_is table t name n (sym is_t ∙ ap (λ (x : Trip). x.fresh.table) is) (sym is_n ∙ ap (λ (x : Trip). x.fresh.name) is)
+  from_adds earlier change trip (Leaves e found is) new table name is_t is_n = absurd (true≢false (sym new ∙ ap (λ (t : Trip). is_in t.course) is ∙ out_of e.kind e.state))
 
   earlier_same : (done rest : List Trip) (trip other : Trip) → trips old all ≡ done ++ trip ∷ rest → Contains done other → is_in trip.course ≡ true → is_in other.course ≡ true → other.fresh.table ≡ trip.fresh.table → other.fresh.name ≡ trip.fresh.name → ⊥
-  earlier_same done rest trip other split among new new_other is_t is_n = not_taken trip p new (inr (inr (any_middle (adds trip.fresh.table trip.fresh.name) p.place.before q.before q.after q.change q.split (from_adds _ _ q.change other q.from_change new_other _ _ is_t is_n))))
+  earlier_same done rest trip other split among new new_other is_t is_n = not_taken trip p new (inr (inr (any_middle (adds trip.fresh.table trip.fresh.name) p.place.before q.before q.after q.change q.split (from_adds _ q.change other q.from_change new_other _ _ is_t is_n))))
     where
       p : Place trip
-      p = record { done = done; rest = rest; split = split; place = placed old all all old.next (old.next + count_by (is_early all) all) done rest trip split }
+      p = record { done = done; rest = rest; split = split; place = placed old all [] all done rest trip split }
 
       s : (before after : List Trip) × (done ≡ before ++ other ∷ after)
       s = split_at done other among
 
-      q : Placed old all old.next (old.next + count_by (is_early all) all) p.place.before s.0 other
-      q = placed old all p.place.before old.next (old.next + count_by (is_early all) all) s.0 s.1 other (sym p.place.done_is ∙ s.2)
+      q : Placed old all [] p.place.before s.0 other
+      q = placed old all [] p.place.before s.0 s.1 other (sym p.place.done_is ∙ s.2)
 
   no_other_is : (trip other : Trip) → Contains (trips old all) trip → Contains (trips old all) other → is_in trip.course ≡ true → is_in other.course ≡ true → other.fresh.table ≡ trip.fresh.table → other.fresh.name ≡ trip.fresh.name → other.number ≡ trip.number
   no_other_is trip other has has_other new new_other is_t is_n = pick (Contains-append_cases s.0 (trip ∷ s.1) other (subst (λ ts. Contains ts other) s.2 has_other))
@@ -497,25 +495,25 @@ module _ (old : Version) (sound : IsSoundVersion old) (all : List Change) (plann
   one_column : (table : ℕ) (name : List ℕ) (columns : List (List ℕ)) → Contains all (AddIndex table name columns) → (a b : List ℕ) → Contains columns a → Contains columns b → column_number old all table a ≡ column_number old all table b → a ≡ b
   one_column table name columns has a b in_a in_b same = pick (named_column old table a) (named_column old table b) refl refl
     where
-      added_at : (own : List ℕ) → Contains columns own → named_column old table own ≡ None → (kind : Kind) × Contains (trips old all) (record { wait = 0; course = ColumnIn; number = added_number all old.next table own all; fresh = record { table = table; name = own; kind = kind } })
-      added_at own among none = made_added old all all table own old.next (old.next + count_by (is_early all) all) (is_true_if_not_false _ (λ f. clear old sound all plannable (AddIndex table name columns) has Unknown (λ earlier. inr (own, among, ap is_some_test none, f))))
+      added_at : (own : List ℕ) → Contains columns own → named_column old table own ≡ None → (kind : Kind) × Contains all (AddColumn table own kind) × Contains (trips old all) (column_trip (added_number old.next all [] table own all) table own kind)
+      added_at own among none = made_added old all [] all table own (is_true_if_not_false _ (λ f. clear old sound all plannable (AddIndex table name columns) has Unknown (λ earlier. inr (own, among, ap is_some_test none, f))))
         where
           is_some_test : Option ElementDef → Bool
           is_some_test None = false
           is_some_test (Some x) = true
 
-      number_of_none : (own : List ℕ) → named_column old table own ≡ None → column_number old all table own ≡ added_number all old.next table own all
-      number_of_none own none = ap (λ o. number_or o (added_number all old.next table own all)) none
+      number_of_none : (own : List ℕ) → named_column old table own ≡ None → column_number old all table own ≡ added_number old.next all [] table own all
+      number_of_none own none = ap (λ o. number_or o (added_number old.next all [] table own all)) none
 
       number_of_some : (own : List ℕ) (e : ElementDef) → named_column old table own ≡ Some e → column_number old all table own ≡ e.number
-      number_of_some own e found = ap (λ o. number_or o (added_number all old.next table own all)) found
+      number_of_some own e found = ap (λ o. number_or o (added_number old.next all [] table own all)) found
 
       apart : (own new : List ℕ) (e : ElementDef) → Contains columns new → named_column old table own ≡ Some e → named_column old table new ≡ None → column_number old all table own ≡ column_number old all table new → ⊥
       apart own new e among found none is =
           let m = added_at new among none in
           let small : e.number < old.next = (ordered sound).below e.number e (column_there old (ordered sound) table own e found).0 in
-          let big : old.next ≤ added_number all old.next table new all = new_trip_number _ m.1 refl in
-          let one : e.number ≡ added_number all old.next table new all = sym (number_of_some own e found) ∙ is ∙ number_of_none new none in
+          let big : old.next ≤ added_number old.next all [] table new all = new_trip_number _ m.2 (comes_in m.0) in
+          let one : e.number ≡ added_number old.next all [] table new all = sym (number_of_some own e found) ∙ is ∙ number_of_none new none in
           omega arith
 
       pick : (o p : Option ElementDef) → named_column old table a ≡ o → named_column old table b ≡ p → a ≡ b
@@ -529,7 +527,7 @@ module _ (old : Version) (sound : IsSoundVersion old) (all : List Change) (plann
       pick None None none_a none_b =
           let m = added_at a in_a none_a in
           let n = added_at b in_b none_b in
-          let one = one_is old sound all plannable _ _ m.1 n.1 (sym (number_of_none a none_a) ∙ same ∙ number_of_none b none_b) in
+          let one = one_is old sound all plannable _ _ m.2 n.2 (sym (number_of_none a none_a) ∙ same ∙ number_of_none b none_b) in
           ap (λ (t : Trip). t.fresh.name) one
 
   distinct_each : (f : List ℕ → ℕ) (xs : List (List ℕ)) → ((a b : List ℕ) → Contains xs a → Contains xs b → f a ≡ f b → a ≡ b) → names.is_distinct xs ≡ true → is_distinct (each f xs) ≡ true
@@ -552,9 +550,8 @@ module _ (old : Version) (sound : IsSoundVersion old) (all : List Change) (plann
       not_is true e = absurd (true≢false (sym e))
       not_is false e = refl
 
-  column_list_none : (kind : Kind) → is_index kind ≡ false → IsColumnList kind
-  column_list_none (Index columns) e = absurd (true≢false e)
-  column_list_none (Optional type) e = tt
+  stable_fair : (kind : Kind) → ¬ (¬ (IsFairKind kind)) → IsFairKind kind
+  stable_fair kind h = (fair_kind kind).0 (is_true_if_not_false (is_fair_kind kind) (λ f. h (λ fair. true≢false (sym ((fair_kind kind).1 fair) ∙ f))))
 
   added_is : (trip : Trip) → Contains (trips old all) trip → is_in trip.course ≡ true → IsAdded old (trips old all) trip
   added_is trip has new = record {
@@ -562,7 +559,7 @@ module _ (old : Version) (sound : IsSoundVersion old) (all : List Change) (plann
     counted = counted (new_is trip p new);
     table = λ none. no_table none (new_is trip p new);
     name = name_is (new_is trip p new);
-    columns = columns_is (new_is trip p new);
+    fair = fair_is (new_is trip p new);
     no_key = λ def type at key. not_taken trip p new (inl (def, type, at, key));
     no_live = λ number element at is_t is_n. not_named old trip.fresh.table trip.fresh.name (none_if_not_some _ (λ some. not_taken trip p new (inr (inl some)))) number element at is_t is_n;
     no_other = λ other has_other new_other is_t is_n. no_other_is trip other has has_other new new_other is_t is_n;
@@ -575,17 +572,17 @@ module _ (old : Version) (sound : IsSoundVersion old) (all : List Change) (plann
       bounds = new_number trip p new
 
       counted : New trip p → trip.number ≤ max_elements
-      counted (NewIndex table name columns is fresh) = elim (cases_lt (max_elements + 1) (old.next + count_by is_addition all)) [
+      counted (AnIndex table name columns is fresh) = elim (cases_lt (max_elements + 1) (old.next + count_by is_addition all)) [
         | inl over ↦ absurd (clear old sound all plannable (AddIndex table name columns) (subst (Contains all) is (has_change trip p)) Limit (λ earlier. inr (inr (inr over))))
         | inr within ↦ omega (arith, bounds.1)
       ]
       counted (AColumn table name kind is fresh) = elim (cases_lt (max_elements + 1) (old.next + count_by is_addition all)) [
-        | inl over ↦ absurd (clear old sound all plannable (AddColumn table name kind) (subst (Contains all) is (has_change trip p)) Limit (λ earlier. inr (inr over)))
+        | inl over ↦ absurd (clear old sound all plannable (AddColumn table name kind) (subst (Contains all) is (has_change trip p)) Limit (λ earlier. inr (inr (inr over))))
         | inr within ↦ omega (arith, bounds.1)
       ]
 
       no_table : table_at old trip.fresh.table ≡ None → New trip p → ⊥
-      no_table none (NewIndex table name columns is fresh) = clear old sound all plannable (AddIndex table name columns) (subst (Contains all) is (has_change trip p)) Unknown (λ earlier. inl (none_is (ap (λ (f : NewElement). table_at old f.table) (sym fresh) ∙ none)))
+      no_table none (AnIndex table name columns is fresh) = clear old sound all plannable (AddIndex table name columns) (subst (Contains all) is (has_change trip p)) Unknown (λ earlier. inl (none_is (ap (λ (f : NewElement). table_at old f.table) (sym fresh) ∙ none)))
         where
           none_is : {A : Type 0} {o : Option A} → o ≡ None → IsNone o
           none_is e = ap is_some e
@@ -595,19 +592,19 @@ module _ (old : Version) (sound : IsSoundVersion old) (all : List Change) (plann
           none_is e = ap is_some e
 
       name_is : New trip p → IsName trip.fresh.name
-      name_is (NewIndex table name columns is fresh) = subst (λ (f : NewElement). IsName f.name) (sym fresh) (stable_name name (λ n. clear old sound all plannable (AddIndex table name columns) (subst (Contains all) is (has_change trip p)) Limit (λ earlier. inl n)))
+      name_is (AnIndex table name columns is fresh) = subst (λ (f : NewElement). IsName f.name) (sym fresh) (stable_name name (λ n. clear old sound all plannable (AddIndex table name columns) (subst (Contains all) is (has_change trip p)) Limit (λ earlier. inl n)))
       name_is (AColumn table name kind is fresh) = subst (λ (f : NewElement). IsName f.name) (sym fresh) (stable_name name (λ n. clear old sound all plannable (AddColumn table name kind) (subst (Contains all) is (has_change trip p)) Limit (λ earlier. inl n)))
 
-      columns_is : New trip p → IsColumnList trip.fresh.kind
-      columns_is (NewIndex table name columns is fresh) =
+      fair_is : New trip p → IsFairKind trip.fresh.kind
+      fair_is (AnIndex table name columns is fresh) =
           let has_add : Contains all (AddIndex table name columns) = subst (Contains all) is (has_change trip p) in
           let list : IsNameList columns = stable_list columns (λ n. clear old sound all plannable (AddIndex table name columns) has_add Limit (λ earlier. inr (inl n))) in
-          subst (λ (f : NewElement). IsColumnList f.kind) (sym fresh) (
+          subst (λ (f : NewElement). IsFairKind f.kind) (sym fresh) (
             subst (λ n. 1 ≤ n) (sym (length-map columns (column_number old all table))) list.0,
             subst (λ n. n ≤ max_listed) (sym (length-map columns (column_number old all table))) list.1,
             distinct_each (column_number old all table) columns (λ a b in_a in_b same. one_column table name columns has_add a b in_a in_b same) list.2,
           )
-      columns_is (AColumn table name kind is fresh) = subst (λ (f : NewElement). IsColumnList f.kind) (sym fresh) (column_list_none kind (column_kind table name kind (subst (Contains all) is (has_change trip p))))
+      fair_is (AColumn table name kind is fresh) = subst (λ (f : NewElement). IsFairKind f.kind) (sym fresh) (stable_fair kind (λ n. clear old sound all plannable (AddColumn table name kind) (subst (Contains all) is (has_change trip p)) Limit (λ earlier. inr (inl n))))
 
   pub are_trips : AreTrips old (trips old all)
   are_trips = record {

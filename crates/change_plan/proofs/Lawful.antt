@@ -13,17 +13,17 @@ use Rattle.schema_version.specs.declared.element.ElementState.TheVariants.{Absen
 use Rattle.schema_version.specs.declared.element.Way.{Way}
 use Rattle.schema_version.specs.declared.element.Way.TheVariants.{Adding, Dropping}
 use Rattle.schema_version.specs.declared.element.Kind.{Kind}
-use Rattle.schema_version.specs.declared.element.Kind.TheVariants.{Index, Optional}
+use Rattle.schema_version.specs.declared.element.Kind.TheVariants.{Index, Optional, Required}
 use Rattle.schema_version.specs.declared.element.ElementDef.{ElementDef}
 use Rattle.schema_version.specs.declared.element.NewElement.{NewElement}
 use Rattle.schema_version.specs.declared.step.Move.{Move}
 use Rattle.schema_version.specs.declared.step.Move.TheVariants.{Enter, Go, Turn}
 use Rattle.schema_version.specs.declared.step.StepFault.{StepFault}
 use Rattle.schema_version.specs.declared.step.StepFault.TheVariants.{Unknown, NotAdjacent, WrongWay, Dependent, NameTaken, Limit, Memory}
-use Rattle.schema_version.specs.Version.{Version, Table, table_at, element_at, state_or_absent, is_index, is_column, is_public, listed, count_live, IsLiveColumn}
+use Rattle.schema_version.specs.Version.{Version, Table, table_at, element_at, state_or_absent, is_index, is_public, listed, type_of_kind, count_live, IsLiveColumn}
 use Rattle.schema_version.specs.Names.{IsName, max_elements}
-use Rattle.schema_version.specs.Moves.{turned_back, HasNoEdge, TurnFault, TurnFaultAt, is_move_of, moves_element, is_entry, is_unready, IsFirstSuch, DependsOn, GoFault, GoFaultAt, MoveFault, IsAllowed, IsTaken, Enters, IsColumnList, IsWithinLimits, count_like, max_like, is_entry_like, after_step, as_element}
-use Rattle.schema_version.specs.Edges.{edge}
+use Rattle.schema_version.specs.Moves.{turned_back, HasNoEdge, TurnFault, TurnFaultAt, is_move_of, moves_element, is_entry, is_unready, IsFirstSuch, DependsOn, GoFault, GoFaultAt, MoveFault, IsAllowed, IsTaken, Enters, IsFairKind, IsWithinLimits, count_like, max_like, is_entry_like, after_step, as_element}
+use Rattle.schema_version.specs.Edges.{edge, edge_by, is_filled}
 use Rattle.schema_version.specs.Steps.{IsOrdered, in_state_or_none}
 use Rattle.change_plan.proofs.Steps.{same_or_apart, Becomes, Stays, Comes, Goes, Turns, Midway, after_allowed, not_both, not_given}
 use Rattle.change_plan.specs.declared.least_plan.Reorg.{Reorg}
@@ -31,12 +31,12 @@ use Rattle.change_plan.specs.Plans.{AreAllowed, IsWorkBefore, after_plan, work_b
 use Rattle.change_plan.specs.declared.trip.Act.{Act}
 use Rattle.change_plan.specs.declared.trip.Act.TheVariants.{Wait, Appear, Reach, Return}
 use Rattle.change_plan.specs.declared.trip.Course.{Course}
-use Rattle.change_plan.specs.declared.trip.Course.TheVariants.{ColumnIn, IndexIn, IndexOut, ColumnOut, DeleteOnlyBack, WriteOnlyBack}
+use Rattle.change_plan.specs.declared.trip.Course.TheVariants.{PlainIn, FilledIn, FilledOut, PlainOut, DeleteOnlyBack, WriteOnlyBack}
 use Rattle.change_plan.specs.declared.trip.Trip.{Trip}
 use Rattle.change_plan.specs.Schedule.{act_at, duration, steps_from, work_by, move_of, work_of_trip}
 use Rattle.std.proofs.lemmas.List.Elements.{Contains-append_left as contains_left}
 use Rattle.change_plan.proofs.Named.{contains_first, contains_later, contains_middle, split_at}
-use Rattle.change_plan.proofs.Trips.{is_in, suits, Stop, Away, At, departure, destination, stop_at, element_of, here, reached, reaches, Leg, Rests, Starts, Runs, Turns as TurnsBack, leg, waits, waits_last, at_departure, at_destination, appears, moved_by, moving, Source, source, find_trip, quiet}
+use Rattle.change_plan.proofs.Trips.{is_in, suits, Stop, Away, At, departure, destination, stop_at, element_of, here, reaches, Leg, Rests, Starts, Runs, Turns as TurnsBack, leg, waits, waits_last, at_departure, at_destination, appears, moved_by, moving, Source, source, find_trip, quiet}
 
 -- ---- what makes trips a plan
 
@@ -47,9 +47,9 @@ next_at old trips (suc time) = next_at old trips time + count_by is_entry (flat_
 
 -- a column that a trip's index lists, beside the trips
 pub data ColumnFits (old : Version) (trips : List Trip) (trip : Trip) (column : ℕ) : Type 0 where
-  Steady : ((other : Trip) → Contains trips other → other.number ≢ column) → (element : ElementDef) → (type : _) → element_at old column ≡ Some element → element.table ≡ trip.fresh.table → element.kind ≡ Optional type → element.state ≡ Public → ColumnFits old trips trip column
+  Steady : ((other : Trip) → Contains trips other → other.number ≢ column) → (element : ElementDef) → (type : _) → element_at old column ≡ Some element → element.table ≡ trip.fresh.table → type_of_kind element.kind ≡ Some type → element.state ≡ Public → ColumnFits old trips trip column
   -- the index waits for the column
-  Added : (other : Trip) → Contains trips other → other.number ≡ column → other.course ≡ ColumnIn → is_in trip.course ≡ true → duration other ≤ trip.wait → other.fresh.table ≡ trip.fresh.table → ColumnFits old trips trip column
+  Added : (other : Trip) → Contains trips other → other.number ≡ column → is_in other.course ≡ true → (type : _) → type_of_kind other.fresh.kind ≡ Some type → is_in trip.course ≡ true → duration other ≤ trip.wait → other.fresh.table ≡ trip.fresh.table → ColumnFits old trips trip column
   -- the column waits for the index
   Dropped : (other : Trip) → Contains trips other → other.number ≡ column → departure other.course ≡ At Public Adding → is_in trip.course ≡ false → duration trip ≤ other.wait → ColumnFits old trips trip column
 
@@ -59,7 +59,7 @@ pub record IsAdded (old : Version) (trips : List Trip) (trip : Trip) : Type 0 wh
   pub counted : trip.number ≤ max_elements
   pub table : (table_at old trip.fresh.table ≡ None) → ⊥
   pub name : IsName trip.fresh.name
-  pub columns : IsColumnList trip.fresh.kind
+  pub fair : IsFairKind trip.fresh.kind
   pub no_key : (def : Table) (type : _) → table_at old trip.fresh.table ≡ Some def → Contains def.key (trip.fresh.name, type) → ⊥
   pub no_live : (number : ℕ) (element : ElementDef) → element_at old number ≡ Some element → element.table ≡ trip.fresh.table → element.name ≡ trip.fresh.name → ⊥
   pub no_other : (other : Trip) → Contains trips other → is_in other.course ≡ true → other.fresh.table ≡ trip.fresh.table → other.fresh.name ≡ trip.fresh.name → other.number ≡ trip.number
@@ -107,19 +107,19 @@ HasRoom old trips =
 
 -- who enters isn't there before
 departs_in : (course : Course) → is_in course ≡ true → departure course ≡ Away
-departs_in ColumnIn e = refl
-departs_in IndexIn e = refl
-departs_in IndexOut e = absurd (true≢false (sym e))
-departs_in ColumnOut e = absurd (true≢false (sym e))
+departs_in PlainIn e = refl
+departs_in FilledIn e = refl
+departs_in FilledOut e = absurd (true≢false (sym e))
+departs_in PlainOut e = absurd (true≢false (sym e))
 departs_in DeleteOnlyBack e = absurd (true≢false (sym e))
 departs_in WriteOnlyBack e = absurd (true≢false (sym e))
 
 -- who leaves is
 departs_out : (course : Course) → is_in course ≡ false → (state : ElementState) × (way : Way) × (departure course ≡ At state way)
-departs_out ColumnIn e = absurd (true≢false e)
-departs_out IndexIn e = absurd (true≢false e)
-departs_out IndexOut e = (Public, Adding, refl)
-departs_out ColumnOut e = (Public, Adding, refl)
+departs_out PlainIn e = absurd (true≢false e)
+departs_out FilledIn e = absurd (true≢false e)
+departs_out FilledOut e = (Public, Adding, refl)
+departs_out PlainOut e = (Public, Adding, refl)
 departs_out DeleteOnlyBack e = (DeleteOnly, Adding, refl)
 departs_out WriteOnlyBack e = (WriteOnly, Adding, refl)
 
@@ -185,9 +185,9 @@ module _ (old : Version) (trips : List Trip) (are : AreTrips old trips) where
         pick (Steady none element type at_old table kind state) =
             both _ _ (public_here (element_at now column) element (at.rest column none ∙ at_old) state)
             (quiet time trips column (λ x has_x. inl (none x has_x)))
-        pick (Added other among is_column course new behind table) =
+        pick (Added other among is_column comes type kind new behind table) =
             let done : duration other ≤ time = omega (arith, behind, (moving time trip move moves_now).0) in
-            of_trip other among is_column (at_destination other time done ∙ arrives_in other.course (ap is_in course)) (waits_last other time done)
+            of_trip other among is_column (at_destination other time done ∙ arrives_in other.course comes) (waits_last other time done)
         pick (Dropped other among is_column start gone behind) =
             let early : time < other.wait = omega (arith, behind, (moving time trip move moves_now).1) in
             of_trip other among is_column (at_departure other time (omega arith) ∙ start) (waits other time early)
@@ -211,7 +211,7 @@ module _ (old : Version) (trips : List Trip) (are : AreTrips old trips) where
       where
         fits : (other : Trip) → Contains trips other → stop_at other time ≢ Away → ColumnFits old trips other trip.number → ⊥
         fits other among live (Steady none element type at_old table kind state) = none trip has refl
-        fits other among live (Added x among_x is_number course new behind table) =
+        fits other among live (Added x among_x is_number comes type kind new behind table) =
             let same : x ≡ trip = are.one x trip among_x has is_number in
             let behind_trip : duration trip ≤ other.wait = subst (λ (t : Trip). duration t ≤ other.wait) same behind in
             live (at_departure other time (omega (arith, behind_trip, (moving time trip move moves_now).1)) ∙ departs_in other.course new)
@@ -229,6 +229,7 @@ module _ (old : Version) (trips : List Trip) (are : AreTrips old trips) where
 
         depends : (on : ℕ) (kind : Kind) → trip.fresh.kind ≡ kind → DependsOn now (flat_map (move_of time) trips) trip.number kind on → ⊥
         depends on (Index columns) is such = all_ready trip has _ (moved_by time trip (Reach goal) act) columns is on such
+        depends on (Required type fallback) is such = no_index_on trip has _ (moved_by time trip (Reach goal) act) (ap is_index is) on such.0.0 such.0.1 such.0.2
         depends on (Optional type) is such = no_index_on trip has _ (moved_by time trip (Reach goal) act) (ap is_index is) on such.0.0 such.0.1 such.0.2
 
         refute : (fault : StepFault) → GoFault now (flat_map (move_of time) trips) (flat_map (move_of time) done) trip.number (element_of trip.number trip.fresh state way) goal fault → ⊥
@@ -297,20 +298,15 @@ module _ (old : Version) (trips : List Trip) (are : AreTrips old trips) where
     column_live : (trip : Trip) → Contains trips trip → is_in trip.course ≡ true → (move : Move) → move_of time trip ≡ move ∷ [] → (column : ℕ) → Contains (listed trip.fresh.kind) column → IsLiveColumn now trip.fresh.table column
     column_live trip has is_new move moves_now column lists = pick ((are.trip trip has).columns column lists)
       where
-        of_kind : (kind : Kind) → is_column kind ≡ true → (type : _) × (kind ≡ Optional type)
-        of_kind (Index columns) e = absurd (true≢false (sym e))
-        of_kind (Optional type) e = (type, refl)
-
         pick : ColumnFits old trips trip column → IsLiveColumn now trip.fresh.table column
         pick (Steady none element type at_old table kind state) = (element, type, at.rest column none ∙ at_old, table, kind)
-        pick (Added other among is_column course new behind table) =
-            let type = of_kind other.fresh.kind (ap (λ c. suits c other.fresh.kind) (sym course) ∙ (are.trip other among).kind) in
+        pick (Added other among is_column comes type kind new behind table) =
             let done : duration other ≤ time = omega (arith, behind, (moving time trip move moves_now).0) in (
               element_of other.number other.fresh Public Adding,
-              type.0,
-              subst (λ n. element_at now n ≡ Some (element_of other.number other.fresh Public Adding)) is_column (at.trip other among ∙ ap (here other.number other.fresh) (at_destination other time done ∙ arrives_in other.course (ap is_in course))),
+              type,
+              subst (λ n. element_at now n ≡ Some (element_of other.number other.fresh Public Adding)) is_column (at.trip other among ∙ ap (here other.number other.fresh) (at_destination other time done ∙ arrives_in other.course comes)),
               table,
-              type.1,
+              kind,
             )
         pick (Dropped other among is_column start gone behind) = absurd (true≢false (sym is_new ∙ gone))
 
@@ -321,6 +317,7 @@ module _ (old : Version) (trips : List Trip) (are : AreTrips old trips) where
     depends_first : (earlier : List Move) (table : ℕ) (name : List ℕ) (kind : Kind) (on : ℕ) → MoveFault now (flat_map (move_of time) trips) earlier (Enter (record { table = table; name = name; kind = kind }) DeleteOnly) (Dependent on) → ((columns : _) → kind ≡ Index columns → IsFirstSuch (is_unready now (flat_map (move_of time) trips)) columns on → ⊥) → ⊥
     depends_first earlier table name (Index columns) on h f = f columns refl h
     depends_first earlier table name (Optional type) on h f = none_first (is_unready now (flat_map (move_of time) trips)) on h
+    depends_first earlier table name (Required type fallback) on h f = none_first (is_unready now (flat_map (move_of time) trips)) on h
 
     enter_allowed : HasRoom old trips → (done rest : List Trip) (trip : Trip) → trips ≡ done ++ trip ∷ rest → act_at trip time ≡ Appear → stop_at trip time ≡ Away → is_in trip.course ≡ true → (fault : StepFault) → MoveFault now (flat_map (move_of time) trips) (flat_map (move_of time) done) (Enter trip.fresh DeleteOnly) fault → ⊥
     enter_allowed room done rest trip split act away is_new = refute
@@ -334,9 +331,9 @@ module _ (old : Version) (trips : List Trip) (are : AreTrips old trips) where
         moves_now : move_of time trip ≡ Enter trip.fresh DeleteOnly ∷ []
         moves_now = moved_by time trip Appear act
 
-        no_edge : (kind : Kind) → edge kind Adding Absent DeleteOnly ≡ None → ⊥
-        no_edge (Index columns) e = no_way Adding (Some Adding) refl e
-        no_edge (Optional type) e = no_way Adding (Some Adding) refl e
+        no_edge : (filled : Bool) → edge_by filled Adding Absent DeleteOnly ≡ None → ⊥
+        no_edge true e = no_way Adding (Some Adding) refl e
+        no_edge false e = no_way Adding (Some Adding) refl e
 
         live_name : (place : ℕ) (element : ElementDef) → element_at now place ≡ Some element → element.table ≡ trip.fresh.table → element.name ≡ trip.fresh.name → ⊥
         live_name place element at_now table name = elim (find_trip trips place) [
@@ -368,12 +365,12 @@ module _ (old : Version) (trips : List Trip) (are : AreTrips old trips) where
             let number : trip.number ≡ next_at old trips time + count_by is_entry (flat_map (move_of time) done) = are.number done rest trip time split act in
             let next : now.next ≡ next_at old trips time = at.next in
             let counted : trip.number ≤ max_elements = added.counted in
-            (added.name, added.columns, room time now at done rest trip split act, omega arith)
+            (added.name, added.fair, room time now at done rest trip split act, omega arith)
 
         refute : (fault : StepFault) → MoveFault now (flat_map (move_of time) trips) (flat_map (move_of time) done) (Enter trip.fresh DeleteOnly) fault → ⊥
         refute Unknown (inl none) = added.table (sym (same_table trip.fresh.table) ∙ none_is _ none)
         refute Unknown (inr column) = column.2 (column_live trip has is_new _ moves_now column.0 column.1)
-        refute NotAdjacent h = no_edge trip.fresh.kind h.0
+        refute NotAdjacent h = no_edge (is_filled trip.fresh.kind) h.0
         refute WrongWay h = h
         refute (Dependent on) h = depends_first (flat_map (move_of time) done) trip.fresh.table trip.fresh.name trip.fresh.kind on h (λ columns is such. all_ready trip has _ moves_now columns is on such)
         refute NameTaken h = taken h

@@ -1,15 +1,15 @@
 -- What a change that takes an element out finds of it.
-use Rattle.std.specs.Prelude.{◌≡◌, ◌≢◌, ℕ, List, Bool, true, false, ◌&&◌, not, is_some, if◌then◌else◌, Option, Some, None, IsSome, Contains, refl}
+use Rattle.std.specs.Prelude.{◌≡◌, ◌≢◌, ℕ, List, Bool, true, false, not, is_some, if◌then◌else◌, Option, Some, None, IsSome, Contains, refl}
 use Rattle.std.proofs.Common.{sym, ap, subst, ◌∙◌, inl, true≢false}
 use Rattle.schema_version.specs.declared.element.ElementState.{ElementState}
 use Rattle.schema_version.specs.declared.element.ElementState.TheVariants.{Absent, DeleteOnly, WriteOnly, Public}
 use Rattle.schema_version.specs.declared.element.Way.{Way}
 use Rattle.schema_version.specs.declared.element.Way.TheVariants.{Adding, Dropping}
 use Rattle.schema_version.specs.declared.element.Kind.{Kind}
-use Rattle.schema_version.specs.declared.element.Kind.TheVariants.{Index, Optional}
+use Rattle.schema_version.specs.declared.element.Kind.TheVariants.{Index, Optional, Required}
 use Rattle.schema_version.specs.declared.element.ElementDef.{ElementDef}
-use Rattle.schema_version.specs.Version.{Version, element_at, is_index, is_column, is_public}
-use Rattle.schema_version.specs.Edges.{has_state}
+use Rattle.schema_version.specs.Version.{Version, element_at, is_index, is_column, is_public, type_of_kind}
+use Rattle.schema_version.specs.Edges.{has_state, is_filled}
 use Rattle.schema_version.specs.Sound.{IsSoundVersion}
 use Rattle.schema_version.specs.Steps.{IsOrdered}
 use Rattle.change_plan.proofs.Steps.{not_both}
@@ -18,14 +18,14 @@ use Rattle.change_plan.specs.declared.change.Change.TheVariants.{AddIndex, DropI
 use Rattle.change_plan.specs.declared.fault.PlanFault.{PlanFault}
 use Rattle.change_plan.specs.declared.fault.PlanFault.TheVariants.{Unknown, InChange}
 use Rattle.change_plan.specs.declared.trip.Course.{Course}
-use Rattle.change_plan.specs.declared.trip.Course.TheVariants.{IndexOut, ColumnOut, DeleteOnlyBack, WriteOnlyBack}
+use Rattle.change_plan.specs.declared.trip.Course.TheVariants.{FilledOut, PlainOut, DeleteOnlyBack, WriteOnlyBack}
 use Rattle.change_plan.specs.Plans.{Drops}
 use Rattle.change_plan.specs.Batches.{named, named_index, named_column, named_entering, is_adding, is_entering, if_entering, only_if, leaving, drops}
 use Rattle.change_plan.specs.Refusals.{ChangeFault, IsPlannable, IsInChange}
 use Rattle.change_plan.specs.Schedule.{steps, course_out, fresh_of}
 use Rattle.change_plan.proofs.Named.{named_there, split_at, ordered, same_name_is, and_true}
-use Rattle.change_plan.proofs.Bounds.{distance, moves_out}
-use Rattle.change_plan.proofs.Trips.{Stop, Away, At, is_in, suits, departure, element_of, here}
+use Rattle.change_plan.proofs.Bounds.{distance, moves_by, moves_out}
+use Rattle.change_plan.proofs.Trips.{At, is_in, suits, departure, element_of, here}
 
 -- ---- what the refusals leave
 
@@ -54,6 +54,7 @@ only_if_there test (Some f) e is = pick (test f.kind) refl
 no_index : (kind : Kind) → is_column kind ≡ true → is_index kind ≡ false
 no_index (Index columns) e = absurd (true≢false (sym e))
 no_index (Optional type) e = refl
+no_index (Required type fallback) e = refl
 
 -- an index or a column by its name
 pub index_there : (v : Version) → IsOrdered v → (table : ℕ) (name : List ℕ) (e : ElementDef) → named_index v table name ≡ Some e → (element_at v e.number ≡ Some e) × (e.table ≡ table) × (e.name ≡ name) × (is_index e.kind ≡ true)
@@ -71,10 +72,30 @@ column_there v numbered table name e found =
 pub index_columns : (kind : Kind) → is_index kind ≡ true → (columns : _) × (kind ≡ Index columns)
 index_columns (Index columns) e = (columns, refl)
 index_columns (Optional type) e = absurd (true≢false (sym e))
+index_columns (Required type fallback) e = absurd (true≢false (sym e))
 
-pub column_type : (kind : Kind) → is_index kind ≡ false → (type : _) × (kind ≡ Optional type)
+pub column_type : (kind : Kind) → is_index kind ≡ false → (type : _) × (type_of_kind kind ≡ Some type)
 column_type (Index columns) e = absurd (true≢false e)
 column_type (Optional type) e = (type, refl)
+column_type (Required type fallback) e = (type, refl)
+
+pub has_type : (kind : Kind) (type : _) → type_of_kind kind ≡ Some type → is_index kind ≡ false
+has_type (Index columns) type e = absurd (not_both type None e refl)
+has_type (Optional own) type e = refl
+has_type (Required own fallback) type e = refl
+
+-- the way out of what is public, by whether a fill serves it
+pub from_public : (filled : Bool) → (departure (if filled then FilledOut else PlainOut) ≡ At Public Adding) × (is_in (if filled then FilledOut else PlainOut) ≡ false)
+from_public true = (refl, refl)
+from_public false = (refl, refl)
+
+suits_out : (kind : Kind) (filled : Bool) → is_filled kind ≡ filled → suits (if filled then FilledOut else PlainOut) kind ≡ true
+suits_out kind true is = is
+suits_out kind false is = ap not is
+
+steps_out : (filled : Bool) (way : Way) → steps (if filled then FilledOut else PlainOut) ≡ moves_by filled Public way
+steps_out true way = refl
+steps_out false way = refl
 
 pub none_if_not_some : {A : Type 0} (o : Option A) → ¬ (IsSome o) → o ≡ None
 none_if_not_some None h = refl
@@ -83,6 +104,7 @@ none_if_not_some (Some x) h = absurd (h refl)
 pub column_if : (kind : Kind) → is_index kind ≡ false → is_column kind ≡ true
 column_if (Index columns) e = absurd (true≢false e)
 column_if (Optional type) e = refl
+column_if (Required type fallback) e = refl
 
 -- ---- an element that is abandoned
 
@@ -128,51 +150,34 @@ module _ (old : Version) (sound : IsSoundVersion old) (all : List Change) (plann
   pub clear : (change : Change) → Contains all change → (fault : PlanFault) → ((earlier : List Change) → ChangeFault old all earlier change fault) → ⊥
   clear change has fault faulty = let split = split_at all change has in plannable split.0 split.1 change fault split.2 (faulty split.0)
 
-  index_departs : (table : ℕ) (name : List ℕ) → Contains all (DropIndex table name) → (e : ElementDef) → named_index old table name ≡ Some e → Departs old (DropIndex table name) e
-  index_departs table name has e found = record {
-    there = there.0;
-    stands = ap (λ c. here e.number (fresh_of e) (departure c)) course ∙ at_stop e Public Adding state ((sound.elements e.number e there.0).way state);
-    out = ap is_in course;
-    fits = ap (λ c. suits c e.kind) course ∙ there.3;
-    moves = ap steps course ∙ sym (ap (λ s. moves_out e.kind s e.way) state ∙ ap (λ k. moves_out k Public e.way) columns.1);
-    taken = (columns.0, there.1, there.2, columns.1);
-    is_named = same_name_is e.table table e.name name there.1 there.2;
+  -- one that is public takes the whole way
+  public_departs : (change : Change) (e : ElementDef) → element_at old e.number ≡ Some e → e.state ≡ Public → Drops e change → drops e.table e.name change ≡ true → Departs old change e
+  public_departs change e there state taken is_named = record {
+    there = there;
+    stands = ap (λ c. here e.number (fresh_of e) (departure c)) course ∙ ap (here e.number (fresh_of e)) (from_public (is_filled e.kind)).0 ∙ at_stop e Public Adding state ((sound.elements e.number e there).way state);
+    out = ap is_in course ∙ (from_public (is_filled e.kind)).1;
+    fits = ap (λ c. suits c e.kind) course ∙ suits_out e.kind (is_filled e.kind) refl;
+    moves = ap steps course ∙ steps_out (is_filled e.kind) e.way ∙ sym (ap (λ s. moves_out e.kind s e.way) state);
+    taken = taken;
+    is_named = is_named;
   }
     where
-      there : (element_at old e.number ≡ Some e) × (e.table ≡ table) × (e.name ≡ name) × (is_index e.kind ≡ true)
-      there = index_there old (ordered sound) table name e found
+      course : course_out e.kind e.state ≡ (if is_filled e.kind then FilledOut else PlainOut)
+      course = ap (course_out e.kind) state
 
-      columns : (columns : _) × (e.kind ≡ Index columns)
-      columns = index_columns e.kind there.3
-
-      state : e.state ≡ Public
-      state = public_if_not_in_change (named_index old table name) (λ t. clear (DropIndex table name) has InChange (λ earlier. t)) e found
-
-      course : course_out e.kind e.state ≡ IndexOut
-      course = ap (course_out e.kind) state ∙ ap (λ k. course_out k Public) columns.1
+  index_departs : (table : ℕ) (name : List ℕ) → Contains all (DropIndex table name) → (e : ElementDef) → named_index old table name ≡ Some e → Departs old (DropIndex table name) e
+  index_departs table name has e found =
+      let there = index_there old (ordered sound) table name e found in
+      let columns = index_columns e.kind there.3 in
+      public_departs (DropIndex table name) e there.0 (public_if_not_in_change (named_index old table name) (λ t. clear (DropIndex table name) has InChange (λ earlier. t)) e found)
+      (columns.0, there.1, there.2, columns.1) (same_name_is e.table table e.name name there.1 there.2)
 
   column_departs : (table : ℕ) (name : List ℕ) → Contains all (DropColumn table name) → (e : ElementDef) → named_column old table name ≡ Some e → Departs old (DropColumn table name) e
-  column_departs table name has e found = record {
-    there = there.0;
-    stands = ap (λ c. here e.number (fresh_of e) (departure c)) course ∙ at_stop e Public Adding state ((sound.elements e.number e there.0).way state);
-    out = ap is_in course;
-    fits = ap (λ c. suits c e.kind) course ∙ column_if e.kind there.3;
-    moves = ap steps course ∙ sym (ap (λ s. moves_out e.kind s e.way) state ∙ ap (λ k. moves_out k Public e.way) type.1);
-    taken = (type.0, there.1, there.2, type.1);
-    is_named = same_name_is e.table table e.name name there.1 there.2;
-  }
-    where
-      there : (element_at old e.number ≡ Some e) × (e.table ≡ table) × (e.name ≡ name) × (is_index e.kind ≡ false)
-      there = column_there old (ordered sound) table name e found
-
-      type : (type : _) × (e.kind ≡ Optional type)
-      type = column_type e.kind there.3
-
-      state : e.state ≡ Public
-      state = public_if_not_in_change (named_column old table name) (λ t. clear (DropColumn table name) has InChange (λ earlier. t)) e found
-
-      course : course_out e.kind e.state ≡ ColumnOut
-      course = ap (course_out e.kind) state ∙ ap (λ k. course_out k Public) type.1
+  column_departs table name has e found =
+      let there = column_there old (ordered sound) table name e found in
+      let type = column_type e.kind there.3 in
+      public_departs (DropColumn table name) e there.0 (public_if_not_in_change (named_column old table name) (λ t. clear (DropColumn table name) has InChange (λ earlier. t)) e found)
+      (type.0, there.1, there.2, type.1) (same_name_is e.table table e.name name there.1 there.2)
 
   abandon_departs : (table : ℕ) (name : List ℕ) → (e : ElementDef) → named_entering old table name ≡ Some e → Departs old (Abandon table name) e
   abandon_departs table name e found = pick e.state refl

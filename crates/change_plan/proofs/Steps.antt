@@ -17,7 +17,7 @@ use Rattle.schema_version.specs.declared.element.ElementState.TheVariants.{Absen
 use Rattle.schema_version.specs.declared.element.Way.{Way}
 use Rattle.schema_version.specs.declared.element.Way.TheVariants.{Adding, Dropping}
 use Rattle.schema_version.specs.declared.element.Kind.{Kind}
-use Rattle.schema_version.specs.declared.element.Kind.TheVariants.{Index, Optional}
+use Rattle.schema_version.specs.declared.element.Kind.TheVariants.{Index, Optional, Required}
 use Rattle.schema_version.specs.declared.element.ElementDef.{ElementDef}
 use Rattle.schema_version.specs.declared.element.NewElement.{NewElement}
 use Rattle.schema_version.specs.declared.step.Move.{Move}
@@ -29,8 +29,8 @@ use Rattle.schema_version.specs.Version.{Version, element_at, listed, is_like, c
 use Rattle.schema_version.proofs.Counts.{count_insert, count_change, count_remove}
 use Rattle.schema_version.proofs.Live.{element_at-lookup}
 use Rattle.schema_version.specs.Steps.{IsOrdered, in_state_or_none}
-use Rattle.schema_version.specs.Edges.{edge}
-use Rattle.schema_version.specs.Moves.{as_element, turned_back, entered, moved, turned, after_move, after_step, is_move_of, moves_element, HasNoEdge, is_unready, IsFirstSuch, DependsOn, GoFaultAt, TurnFaultAt, MoveFault, IsAllowed, is_entry, is_entry_like}
+use Rattle.schema_version.specs.Edges.{edge, edge_by, is_filled}
+use Rattle.schema_version.specs.Moves.{as_element, turned_back, entered, moved, turned, after_move, after_step, is_move_of, moves_element, is_unready, IsFirstSuch, DependsOn, GoFaultAt, TurnFaultAt, MoveFault, IsAllowed, is_entry, is_entry_like}
 
 -- ---- one number of the map of elements is written
 
@@ -156,23 +156,24 @@ AreReady version step kind = AllByRecursion (λ c. is_unready version step c ≡
 pub ready_go : (version : Version) (step : List Move) (number : ℕ) (kind : Kind) → ((on : ℕ) → ¬ (DependsOn version step number kind on)) → AreReady version step kind
 ready_go version step number (Index columns) h = none_such (is_unready version step) columns h
 ready_go version step number (Optional type) h = tt
+ready_go version step number (Required type fallback) h = tt
 
 pub record MayEnter (version : Version) (step : List Move) (fresh : NewElement) (to : ElementState) : Type 0 where
   pub edge : to ≡ DeleteOnly
   pub ready : AreReady version step fresh.kind
 
-enters_delete_only : (kind : Kind) (to : ElementState) → ¬ (HasNoEdge kind Absent to) → to ≡ DeleteOnly
-enters_delete_only kind DeleteOnly some = refl
-enters_delete_only (Index columns) Absent some = absurd (some (refl, refl))
-enters_delete_only (Index columns) WriteOnly some = absurd (some (refl, refl))
-enters_delete_only (Index columns) Public some = absurd (some (refl, refl))
-enters_delete_only (Optional type) Absent some = absurd (some (refl, refl))
-enters_delete_only (Optional type) WriteOnly some = absurd (some (refl, refl))
-enters_delete_only (Optional type) Public some = absurd (some (refl, refl))
+enters_delete_only : (filled : Bool) (to : ElementState) → ¬ ((edge_by filled Adding Absent to ≡ None) × (edge_by filled Dropping Absent to ≡ None)) → to ≡ DeleteOnly
+enters_delete_only filled DeleteOnly some = refl
+enters_delete_only true Absent some = absurd (some (refl, refl))
+enters_delete_only true WriteOnly some = absurd (some (refl, refl))
+enters_delete_only true Public some = absurd (some (refl, refl))
+enters_delete_only false Absent some = absurd (some (refl, refl))
+enters_delete_only false WriteOnly some = absurd (some (refl, refl))
+enters_delete_only false Public some = absurd (some (refl, refl))
 
 pub may_enter : (version : Version) (step earlier : List Move) (fresh : NewElement) (to : ElementState) → ((fault : StepFault) → ¬ (MoveFault version step earlier (Enter fresh to) fault)) → MayEnter version step fresh to
 may_enter version step earlier fresh to h =
-    record { edge = enters_delete_only fresh.kind to (λ none. h NotAdjacent none); ready = none_such (is_unready version step) (listed fresh.kind) (λ on. h (Dependent on)) }
+    record { edge = enters_delete_only (is_filled fresh.kind) to (λ none. h NotAdjacent none); ready = none_such (is_unready version step) (listed fresh.kind) (λ on. h (Dependent on)) }
 
 -- ---- a step, move by move
 

@@ -1,34 +1,31 @@
 -- The schedule ends where the changes want, and is the least plan.
-use Rattle.std.specs.Prelude.{◌≡◌, ℕ, ◌+◌, ◌≤◌, max, List, [], ◌∷◌, length, Bool, true, false, if◌then◌else◌, Option, Some, None, Contains, count_by, refl}
+use Rattle.std.specs.Prelude.{◌≡◌, ℕ, ◌+◌, ◌≤◌, max, List, [], ◌∷◌, Bool, true, false, Option, Some, None, Contains, refl}
 use Rattle.std.specs.List.{list_any, AllZip, AllByRecursion as All}
 use mathlib.Core.List.{map as each}
-use Rattle.std.proofs.Common.{sym, ap, subst, ◌∙◌, inl, inr, true≢false, arith}
+use Rattle.std.proofs.Common.{sym, ap, subst, ◌∙◌, inl, inr, arith}
 use Rattle.std.proofs.Math.Nat.{le-max_left, le-max_right}
-use Rattle.schema_version.specs.declared.element.ElementState.TheVariants.{Absent, Public}
+use Rattle.schema_version.specs.declared.element.ElementState.TheVariants.{Public}
 use Rattle.schema_version.specs.declared.element.Way.TheVariants.{Adding}
-use Rattle.schema_version.specs.declared.element.Kind.{Kind}
-use Rattle.schema_version.specs.declared.element.Kind.TheVariants.{Index, Optional}
+use Rattle.schema_version.specs.declared.element.Kind.TheVariants.{Index}
 use Rattle.schema_version.specs.declared.element.ElementDef.{ElementDef}
-use Rattle.schema_version.specs.Version.{Version, element_at, is_index, is_column}
+use Rattle.schema_version.specs.Version.{Version, element_at, is_index}
 use Rattle.schema_version.specs.Sound.{IsSoundVersion}
 use Rattle.change_plan.proofs.Steps.{not_both, not_given}
 use Rattle.change_plan.specs.declared.change.Change.{Change}
 use Rattle.change_plan.specs.declared.change.Change.TheVariants.{AddIndex, DropIndex, AddColumn, DropColumn, Abandon}
 use Rattle.change_plan.specs.declared.fault.PlanFault.TheVariants.{Unknown}
 use Rattle.change_plan.specs.Plans.{IsTarget, IsLeast, Drops, Adds, IsAddition, IsColumnNamed}
-use Rattle.change_plan.specs.Batches.{named, named_index, named_column, leaving, lists_added, adds_column}
+use Rattle.change_plan.specs.Batches.{named, named_index, named_column, leaving, adds_column}
 use Rattle.change_plan.specs.Refusals.{IsPlannable}
-use Rattle.change_plan.specs.declared.trip.Course.{Course}
-use Rattle.change_plan.specs.declared.trip.Course.TheVariants.{ColumnIn, IndexIn}
 use Rattle.change_plan.specs.declared.trip.Trip.{Trip}
-use Rattle.change_plan.specs.Schedule.{steps, duration, longest, out_trip, trips, schedule, is_early, column_number, added_number, number_or}
+use Rattle.change_plan.specs.Schedule.{duration, longest, out_trip, index_trip, column_trip, trips, schedule, wait_in, number_of, column_number, added_number, number_or}
 use Rattle.change_plan.proofs.Named.{contains_first, contains_later, contains_cases, contains_none, ordered}
-use Rattle.change_plan.proofs.Leaving.{column_there, column_type, abandoned, departs, clear}
+use Rattle.change_plan.proofs.Leaving.{column_there, column_type, has_type, abandoned, departs, clear}
 use Rattle.change_plan.proofs.Least.{schedule_short}
-use Rattle.change_plan.proofs.Trips.{find_trip, is_in, suits, Away, At, element_of, here, at_destination}
+use Rattle.change_plan.proofs.Trips.{find_trip, is_in, element_of, here, at_destination}
 use Rattle.change_plan.proofs.Lawful.{IsAt, HasRoom, AreTrips, at_first, steps_allowed, after_steps, arrives_in, arrives_out}
-use Rattle.change_plan.proofs.Batch.{From, EarlyIndex, LateIndex, NewColumn, Leaves, out_of}
-use Rattle.change_plan.proofs.Fitting.{made, made_leaving, made_added, own_name, index_named, column_named, any_of, is_true_if_not_false, are_trips, moved_element, no_trip_of, stays, column_kind, place_of, has_change, Place}
+use Rattle.change_plan.proofs.Batch.{From, NewIndex, NewColumn, Leaves, comes_in, out_of}
+use Rattle.change_plan.proofs.Fitting.{made, made_leaving, made_added, own_name, index_named, column_named, is_true_if_not_false, are_trips, moved_element, no_trip_of, stays, column_kind, place_of, has_change, Place}
 
 within_longest : (trips : List Trip) (trip : Trip) → Contains trips trip → duration trip ≤ longest trips
 within_longest [] trip has = absurd (contains_none trip has)
@@ -71,7 +68,7 @@ module _ (old : Version) (sound : IsSoundVersion old) (all : List Change) (plann
   -- what a change drops, it takes out
   is_leaving : (number : ℕ) (e : ElementDef) (change : Change) → element_at old number ≡ Some e → Contains all change → Drops e change → leaving old change ≡ Some e
   is_leaving number e (DropIndex table name) at_old has d = subst (λ t. named_index old t name ≡ Some e) d.1 (subst (λ n. named_index old e.table n ≡ Some e) d.2 (index_named old sound number e at_old (ap is_index d.3)))
-  is_leaving number e (DropColumn table name) at_old has d = subst (λ t. named_column old t name ≡ Some e) d.1 (subst (λ n. named_column old e.table n ≡ Some e) d.2 (column_named old sound number e at_old (ap is_index d.3)))
+  is_leaving number e (DropColumn table name) at_old has d = subst (λ t. named_column old t name ≡ Some e) d.1 (subst (λ n. named_column old e.table n ≡ Some e) d.2 (column_named old sound number e at_old (has_type e.kind d.0 d.3)))
   is_leaving number e (Abandon table name) at_old has d = abandoned old sound all plannable table name has e (subst (λ t. named old t name ≡ Some e) d.0 (subst (λ n. named old e.table n ≡ Some e) d.1 (own_name old sound number e at_old)))
   is_leaving number e change at_old has d = absurd d
 
@@ -87,21 +84,17 @@ module _ (old : Version) (sound : IsSoundVersion old) (all : List Change) (plann
       is_some_test None = false
       is_some_test (Some x) = true
 
-      of_column : (kind : Kind) → is_column kind ≡ true → (type : _) × (kind ≡ Optional type)
-      of_column (Index columns) e = absurd (true≢false (sym e))
-      of_column (Optional type) e = (type, refl)
-
       pick : (o : Option ElementDef) → named_column old table own ≡ o → IsColumnNamed new table own (column_number old all table own)
       pick None none =
           let added : list_any (adds_column table own) all ≡ true = is_true_if_not_false _ (λ f. clear old sound all plannable (AddIndex table name columns) has Unknown (λ earlier. inr (own, among, ap is_some_test none, f))) in
-          let m = made_added old all all table own old.next (old.next + count_by (is_early all) all) added in
-          let type = of_column m.0 ((are_trips old sound all plannable).trip _ m.1).kind in
-          subst (IsColumnNamed new table own) (sym (ap (λ o. number_or o (added_number all old.next table own all)) none))
-          (element_of (added_number all old.next table own all) (record { table = table; name = own; kind = m.0 }) Public Adding, type.0, arrives _ m.1 refl, refl, refl, type.1)
+          let m = made_added old all [] all table own added in
+          let type = column_type m.0 (column_kind old sound all plannable table own m.0 m.1) in
+          subst (IsColumnNamed new table own) (sym (ap (λ o. number_or o (added_number old.next all [] table own all)) none))
+          (element_of (added_number old.next all [] table own all) (record { table = table; name = own; kind = m.0 }) Public Adding, type.0, arrives _ m.2 (comes_in m.0), refl, refl, type.1)
       pick (Some e) found =
           let there = column_there old (ordered sound) table own e found in
           let type = column_type e.kind there.3 in
-          subst (IsColumnNamed new table own) (sym (ap (λ o. number_or o (added_number all old.next table own all)) found))
+          subst (IsColumnNamed new table own) (sym (ap (λ o. number_or o (added_number old.next all [] table own all)) found))
           (e, type.0, at.rest e.number (no_trip_of old sound all plannable e there.0 (stays old sound all plannable table name columns has own among e found)) ∙ there.0, there.1, there.2, type.1)
 
   index_adds : (table : ℕ) (name : List ℕ) (columns : List (List ℕ)) → Contains all (AddIndex table name columns) → (number : ℕ) → Adds new (element_of number (record { table = table; name = name; kind = Index (each (column_number old all table) columns) }) Public Adding) (AddIndex table name columns)
@@ -112,16 +105,16 @@ module _ (old : Version) (sound : IsSoundVersion old) (all : List Change) (plann
 
   added_one : (change : Change) → Contains all change → IsAddition change → (number : ℕ) × (element : ElementDef) × (element_at old number ≡ None) × (element_at new number ≡ Some element) × (element.state ≡ Public) × Adds new element change
   added_one (AddIndex table name columns) has is =
-      let m = made old all all (AddIndex table name columns) has old.next (old.next + count_by (is_early all) all) in
-      let trip : Trip = record { wait = if lists_added all table columns then steps ColumnIn else 0; course = IndexIn; number = if lists_added all table columns then m.1 else m.0; fresh = record { table = table; name = name; kind = Index (each (column_number old all table) columns) } } in
-      let among : Contains (trips old all) trip = m.2 trip (contains_first trip []) in
+      let m = made old all all (AddIndex table name columns) has [] in
+      let trip : Trip = index_trip old all m.0 table name columns in
+      let among : Contains (trips old all) trip = m.1 trip (contains_first trip []) in
       let is_new : is_in trip.course ≡ true = refl in
       (trip.number, element_of trip.number trip.fresh Public Adding, not_yet trip among is_new, arrives trip among is_new, refl, index_adds table name columns has trip.number)
   added_one (AddColumn table name kind) has is =
-      let m = made old all all (AddColumn table name kind) has old.next (old.next + count_by (is_early all) all) in
-      let trip : Trip = record { wait = 0; course = ColumnIn; number = m.0; fresh = record { table = table; name = name; kind = kind } } in
-      let among : Contains (trips old all) trip = m.2 trip (contains_first trip []) in
-      (trip.number, element_of trip.number trip.fresh Public Adding, not_yet trip among refl, arrives trip among refl, refl, (refl, refl, refl))
+      let m = made old all all (AddColumn table name kind) has [] in
+      let trip : Trip = column_trip (number_of old.next all m.0 0) table name kind in
+      let among : Contains (trips old all) trip = m.1 trip (contains_first trip []) in
+      (trip.number, element_of trip.number trip.fresh Public Adding, not_yet trip among (comes_in kind), arrives trip among (comes_in kind), refl, (refl, refl, refl))
   added_one change has is = absurd is
 
   only : (number : ℕ) (element : ElementDef) → element_at old number ≡ None → element_at new number ≡ Some element → (change : Change) × Contains all change × (element.state ≡ Public) × Adds new element change
@@ -145,15 +138,13 @@ module _ (old : Version) (sound : IsSoundVersion old) (all : List Change) (plann
           gone : is_in trip.course ≡ false → ⊥
           gone is_out = not_both e (element_at new number) at_new (sym (ap (element_at new) is_number) ∙ leaves trip has is_out)
 
-          pick : From old all p.place.now_early p.place.now_late p.place.change trip → (change : Change) × Contains all change × (e.state ≡ Public) × Adds new e change
-          pick (EarlyIndex table name columns change listed_added is) =
+          pick : From old all p.place.before p.place.change trip → (change : Change) × Contains all change × (e.state ≡ Public) × Adds new e change
+          pick (NewIndex table name columns change is) =
               let among : Contains all (AddIndex table name columns) = subst (Contains all) change (has_change old sound all plannable trip p) in
-              answer (ap (λ (t : Trip). is_in t.course) is) (AddIndex table name columns) among (subst (λ (t : Trip). Adds new (element_of t.number t.fresh Public Adding) (AddIndex table name columns)) (sym is) (index_adds table name columns among p.place.now_early))
-          pick (LateIndex table name columns change listed_added is) =
-              let among : Contains all (AddIndex table name columns) = subst (Contains all) change (has_change old sound all plannable trip p) in
-              answer (ap (λ (t : Trip). is_in t.course) is) (AddIndex table name columns) among (subst (λ (t : Trip). Adds new (element_of t.number t.fresh Public Adding) (AddIndex table name columns)) (sym is) (index_adds table name columns among p.place.now_late))
+              answer (ap (λ (t : Trip). is_in t.course) is) (AddIndex table name columns) among
+              (subst (λ (t : Trip). Adds new (element_of t.number t.fresh Public Adding) (AddIndex table name columns)) (sym is) (index_adds table name columns among (number_of old.next all p.place.before (wait_in all table columns))))
           pick (NewColumn table name kind change is) =
-              answer (ap (λ (t : Trip). is_in t.course) is) (AddColumn table name kind) (subst (Contains all) change (has_change old sound all plannable trip p)) (subst (λ (t : Trip). Adds new (element_of t.number t.fresh Public Adding) (AddColumn table name kind)) (sym is) (refl, refl, refl))
+              answer (ap (λ (t : Trip). is_in t.course) is ∙ comes_in kind) (AddColumn table name kind) (subst (Contains all) change (has_change old sound all plannable trip p)) (subst (λ (t : Trip). Adds new (element_of t.number t.fresh Public Adding) (AddColumn table name kind)) (sym is) (refl, refl, refl))
           pick (Leaves g found is) = absurd (gone (ap (λ (t : Trip). is_in t.course) is ∙ out_of g.kind g.state))
 
   pub target : IsTarget old all new

@@ -1,8 +1,8 @@
 -- Trips, one time after another.
-use Rattle.std.specs.Prelude.{◌≡◌, ◌≢◌, ℕ, zero, suc, ◌+◌, ◌-◌, ◌<◌, ◌≤◌, List, [], ◌∷◌, ◌++◌, length, nat_lt, count_by, Bool, true, false, if◌then◌else◌, ◌||◌, ◌==◌, not, Option, Some, None, Contains, ◌⊎◌, flat_map, refl}
+use Rattle.std.specs.Prelude.{◌≡◌, ◌≢◌, ℕ, zero, suc, ◌+◌, ◌-◌, ◌<◌, ◌≤◌, List, [], ◌∷◌, ◌++◌, length, nat_lt, count_by, cond, Bool, true, false, if◌then◌else◌, ◌&&◌, ◌||◌, ◌==◌, not, Option, Some, None, Contains, ◌⊎◌, flat_map, refl}
 use Rattle.std.proofs.Common.{sym, ap, subst, ◌∙◌, inl, inr, true≢false, arith}
-use Rattle.std.proofs.lemmas.List.{append-nil}
 use Rattle.std.proofs.lemmas.List.Concat.{flat_map-cons}
+use Rattle.std.proofs.lemmas.List.Sums.{sum_by-cons}
 use Rattle.std.proofs.lemmas.List.Folds.{list_any-append}
 use Rattle.std.proofs.lemmas.Bool.{cases_lt}
 use Rattle.std.proofs.lemmas.Bool.Decides.{Decides-eqb, Decides-ltb}
@@ -11,39 +11,37 @@ use Rattle.schema_version.specs.declared.element.ElementState.TheVariants.{Absen
 use Rattle.schema_version.specs.declared.element.Way.{Way}
 use Rattle.schema_version.specs.declared.element.Way.TheVariants.{Adding, Dropping}
 use Rattle.schema_version.specs.declared.element.Kind.{Kind}
-use Rattle.schema_version.specs.declared.element.Kind.TheVariants.{Index, Optional}
 use Rattle.schema_version.specs.declared.element.ElementDef.{ElementDef}
 use Rattle.schema_version.specs.declared.element.NewElement.{NewElement}
 use Rattle.schema_version.specs.declared.step.Move.{Move}
 use Rattle.schema_version.specs.declared.step.Move.TheVariants.{Enter, Go, Turn}
-use Rattle.schema_version.specs.Version.{is_index, is_column}
 use Rattle.schema_version.specs.Moves.{is_move_of, moves_element, is_entry, is_entry_like}
 use Rattle.schema_version.specs.Steps.{in_state_or_none}
 use Rattle.std.specs.Option.{unwrap_or}
-use Rattle.schema_version.specs.Edges.{edge, has_state}
+use Rattle.schema_version.specs.Edges.{edge, edge_by, has_state, is_filled, state_by}
 use Rattle.change_plan.proofs.Steps.{same_or_apart}
 use Rattle.change_plan.specs.declared.trip.Act.{Act}
 use Rattle.change_plan.specs.declared.trip.Act.TheVariants.{Wait, Appear, Reach, Return}
 use Rattle.change_plan.specs.declared.trip.Course.{Course}
-use Rattle.change_plan.specs.declared.trip.Course.TheVariants.{ColumnIn, IndexIn, IndexOut, ColumnOut, DeleteOnlyBack, WriteOnlyBack}
+use Rattle.change_plan.specs.declared.trip.Course.TheVariants.{PlainIn, FilledIn, FilledOut, PlainOut, DeleteOnlyBack, WriteOnlyBack}
 use Rattle.change_plan.specs.declared.trip.Trip.{Trip}
-use Rattle.change_plan.specs.Schedule.{acts, steps, course_out, nth_act, act_at, duration, move_by, move_of}
+use Rattle.change_plan.specs.Schedule.{acts, steps, nth_act, act_at, duration, move_by, move_of}
 use Rattle.change_plan.proofs.Named.{contains_first, contains_later, contains_cases, contains_none}
 
 abbrev pub is_in : Course → Bool
-is_in ColumnIn = true
-is_in IndexIn = true
-is_in IndexOut = false
-is_in ColumnOut = false
+is_in PlainIn = true
+is_in FilledIn = true
+is_in FilledOut = false
+is_in PlainOut = false
 is_in DeleteOnlyBack = false
 is_in WriteOnlyBack = false
 
 -- the elements that may take the course
 abbrev pub suits : Course → Kind → Bool
-suits ColumnIn kind = is_column kind
-suits IndexIn kind = is_index kind
-suits IndexOut kind = is_index kind
-suits ColumnOut kind = is_column kind
+suits PlainIn kind = not (is_filled kind)
+suits FilledIn kind = is_filled kind
+suits FilledOut kind = is_filled kind
+suits PlainOut kind = not (is_filled kind)
 suits DeleteOnlyBack kind = true
 suits WriteOnlyBack kind = has_state kind WriteOnly
 
@@ -55,19 +53,19 @@ pub data Stop : Type 0 where
   At : ElementState → Way → Stop
 
 abbrev pub departure : Course → Stop
-departure ColumnIn = Away
-departure IndexIn = Away
-departure IndexOut = At Public Adding
-departure ColumnOut = At Public Adding
+departure PlainIn = Away
+departure FilledIn = Away
+departure FilledOut = At Public Adding
+departure PlainOut = At Public Adding
 departure DeleteOnlyBack = At DeleteOnly Adding
 departure WriteOnlyBack = At WriteOnly Adding
 
 -- behind each step
 abbrev pub stops : Course → List Stop
-stops ColumnIn = At DeleteOnly Adding ∷ At Public Adding ∷ []
-stops IndexIn = At DeleteOnly Adding ∷ At WriteOnly Adding ∷ At Public Adding ∷ []
-stops IndexOut = At WriteOnly Dropping ∷ At DeleteOnly Dropping ∷ Away ∷ []
-stops ColumnOut = At DeleteOnly Dropping ∷ Away ∷ []
+stops PlainIn = At DeleteOnly Adding ∷ At Public Adding ∷ []
+stops FilledIn = At DeleteOnly Adding ∷ At WriteOnly Adding ∷ At Public Adding ∷ []
+stops FilledOut = At WriteOnly Dropping ∷ At DeleteOnly Dropping ∷ Away ∷ []
+stops PlainOut = At DeleteOnly Dropping ∷ Away ∷ []
 stops DeleteOnlyBack = At DeleteOnly Dropping ∷ Away ∷ []
 stops WriteOnlyBack = At WriteOnly Dropping ∷ At DeleteOnly Dropping ∷ Away ∷ []
 
@@ -112,37 +110,46 @@ pub data Leg (course : Course) (act : Act) (from to : Stop) : Type 0 where
   Runs : (state : ElementState) (way : Way) (goal : ElementState) (after : Way) → act ≡ Reach goal → from ≡ At state way → ((kind : Kind) → suits course kind ≡ true → edge kind way state goal ≡ Some after) → to ≡ reached goal after → Leg course act from to
   Turns : (state : ElementState) → act ≡ Return → from ≡ At state Adding → state ≢ Public → to ≡ At state Dropping → Leg course act from to
 
-index_only : {A : Type 0} (kind : Kind) → is_index kind ≡ true → ((columns : _) → kind ≡ Index columns → A) → A
-index_only (Index columns) e f = f columns refl
-index_only (Optional type) e f = absurd (true≢false (sym e))
+plain : (filled : Bool) → not filled ≡ true → filled ≡ false
+plain true e = absurd (true≢false (sym e))
+plain false e = refl
 
-column_only : {A : Type 0} (kind : Kind) → is_column kind ≡ true → ((type : _) → kind ≡ Optional type → A) → A
-column_only (Index columns) e f = absurd (true≢false (sym e))
-column_only (Optional type) e f = f type refl
+-- an edge of what a fill serves, and of what none does
+filled_edge : (way after : Way) (from to : ElementState) → edge_by true way from to ≡ Some after → (kind : Kind) → is_filled kind ≡ true → edge kind way from to ≡ Some after
+filled_edge way after from to e kind is = ap (λ b. edge_by b way from to) is ∙ e
+
+plain_edge : (way after : Way) (from to : ElementState) → edge_by false way from to ≡ Some after → (kind : Kind) → not (is_filled kind) ≡ true → edge kind way from to ≡ Some after
+plain_edge way after from to e kind is = ap (λ b. edge_by b way from to) (plain (is_filled kind) is) ∙ e
 
 gone : (kind : Kind) → edge kind Dropping DeleteOnly Absent ≡ Some Dropping
-gone (Index columns) = refl
-gone (Optional type) = refl
+gone kind = by (is_filled kind)
+  where
+    by : (filled : Bool) → edge_by filled Dropping DeleteOnly Absent ≡ Some Dropping
+    by true = refl
+    by false = refl
 
 back : (kind : Kind) → has_state kind WriteOnly ≡ true → edge kind Dropping WriteOnly DeleteOnly ≡ Some Dropping
-back (Index columns) e = refl
-back (Optional type) e = absurd (true≢false (sym e))
+back kind e = by (is_filled kind) e
+  where
+    by : (filled : Bool) → state_by filled WriteOnly ≡ true → edge_by filled Dropping WriteOnly DeleteOnly ≡ Some Dropping
+    by true e = refl
+    by false e = absurd (true≢false (sym e))
 
 leg_in : (course : Course) (time : ℕ) → Leg course (nth_act (acts course) time) (stop_in course time) (stop_in course (suc time))
-leg_in ColumnIn zero = Starts refl refl refl refl
-leg_in ColumnIn (suc zero) = Runs DeleteOnly Adding Public Adding refl refl (λ k e. column_only k e (λ type is. ap (λ k. edge k Adding DeleteOnly Public) is)) refl
-leg_in ColumnIn (suc (suc time)) = Rests refl refl
-leg_in IndexIn zero = Starts refl refl refl refl
-leg_in IndexIn (suc zero) = Runs DeleteOnly Adding WriteOnly Adding refl refl (λ k e. index_only k e (λ columns is. ap (λ k. edge k Adding DeleteOnly WriteOnly) is)) refl
-leg_in IndexIn (suc (suc zero)) = Runs WriteOnly Adding Public Adding refl refl (λ k e. index_only k e (λ columns is. ap (λ k. edge k Adding WriteOnly Public) is)) refl
-leg_in IndexIn (suc (suc (suc time))) = Rests refl refl
-leg_in IndexOut zero = Runs Public Adding WriteOnly Dropping refl refl (λ k e. index_only k e (λ columns is. ap (λ k. edge k Adding Public WriteOnly) is)) refl
-leg_in IndexOut (suc zero) = Runs WriteOnly Dropping DeleteOnly Dropping refl refl (λ k e. index_only k e (λ columns is. ap (λ k. edge k Dropping WriteOnly DeleteOnly) is)) refl
-leg_in IndexOut (suc (suc zero)) = Runs DeleteOnly Dropping Absent Dropping refl refl (λ k e. index_only k e (λ columns is. ap (λ k. edge k Dropping DeleteOnly Absent) is)) refl
-leg_in IndexOut (suc (suc (suc time))) = Rests refl refl
-leg_in ColumnOut zero = Runs Public Adding DeleteOnly Dropping refl refl (λ k e. column_only k e (λ type is. ap (λ k. edge k Adding Public DeleteOnly) is)) refl
-leg_in ColumnOut (suc zero) = Runs DeleteOnly Dropping Absent Dropping refl refl (λ k e. column_only k e (λ type is. ap (λ k. edge k Dropping DeleteOnly Absent) is)) refl
-leg_in ColumnOut (suc (suc time)) = Rests refl refl
+leg_in PlainIn zero = Starts refl refl refl refl
+leg_in PlainIn (suc zero) = Runs DeleteOnly Adding Public Adding refl refl (plain_edge Adding Adding DeleteOnly Public refl) refl
+leg_in PlainIn (suc (suc time)) = Rests refl refl
+leg_in FilledIn zero = Starts refl refl refl refl
+leg_in FilledIn (suc zero) = Runs DeleteOnly Adding WriteOnly Adding refl refl (filled_edge Adding Adding DeleteOnly WriteOnly refl) refl
+leg_in FilledIn (suc (suc zero)) = Runs WriteOnly Adding Public Adding refl refl (filled_edge Adding Adding WriteOnly Public refl) refl
+leg_in FilledIn (suc (suc (suc time))) = Rests refl refl
+leg_in FilledOut zero = Runs Public Adding WriteOnly Dropping refl refl (filled_edge Adding Dropping Public WriteOnly refl) refl
+leg_in FilledOut (suc zero) = Runs WriteOnly Dropping DeleteOnly Dropping refl refl (filled_edge Dropping Dropping WriteOnly DeleteOnly refl) refl
+leg_in FilledOut (suc (suc zero)) = Runs DeleteOnly Dropping Absent Dropping refl refl (filled_edge Dropping Dropping DeleteOnly Absent refl) refl
+leg_in FilledOut (suc (suc (suc time))) = Rests refl refl
+leg_in PlainOut zero = Runs Public Adding DeleteOnly Dropping refl refl (plain_edge Adding Dropping Public DeleteOnly refl) refl
+leg_in PlainOut (suc zero) = Runs DeleteOnly Dropping Absent Dropping refl refl (plain_edge Dropping Dropping DeleteOnly Absent refl) refl
+leg_in PlainOut (suc (suc time)) = Rests refl refl
 leg_in DeleteOnlyBack zero = Turns DeleteOnly refl refl (λ is. cc) refl
 leg_in DeleteOnlyBack (suc zero) = Runs DeleteOnly Dropping Absent Dropping refl refl (λ k e. gone k) refl
 leg_in DeleteOnlyBack (suc (suc time)) = Rests refl refl
@@ -210,10 +217,10 @@ walked now (next ∷ rest) zero h = absurd (let below : suc (length rest) ≤ 0 
 walked now (next ∷ rest) (suc time) h = walked next rest time (let below : suc (length rest) ≤ suc time = h in omega arith)
 
 ends : (course : Course) (time : ℕ) → steps course ≤ time → stop_in course time ≡ destination course
-ends ColumnIn time h = walked (departure ColumnIn) (stops ColumnIn) time h
-ends IndexIn time h = walked (departure IndexIn) (stops IndexIn) time h
-ends IndexOut time h = walked (departure IndexOut) (stops IndexOut) time h
-ends ColumnOut time h = walked (departure ColumnOut) (stops ColumnOut) time h
+ends PlainIn time h = walked (departure PlainIn) (stops PlainIn) time h
+ends FilledIn time h = walked (departure FilledIn) (stops FilledIn) time h
+ends FilledOut time h = walked (departure FilledOut) (stops FilledOut) time h
+ends PlainOut time h = walked (departure PlainOut) (stops PlainOut) time h
 ends DeleteOnlyBack time h = walked (departure DeleteOnlyBack) (stops DeleteOnlyBack) time h
 ends WriteOnlyBack time h = walked (departure WriteOnlyBack) (stops WriteOnlyBack) time h
 
@@ -222,20 +229,20 @@ at_destination trip time done = ends trip.course (time - trip.wait) (omega arith
 
 -- an element enters at the first move
 appears_first : (course : Course) (time : ℕ) → nth_act (acts course) time ≡ Appear → (time ≡ 0) × (is_in course ≡ true)
-appears_first ColumnIn zero e = (refl, refl)
-appears_first ColumnIn (suc zero) e = cc
-appears_first ColumnIn (suc (suc time)) e = cc
-appears_first IndexIn zero e = (refl, refl)
-appears_first IndexIn (suc zero) e = cc
-appears_first IndexIn (suc (suc zero)) e = cc
-appears_first IndexIn (suc (suc (suc time))) e = cc
-appears_first IndexOut zero e = cc
-appears_first IndexOut (suc zero) e = cc
-appears_first IndexOut (suc (suc zero)) e = cc
-appears_first IndexOut (suc (suc (suc time))) e = cc
-appears_first ColumnOut zero e = cc
-appears_first ColumnOut (suc zero) e = cc
-appears_first ColumnOut (suc (suc time)) e = cc
+appears_first PlainIn zero e = (refl, refl)
+appears_first PlainIn (suc zero) e = cc
+appears_first PlainIn (suc (suc time)) e = cc
+appears_first FilledIn zero e = (refl, refl)
+appears_first FilledIn (suc zero) e = cc
+appears_first FilledIn (suc (suc zero)) e = cc
+appears_first FilledIn (suc (suc (suc time))) e = cc
+appears_first FilledOut zero e = cc
+appears_first FilledOut (suc zero) e = cc
+appears_first FilledOut (suc (suc zero)) e = cc
+appears_first FilledOut (suc (suc (suc time))) e = cc
+appears_first PlainOut zero e = cc
+appears_first PlainOut (suc zero) e = cc
+appears_first PlainOut (suc (suc time)) e = cc
 appears_first DeleteOnlyBack zero e = cc
 appears_first DeleteOnlyBack (suc zero) e = cc
 appears_first DeleteOnlyBack (suc (suc time)) e = cc
@@ -252,6 +259,20 @@ appears trip time e = elim (cases_lt time trip.wait) [
       let none : time - trip.wait ≡ 0 = first.0 in
       (omega (arith, late), first.1)
 ]
+
+-- and no element enters otherwise
+starts : (course : Course) → is_in course ≡ true → nth_act (acts course) 0 ≡ Appear
+starts PlainIn e = refl
+starts FilledIn e = refl
+starts FilledOut e = absurd (true≢false (sym e))
+starts PlainOut e = absurd (true≢false (sym e))
+starts DeleteOnlyBack e = absurd (true≢false (sym e))
+starts WriteOnlyBack e = absurd (true≢false (sym e))
+
+appears_then : (trip : Trip) (time : ℕ) → is_in trip.course ≡ true → trip.wait ≡ time → act_at trip time ≡ Appear
+appears_then trip time new now =
+    let none : time - trip.wait ≡ 0 = omega (arith, now) in
+    on_course trip time (omega (arith, now)) ∙ ap (nth_act (acts trip.course)) none ∙ starts trip.course new
 
 -- ---- its moves
 
@@ -284,6 +305,28 @@ no_entry time trip out = pick (act_at trip time) refl
     pick Appear is = absurd (true≢false (sym (appears trip time is).1 ∙ out))
     pick Return is = (ap (count_by is_entry) (moved_by time trip Return is), λ table index. ap (count_by (is_entry_like table index)) (moved_by time trip Return is))
     pick (Reach to) is = (ap (count_by is_entry) (moved_by time trip (Reach to) is), λ table index. ap (count_by (is_entry_like table index)) (moved_by time trip (Reach to) is))
+
+-- of the entries that a test is of, the element's own, in the step behind its wait
+pub entries : (test : Move → Bool) → ((number : ℕ) (to : ElementState) → test (Go number to) ≡ false) → ((number : ℕ) → test (Turn number) ≡ false) → (time : ℕ) (trip : Trip) → is_in trip.course ≡ true → (on : Bool) → test (Enter trip.fresh DeleteOnly) ≡ on → count_by test (move_of time trip) ≡ cond ((trip.wait == time) && on) 1 0
+entries test goes turns time trip new on is_on = pick (act_at trip time) refl
+  where
+    one : (move : Move) → count_by test (move ∷ []) ≡ cond (test move) 1 0
+    one move = let first : count_by test (move ∷ []) ≡ cond (test move) 1 0 + count_by test [] = sum_by-cons (λ m. cond (test m) 1 0) move [] in omega (arith, first)
+
+    not_then : (act : Act) → act_at trip time ≡ act → (act ≡ Appear → ⊥) → ◌≡◌ {A = ℕ} 0 (cond ((trip.wait == time) && on) 1 0)
+    not_then act is other = ap (λ b. cond (b && on) 1 0) (sym (is_false (trip.wait == time) (λ t. other (sym is ∙ appears_then trip time new ((Decides-eqb trip.wait time).0 t)))))
+      where
+        is_false : (b : Bool) → (b ≡ true → ⊥) → b ≡ false
+        is_false true h = absurd (h refl)
+        is_false false h = refl
+
+    pick : (act : Act) → act_at trip time ≡ act → count_by test (move_of time trip) ≡ cond ((trip.wait == time) && on) 1 0
+    pick Wait is = ap (count_by test) (moved_by time trip Wait is) ∙ not_then Wait is (λ e. cc)
+    pick Appear is =
+        ap (count_by test) (moved_by time trip Appear is) ∙ one (Enter trip.fresh DeleteOnly) ∙ ap (λ b. cond b 1 0) is_on
+        ∙ ap (λ b. cond (b && on) 1 0) (sym ((Decides-eqb trip.wait time).1 (sym (appears trip time is).0)))
+    pick Return is = ap (count_by test) (moved_by time trip Return is) ∙ one (Turn trip.number) ∙ ap (λ b. cond b 1 0) (turns trip.number) ∙ not_then Return is (λ e. cc)
+    pick (Reach to) is = ap (count_by test) (moved_by time trip (Reach to) is) ∙ one (Go trip.number to) ∙ ap (λ b. cond b 1 0) (goes trip.number to) ∙ not_then (Reach to) is (λ e. cc)
 
 -- ---- the trip of a move
 

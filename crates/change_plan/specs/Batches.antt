@@ -89,10 +89,6 @@ drops_column version table name (DropColumn other own) = is_same_name table name
 drops_column version table name (Abandon other own) = is_same_name table name other own && is_some (named_column version table name)
 drops_column version table name change = false
 
--- whether an index over these columns waits for one that the batch adds
-abbrev pub lists_added : List Change → ℕ → List (List ℕ) → Bool
-lists_added changes table columns = list_any (λ name. list_any (adds_column table name) changes) columns
-
 -- whether the element is one that lists this column
 abbrev pub lists : ℕ → ElementDef → Bool
 lists column element = list_any (λ other. other == column) (listed element.kind)

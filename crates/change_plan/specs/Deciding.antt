@@ -7,7 +7,7 @@ use Rattle.schema_version.specs.declared.element.ElementDef.{ElementDef}
 use Rattle.schema_version.specs.Names.{is_name, is_name_list, max_elements}
 use Rattle.schema_version.specs.Version.{Version, table_at, live, is_index, is_public, count_live}
 use Rattle.schema_version.specs.Moves.{max_like}
-use Rattle.schema_version.specs.Deciding.{has_key_column}
+use Rattle.schema_version.specs.Deciding.{has_key_column, is_fair_kind}
 use Rattle.change_plan.specs.declared.change.Change.{Change}
 use Rattle.change_plan.specs.declared.change.Change.TheVariants.{AddIndex, DropIndex, AddColumn, DropColumn, Abandon}
 use Rattle.change_plan.specs.declared.fault.PlanFault.{PlanFault}
@@ -69,7 +69,8 @@ drop_index_check old earlier table name =
 
 abbrev pub add_column_check : Version → List Change → List Change → ℕ → List ℕ → Kind → Answer
 add_column_check old all earlier table name kind =
-    first_fault (not (is_some (table_at old table)) || is_index kind) (is_taken old earlier table name) false false (not (is_name name) || is_over old all table false)
+    first_fault (not (is_some (table_at old table)) || is_index kind) (is_taken old earlier table name) false false
+    (not (is_name name) || (not (is_fair_kind kind) || is_over old all table false))
 
 abbrev pub drop_column_check : Version → List Change → List Change → ℕ → List ℕ → Answer
 drop_column_check old all earlier table name =

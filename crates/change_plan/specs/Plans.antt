@@ -3,14 +3,13 @@ use Rattle.std.specs.Prelude.{◌≡◌, ℕ, ◌≤◌, List, [], ◌∷◌, le
 use Rattle.std.specs.List.{AllZip, AllByRecursion}
 use Rattle.schema_version.specs.declared.element.ElementState.{ElementState}
 use Rattle.schema_version.specs.declared.element.ElementState.TheVariants.{Public}
-use Rattle.schema_version.specs.declared.element.Kind.{Kind}
-use Rattle.schema_version.specs.declared.element.Kind.TheVariants.{Index, Optional}
+use Rattle.schema_version.specs.declared.element.Kind.TheVariants.{Index}
 use Rattle.schema_version.specs.declared.element.ElementDef.{ElementDef}
 use Rattle.schema_version.specs.declared.element.Work.{Work}
 use Rattle.schema_version.specs.declared.element.Work.TheVariants as work
 use Rattle.schema_version.specs.declared.step.Move.{Move}
 use Rattle.schema_version.specs.declared.step.Move.TheVariants.{Enter, Go, Turn}
-use Rattle.schema_version.specs.Version.{Version, element_at}
+use Rattle.schema_version.specs.Version.{Version, element_at, type_of_kind}
 use Rattle.schema_version.specs.Edges.{needed}
 use Rattle.schema_version.specs.Moves.{IsAllowed, after_step}
 use Rattle.change_plan.specs.declared.change.Change.{Change}
@@ -52,13 +51,13 @@ AreAllowed version (first ∷ rest) = IsAllowed version first.step × IsWorkBefo
 -- the change drops this element, or abandons it
 abbrev pub Drops : ElementDef → Change → Type 0
 Drops element (DropIndex table name) = (columns : _) × (element.table ≡ table) × (element.name ≡ name) × (element.kind ≡ Index columns)
-Drops element (DropColumn table name) = (type : _) × (element.table ≡ table) × (element.name ≡ name) × (element.kind ≡ Optional type)
+Drops element (DropColumn table name) = (type : _) × (element.table ≡ table) × (element.name ≡ name) × (type_of_kind element.kind ≡ Some type)
 Drops element (Abandon table name) = (element.table ≡ table) × (element.name ≡ name)
 Drops element _ = ⊥
 
 -- this number is the table's column of this name
 abbrev pub IsColumnNamed : Version → ℕ → List ℕ → ℕ → Type 0
-IsColumnNamed version table name number = (element : ElementDef) × (type : _) × (element_at version number ≡ Some element) × (element.table ≡ table) × (element.name ≡ name) × (element.kind ≡ Optional type)
+IsColumnNamed version table name number = (element : ElementDef) × (type : _) × (element_at version number ≡ Some element) × (element.table ≡ table) × (element.name ≡ name) × (type_of_kind element.kind ≡ Some type)
 
 -- the element is what the change adds, in the version where the changes have ended
 abbrev pub Adds : Version → ElementDef → Change → Type 0

@@ -7,7 +7,7 @@ use Rattle.schema_version.specs.declared.element.ElementDef.{ElementDef}
 use Rattle.schema_version.specs.Version.{Version, table_at, element_at, is_index, is_like, listed, IsKeyName, count_live}
 use Rattle.schema_version.specs.Names as names
 use Rattle.schema_version.specs.Names.{IsName, max_listed, max_elements}
-use Rattle.schema_version.specs.Moves.{max_like}
+use Rattle.schema_version.specs.Moves.{IsFairKind, max_like}
 use Rattle.change_plan.specs.declared.change.Change.{Change}
 use Rattle.change_plan.specs.declared.change.Change.TheVariants.{AddIndex, DropIndex, AddColumn, DropColumn, Abandon}
 use Rattle.change_plan.specs.declared.fault.PlanFault.{PlanFault}
@@ -80,7 +80,7 @@ ChangeFault old all earlier (DropIndex table name) Unknown = IsNone (named_index
 ChangeFault old all earlier (DropIndex table name) InChange = IsInChange (named_index old table name)
 ChangeFault old all earlier (AddColumn table name kind) Unknown = IsNone (table_at old table) ⊎ IsTrue (is_index kind)
 ChangeFault old all earlier (AddColumn table name kind) NameTaken = IsTaken old earlier table name
-ChangeFault old all earlier (AddColumn table name kind) Limit = (¬ (IsName name)) ⊎ IsOver old all table false
+ChangeFault old all earlier (AddColumn table name kind) Limit = (¬ (IsName name)) ⊎ (¬ (IsFairKind kind)) ⊎ IsOver old all table false
 ChangeFault old all earlier (DropColumn table name) Unknown = IsNone (named_column old table name) ⊎ IsTrue (list_any (drops table name) earlier)
 ChangeFault old all earlier (DropColumn table name) StillIndexed = IsListed old all table name (named_column old table name)
 ChangeFault old all earlier (DropColumn table name) InChange = IsInChange (named_column old table name)

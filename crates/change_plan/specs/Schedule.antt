@@ -1,48 +1,51 @@
 -- The plan of a batch: each change's element takes the moves of its way, one per step without a gap.
-use Rattle.std.specs.Prelude.{ℕ, zero, suc, ◌+◌, ◌-◌, max, List, [], ◌∷◌, ◌++◌, length, count_by, flat_map, nat_lt, Bool, true, false, Option, Some, None, if◌then◌else◌}
+use Rattle.std.specs.Prelude.{ℕ, zero, suc, ◌+◌, ◌-◌, max, List, [], ◌∷◌, ◌++◌, length, count_by, flat_map, nat_lt, ◌==◌, Bool, false, Option, Some, None, if◌then◌else◌}
 use mathlib.Core.List.{map as each}
 use Rattle.schema_version.specs.declared.element.ElementState.{ElementState}
 use Rattle.schema_version.specs.declared.element.ElementState.TheVariants.{Absent, DeleteOnly, WriteOnly, Public}
 use Rattle.schema_version.specs.declared.element.Kind.{Kind}
-use Rattle.schema_version.specs.declared.element.Kind.TheVariants.{Index, Optional}
+use Rattle.schema_version.specs.declared.element.Kind.TheVariants.{Index}
 use Rattle.schema_version.specs.declared.element.ElementDef.{ElementDef}
 use Rattle.schema_version.specs.declared.element.NewElement.{NewElement}
 use Rattle.schema_version.specs.declared.step.Move.{Move}
 use Rattle.schema_version.specs.declared.step.Move.TheVariants.{Enter, Go, Turn}
-use Rattle.schema_version.specs.Edges.{needed}
+use Rattle.schema_version.specs.Edges.{needed, is_filled}
 use Rattle.schema_version.specs.Version.{Version}
 use Rattle.change_plan.specs.declared.change.Change.{Change}
-use Rattle.change_plan.specs.declared.change.Change.TheVariants.{AddIndex, DropIndex, AddColumn, DropColumn}
+use Rattle.change_plan.specs.declared.change.Change.TheVariants.{AddIndex, AddColumn}
 use Rattle.change_plan.specs.declared.least_plan.Reorg.{Reorg}
 use Rattle.change_plan.specs.declared.least_plan.PlanStep.{PlanStep}
 use Rattle.change_plan.specs.declared.trip.Act.{Act}
 use Rattle.change_plan.specs.declared.trip.Act.TheVariants.{Wait, Appear, Reach, Return}
 use Rattle.change_plan.specs.declared.trip.Course.{Course}
-use Rattle.change_plan.specs.declared.trip.Course.TheVariants.{ColumnIn, IndexIn, IndexOut, ColumnOut, DeleteOnlyBack, WriteOnlyBack}
+use Rattle.change_plan.specs.declared.trip.Course.TheVariants.{PlainIn, FilledIn, FilledOut, PlainOut, DeleteOnlyBack, WriteOnlyBack}
 use Rattle.change_plan.specs.declared.trip.Trip.{Trip}
 use Rattle.change_plan.specs.Plans.{reorgs}
-use Rattle.change_plan.specs.Batches.{leaving, named_column, adds_column, lists, lists_added}
+use Rattle.change_plan.specs.Batches.{leaving, named_column, is_same_name, adds_column, lists}
 
 -- ---- courses
 
 -- what is done in each step
 abbrev pub acts : Course → List Act
-acts ColumnIn = Appear ∷ Reach Public ∷ []
-acts IndexIn = Appear ∷ Reach WriteOnly ∷ Reach Public ∷ []
-acts IndexOut = Reach WriteOnly ∷ Reach DeleteOnly ∷ Reach Absent ∷ []
-acts ColumnOut = Reach DeleteOnly ∷ Reach Absent ∷ []
+acts PlainIn = Appear ∷ Reach Public ∷ []
+acts FilledIn = Appear ∷ Reach WriteOnly ∷ Reach Public ∷ []
+acts FilledOut = Reach WriteOnly ∷ Reach DeleteOnly ∷ Reach Absent ∷ []
+acts PlainOut = Reach DeleteOnly ∷ Reach Absent ∷ []
 acts DeleteOnlyBack = Return ∷ Reach Absent ∷ []
 acts WriteOnlyBack = Return ∷ Reach DeleteOnly ∷ Reach Absent ∷ []
 
 abbrev pub steps : Course → ℕ
 steps course = length (acts course)
 
+-- the way in of an element: what a fill serves passes write-only
+abbrev pub course_in : Kind → Course
+course_in kind = if is_filled kind then FilledIn else PlainIn
+
 -- the way out of an element: one that isn't public is abandoned, and turns back first
 abbrev pub course_out : Kind → ElementState → Course
 course_out kind DeleteOnly = DeleteOnlyBack
 course_out kind WriteOnly = WriteOnlyBack
-course_out (Index columns) state = IndexOut
-course_out (Optional type) state = ColumnOut
+course_out kind state = if is_filled kind then FilledOut else PlainOut
 
 abbrev pub nth_act : List Act → ℕ → Act
 nth_act [] time = Wait
@@ -91,20 +94,43 @@ steps_from trips time (suc count) = step_at trips time ∷ steps_from trips (suc
 
 -- ---- the trips of a batch
 
-abbrev pub is_early : List Change → Change → Bool
-is_early changes (AddIndex table name columns) = if lists_added changes table columns then false else true
-is_early changes (AddColumn table name kind) = true
-is_early changes change = false
+-- the steps until the change's column is public, where it adds the table's column of this name
+abbrev pub steps_to : ℕ → List ℕ → Change → ℕ
+steps_to table name (AddColumn other own kind) = if is_same_name table name other own then steps (course_in kind) else 0
+steps_to table name change = 0
 
-abbrev pub is_late : List Change → Change → Bool
-is_late changes (AddIndex table name columns) = lists_added changes table columns
-is_late changes change = false
+-- the steps until the column of this name is public that these changes add
+abbrev pub steps_until : ℕ → List ℕ → List Change → ℕ
+steps_until table name [] = 0
+steps_until table name (change ∷ changes) = max (steps_to table name change) (steps_until table name changes)
 
--- the number that the first of these changes to add this column gives it; the first number is that of the next to enter
-abbrev pub added_number : List Change → ℕ → ℕ → List ℕ → List Change → ℕ
-added_number all early table name [] = 0
-added_number all early table name (change ∷ changes) =
-    if adds_column table name change then early else added_number all (if is_early all change then early + 1 else early) table name changes
+-- the steps that an index over these columns waits: until the last of them that the batch adds is public
+abbrev pub wait_in : List Change → ℕ → List (List ℕ) → ℕ
+wait_in all table [] = 0
+wait_in all table (name ∷ names) = max (steps_until table name all) (wait_in all table names)
+
+-- whether the change adds an element that waits so many steps
+abbrev pub enters_at : List Change → ℕ → Change → Bool
+enters_at all wait (AddIndex table name columns) = wait_in all table columns == wait
+enters_at all wait (AddColumn table name kind) = 0 == wait
+enters_at all wait change = false
+
+-- whether the change adds an element that waits fewer steps
+abbrev pub enters_before : List Change → ℕ → Change → Bool
+enters_before all wait (AddIndex table name columns) = nat_lt (wait_in all table columns) wait
+enters_before all wait (AddColumn table name kind) = nat_lt 0 wait
+enters_before all wait change = false
+
+-- The number of the element that a change behind these earlier ones adds, by its wait: those that wait less are numbered before it, and
+-- those of earlier changes that wait as long. The first number is that of the next to enter.
+abbrev pub number_of : ℕ → List Change → List Change → ℕ → ℕ
+number_of next all earlier wait = (next + count_by (enters_before all wait) all) + count_by (enters_at all wait) earlier
+
+-- the number that the first of these changes to add this column gives it, behind the earlier ones
+abbrev pub added_number : ℕ → List Change → List Change → ℕ → List ℕ → List Change → ℕ
+added_number next all earlier table name [] = 0
+added_number next all earlier table name (change ∷ changes) =
+    if adds_column table name change then number_of next all earlier 0 else added_number next all (earlier ++ change ∷ []) table name changes
 
 abbrev pub number_or : Option ElementDef → ℕ → ℕ
 number_or None other = other
@@ -112,7 +138,7 @@ number_or (Some element) other = element.number
 
 -- the number of a listed column, live or added
 abbrev pub column_number : Version → List Change → ℕ → List ℕ → ℕ
-column_number old changes table name = number_or (named_column old table name) (added_number changes old.next table name changes)
+column_number old all table name = number_or (named_column old table name) (added_number old.next all [] table name all)
 
 -- the steps until an element that leaves has gone, where it is an index that lists this column
 abbrev pub steps_on : ℕ → Option ElementDef → ℕ
@@ -134,25 +160,31 @@ abbrev pub trip_out : Version → List Change → Option ElementDef → List Tri
 trip_out old all None = []
 trip_out old all (Some element) = out_trip old all element ∷ []
 
-abbrev pub trip_of : Version → List Change → ℕ → ℕ → Change → List Trip
-trip_of old all early late (AddIndex table name columns) =
+abbrev pub index_trip : Version → List Change → List Change → ℕ → List ℕ → List (List ℕ) → Trip
+index_trip old all earlier table name columns =
     record {
-      wait = if lists_added all table columns then steps ColumnIn else 0;
-      course = IndexIn;
-      number = if lists_added all table columns then late else early;
+      wait = wait_in all table columns;
+      course = FilledIn;
+      number = number_of old.next all earlier (wait_in all table columns);
       fresh = record { table = table; name = name; kind = Index (each (column_number old all table) columns) };
-    } ∷ []
-trip_of old all early late (AddColumn table name kind) = record { wait = 0; course = ColumnIn; number = early; fresh = record { table = table; name = name; kind = kind } } ∷ []
-trip_of old all early late change = trip_out old all (leaving old change)
+    }
 
--- the numbers are those that the elements are given as they enter
-abbrev pub trips_from : Version → List Change → ℕ → ℕ → List Change → List Trip
-trips_from old all early late [] = []
-trips_from old all early late (change ∷ changes) =
-    trip_of old all early late change ++ trips_from old all (if is_early all change then early + 1 else early) (if is_late all change then late + 1 else late) changes
+abbrev pub column_trip : ℕ → ℕ → List ℕ → Kind → Trip
+column_trip number table name kind = record { wait = 0; course = course_in kind; number = number; fresh = record { table = table; name = name; kind = kind } }
+
+-- the trip of a change behind these earlier ones
+abbrev pub trip_of : Version → List Change → List Change → Change → List Trip
+trip_of old all earlier (AddIndex table name columns) = index_trip old all earlier table name columns ∷ []
+trip_of old all earlier (AddColumn table name kind) = column_trip (number_of old.next all earlier 0) table name kind ∷ []
+trip_of old all earlier change = trip_out old all (leaving old change)
+
+-- the trips of these changes behind the earlier ones
+abbrev pub trips_from : Version → List Change → List Change → List Change → List Trip
+trips_from old all earlier [] = []
+trips_from old all earlier (change ∷ changes) = trip_of old all earlier change ++ trips_from old all (earlier ++ change ∷ []) changes
 
 abbrev pub trips : Version → List Change → List Trip
-trips old changes = trips_from old changes old.next (old.next + count_by (is_early changes) changes) changes
+trips old changes = trips_from old changes [] changes
 
 -- the plan
 abbrev pub schedule : Version → List Change → List PlanStep

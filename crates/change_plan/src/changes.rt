@@ -1,13 +1,14 @@
 //! Looking for changes of a batch by table and name.
 ghost use Rattle.std.specs.Prelude.{◌≡◌, ◌&&◌, ◌==◌, bytes_eq};
 ghost use Rattle.std.specs.List.{list_any};
-ghost use Rattle.change_plan.specs.Batches.{place_of, is_of as is_of_of, adds_column as adds_column_of, adds as adds_of, drops as drops_of, drops_index as drops_index_of, drops_column as drops_column_of, lists_added as lists_added_of};
+ghost use Rattle.change_plan.specs.Batches.{place_of, is_of as is_of_of, adds_column as adds_column_of, adds as adds_of, drops as drops_of, drops_index as drops_index_of, drops_column as drops_column_of};
 ghost use Rattle.change_plan.specs.Refusals.{adds_like as adds_like_of, is_addition as is_addition_of};
 ghost use Rattle.change_plan.specs.Deciding.{adds_index_on as adds_index_on_of};
-ghost use Rattle.change_plan.specs.Schedule.{is_early as is_early_of, is_late as is_late_of};
+ghost use Rattle.change_plan.specs.Schedule.{steps_to as steps_to_of, steps_until as steps_until_of, wait_in as wait_in_of, enters_at as enters_at_of, enters_before as enters_before_of};
 
 use crate::change::Change;
 use crate::finding::named_column;
+use crate::trip::{course_in, steps};
 use keycode::Text;
 use schema_version::Schema;
 
@@ -173,36 +174,62 @@ pub(crate) fn any_drops_column(schema: &Schema, changes: &[Change], table: u32, 
     changes.iter().any(|c| drops_column(schema, c, table, name))
 }
 
-/// Whether an index over these columns waits for one that the batch adds.
-pub(crate) fn lists_added(changes: &[Change], table: u32, columns: &[Text]) -> bool
-    ensures { result ≡ lists_added_of changes.now table columns.now }
-{
-    columns
-        .iter()
-        .any(|name| any_adds_column(changes, table, name))
-}
-
-/// Whether the change adds an element that enters in the first step.
-pub(crate) fn is_early(changes: &[Change], change: &Change) -> bool
-    ensures { result ≡ is_early_of changes.now change.now }
+// The steps until the change's column is public, where it adds the table's column of this name.
+fn steps_to(change: &Change, table: u32, name: &Text) -> u32
+    ensures { result ≡ steps_to_of table name.now change.now }
 {
     match change {
-        Change::AddIndex { table, columns, .. } => {
-            !lists_added(changes, *table, columns.as_slice())
+        Change::AddColumn { kind, .. } if is_of(change, table, name) => steps(course_in(kind)),
+        _ => 0,
+    }
+}
+
+// The steps until the column of this name is public that these changes add.
+fn steps_until(changes: &[Change], table: u32, name: &Text) -> u32
+    ensures { result ≡ steps_until_of table name.now changes.now }
+{
+    let mut most = 0;
+    for change in changes {
+        let steps = steps_to(change, table, name);
+        if steps > most {
+            most = steps;
         }
-        Change::AddColumn { .. } => true,
+    }
+    most
+}
+
+/// The steps that an index over these columns waits: until the last of them that the batch adds is public.
+pub(crate) fn wait_in(all: &[Change], table: u32, columns: &[Text]) -> u32
+    ensures { result ≡ wait_in_of all.now table columns.now }
+{
+    let mut most = 0;
+    for name in columns {
+        let steps = steps_until(all, table, name);
+        if steps > most {
+            most = steps;
+        }
+    }
+    most
+}
+
+/// Whether the change adds an element that waits so many steps.
+pub(crate) fn enters_at(all: &[Change], wait: u32, change: &Change) -> bool
+    ensures { result ≡ enters_at_of all.now wait change.now }
+{
+    match change {
+        Change::AddIndex { table, columns, .. } => wait_in(all, *table, columns.as_slice()) == wait,
+        Change::AddColumn { .. } => wait == 0,
         _ => false,
     }
 }
 
-/// Whether the change adds an index that enters behind the columns that it waits for.
-pub(crate) fn is_late(changes: &[Change], change: &Change) -> bool
-    ensures { result ≡ is_late_of changes.now change.now }
+/// Whether the change adds an element that waits fewer steps.
+pub(crate) fn enters_before(all: &[Change], wait: u32, change: &Change) -> bool
+    ensures { result ≡ enters_before_of all.now wait change.now }
 {
     match change {
-        Change::AddIndex { table, columns, .. } => {
-            lists_added(changes, *table, columns.as_slice())
-        }
+        Change::AddIndex { table, columns, .. } => wait_in(all, *table, columns.as_slice()) < wait,
+        Change::AddColumn { .. } => 0 < wait,
         _ => false,
     }
 }

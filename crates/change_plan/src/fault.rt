@@ -21,8 +21,8 @@ pub enum PlanFault {
     /// The element to be dropped, or a column that a new index lists, isn't public. No change that abandons an element is refused so.
     #[error("an element is in change")]
     InChange,
-    /// A name, a list of columns or a count is outside its limits.
-    #[error("a name, a list or a count is over its limit")]
+    /// A name, a list of columns, a default or a count is outside its limits.
+    #[error("a name, a list, a default or a count is over its limit")]
     Limit,
     #[error("out of memory")]
     Memory,

@@ -79,6 +79,6 @@ pub(crate) fn lists(element: &ElementDef, column: u32) -> bool
 {
     match &element.kind {
         Kind::Index(columns) => columns.as_slice().iter().any(|c| *c == column),
-        Kind::Optional(_) => false,
+        Kind::Optional(_) | Kind::Required { .. } => false,
     }
 }

@@ -7,7 +7,7 @@ use schema_version::Step;
 /// After the reorganisations of "Online, Asynchronous Schema Change in F1" (Rae et al., 2013).
 #[derive(Clone, Copy, Debug, PartialEq, Eq)]
 pub enum Reorg {
-    /// The pairs of the index of this number are written for all rows.
+    /// The pairs of the index or the required column of this number are written for all rows.
     Fill(u32),
     /// All pairs of the element of this number are deleted.
     Clear(u32),

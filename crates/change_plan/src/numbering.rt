@@ -1,40 +1,53 @@
 //! The numbers that added elements will have.
-ghost use Rattle.std.specs.Prelude.{◌≡◌, ◌+◌, ◌≤◌, [], ◌∷◌, if◌then◌else◌, IsTrue, count_by, IfOk, option_to_list};
+ghost use Rattle.std.specs.Prelude.{◌≡◌, ◌+◌, ◌≤◌, [], ◌∷◌, length, take, count_by, IfOk, option_to_list};
 ghost use Rattle.std.specs.Option.{option_copied};
 ghost use mathlib.Core.List.{map as each};
 ghost use Rattle.schema_version.specs.Names.{max_elements};
 ghost use Rattle.change_plan.specs.declared.change.Change.TheVariants.{AddIndex};
-ghost use Rattle.change_plan.specs.declared.trip.Course.TheVariants.{ColumnIn};
-ghost use Rattle.change_plan.specs.Schedule.{is_early as is_early_of, is_late as is_late_of, added_number as added_number_of, column_number as column_number_of, course_out as course_out_of, steps_on as steps_on_of, wait_out as wait_out_of, out_trip as out_trip_of, trip_out as trip_out_of, trip_of as trip_of_change, trips as trips_of_batch};
+ghost use Rattle.change_plan.specs.Refusals.{is_addition as is_addition_of};
+ghost use Rattle.change_plan.specs.Schedule.{enters_at as enters_at_of, enters_before as enters_before_of, number_of as number_of_change, added_number as added_number_of, column_number as column_number_of, course_out as course_out_of, steps_on as steps_on_of, wait_out as wait_out_of, out_trip as out_trip_of, trip_out as trip_out_of, column_trip as column_trip_of, trip_of as trip_of_change, trips as trips_of_batch};
 
 use crate::change::Change;
-use crate::changes::{adds_column, is_early, is_late, lists_added};
+use crate::changes::{adds_column, enters_at, enters_before, wait_in};
 use crate::finding::{leaving, lists, named_column};
-use crate::trip::{Course, Trip, steps};
+use crate::trip::{Course, Trip, course_in, course_out, steps};
 use keycode::Text;
 use listed::Listed;
-use schema_version::{ElementDef, ElementState, Kind, NewElement, Schema};
+use schema_version::{ElementDef, Kind, NewElement, Schema};
 use std::alloc::{AllocError, Global};
 
-// How many of these enter in the first step.
-fn count_early(all: &[Change], changes: &[Change]) -> usize
-    ensures { result ≡ count_by (is_early_of all.now) changes.now }
+// How many of these add an element that waits so many steps.
+fn count_at(all: &[Change], wait: u32, changes: &[Change]) -> usize
+    ensures { result ≡ count_by (enters_at_of all.now wait) changes.now }
 {
-    changes.iter().filter(|c| is_early(all, *c)).count()
+    changes.iter().filter(|c| enters_at(all, wait, *c)).count()
+}
+
+// How many add an element that waits fewer steps.
+fn count_before(all: &[Change], wait: u32) -> usize
+    ensures { result ≡ count_by (enters_before_of all.now wait) all.now }
+{
+    all.iter().filter(|c| enters_before(all, wait, *c)).count()
+}
+
+// The number of the element that the change of this place adds, by its wait.
+#[tactic(auto, using(crate::proofs::Numbers::number_room))]
+fn number_of(next: u32, all: &[Change], place: usize, wait: u32) -> u32
+    requires place { place ≤ length all.now }
+    requires room { next + count_by is_addition_of all.now ≤ max_elements + 1 }
+    ensures { result ≡ number_of_change next all.now (take place all.now) wait }
+{
+    next + count_before(all, wait) as u32 + count_at(all, wait, &all[..place]) as u32
 }
 
 // The number of the column that the batch adds under this name; 0 where it adds none.
 fn added_number(changes: &[Change], next: u32, table: u32, name: &Text) -> u32
-    requires { next + count_by (is_early_of changes.now) changes.now ≤ max_elements + 1 }
-    ensures { result ≡ added_number_of changes.now next table name.now changes.now }
+    requires { next + count_by is_addition_of changes.now ≤ max_elements + 1 }
+    ensures { result ≡ added_number_of next changes.now [] table name.now changes.now }
 {
-    let mut number = next;
-    for change in changes {
+    for (i, change) in changes.iter().enumerate() {
         if adds_column(change, table, name) {
-            return number;
-        }
-        if is_early(changes, change) {
-            number += 1;
+            return number_of(next, changes, i, 0);
         }
     }
     0
@@ -43,7 +56,7 @@ fn added_number(changes: &[Change], next: u32, table: u32, name: &Text) -> u32
 // The number of a listed column, live or added.
 fn column_number(schema: &Schema, next: u32, changes: &[Change], table: u32, name: &Text) -> u32
     requires is_next { next ≡ schema.now.next }
-    requires room { next + count_by (is_early_of changes.now) changes.now ≤ max_elements + 1 }
+    requires room { next + count_by is_addition_of changes.now ≤ max_elements + 1 }
     ensures { result ≡ column_number_of schema.now changes.now table name.now }
 {
     match named_column(schema, table, name) {
@@ -61,25 +74,13 @@ fn column_numbers(
     names: &[Text],
 ) -> Result<Vec<u32>, AllocError>
     requires is_next { next ≡ schema.now.next }
-    requires room { next + count_by (is_early_of changes.now) changes.now ≤ max_elements + 1 }
+    requires room { next + count_by is_addition_of changes.now ≤ max_elements + 1 }
     ensures { IfOk result (λ numbers. numbers.items ≡ each (column_number_of schema.now changes.now table) names.now) }
 {
     names
         .iter()
         .map(|c| column_number(schema, next, changes, table, c))
         .collect(alloc)
-}
-
-// The way out of an element.
-fn course_out(kind: &Kind, state: ElementState) -> Course
-    ensures { result ≡ course_out_of kind.now state }
-{
-    match (state, kind) {
-        (ElementState::DeleteOnly, _) => Course::DeleteOnlyBack,
-        (ElementState::WriteOnly, _) => Course::WriteOnlyBack,
-        (_, Kind::Index(_)) => Course::IndexOut,
-        (_, Kind::Optional(_)) => Course::ColumnOut,
-    }
 }
 
 // The steps until an element that leaves has gone, where it is an index that lists this column.
@@ -135,33 +136,27 @@ fn trip_out(
     }
 }
 
-// The next numbers of an element that enters in the first step, and of one that enters late.
-#[derive(Clone, Copy)]
-struct NextNumbers {
-    early: u32,
-    late: u32,
-}
-
 fn index_trip(
     alloc: Global,
     schema: &Schema,
     next: u32,
     all: &[Change],
-    numbers: NextNumbers,
+    place: usize,
     table: u32,
     name: &Text,
     columns: &[Text],
 ) -> Result<Trip, AllocError>
     requires is_next { next ≡ schema.now.next }
-    requires room { next + count_by (is_early_of all.now) all.now ≤ max_elements + 1 }
-    ensures { IfOk result (λ trip. trip ∷ [] ≡ trip_of_change schema.now all.now numbers.early numbers.late (AddIndex table name.now columns.now)) }
+    requires place { place ≤ length all.now }
+    requires room { next + count_by is_addition_of all.now ≤ max_elements + 1 }
+    ensures { IfOk result (λ trip. trip ∷ [] ≡ trip_of_change schema.now all.now (take place all.now) (AddIndex table name.now columns.now)) }
 {
-    let waits = lists_added(all, table, columns);
+    let wait = wait_in(all, table, columns);
     let listed = column_numbers(alloc, schema, next, all, table, columns)?;
     Ok(Trip {
-        wait: if waits { steps(Course::ColumnIn) } else { 0 },
-        course: Course::IndexIn,
-        number: if waits { numbers.late } else { numbers.early },
+        wait,
+        course: Course::FilledIn,
+        number: number_of(next, all, place, wait),
         fresh: NewElement {
             table,
             name: name.clone()?,
@@ -171,11 +166,11 @@ fn index_trip(
 }
 
 fn column_trip(number: u32, table: u32, name: &Text, kind: &Kind) -> Result<Trip, AllocError>
-    ensures { IfOk result (λ trip. trip ≡ record { wait = 0; course = ColumnIn; number = number; fresh = record { table = table; name = name.now; kind = kind.now } }) }
+    ensures { IfOk result (λ trip. trip ≡ column_trip_of number table name.now kind.now) }
 {
     Ok(Trip {
         wait: 0,
-        course: Course::ColumnIn,
+        course: course_in(kind),
         number,
         fresh: NewElement {
             table,
@@ -185,18 +180,19 @@ fn column_trip(number: u32, table: u32, name: &Text, kind: &Kind) -> Result<Trip
     })
 }
 
-// The trip of a change; none where what it drops isn't there.
+// The trip of the change of this place; none where what it drops isn't there.
 fn trip_of(
     alloc: Global,
     schema: &Schema,
     next: u32,
     all: &[Change],
-    numbers: NextNumbers,
+    place: usize,
     change: &Change,
 ) -> Result<Option<Trip>, AllocError>
     requires is_next { next ≡ schema.now.next }
-    requires room { next + count_by (is_early_of all.now) all.now ≤ max_elements + 1 }
-    ensures { IfOk result (λ trip. option_to_list trip ≡ trip_of_change schema.now all.now numbers.early numbers.late change.now) }
+    requires place { place ≤ length all.now }
+    requires room { next + count_by is_addition_of all.now ≤ max_elements + 1 }
+    ensures { IfOk result (λ trip. option_to_list trip ≡ trip_of_change schema.now all.now (take place all.now) change.now) }
 {
     match change {
         Change::AddIndex {
@@ -205,35 +201,14 @@ fn trip_of(
             columns,
         } => {
             let columns = columns.as_slice();
-            let trip = index_trip(alloc, schema, next, all, numbers, *table, name, columns)?;
+            let trip = index_trip(alloc, schema, next, all, place, *table, name, columns)?;
             Ok(Some(trip))
         }
         Change::AddColumn { table, name, kind } => {
-            let trip = column_trip(numbers.early, *table, name, kind)?;
+            let trip = column_trip(number_of(next, all, place, 0), *table, name, kind)?;
             Ok(Some(trip))
         }
         _ => trip_out(schema, all, leaving(schema, change)),
-    }
-}
-
-// The next numbers behind a change, which has room where it adds.
-fn numbers_after(all: &[Change], change: &Change, numbers: NextNumbers) -> NextNumbers
-    requires early { IsTrue (is_early_of all.now change.now) → numbers.early ≤ max_elements }
-    requires late { IsTrue (is_late_of all.now change.now) → numbers.late ≤ max_elements }
-    ensures early { result.early ≡ (if is_early_of all.now change.now then numbers.early + 1 else numbers.early) }
-    ensures late { result.late ≡ (if is_late_of all.now change.now then numbers.late + 1 else numbers.late) }
-{
-    NextNumbers {
-        early: if is_early(all, change) {
-            numbers.early + 1
-        } else {
-            numbers.early
-        },
-        late: if is_late(all, change) {
-            numbers.late + 1
-        } else {
-            numbers.late
-        },
     }
 }
 
@@ -245,19 +220,14 @@ pub(crate) fn trips_of(
     changes: &[Change],
 ) -> Result<Vec<Trip>, AllocError>
     requires is_next { next ≡ schema.now.next }
-    requires room { next + count_by (is_early_of changes.now) changes.now + count_by (is_late_of changes.now) changes.now ≤ max_elements + 1 }
+    requires room { next + count_by is_addition_of changes.now ≤ max_elements + 1 }
     ensures { IfOk result (λ trips. trips.items ≡ trips_of_batch schema.now changes.now) }
 {
-    let mut numbers = NextNumbers {
-        early: next,
-        late: next + count_early(changes, changes) as u32,
-    };
     let mut trips = Vec::new(alloc);
-    for change in changes {
-        if let Some(trip) = trip_of(alloc, schema, next, changes, numbers, change)? {
+    for (i, change) in changes.iter().enumerate() {
+        if let Some(trip) = trip_of(alloc, schema, next, changes, i, change)? {
             trips.push(trip)?;
         }
-        numbers = numbers_after(changes, change, numbers);
     }
     Ok(trips)
 }

@@ -3,8 +3,8 @@ ghost use Rattle.std.specs.Prelude.{◌≡◌, ◌+◌, ◌≤◌, ◌⊎◌, If
 ghost use Rattle.schema_version.specs.Names.{max_elements};
 ghost use Rattle.change_plan.specs.declared.fault.PlanFault.TheVariants.{Memory};
 ghost use Rattle.change_plan.specs.Plans.{IsLeast};
-ghost use Rattle.change_plan.specs.Refusals.{IsPlannable, IsRefused};
-ghost use Rattle.change_plan.specs.Schedule.{schedule, is_early as is_early_of, is_late as is_late_of};
+ghost use Rattle.change_plan.specs.Refusals.{IsPlannable, IsRefused, is_addition as is_addition_of};
+ghost use Rattle.change_plan.specs.Schedule.{schedule};
 
 use crate::change::Change;
 use crate::fault::PlanFault;
@@ -21,7 +21,7 @@ fn check(schema: &Schema, next: u32, changes: &[Change]) -> Result<(), PlanFault
     requires { next ≡ schema.now.next }
     ensures clear { OnOk result (IsPlannable schema.now changes.now) }
     ensures refused { IfErr result (λ f. IsRefused schema.now changes.now f) }
-    ensures room { OnOk result (schema.now.next + count_by (is_early_of changes.now) changes.now + count_by (is_late_of changes.now) changes.now ≤ max_elements + 1) }
+    ensures room { OnOk result (schema.now.next + count_by is_addition_of changes.now ≤ max_elements + 1) }
 {
     schema.known();
     check_batch(schema, next, changes)
@@ -35,7 +35,7 @@ fn scheduled(
     changes: &[Change],
 ) -> Result<Vec<PlanStep>, AllocError>
     requires is_next { next ≡ schema.now.next }
-    requires room { next + count_by (is_early_of changes.now) changes.now + count_by (is_late_of changes.now) changes.now ≤ max_elements + 1 }
+    requires room { next + count_by is_addition_of changes.now ≤ max_elements + 1 }
     ensures { IfOk result (λ steps. steps.items ≡ schedule schema.now changes.now) }
 {
     let trips = trips_of(alloc, schema, next, changes)?;

@@ -15,8 +15,8 @@ use crate::fault::PlanFault;
 use crate::finding::{lists, named_column, named_entering, named_index};
 use keycode::Text;
 use schema_version::{
-    ElementDef, Kind, MAX_COLUMNS, MAX_ELEMENTS, MAX_INDEXES, Schema, elements_like, is_name,
-    is_name_list,
+    ElementDef, Kind, MAX_COLUMNS, MAX_ELEMENTS, MAX_INDEXES, Schema, elements_like, is_fair_kind,
+    is_name, is_name_list,
 };
 
 // Whether the table has no live column of this name, and the batch adds none.
@@ -198,7 +198,10 @@ fn check_added_column(
     if is_taken(schema, earlier, table, name) {
         return Err(PlanFault::NameTaken);
     }
-    if !is_name(name.as_bytes()) || is_over(schema, next, all, table, false) {
+    if !is_name(name.as_bytes())
+        || !is_fair_kind(kind)
+        || is_over(schema, next, all, table, false)
+    {
         return Err(PlanFault::Limit);
     }
     Ok(())

@@ -1,8 +1,8 @@
 //! When an element takes which of its moves.
 ghost use Rattle.std.specs.Prelude.{◌≡◌, length};
-ghost use Rattle.change_plan.specs.Schedule.{acts as acts_of, steps as steps_of_course, nth_act as nth_act_of, act_at as act_at_of, duration as duration_of};
+ghost use Rattle.change_plan.specs.Schedule.{acts as acts_of, steps as steps_of_course, course_in as course_in_of, course_out as course_out_of, nth_act as nth_act_of, act_at as act_at_of, duration as duration_of};
 
-use schema_version::{ElementState, NewElement};
+use schema_version::{ElementState, Kind, NewElement};
 
 /// What is done with an element in one step.
 #[derive(Clone, Copy, Debug, PartialEq, Eq)]
@@ -19,10 +19,12 @@ pub(crate) enum Act {
 /// The moves of an element, one per step.
 #[derive(Clone, Copy, Debug, PartialEq, Eq)]
 pub(crate) enum Course {
-    ColumnIn,
-    IndexIn,
-    IndexOut,
-    ColumnOut,
+    /// Of what no fill serves, as an optional column.
+    PlainIn,
+    /// Of what a fill serves, as an index or a required column.
+    FilledIn,
+    FilledOut,
+    PlainOut,
     DeleteOnlyBack,
     WriteOnlyBack,
 }
@@ -47,10 +49,10 @@ fn acts(course: Course) -> &'static [Act]
     use Act::{Appear, Reach, Return};
     use ElementState::{Absent, DeleteOnly, Public, WriteOnly};
     match course {
-        Course::ColumnIn => &[Appear, Reach(Public)],
-        Course::IndexIn => &[Appear, Reach(WriteOnly), Reach(Public)],
-        Course::IndexOut => &[Reach(WriteOnly), Reach(DeleteOnly), Reach(Absent)],
-        Course::ColumnOut => &[Reach(DeleteOnly), Reach(Absent)],
+        Course::PlainIn => &[Appear, Reach(Public)],
+        Course::FilledIn => &[Appear, Reach(WriteOnly), Reach(Public)],
+        Course::FilledOut => &[Reach(WriteOnly), Reach(DeleteOnly), Reach(Absent)],
+        Course::PlainOut => &[Reach(DeleteOnly), Reach(Absent)],
         Course::DeleteOnlyBack => &[Return, Reach(Absent)],
         Course::WriteOnlyBack => &[Return, Reach(DeleteOnly), Reach(Absent)],
     }
@@ -61,8 +63,36 @@ pub(crate) fn steps(course: Course) -> u32
     ensures { result ≡ steps_of_course course }
 {
     match course {
-        Course::IndexIn | Course::IndexOut | Course::WriteOnlyBack => 3,
-        Course::ColumnIn | Course::ColumnOut | Course::DeleteOnlyBack => 2,
+        Course::FilledIn | Course::FilledOut | Course::WriteOnlyBack => 3,
+        Course::PlainIn | Course::PlainOut | Course::DeleteOnlyBack => 2,
+    }
+}
+
+/// The way in of an element.
+pub(crate) fn course_in(kind: &Kind) -> Course
+    ensures { result ≡ course_in_of kind.now }
+{
+    if kind.is_filled() {
+        Course::FilledIn
+    } else {
+        Course::PlainIn
+    }
+}
+
+/// The way out of an element.
+pub(crate) fn course_out(kind: &Kind, state: ElementState) -> Course
+    ensures { result ≡ course_out_of kind.now state }
+{
+    match state {
+        ElementState::DeleteOnly => Course::DeleteOnlyBack,
+        ElementState::WriteOnly => Course::WriteOnlyBack,
+        ElementState::Absent | ElementState::Public => {
+            if kind.is_filled() {
+                Course::FilledOut
+            } else {
+                Course::PlainOut
+            }
+        }
     }
 }
 
