@@ -3,9 +3,6 @@ use Rattle.std.proofs.Common.{◌≡◌, ℕ, ◌+◌, ◌<◌, ◌≤◌, List,
 use Rattle.std.specs.List.{AllZip}
 use Rattle.listed.specs.Refusal.{IsClear, IsRefusal}
 use Rattle.schema_version.specs.contracts.step.MoveClone.TheImpl as MoveClone
-use Rattle.schema_version.specs.contracts.element.KindClone.TheImpl as KindClone
-use Rattle.schema_version.specs.declared.element.Kind.{Kind}
-use Rattle.schema_version.specs.declared.element.Kind.TheVariants.{Index, Optional}
 use Rattle.lease.specs.Timeline.{Timeline, earliest, max_moment, newest as newest_number, after_publication}
 use Rattle.schema_version.specs.declared.element.ElementState.{ElementState}
 use Rattle.schema_version.specs.declared.element.ElementDef.{ElementDef}
