@@ -30,7 +30,6 @@ use Rattle.schema_version.specs.declared.element.Kind.TheVariants.{Index, Option
 use Rattle.schema_version.specs.declared.element.ElementDef.{ElementDef}
 use Rattle.schema_version.specs.Sound.{IsSoundVersion}
 use Rattle.schema_version.specs.Version.{Version, element_at, live, is_public}
-use Rattle.schema_version.proofs.Live.{live_has}
 use Rattle.element_state.specs.Consistent.{IsConsistent, DemandOf}
 use Rattle.row_query.proofs.Columns.{both_true, public_is}
 use Rattle.world_laws.proofs.Counted.{read_again}

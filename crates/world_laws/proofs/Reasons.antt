@@ -1,5 +1,5 @@
 -- Each pair has a reason.
-use Rattle.std.proofs.Common.{◌≡◌, ℕ, zero, suc, ◌≤◌, ◌==◌, ◌&&◌, not, Bool, true, false, eqb, List, [], ◌++◌, length, drop, Option, Some, None, option_map, is_some, refl, sym, ap, subst, ◌∙◌, eqb-true, eq-eqb, true≢false, arith}
+use Rattle.std.proofs.Common.{◌≡◌, ℕ, zero, suc, ◌≤◌, ◌==◌, ◌&&◌, not, Bool, true, false, eqb, List, [], ◌++◌, length, drop, Option, Some, None, is_some, refl, sym, ap, subst, ◌∙◌, eqb-true, eq-eqb, true≢false, arith}
 use Rattle.row_query.proofs.Premise.{Reads}
 use Rattle.schema_version.specs.Moves.{IsFairKind}
 use Rattle.element_state.proofs.Sources.{lawful_source}

@@ -5,7 +5,6 @@ use Rattle.element_state.specs.Required.{required_code}
 use Rattle.element_state.specs.Column.{column_pair}
 use Rattle.element_state.specs.Sources.{source_in, stand_in_at}
 use Rattle.audit.specs.Meaning.{with_stand_ins}
-use Rattle.std.proofs.lemmas.List.{append-nil}
 use Rattle.std.specs.Cmp.{nat_cmp_total}
 use Rattle.std.specs.FinMap as map
 use Rattle.std.specs.FinMap.{nat_cmp-IsAntisymmetric}
@@ -16,12 +15,11 @@ use mathlib.Core.List.{map as each}
 use Rattle.audit.specs.Audit.{given}
 use Rattle.audit.specs.Spelled.{spelled, public_type, cell_by, stored_cell, row_at}
 use Rattle.keycode.specs.declared.value.Value.{Value}
-use Rattle.keycode.specs.declared.value.Value.TheVariants.{Null}
 use Rattle.keycode.specs.Code.{code}
 use Rattle.keycode.specs.Valid.{IsValue, IsShort}
 use Rattle.row_map.specs.declared.shape.ColumnType.{ColumnType}
 use Rattle.row_map.specs.Keys.{row_code, index_code}
-use Rattle.row_map.specs.Rows.{Bytes, Cells, Rows, Pairs, value_or_null}
+use Rattle.row_map.specs.Rows.{Cells, Rows, Pairs}
 use Rattle.row_map.specs.Shape.{has_type}
 use Rattle.row_map.proofs.Cells.{typed_again}
 use Rattle.row_map.proofs.Entries.{each_entry}
@@ -38,7 +36,7 @@ use Rattle.element_state.specs.Index.{indexed, index_pair, value_in}
 use Rattle.element_state.specs.Kinds.{kind_meaning}
 use Rattle.element_state.specs.Operations.{cells_of, fill_pair}
 use Rattle.row_query.proofs.Columns.{column_named}
-use Rattle.row_query.proofs.Premise.{Reads, reads_from}
+use Rattle.row_query.proofs.Premise.{Reads}
 use Rattle.row_query.proofs.Sorted.{kept, find_kept}
 
 -- ---- one cell
