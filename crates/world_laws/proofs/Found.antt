@@ -5,10 +5,11 @@ use Rattle.row_map.specs.Rows.{Rows, Pairs}
 use Rattle.schema_version.specs.declared.element.ElementState.{ElementState}
 use Rattle.schema_version.specs.declared.element.ElementState.TheVariants.{Absent}
 use Rattle.schema_version.specs.declared.element.ElementDef.{ElementDef}
-use Rattle.schema_version.specs.Version.{element_at, state_or_absent}
+use Rattle.schema_version.specs.Version.{Version, element_at, state_or_absent}
 use Rattle.element_state.specs.Consistent.{IsConsistent, DemandOf}
 use Rattle.element_state.specs.Elements.{Empty, Demand}
 use Rattle.element_state.specs.Kinds.{kind_meaning, kind_numbered}
+use Rattle.element_state.specs.Sources.{source_in}
 use Rattle.element_state.specs.Tables.{within}
 use Rattle.replay.specs.declared.entry.Entry.{Entry}
 use Rattle.replay.specs.declared.entry.What.TheVariants.{Publish}
@@ -31,17 +32,17 @@ finds_consistent old new now step p =
 pub finds_exact : FindsExact
 finds_exact old new now step number element p above at public =
     let all = finds_consistent old new now step p in
-    subst (λ (q : ElementState). Demand (within element.table (kind_meaning number element.kind)) q old.pairs (facts_of old).rows) public
-    (subst (λ (o : Option ElementDef). DemandOf number o old.pairs (facts_of old).rows) at (all.elements number above))
+    subst (λ (q : ElementState). Demand (within element.table (kind_meaning number (source_in (facts_of new).newest element.kind))) q old.pairs (facts_of old).rows) public
+    (subst (λ (o : Option ElementDef). DemandOf (facts_of new).newest number o old.pairs (facts_of old).rows) at (all.elements number above))
 
 -- an absent element is one that the version lacks, or that it has as absent
-absent_empty : (number : ℕ) (o : Option ElementDef) (pairs : Pairs) (rows : Rows) → state_or_absent o ≡ Absent → DemandOf number o pairs rows → Empty number pairs
-absent_empty number None pairs rows is demand = demand
-absent_empty number (Some element) pairs rows is demand =
-    subst (λ (n : ℕ). Empty n pairs) (kind_numbered number element.kind)
-    (subst (λ (q : ElementState). Demand (within element.table (kind_meaning number element.kind)) q pairs rows) is demand)
+absent_empty : (version : Version) (number : ℕ) (o : Option ElementDef) (pairs : Pairs) (rows : Rows) → state_or_absent o ≡ Absent → DemandOf version number o pairs rows → Empty number pairs
+absent_empty version number None pairs rows is demand = demand
+absent_empty version number (Some element) pairs rows is demand =
+    subst (λ (n : ℕ). Empty n pairs) (kind_numbered number (source_in version element.kind))
+    (subst (λ (q : ElementState). Demand (within element.table (kind_meaning number (source_in version element.kind))) q pairs rows) is demand)
 
 pub finds_empty : FindsEmpty
 finds_empty old new now step number p above is =
     let all = finds_consistent old new now step p in
-    absent_empty number (element_at (facts_of new).newest number) old.pairs (facts_of old).rows is (all.elements number above)
+    absent_empty (facts_of new).newest number (element_at (facts_of new).newest number) old.pairs (facts_of old).rows is (all.elements number above)

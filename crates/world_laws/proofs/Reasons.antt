@@ -1,9 +1,15 @@
 -- Each pair has a reason.
-use Rattle.std.proofs.Common.{◌≡◌, ℕ, zero, suc, ◌≤◌, ◌==◌, ◌&&◌, not, Bool, true, false, eqb, List, [], ◌++◌, length, drop, Option, Some, None, option_map, is_some, refl, sym, ap, subst, ◌∙◌, eqb-true, eq-eqb, true≢false, arith}
+use Rattle.std.proofs.Common.{◌≡◌, ℕ, zero, suc, ◌≤◌, ◌==◌, ◌&&◌, not, Bool, true, false, eqb, List, [], ◌++◌, length, drop, Option, Some, None, is_some, refl, sym, ap, subst, ◌∙◌, eqb-true, eq-eqb, true≢false, arith}
+use Rattle.row_query.proofs.Premise.{Reads}
+use Rattle.schema_version.specs.Moves.{IsFairKind}
+use Rattle.element_state.proofs.Sources.{lawful_source}
+use Rattle.element_state.specs.Required.{required_meaning}
+use Rattle.element_state.specs.Sources.{source_in, stand_in_at}
+use Rattle.audit.specs.Meaning.{with_stand_ins}
 use Rattle.std.specs.Prelude.{count_by, bytes_eq}
 use Rattle.std.specs.FinMap as map
 use Rattle.std.specs.List.{find}
-use Rattle.std.proofs.lemmas.List.{drop_at}
+use Rattle.std.proofs.lemmas.List.{drop_at, length-map}
 use Rattle.std.proofs.lemmas.Slice.Eq.{bytes_eq-Decides}
 use Rattle.audit.specs.Audit.{Pair, given, numbered, is_column_of_row, is_same_pair, is_given, is_index_pair, reason_by, has_reason}
 use Rattle.audit.specs.Spelled.{key_read, is_exists, is_row, row_at}
@@ -19,7 +25,7 @@ use Rattle.row_map.proofs.KeyLaws.{same_key}
 use Rattle.schema_version.specs.declared.element.ElementState.{ElementState}
 use Rattle.schema_version.specs.declared.element.ElementState.TheVariants.{Absent, DeleteOnly, WriteOnly, Public}
 use Rattle.schema_version.specs.declared.element.Kind.{Kind}
-use Rattle.schema_version.specs.declared.element.Kind.TheVariants.{Index, Optional}
+use Rattle.schema_version.specs.declared.element.Kind.TheVariants.{Index, Optional, Required}
 use Rattle.schema_version.specs.declared.element.ElementDef.{ElementDef}
 use Rattle.schema_version.specs.Sound.{IsSoundVersion}
 use Rattle.schema_version.specs.Version.{Version, element_at, live, listed, is_column}
@@ -34,12 +40,9 @@ use Rattle.element_state.specs.Index.{indexed, index_meaning, IsLawfulIndex}
 use Rattle.element_state.specs.IndexLaws.{index_is_key, indexed_length}
 use Rattle.element_state.specs.Kinds.{kind_meaning, kind_numbered, IsLawfulKind}
 use Rattle.element_state.specs.Tables.{within, some_in}
-use Rattle.element_state.specs.Versions.{entry_of}
 use Rattle.row_query.proofs.Columns.{find_says, found_at, and_true}
-use Rattle.replay.proofs.Agree.{at_number}
-use Rattle.replay.proofs.Soundness.{lawful}
 use Rattle.world_laws.proofs.Counted.{read_again}
-use Rattle.world_laws.proofs.Spelled.{reads, given_pair}
+use Rattle.world_laws.proofs.Spelled.{given_pair}
 use Rattle.world_laws.proofs.Sums.{count_none}
 
 -- ---- keys of two kinds differ
@@ -65,17 +68,18 @@ values_in (IndexKey number values) = values
 same_bytes : (x : Bytes) → bytes_eq x x ≡ true
 same_bytes x = (bytes_eq-Decides x x).1 refl
 
-module _ (version : Version) (sound : IsSoundVersion version) (rows : Rows) (pairs : Pairs) (agree : IsConsistent version rows pairs) where
+module _ (version : Version) (sound : IsSoundVersion version) (rows : Rows) (pairs : Pairs) (agree : IsConsistent version rows pairs) (reads : Reads version rows pairs) where
   -- ---- what is known of rows and elements
 
   held : (key : RowKey) (cells : Cells) → map.get rows key ≡ Some cells → IsStorableRow key cells
   held key cells here =
-      let r = reads version sound rows pairs agree in
-      let form = r.keys key.0 key.1 cells here in
-      record { table = form.0; primary = form.1; values = λ column value is. r.values key.0 key.1 cells column value here is }
+      let form = reads.keys key.0 key.1 cells here in
+      record { table = form.0; primary = form.1; values = λ column value is. reads.values key.0 key.1 cells column value here is }
 
-  lawful_kind : (n : ℕ) (element : ElementDef) → element_at version n ≡ Some element → IsLawfulKind n element.kind
-  lawful_kind n element at = (lawful version sound n (entry_of element) (at_number version n (sound.elements n element at).first ∙ ap (option_map entry_of) at)).lawful
+  lawful_kind : (n : ℕ) (element : ElementDef) (k : Kind) → element_at version n ≡ Some element → element.kind ≡ k → IsLawfulKind n (source_in version k)
+  lawful_kind n element k at kind =
+      let e = sound.elements n element at in
+      lawful_source version (λ m d is. (sound.elements m d is).fair) n e.first (omega (arith, e.given, sound.few_elements)) k (subst IsFairKind kind e.fair)
 
   abbrev has_number : ℕ → ElementDef → Bool
   has_number n other = other.number == n
@@ -91,10 +95,9 @@ module _ (version : Version) (sound : IsSoundVersion version) (rows : Rows) (pai
 
   row_there : (table : ℕ) (primary : List Value) (cells : Cells) → map.get rows (table, primary) ≡ Some cells → is_row pairs table primary ≡ true
   row_there table primary cells here =
-      let r = reads version sound rows pairs agree in
       and_true (is_exists (key_read (row_code table primary 0))) (is_some (map.get pairs (row_code table primary 0)))
-      (ap is_exists (read_again (row_code table primary 0) (Exists table primary) (r.keys table primary cells here) refl))
-      (ap is_some (r.each_row table primary cells here))
+      (ap is_exists (read_again (row_code table primary 0) (Exists table primary) (reads.keys table primary cells here) refl))
+      (ap is_some (reads.each_row table primary cells here))
 
   -- ---- a pair is one that a row gives its element
 
@@ -108,20 +111,38 @@ module _ (version : Version) (sound : IsSoundVersion version) (rows : Rows) (pai
   record Given (number : ℕ) (x w : Bytes) : Type 0 where
     element : ElementDef
     at : element_at version number ≡ Some element
-    scratch : IsFromScratch (within element.table (kind_meaning number element.kind)) rows x w
+    scratch : IsFromScratch (within element.table (kind_meaning number (source_in version element.kind))) rows x w
 
   given_by : (number : ℕ) (x w : Bytes) → 1 ≤ number → owner x ≡ Some number → map.get pairs x ≡ Some w → Given number x w
   given_by number x w above own there = by (element_at version number) refl (agree.elements number above)
     where
-      by : (o : Option ElementDef) → element_at version number ≡ o → DemandOf number o pairs rows → Given number x w
+      by : (o : Option ElementDef) → element_at version number ≡ o → DemandOf version number o pairs rows → Given number x w
       by None at demand = absurd (not_none w (map.get pairs x) there (demand x own))
       by (Some element) at demand = record {
         element = element;
         at = at;
-        scratch = scratch_of (within element.table (kind_meaning number element.kind)) element.state x w (own ∙ ap Some (sym (kind_numbered number element.kind))) there demand;
+        scratch = scratch_of (within element.table (kind_meaning number (source_in version element.kind))) element.state x w (own ∙ ap Some (sym (kind_numbered number (source_in version element.kind)))) there demand;
       }
 
+  -- the same, where the element is of this kind
+  scratch_by : (number : ℕ) (element : ElementDef) (x w : Bytes) → IsFromScratch (within element.table (kind_meaning number (source_in version element.kind))) rows x w → (k : Kind) → element.kind ≡ k
+      → IsFromScratch (within element.table (kind_meaning number (source_in version k))) rows x w
+  scratch_by number element x w s k kind = subst (λ (q : Kind). IsFromScratch (within element.table (kind_meaning number (source_in version q))) rows x w) kind s
+
   -- ---- the pair of a column
+
+  -- a live column of either kind has the key beside its row's `exists` pair
+  beside_row : (table : ℕ) (primary : List Value) (number : ℕ) (x : Bytes) → IsKey (Column table primary number) → x ≡ row_code table primary number
+      → (element : ElementDef) (key : RowKey) (cells : Cells) → map.get rows key ≡ Some cells → IsLawfulColumn number → is_column element.kind ≡ true → eqb key.0 element.table ≡ true → row_code key.0 key.1 number ≡ x
+      → is_column_of_row pairs table primary (Some element) ≡ true
+  beside_row table primary number x form spelled element key cells there column kind own key_is =
+      let same : Column key.0 key.1 number ≡ Column table primary number =
+      same_key (Column key.0 key.1 number) (Column table primary number) (column_is_key number column key cells (held key cells there)) form (key_is ∙ spelled) in
+      let home : key.0 ≡ element.table = eqb-true key.0 element.table own in
+      let here : map.get rows (table, primary) ≡ Some cells = ap (λ (k : KeyOf). map.get rows (table_in k, values_in k)) (sym same) ∙ there in
+      and_true ((element.table == table) && is_column element.kind) (is_row pairs table primary)
+      (and_true (element.table == table) (is_column element.kind) (eq-eqb element.table table (sym home ∙ ap table_in same)) kind)
+      (row_there table primary cells here)
 
   column_reason : (table : ℕ) (primary : List Value) (number : ℕ) (x w : Bytes) → IsKey (Column table primary number) → x ≡ row_code table primary number → map.get pairs x ≡ Some w
       → is_column_of_row pairs table primary (numbered version number) ≡ true
@@ -130,45 +151,46 @@ module _ (version : Version) (sound : IsSoundVersion version) (rows : Rows) (pai
       let g : Given number x w = given_by number x w form.2 own there in
       ap (is_column_of_row pairs table primary) (numbered_is number g.element g.at) ∙ by g.element g.at g.scratch g.element.kind refl
     where
-      by : (element : ElementDef) → element_at version number ≡ Some element → IsFromScratch (within element.table (kind_meaning number element.kind)) rows x w → (k : Kind) → element.kind ≡ k → is_column_of_row pairs table primary (Some element) ≡ true
+      by : (element : ElementDef) → element_at version number ≡ Some element → IsFromScratch (within element.table (kind_meaning number (source_in version element.kind))) rows x w → (k : Kind) → element.kind ≡ k → is_column_of_row pairs table primary (Some element) ≡ true
       by element at s (Index columns) kind =
-          let t : IsFromScratch (within element.table (index_meaning number columns)) rows x w = subst (λ (k : Kind). IsFromScratch (within element.table (kind_meaning number k)) rows x w) kind s in
-          let lists : IsLawfulIndex number columns = subst (IsLawfulKind number) kind (lawful_kind number element at) in
-          index_or_row (IndexKey number (indexed columns t.cells ++ t.key.1)) (Column table primary number) refl refl
-          (same_key (IndexKey number (indexed columns t.cells ++ t.key.1)) (Column table primary number) (index_is_key number columns lists t.key t.cells (held t.key t.cells t.there)) form (t.key_is ∙ spelled))
+          let sources = with_stand_ins version columns in
+          let t : IsFromScratch (within element.table (index_meaning number sources)) rows x w = scratch_by number element x w s (Index columns) kind in
+          let lists : IsLawfulIndex number sources = lawful_kind number element (Index columns) at kind in
+          index_or_row (IndexKey number (indexed sources t.cells ++ t.key.1)) (Column table primary number) refl refl
+          (same_key (IndexKey number (indexed sources t.cells ++ t.key.1)) (Column table primary number) (index_is_key number sources lists t.key t.cells (held t.key t.cells t.there)) form (t.key_is ∙ spelled))
       by element at s (Optional type) kind =
-          let t : IsFromScratch (within element.table (column_meaning number)) rows x w = subst (λ (k : Kind). IsFromScratch (within element.table (kind_meaning number k)) rows x w) kind s in
-          let column : IsLawfulColumn number = subst (IsLawfulKind number) kind (lawful_kind number element at) in
-          let same : Column t.key.0 t.key.1 number ≡ Column table primary number =
-          same_key (Column t.key.0 t.key.1 number) (Column table primary number) (column_is_key number column t.key t.cells (held t.key t.cells t.there)) form (t.key_is ∙ spelled) in
-          let home : t.key.0 ≡ element.table = eqb-true t.key.0 element.table (some_in (eqb t.key.0 element.table) _ w t.value_is).0 in
-          let here : map.get rows (table, primary) ≡ Some t.cells = ap (λ (k : KeyOf). map.get rows (table_in k, values_in k)) (sym same) ∙ t.there in
-          and_true ((element.table == table) && is_column element.kind) (is_row pairs table primary)
-          (and_true (element.table == table) (is_column element.kind) (eq-eqb element.table table (sym home ∙ ap table_in same)) (ap is_column kind))
-          (row_there table primary t.cells here)
+          let t : IsFromScratch (within element.table (column_meaning number)) rows x w = scratch_by number element x w s (Optional type) kind in
+          beside_row table primary number x form spelled element t.key t.cells t.there (lawful_kind number element (Optional type) at kind) (ap is_column kind) (some_in (eqb t.key.0 element.table) _ w t.value_is).0 t.key_is
+      by element at s (Required type fallback) kind =
+          let t : IsFromScratch (within element.table (required_meaning number fallback)) rows x w = scratch_by number element x w s (Required type fallback) kind in
+          beside_row table primary number x form spelled element t.key t.cells t.there (lawful_kind number element (Required type fallback) at kind) (ap is_column kind) (some_in (eqb t.key.0 element.table) _ w t.value_is).0 t.key_is
 
   -- ---- the pair of an index
 
   -- the index gives it the row whose key stands behind the indexed values
   given_so : (element : ElementDef) (columns : List ℕ) (number : ℕ) (values : List Value) (x w : Bytes) → element_at version number ≡ Some element → element.kind ≡ Index columns → (primary : List Value) (cells : Cells)
-      → map.get rows (element.table, primary) ≡ Some cells → values ≡ indexed columns cells ++ primary → index_code number (indexed columns cells ++ primary) ≡ x → [] ≡ w
+      → map.get rows (element.table, primary) ≡ Some cells → values ≡ indexed (with_stand_ins version columns) cells ++ primary → index_code number (indexed (with_stand_ins version columns) cells ++ primary) ≡ x → [] ≡ w
       → is_given version pairs values (x, w) element ≡ true
   given_so element columns number values x w at kind primary cells here values_are key_is empty =
-      ap (λ (p : List Value). is_row pairs element.table p && is_same_pair (given element (row_at version pairs element.table p)) (x, w)) behind
-      ∙ and_true (is_row pairs element.table primary) (is_same_pair (given element (row_at version pairs element.table primary)) (x, w))
+      ap (λ (p : List Value). is_row pairs element.table p && is_same_pair (given version element (row_at version pairs element.table p)) (x, w)) behind
+      ∙ and_true (is_row pairs element.table primary) (is_same_pair (given version element (row_at version pairs element.table primary)) (x, w))
       (row_there element.table primary cells here)
-      (ap (λ (o : Option Pair). is_same_pair o (x, w)) (given_pair version sound rows pairs agree number element columns at kind primary cells here ∙ ap Some pair_is)
+      (ap (λ (o : Option Pair). is_same_pair o (x, w)) (given_pair version sound rows pairs agree reads number element columns at kind primary cells here ∙ ap Some pair_is)
       ∙ and_true (bytes_eq x x) (bytes_eq w w) (same_bytes x) (same_bytes w))
     where
       behind : drop (length (listed element.kind)) values ≡ primary
       behind =
           ap (λ (k : Kind). drop (length (listed k)) values) kind ∙ ap (drop (length columns)) values_are
-          ∙ drop_at (indexed columns cells) primary (length columns) (indexed_length columns cells)
+          ∙ drop_at (indexed (with_stand_ins version columns) cells) primary (length columns) (indexed_length (with_stand_ins version columns) cells ∙ length-map columns (λ (c : ℕ). (c, stand_in_at version c)))
 
-      pair_is : ◌≡◌ {A = Pair} (index_code element.number (indexed columns cells ++ primary), []) (x, w)
-      pair_is =
-          ap (λ (n : ℕ). (index_code n (indexed columns cells ++ primary), [])) (sound.elements number element at).own
-          ∙ ap (λ (b : Bytes). (b, [])) key_is ∙ ap (λ (v : Bytes). (x, v)) empty
+      pair_is : ◌≡◌ {A = Pair} (index_code number (indexed (with_stand_ins version columns) cells ++ primary), []) (x, w)
+      pair_is = ap (λ (b : Bytes). (b, [])) key_is ∙ ap (λ (v : Bytes). (x, v)) empty
+
+  -- and no column has the key of an index
+  no_column : {A : Type 0} (number : ℕ) (values : List Value) (x : Bytes) → IsKey (IndexKey number values) → x ≡ index_code number values → (key : RowKey) (cells : Cells) → map.get rows key ≡ Some cells → IsLawfulColumn number → row_code key.0 key.1 number ≡ x → A
+  no_column number values x form spelled key cells there column key_is =
+      index_or_row (IndexKey number values) (Column key.0 key.1 number) refl refl
+      (same_key (IndexKey number values) (Column key.0 key.1 number) form (column_is_key number column key cells (held key cells there)) (sym spelled ∙ sym key_is))
 
   index_reason : (number : ℕ) (values : List Value) (x w : Bytes) → 1 ≤ number → IsKey (IndexKey number values) → x ≡ index_code number values → map.get pairs x ≡ Some w → is_index_pair version pairs values (x, w) (numbered version number) ≡ true
   index_reason number values x w above form spelled there =
@@ -176,17 +198,19 @@ module _ (version : Version) (sound : IsSoundVersion version) (rows : Rows) (pai
       let g : Given number x w = given_by number x w above own there in
       ap (is_index_pair version pairs values (x, w)) (numbered_is number g.element g.at) ∙ by g.element g.at g.scratch g.element.kind refl
     where
-      by : (element : ElementDef) → element_at version number ≡ Some element → IsFromScratch (within element.table (kind_meaning number element.kind)) rows x w → (k : Kind) → element.kind ≡ k → is_given version pairs values (x, w) element ≡ true
+      by : (element : ElementDef) → element_at version number ≡ Some element → IsFromScratch (within element.table (kind_meaning number (source_in version element.kind))) rows x w → (k : Kind) → element.kind ≡ k → is_given version pairs values (x, w) element ≡ true
       by element at s (Optional type) kind =
-          let t : IsFromScratch (within element.table (column_meaning number)) rows x w = subst (λ (k : Kind). IsFromScratch (within element.table (kind_meaning number k)) rows x w) kind s in
-          let column : IsLawfulColumn number = subst (IsLawfulKind number) kind (lawful_kind number element at) in
-          index_or_row (IndexKey number values) (Column t.key.0 t.key.1 number) refl refl
-          (same_key (IndexKey number values) (Column t.key.0 t.key.1 number) form (column_is_key number column t.key t.cells (held t.key t.cells t.there)) (sym spelled ∙ sym t.key_is))
+          let t : IsFromScratch (within element.table (column_meaning number)) rows x w = scratch_by number element x w s (Optional type) kind in
+          no_column number values x form spelled t.key t.cells t.there (lawful_kind number element (Optional type) at kind) t.key_is
+      by element at s (Required type fallback) kind =
+          let t : IsFromScratch (within element.table (required_meaning number fallback)) rows x w = scratch_by number element x w s (Required type fallback) kind in
+          no_column number values x form spelled t.key t.cells t.there (lawful_kind number element (Required type fallback) at kind) t.key_is
       by element at s (Index columns) kind =
-          let t : IsFromScratch (within element.table (index_meaning number columns)) rows x w = subst (λ (k : Kind). IsFromScratch (within element.table (kind_meaning number k)) rows x w) kind s in
-          let lists : IsLawfulIndex number columns = subst (IsLawfulKind number) kind (lawful_kind number element at) in
-          let same : IndexKey number (indexed columns t.cells ++ t.key.1) ≡ IndexKey number values =
-          same_key (IndexKey number (indexed columns t.cells ++ t.key.1)) (IndexKey number values) (index_is_key number columns lists t.key t.cells (held t.key t.cells t.there)) form (t.key_is ∙ spelled) in
+          let sources = with_stand_ins version columns in
+          let t : IsFromScratch (within element.table (index_meaning number sources)) rows x w = scratch_by number element x w s (Index columns) kind in
+          let lists : IsLawfulIndex number sources = lawful_kind number element (Index columns) at kind in
+          let same : IndexKey number (indexed sources t.cells ++ t.key.1) ≡ IndexKey number values =
+          same_key (IndexKey number (indexed sources t.cells ++ t.key.1)) (IndexKey number values) (index_is_key number sources lists t.key t.cells (held t.key t.cells t.there)) form (t.key_is ∙ spelled) in
           let value = some_in (eqb t.key.0 element.table) (Some []) w t.value_is in
           let here : map.get rows (element.table, t.key.1) ≡ Some t.cells = ap (λ (n : ℕ). map.get rows (n, t.key.1)) (sym (eqb-true t.key.0 element.table value.0)) ∙ t.there in
           given_so element columns number values x w at kind t.key.1 t.cells here (sym (ap values_in same)) t.key_is (some_one [] w value.1)

@@ -1,6 +1,10 @@
--- The row that consistent pairs spell has the values of the rows in each public column, so an index gives it the row's own pair.
+-- The row that consistent pairs spell has the values of the rows in each public column, so an index and a required column give it the row's own pair.
 use Rattle.std.proofs.Common.{◌≡◌, ℕ, ◌&&◌, ◌||◌, Bool, true, false, cond, List, [], ◌∷◌, ◌++◌, Option, Some, None, option_map, unwrap_or, refl, sym, ap, subst, ◌∙◌, Contains, eq-eqb}
-use Rattle.std.proofs.lemmas.List.{append-nil}
+use Rattle.schema_version.specs.declared.element.ElementState.TheVariants.{Public}
+use Rattle.element_state.specs.Required.{required_code}
+use Rattle.element_state.specs.Column.{column_pair}
+use Rattle.element_state.specs.Sources.{source_in, stand_in_at}
+use Rattle.audit.specs.Meaning.{with_stand_ins}
 use Rattle.std.specs.Cmp.{nat_cmp_total}
 use Rattle.std.specs.FinMap as map
 use Rattle.std.specs.FinMap.{nat_cmp-IsAntisymmetric}
@@ -11,29 +15,28 @@ use mathlib.Core.List.{map as each}
 use Rattle.audit.specs.Audit.{given}
 use Rattle.audit.specs.Spelled.{spelled, public_type, cell_by, stored_cell, row_at}
 use Rattle.keycode.specs.declared.value.Value.{Value}
-use Rattle.keycode.specs.declared.value.Value.TheVariants.{Null}
 use Rattle.keycode.specs.Code.{code}
 use Rattle.keycode.specs.Valid.{IsValue, IsShort}
 use Rattle.row_map.specs.declared.shape.ColumnType.{ColumnType}
 use Rattle.row_map.specs.Keys.{row_code, index_code}
-use Rattle.row_map.specs.Rows.{Bytes, Cells, Rows, Pairs, value_or_null}
+use Rattle.row_map.specs.Rows.{Cells, Rows, Pairs}
 use Rattle.row_map.specs.Shape.{has_type}
 use Rattle.row_map.proofs.Cells.{typed_again}
 use Rattle.row_map.proofs.Entries.{each_entry}
 use Rattle.schema_version.specs.declared.element.ElementState.{ElementState}
 use Rattle.schema_version.specs.declared.element.Kind.{Kind}
-use Rattle.schema_version.specs.declared.element.Kind.TheVariants.{Index, Optional}
+use Rattle.schema_version.specs.declared.element.Kind.TheVariants.{Index, Optional, Required}
 use Rattle.schema_version.specs.declared.element.ElementDef.{ElementDef}
 use Rattle.schema_version.specs.Sound.{IsSoundVersion}
 use Rattle.schema_version.specs.Version.{Version, element_at, is_public, type_of_kind, listed, IsPublicColumn}
 use Rattle.schema_version.proofs.Lists.{here as at_head, later as behind}
 use Rattle.element_state.specs.Apart.{none_some}
 use Rattle.element_state.specs.Consistent.{IsConsistent}
-use Rattle.element_state.specs.Index.{indexed, index_pair}
+use Rattle.element_state.specs.Index.{indexed, index_pair, value_in}
 use Rattle.element_state.specs.Kinds.{kind_meaning}
 use Rattle.element_state.specs.Operations.{cells_of, fill_pair}
 use Rattle.row_query.proofs.Columns.{column_named}
-use Rattle.row_query.proofs.Premise.{Reads, reads_from}
+use Rattle.row_query.proofs.Premise.{Reads}
 use Rattle.row_query.proofs.Sorted.{kept, find_kept}
 
 -- ---- one cell
@@ -92,18 +95,15 @@ module _ (version : Version) (pairs : Pairs) (table : ℕ) (primary : List Value
       ∙ find_kept nat_cmp_total nat_cmp-IsAntisymmetric value_at_number n (each (λ (e : ℕ × ElementDef). e.0) (map.entries version.elements))
       ∙ ap (λ (b : Bool). cond b (value_at_number n) None) (number_listed n x (map.entries version.elements) (sym (map.get-entries version.elements n) ∙ there))
 
--- ---- where the pairs are consistent
+-- ---- where the pairs agree with rows in which no public required column lacks a value
 
-module _ (version : Version) (sound : IsSoundVersion version) (rows : Rows) (pairs : Pairs) (agree : IsConsistent version rows pairs) where
-  pub reads : Reads version rows pairs
-  reads = reads_from version sound rows pairs agree
+module _ (version : Version) (sound : IsSoundVersion version) (rows : Rows) (pairs : Pairs) (agree : IsConsistent version rows pairs) (reads : Reads version rows pairs) where
+  abbrev spelled_cells : ℕ → List Value → Cells
+  spelled_cells table primary = cells_of (row_at version pairs table primary)
 
   module _ (table : ℕ) (primary : List Value) (cells : Cells) (here : map.get rows (table, primary) ≡ Some cells) where
-    abbrev spelled_cells : Cells
-    spelled_cells = cells_of (row_at version pairs table primary)
-
     -- a public column has the row's value
-    value_is : (n : ℕ) → IsPublicColumn version table n → map.get spelled_cells n ≡ map.get cells n
+    value_is : (n : ℕ) → IsPublicColumn version table n → map.get (spelled_cells table primary) n ≡ map.get cells n
     value_is n c =
         cell_spelled version pairs table primary sound n c.0 c.2
         ∙ ap (value_by pairs table primary n) type_is
@@ -115,7 +115,7 @@ module _ (version : Version) (sound : IsSoundVersion version) (rows : Rows) (pai
             ap (type_here table) c.2
             ∙ ap (λ (b : Bool). cond (b && is_public c.0.state) (type_of_kind c.0.kind) None) (eq-eqb c.0.table table c.3)
             ∙ ap (λ (q : ElementState). cond (is_public q) (type_of_kind c.0.kind) None) c.5
-            ∙ ap type_of_kind c.4
+            ∙ c.4
 
         read_again : (o : Option Value) → map.get cells n ≡ o → spelled c.1 (option_map code o) ≡ o
         read_again None e = refl
@@ -124,21 +124,35 @@ module _ (version : Version) (sound : IsSoundVersion version) (rows : Rows) (pai
             spelled_code c.1 v held.0 held.1 ((agree.lawful (table, primary) cells here).types n c.0 c.1 v c.2 c.4 e)
 
     -- so an index over public columns has the row's values
-    indexed_is : (columns : List ℕ) → ((c : ℕ) → Contains columns c → IsPublicColumn version table c) → indexed columns spelled_cells ≡ indexed columns cells
+    indexed_is : (columns : List ℕ) → ((c : ℕ) → Contains columns c → IsPublicColumn version table c) → indexed (with_stand_ins version columns) (spelled_cells table primary) ≡ indexed (with_stand_ins version columns) cells
     indexed_is [] all = refl
     indexed_is (c ∷ columns) all =
-        ap (λ (o : Option Value). unwrap_or o Null ∷ indexed columns spelled_cells) (value_is c (all c (at_head c columns)))
-        ∙ ap (λ (vs : List Value). value_or_null cells c ∷ vs) (indexed_is columns (λ d there. all d (behind c d columns there)))
+        ap (λ (o : Option Value). unwrap_or o (stand_in_at version c) ∷ indexed (with_stand_ins version columns) (spelled_cells table primary)) (value_is c (all c (at_head c columns)))
+        ∙ ap (λ (vs : List Value). value_in cells (c, stand_in_at version c) ∷ vs) (indexed_is columns (λ d there. all d (behind c d columns there)))
 
-  -- an index gives the spelled row the pair of the row
+  -- what an element gives the spelled row, by its kind
+  given_by : (n : ℕ) (element : ElementDef) (k : Kind) → element_at version n ≡ Some element → element.kind ≡ k → (primary : List Value)
+      → given version element (row_at version pairs element.table primary) ≡ fill_pair (kind_meaning n (source_in version k)) (element.table, primary) (spelled_cells element.table primary)
+  given_by n element k at kind primary =
+      ap (λ (q : Kind). fill_pair (kind_meaning element.number (source_in version q)) (element.table, primary) (spelled_cells element.table primary)) kind
+      ∙ ap (λ (m : ℕ). fill_pair (kind_meaning m (source_in version k)) (element.table, primary) (spelled_cells element.table primary)) (sound.elements n element at).own
+
+  -- an index gives it the pair of the row
   pub given_pair : (n : ℕ) (element : ElementDef) (columns : List ℕ) → element_at version n ≡ Some element → element.kind ≡ Index columns → (primary : List Value) (cells : Cells) → map.get rows (element.table, primary) ≡ Some cells
-      → given element (row_at version pairs element.table primary) ≡ Some (index_pair element.number columns (element.table, primary) cells, [])
+      → given version element (row_at version pairs element.table primary) ≡ Some (index_pair n (with_stand_ins version columns) (element.table, primary) cells, [])
   given_pair n element columns at kind primary cells here =
-      ap (λ (k : Kind). fill_pair (kind_meaning element.number k) (element.table, primary) (cells_of (row_at version pairs element.table primary))) kind
-      ∙ ap (λ (vs : List Value). Some (index_code element.number (vs ++ primary), []))
+      given_by n element (Index columns) at kind primary
+      ∙ ap (λ (vs : List Value). Some (index_code n (vs ++ primary), []))
       (indexed_is element.table primary cells here columns (λ c there. (sound.elements n element at).columns c (subst (λ (k : Kind). Contains (listed k) c) (sym kind) there)))
 
-  -- and a column gives it none
-  pub given_none : (element : ElementDef) (type : ColumnType) → element.kind ≡ Optional type → (primary : List Value) → given element (row_at version pairs element.table primary) ≡ None
-  given_none element type kind primary =
-      ap (λ (k : Kind). fill_pair (kind_meaning element.number k) (element.table, primary) (cells_of (row_at version pairs element.table primary))) kind
+  -- a public required column too
+  pub given_value : (n : ℕ) (element : ElementDef) (type : ColumnType) (fallback : Value) → element_at version n ≡ Some element → element.kind ≡ Required type fallback → element.state ≡ Public → (primary : List Value) (cells : Cells)
+      → map.get rows (element.table, primary) ≡ Some cells → given version element (row_at version pairs element.table primary) ≡ Some (column_pair n (element.table, primary), required_code n fallback cells)
+  given_value n element type fallback at kind public primary cells here =
+      given_by n element (Required type fallback) at kind primary
+      ∙ ap (λ (o : Option Value). Some (column_pair n (element.table, primary), code (unwrap_or o fallback)))
+      (value_is element.table primary cells here n (element, type, at, refl, ap type_of_kind kind, public))
+
+  -- and an optional column gives it none
+  pub given_none : (n : ℕ) (element : ElementDef) (type : ColumnType) → element_at version n ≡ Some element → element.kind ≡ Optional type → (primary : List Value) → given version element (row_at version pairs element.table primary) ≡ None
+  given_none n element type at kind primary = given_by n element (Optional type) at kind primary

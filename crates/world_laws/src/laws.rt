@@ -37,8 +37,9 @@ pub fn checks_are_clean()
 {}
 
 /// Whenever a snapshot is asked, the rows that it finds are the plain answer over the rows of the log at which it was taken,
-/// and all that it answers, refusals too, is what `World::query` may answer there under the same lease at the same moment. No
-/// accepted snapshot is under a version older than the one before the newest.
+/// as its version sees them, with the default of a required column where a row has no value of its own. All that it answers,
+/// refusals too, is what `World::query` may answer there under the same lease at the same moment. No accepted snapshot is
+/// under a version older than the one before the newest.
 ///
 /// `World::snapshot` tells the premise of the snapshot, `Snapshot::query` that of its answer, and `World::timeline` those of
 /// the last clause, as with `commits_are_recent`.
