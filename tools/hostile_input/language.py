@@ -54,7 +54,7 @@ SETS = rf"set {NAME} = {VALUE}(?: , {NAME} = {VALUE})*"
 OPERATION = rf"(?:insert {NAME} {TUPLE}(?: {SETS})?|update {NAME} {TUPLE} {SETS}|delete {NAME} {TUPLE})"
 OPERATIONS = rf"{OPERATION}(?: ; {OPERATION})*"
 INDEX = rf"index {NAME} on {NAME} \( {NAMES} \)"
-NEW = rf"(?:{INDEX}|column {NAME} {TYPE} on {NAME})"
+NEW = rf"(?:{INDEX}|column {NAME} {TYPE}(?: default {VALUE})? on {NAME})"
 MOVE = rf"(?:add {NEW}(?: to {STATE})?|move {NAME} \. {NAME} to {STATE}|turn {NAME} \. {NAME})"
 CHANGE = rf"(?:add {NEW}|drop (?:index|column) {NAME} on {NAME}|abandon {NAME} \. {NAME})"
 # In the place of a condition the word `key` is always the primary key.

@@ -8,7 +8,7 @@ from language import judge
 WORDS = sorted(set(
     "length table index open lease forge txn prepare commit query publish plan next reorganise work piece check pairs status log int text"
     " bool key on at by of to and from where select between version granted until pieces limit insert update delete set add move turn drop abandon"
-    " column absent delete_only write_only public true false null".split()
+    " column default absent delete_only write_only public true false null".split()
 ))
 OWN = "t u a b c d i j k s v w p q id zz".split()
 NUMBERS = "0 1 2 3 5 7 10 20 64 65 1000 1001 4294967295 4294967296 4611686018427387904 4611686018427387905 9223372036854775807" \
@@ -138,7 +138,9 @@ class Lines:
         table = self.table()
         if self.one(True, False):
             return f"index {self.one('i', 'j', 'k', 'k', self.name())} on {table} ({self.some(lambda: self.column(table)[0], ', ', 2)})"
-        return f"column {self.one('d', 'd', self.name())} {self.one('int', 'int', 'text')} on {table}"
+        kind = self.one("int", "int", "text")
+        default = self.one("", f" default {self.value(kind)}")
+        return f"column {self.one('d', 'd', self.name())} {kind}{default} on {table}"
 
     def move(self):
         state = self.one("absent", "delete_only", "write_only", "public")
@@ -182,7 +184,7 @@ class Lines:
     def story(self):
         """The lines of a change, from its plan to its end."""
         change, element = self.one(
-            ("add index k on t (b, a)", "t.k"), ("add index k on u (d)", "u.k"), ("add column d int on t", "t.d"), ("drop index i on t", "t.i"),
+            ("add index k on t (b, a)", "t.k"), ("add index k on u (d)", "u.k"), ("add column d int on t", "t.d"), ("add column d int default 7 on t", "t.d"), ("drop index i on t", "t.i"),
             ("drop index j on t", "t.j"), ("drop column c on t", "t.c"))
         yield f"plan: {change}"
         for _ in range(3):
