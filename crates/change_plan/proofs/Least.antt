@@ -225,7 +225,7 @@ module _ (old : Version) (sound : IsSoundVersion old) (numbered : IsOrdered old)
       let beside = zip_element (IsColumnNamed (after_plan old other) table) columns a.5.0 a.5.4 own among in
       let column = new_column table own kind has_column beside.0 beside.2 in
       let near : height (element_at (after_plan old other) a.0) + height (element_at (after_plan old other) beside.0) ≤ (height (element_at old a.0) + height (element_at old beside.0)) + length other =
-          two_added other old numbered allowed a.0 beside.0 a.1 a.3 (subst (λ k. Contains (listed k) beside.0) (sym a.5.3) beside.1) in
+      two_added other old numbered allowed a.0 beside.0 a.1 a.3 (subst (λ k. Contains (listed k) beside.0) (sym a.5.3) beside.1) in
       let index_start : height (element_at old a.0) ≡ 0 = ap height a.2 in
       let column_start : height (element_at old beside.0) ≡ 0 = ap height column.0 in
       let index_end : height (element_at (after_plan old other) a.0) ≡ 3 = ap height a.3 ∙ ap (height_in a.1.kind) a.4 ∙ ap (λ k. height_in k Public) a.5.3 in

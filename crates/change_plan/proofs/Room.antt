@@ -102,7 +102,7 @@ module _ (old : Version) (all : List Change) (table : ℕ) (index : Bool) where
       → entered_like (trips old all) table index time + count_by (is_entry_like table index) (flat_map (move_of time) done) < count_by (adds_like table index) all
   fewer_entered done trip time p at like =
       let entered : count_by (is_entry_like table index) (flat_map (move_of time) done) ≡ count_by (like_at time) p.before =
-          ap (λ d. count_by (is_entry_like table index) (flat_map (move_of time) d)) p.done_is ∙ counts old all time (is_entry_like table index) (like_at time) (like_entries time) [] p.before in
+      ap (λ d. count_by (is_entry_like table index) (flat_map (move_of time) d)) p.done_is ∙ counts old all time (is_entry_like table index) (like_at time) (like_entries time) [] p.before in
       let one : ◌≡◌ {A = ℕ} (cond (like_at time p.change) 1 0) 1 = ap (λ b. cond b 1 0) (ap (λ b. b && adds_like table index p.change) at ∙ like) in
       omega (arith, entered_is time, all_like time all, entered, one, count_split (like_at time) all p.before p.after p.change p.split)
 
