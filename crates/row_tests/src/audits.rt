@@ -1,8 +1,10 @@
 //! Audits of stores that no list of calls could give.
-use crate::fixtures::{A_1, A_2, EMPTY, FIVE, I_5_1, I_NULL_1, Pairs, ROW_1, mark, stepped, store};
+use crate::fixtures::{
+    A_1, A_2, EMPTY, FIVE, I_5_1, I_NULL_1, Pairs, R_1, ROW_1, SIX, mark, stepped, store,
+};
 use audit::audit;
 use byte_map::{Bytes, KeyMap};
-use schema_version::ElementState::{self, Absent, DeleteOnly, WriteOnly};
+use schema_version::ElementState::{self, Absent, DeleteOnly, Public, WriteOnly};
 use schema_version::Schema;
 use std::alloc::{AllocError, Global};
 
@@ -21,25 +23,27 @@ fn counts(
     Ok((report.rows, report.missing, report.extra))
 }
 
-/// The same in a store of these pairs, where the index went through these states.
+/// The same in a store of these pairs, where an element went through these states.
 fn counted(
     alloc: Global,
+    element: u32,
     states: &[ElementState],
     pairs: Pairs,
 ) -> Result<(u64, u64, u64), AllocError> {
     let store = store(alloc, pairs)?;
-    let schema = stepped(alloc, states)?;
+    let schema = stepped(alloc, element, states)?;
     counts(alloc, &schema, &store)
 }
 
 /// The same, asked once more where memory was short.
 fn counted_at_last(
     alloc: Global,
+    element: u32,
     states: &[ElementState],
     pairs: Pairs,
 ) -> Result<(u64, u64, u64), AllocError> {
-    match counted(alloc, states, pairs) {
-        Err(AllocError) => counted(alloc, states, pairs),
+    match counted(alloc, element, states, pairs) {
+        Err(AllocError) => counted(alloc, element, states, pairs),
         told => told,
     }
 }
@@ -191,12 +195,71 @@ static COUNTS: [(&str, &[ElementState], Pairs, (u64, u64, u64)); 23] = [
     ),
 ];
 
+/// The same of the required column, beside a row without a value in `a`.
+static REQUIRED_COUNTS: [(&str, &[ElementState], Pairs, (u64, u64, u64)); 8] = [
+    (
+        "no pair of the required column",
+        &[WriteOnly, Public],
+        &[(ROW_1, EMPTY), (I_NULL_1, EMPTY)],
+        (1, 1, 0),
+    ),
+    (
+        "the default",
+        &[WriteOnly, Public],
+        &[(ROW_1, EMPTY), (I_NULL_1, EMPTY), (R_1, FIVE)],
+        (1, 0, 0),
+    ),
+    (
+        "a value of its own",
+        &[WriteOnly, Public],
+        &[(ROW_1, EMPTY), (I_NULL_1, EMPTY), (R_1, SIX)],
+        (1, 0, 0),
+    ),
+    // The row has the default, and the pair is another.
+    (
+        "a Bool in the required column",
+        &[WriteOnly, Public],
+        &[(ROW_1, EMPTY), (I_NULL_1, EMPTY), (R_1, b"\x04\x01")],
+        (1, 1, 0),
+    ),
+    (
+        "one of the required column alone",
+        &[WriteOnly, Public],
+        &[(R_1, FIVE)],
+        (0, 0, 1),
+    ),
+    (
+        "a write-only required column",
+        &[WriteOnly],
+        &[(ROW_1, EMPTY), (I_NULL_1, EMPTY)],
+        (1, 0, 0),
+    ),
+    (
+        "a delete-only required column",
+        &[],
+        &[(ROW_1, EMPTY), (I_NULL_1, EMPTY), (R_1, SIX)],
+        (1, 0, 0),
+    ),
+    (
+        "a required column that has gone",
+        &[WriteOnly, Public, WriteOnly, DeleteOnly, Absent],
+        &[(ROW_1, EMPTY), (I_NULL_1, EMPTY), (R_1, FIVE)],
+        (1, 0, 1),
+    ),
+];
+
 #[test]
 fn under_refusal_pairs_are_counted(rt: HostRuntime) {
     assert!(rt; mark(&rt));
     for (name, states, pairs, want) in &COUNTS {
         assert!(rt;
-            counted_at_last(rt.alloc(), *states, *pairs) == Ok(*want),
+            counted_at_last(rt.alloc(), 2, *states, *pairs) == Ok(*want),
+            "{name}"
+        );
+    }
+    for (name, states, pairs, want) in &REQUIRED_COUNTS {
+        assert!(rt;
+            counted_at_last(rt.alloc(), 3, *states, *pairs) == Ok(*want),
             "{name}"
         );
     }

@@ -1,12 +1,13 @@
 //! Table 1, named t, has the primary key `id` and the column `a`, which is element 1, both numbers, and the index `i` on
-//! `a`, which is element 2. The key of a row's pair is 52, the table, the primary key and the element, or 0 for the
+//! `a`, which is element 2. Where it is asked for, the required column `r` enters, numbers with the default 5, as element 3. The key of a
+//! row's pair is 52, the table, the primary key and the element, or 0 for the
 //! `exists` pair; that of an index's pair is 58, the element, the value and the primary key. A number is 02 and its eight
 //! bytes with the highest bit flipped, Null is 01.
 use byte_map::{Bytes, KeyMap};
 use keycode::{Text, Value, Values};
 use listed::Listed;
 use row_map::{ColumnType, Write};
-use schema_version::{Columns, ElementState, Move, Schema, TableDef};
+use schema_version::{Columns, ElementState, Kind, Move, NewElement, Schema, TableDef};
 use std::alloc::{AllocError, Global};
 
 /// The keys of the `exists` pairs of the rows 1 to 5.
@@ -27,6 +28,14 @@ pub const A_2: &[u8] = b"\x52\0\0\0\x01\x02\x80\0\0\0\0\0\0\x02\0\0\0\x01";
 pub const A_3: &[u8] = b"\x52\0\0\0\x01\x02\x80\0\0\0\0\0\0\x03\0\0\0\x01";
 
 pub const A_4: &[u8] = b"\x52\0\0\0\x01\x02\x80\0\0\0\0\0\0\x04\0\0\0\x01";
+/// The keys of the pairs of `r` in the rows 1 to 4.
+pub const R_1: &[u8] = b"\x52\0\0\0\x01\x02\x80\0\0\0\0\0\0\x01\0\0\0\x03";
+
+pub const R_2: &[u8] = b"\x52\0\0\0\x01\x02\x80\0\0\0\0\0\0\x02\0\0\0\x03";
+
+pub const R_3: &[u8] = b"\x52\0\0\0\x01\x02\x80\0\0\0\0\0\0\x03\0\0\0\x03";
+
+pub const R_4: &[u8] = b"\x52\0\0\0\x01\x02\x80\0\0\0\0\0\0\x04\0\0\0\x03";
 /// The keys of the index's pairs, by the value and the row.
 pub const I_5_1: &[u8] = b"\x58\0\0\0\x02\x02\x80\0\0\0\0\0\0\x05\x02\x80\0\0\0\0\0\0\x01";
 
@@ -162,19 +171,42 @@ pub fn declared(alloc: Global) -> Result<Schema, AllocError> {
     }
 }
 
-fn moved(alloc: Global, schema: &Schema, to: ElementState) -> Result<Schema, AllocError> {
-    let step = Listed::new(vec![in alloc; Move::Go { element: 2, to }]?);
+fn after(alloc: Global, schema: &Schema, a: Move) -> Result<Schema, AllocError> {
+    let step = Listed::new(vec![in alloc; a]?);
     match schema.apply(&step) {
         Ok(schema) => Ok(schema),
         Err(_) => Err(AllocError),
     }
 }
 
-/// The same with the index in the last of these states, which it goes through.
-pub fn stepped(alloc: Global, states: &[ElementState]) -> Result<Schema, AllocError> {
-    let mut schema = declared(alloc)?;
+/// What `r` is.
+pub fn required() -> Kind {
+    Kind::Required {
+        column: ColumnType::Int,
+        fallback: Value::Int(5),
+    }
+}
+
+/// The schema with `r` too, delete-only.
+fn entered(alloc: Global) -> Result<Schema, AllocError> {
+    let fresh = NewElement {
+        table: 1,
+        name: text(alloc, "r")?,
+        kind: required(),
+    };
+    let to = ElementState::DeleteOnly;
+    after(alloc, &declared(alloc)?, Move::Enter { fresh, to })
+}
+
+/// The same with an element in the last of these states, which it goes through: the index, or `r`, which enters first.
+pub fn stepped(alloc: Global, element: u32, states: &[ElementState]) -> Result<Schema, AllocError> {
+    let mut schema = if element == 3 {
+        entered(alloc)?
+    } else {
+        declared(alloc)?
+    };
     for to in states {
-        schema = moved(alloc, &schema, *to)?;
+        schema = after(alloc, &schema, Move::Go { element, to: *to })?;
     }
     Ok(schema)
 }

@@ -1,9 +1,9 @@
 //! Pieces over stores that are put together by hand.
 use crate::fixtures::{
-    A_1, A_2, EMPTY, FIVE, I_5_1, I_6_2, I_7_3, I_NULL_1, I_NULL_2, Pairs, Points, ROW_1, ROW_2,
-    ROW_3, ROW_4, ROW_5, are_writes, mark, store, text,
+    A_1, A_2, EMPTY, FIVE, I_5_1, I_6_2, I_7_3, I_NULL_1, I_NULL_2, Pairs, Points, R_1, R_2, ROW_1,
+    ROW_2, ROW_3, ROW_4, ROW_5, SIX, are_writes, mark, required, store, text,
 };
-use Of::{Column, Index};
+use Of::{Column, Index, Required};
 use Work::{Clear, Fill};
 use byte_map::{Bytes, KeyMap};
 use listed::Listed;
@@ -26,6 +26,7 @@ const NEXT_INDEX: &[u8] = b"\x58\0\0\0\x03";
 enum Of {
     Column,
     Index,
+    Required,
 }
 
 fn element(alloc: Global, of: Of) -> Result<ElementDef, AllocError> {
@@ -33,6 +34,7 @@ fn element(alloc: Global, of: Of) -> Result<ElementDef, AllocError> {
     let (number, kind) = match of {
         Column => (1, Kind::Optional(ColumnType::Int)),
         Index => (2, Kind::Index(Listed::new(vec![in alloc; 1]?))),
+        Required => (3, required()),
     };
     Ok(ElementDef {
         number,
@@ -111,10 +113,17 @@ const FIVE_ROWS: Pairs<'static> = &[
 const ENTRIES: Pairs<'static> = &[(I_5_1, EMPTY), (I_6_2, EMPTY), (I_7_3, EMPTY)];
 
 /// What is done over which pairs, the number of pieces, and their bounds.
-static PIECES: [(&str, (Of, Work), Pairs, u32, Pairs); 4] = [
+static PIECES: [(&str, (Of, Work), Pairs, u32, Pairs); 5] = [
     (
         "five rows",
         (Index, Fill),
+        FIVE_ROWS,
+        2,
+        &[(TABLE, ROW_3), (ROW_3, NEXT_TABLE)],
+    ),
+    (
+        "five rows without a value in a required column",
+        (Required, Fill),
         FIVE_ROWS,
         2,
         &[(TABLE, ROW_3), (ROW_3, NEXT_TABLE)],
@@ -228,7 +237,7 @@ fn written(
 
 /// What is done over which pairs with which limit, what is written, and where the piece comes to. 05 begins no value,
 /// and behind 01, which is Null, nothing may stand.
-static WRITTEN: [(&str, (Of, Work), Pairs, u32, Points, &[u8]); 6] = [
+static WRITTEN: [(&str, (Of, Work), Pairs, u32, Points, &[u8]); 9] = [
     (
         "a fill",
         (Index, Fill),
@@ -267,6 +276,31 @@ static WRITTEN: [(&str, (Of, Work), Pairs, u32, Points, &[u8]); 6] = [
         TWO_ROWS,
         1000,
         &[(A_1, None), (A_2, None)],
+        NEXT_TABLE,
+    ),
+    // The value that is there is kept.
+    (
+        "a fill of a required column",
+        (Required, Fill),
+        &[(ROW_1, EMPTY), (R_1, SIX), (ROW_2, EMPTY)],
+        1000,
+        &[(R_1, Some(SIX)), (R_2, Some(FIVE))],
+        NEXT_TABLE,
+    ),
+    (
+        "a Bool in a required column",
+        (Required, Fill),
+        &[(ROW_1, EMPTY), (R_1, b"\x04\x01"), (ROW_2, EMPTY)],
+        1,
+        &[(R_1, Some(FIVE))],
+        ROW_2,
+    ),
+    (
+        "a clear of a required column",
+        (Required, Clear),
+        &[(ROW_1, EMPTY), (R_1, SIX), (ROW_2, EMPTY)],
+        1000,
+        &[(R_1, None), (R_2, None)],
         NEXT_TABLE,
     ),
     (

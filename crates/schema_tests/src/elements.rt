@@ -1,9 +1,9 @@
-//! Each cell of the table of writes, on rows made by hand. Table 1 has the column 1, and the index 2 over it. The expected bytes are
-//! worked out by hand: a number is 02 and its eight bytes with the highest bit set.
+//! Each cell of the table of writes, on rows made by hand. Table 1 has the column 1, the index 2 over it, and the required column 3 with
+//! the default 5. The expected bytes are worked out by hand: a number is 02 and its eight bytes with the highest bit set.
 ghost use Rattle.std.specs.Prelude.{◌≡◌, IfOk, [], ◌∷◌};
 ghost use Rattle.keycode.specs.declared.value.Value.TheVariants.{Int};
 
-use crate::making::mark;
+use crate::making::{G_AND_J_COME, TABLE_T, mark, version};
 use Operation::{Delete, Insert, Update};
 use byte_map::Bytes;
 use element_state::{
@@ -14,13 +14,15 @@ use keycode::{Text, Value};
 use listed::Listed;
 use row_map::{Batch, ColumnType, Row, Write};
 use schema_version::ElementState::{self, Absent, DeleteOnly, Public, WriteOnly};
-use schema_version::{ElementDef, Kind, Way};
+use schema_version::{ElementDef, Kind, Schema, Way};
 use std::alloc::{AllocError, Global};
 use std::test::*;
 
 /// The pair of the column in row 1: 52, table, key, element.
 const COLUMN: &[u8] = &[0x52, 0, 0, 0, 1, 2, 0x80, 0, 0, 0, 0, 0, 0, 1, 0, 0, 0, 1];
-/// The value 5.
+/// The same of the required column.
+const REQUIRED: &[u8] = &[0x52, 0, 0, 0, 1, 2, 0x80, 0, 0, 0, 0, 0, 0, 1, 0, 0, 0, 3];
+/// The value 5, which is the default too.
 const FIVE: &[u8] = &[2, 0x80, 0, 0, 0, 0, 0, 0, 5];
 /// The value 6.
 const SIX: &[u8] = &[2, 0x80, 0, 0, 0, 0, 0, 0, 6];
@@ -34,6 +36,17 @@ const AT_SIX: &[u8] = &[
 ];
 /// The same where there is none: Null is 01.
 const AT_NULL: &[u8] = &[0x58, 0, 0, 0, 2, 1, 2, 0x80, 0, 0, 0, 0, 0, 0, 1];
+
+/// The pairs of the index 6 over the column 1, and of the index 8 over the required column 7.
+const SIX_AT_NULL: &[u8] = &[0x58, 0, 0, 0, 6, 1, 2, 0x80, 0, 0, 0, 0, 0, 0, 1];
+
+const EIGHT_AT_FIVE: &[u8] = &[
+    0x58, 0, 0, 0, 8, 2, 0x80, 0, 0, 0, 0, 0, 0, 5, 2, 0x80, 0, 0, 0, 0, 0, 0, 1,
+];
+
+const EIGHT_AT_SIX: &[u8] = &[
+    0x58, 0, 0, 0, 8, 2, 0x80, 0, 0, 0, 0, 0, 0, 6, 2, 0x80, 0, 0, 0, 0, 0, 0, 1,
+];
 
 /// What is done with row 1.
 #[derive(Clone, Copy)]
@@ -106,14 +119,55 @@ static WRITES: [Case; 32] = [
     (1, DeleteOnly, Delete, None, None, &[(COLUMN, None)]),
 ];
 
-/// The row of a key, with a value in the column 1 or none.
-fn row(alloc: Global, key: i64, a: Option<i64>) -> Result<Row, AllocError>
+/// The same of the required column.
+static REQUIRED_WRITES: [Case; 21] = [
+    (3, Absent, Insert, None, Some(6), &[]),
+    (3, Absent, Update, Some(5), Some(6), &[]),
+    (3, Absent, Delete, Some(6), None, &[]),
+    (3, DeleteOnly, Insert, None, Some(6), &[]),
+    (3, DeleteOnly, Update, Some(5), Some(6), &[]),
+    (3, DeleteOnly, Delete, Some(6), None, &[(REQUIRED, None)]),
+    (3, DeleteOnly, Delete, None, None, &[(REQUIRED, None)]),
+    // Where no transaction reads it yet, a row that enters has the default.
+    (
+        3,
+        WriteOnly,
+        Insert,
+        None,
+        Some(6),
+        &[(REQUIRED, Some(FIVE))],
+    ),
+    (3, WriteOnly, Insert, None, None, &[(REQUIRED, Some(FIVE))]),
+    (3, WriteOnly, Update, Some(5), Some(6), &[]),
+    (3, WriteOnly, Update, Some(6), None, &[]),
+    (3, WriteOnly, Delete, Some(6), None, &[(REQUIRED, None)]),
+    (3, Public, Insert, None, Some(6), &[(REQUIRED, Some(SIX))]),
+    (3, Public, Insert, None, None, &[(REQUIRED, Some(FIVE))]),
+    (
+        3,
+        Public,
+        Update,
+        Some(5),
+        Some(6),
+        &[(REQUIRED, Some(SIX))],
+    ),
+    (3, Public, Update, Some(6), None, &[(REQUIRED, Some(FIVE))]),
+    (3, Public, Update, None, Some(6), &[(REQUIRED, Some(SIX))]),
+    // The default's own value is what a row has that lacks one.
+    (3, Public, Update, None, Some(5), &[]),
+    (3, Public, Update, Some(5), None, &[]),
+    (3, Public, Update, Some(6), Some(6), &[]),
+    (3, Public, Delete, None, None, &[(REQUIRED, None)]),
+];
+
+/// The row of a key, with a value in a column or none.
+fn row(alloc: Global, key: i64, column: u32, value: Option<i64>) -> Result<Row, AllocError>
     ensures { IfOk result (λ r. r.key ≡ Int key ∷ []) }
 {
     let key = Listed::new(vec![in alloc; Value::Int(key)]?);
-    let cells = match a {
+    let cells = match value {
         None => Vec::new(alloc),
-        Some(a) => vec![in alloc; (1, Value::Int(a))]?,
+        Some(value) => vec![in alloc; (column, Value::Int(value))]?,
     };
     Ok(Row {
         key,
@@ -122,23 +176,32 @@ fn row(alloc: Global, key: i64, a: Option<i64>) -> Result<Row, AllocError>
 }
 
 fn kind(alloc: Global, number: u32) -> Result<Kind, AllocError> {
-    if number == 1 {
-        return Ok(Kind::Optional(ColumnType::Int));
-    }
-    Ok(Kind::Index(Listed::new(vec![in alloc; 1]?)))
+    Ok(match number {
+        1 => Kind::Optional(ColumnType::Int),
+        2 => Kind::Index(Listed::new(vec![in alloc; 1]?)),
+        _ => Kind::Required {
+            column: ColumnType::Int,
+            fallback: Value::Int(5),
+        },
+    })
 }
 
-/// The column 1, or else the index of this number.
-fn element(alloc: Global, number: u32) -> Result<AnyElement, AllocError> {
-    let kind = kind(alloc, number)?;
-    AnyElement::of(&ElementDef {
+/// The column 1, the index 2, or else the required column of this number, without a version.
+fn alone(alloc: Global, number: u32) -> Result<AnyElement, AllocError> {
+    let definition = ElementDef {
         number,
         table: 1,
         name: Text::new(String::new(alloc)),
-        kind,
+        kind: kind(alloc, number)?,
         state: Public,
         way: Way::Adding,
-    })
+    };
+    AnyElement::alone(alloc, &definition)
+}
+
+/// The column of which an element without a version has the values.
+fn column_of(number: u32) -> u32 {
+    if number == 2 { 1 } else { number }
 }
 
 fn is_value(value: &Option<Bytes>, want: Option<&[u8]>) -> bool {
@@ -222,13 +285,14 @@ fn writes(
 }
 
 fn writes_of_rows(alloc: Global, element: &AnyElement, case: &Case) -> Result<bool, AllocError> {
-    let old = row(alloc, 1, case.3)?;
-    let new = row(alloc, 1, case.4)?;
+    let column = column_of(case.0);
+    let old = row(alloc, 1, column, case.3)?;
+    let new = row(alloc, 1, column, case.4)?;
     writes(alloc, element, case, &old, &new)
 }
 
 fn holds_once(alloc: Global, case: &Case) -> Result<bool, AllocError> {
-    let element = element(alloc, case.0)?;
+    let element = alone(alloc, case.0)?;
     writes_of_rows(alloc, &element, case)
 }
 
@@ -246,6 +310,12 @@ fn under_refusal_operations(rt: HostRuntime) {
     for row in 0..WRITES.len() {
         assert!(rt; holds(rt.alloc(), &WRITES[row]), "row {row}");
     }
+    for row in 0..REQUIRED_WRITES.len() {
+        assert!(rt;
+            holds(rt.alloc(), &REQUIRED_WRITES[row]),
+            "row {row} of a required column"
+        );
+    }
 }
 
 fn are_lawful(element: &AnyElement) {
@@ -259,35 +329,88 @@ fn are_lawful(element: &AnyElement) {
     core_keeps();
 }
 
-fn has_cells(row: &Row) -> bool {
-    matches!(cell(row, 1), Some(Value::Int(5))) && cell(row, 2).is_none()
-}
+/// Whether the version has it, an element, the column and row 1's value in it, and the pair with which the row fills the element.
+type Filled = (
+    bool,
+    u32,
+    u32,
+    Option<i64>,
+    Option<(&'static [u8], &'static [u8])>,
+);
 
-fn fills(alloc: Global, element: &AnyElement, row: &Row) -> Result<bool, AllocError> {
-    match element.fill_of(alloc, row)? {
-        Some(pair) => {
-            Ok(element.number() == 2 && pair.0.as_slice() == AT_FIVE && pair.1.is_empty())
-        }
-        None => Ok(element.number() == 1),
+static FILLS: [Filled; 12] = [
+    // A column that a row may lack is not filled.
+    (false, 1, 1, Some(5), None),
+    (false, 1, 1, None, None),
+    (false, 2, 1, Some(5), Some((AT_FIVE, &[]))),
+    (false, 2, 1, None, Some((AT_NULL, &[]))),
+    (false, 3, 3, Some(6), Some((REQUIRED, SIX))),
+    (false, 3, 3, None, Some((REQUIRED, FIVE))),
+    // The value in another column is not its own.
+    (false, 3, 1, Some(6), Some((REQUIRED, FIVE))),
+    (true, 6, 1, None, Some((SIX_AT_NULL, &[]))),
+    (true, 8, 7, Some(6), Some((EIGHT_AT_SIX, &[]))),
+    // The default of the column 7 stands in the index over it, where the row has no value.
+    (true, 8, 7, None, Some((EIGHT_AT_FIVE, &[]))),
+    (true, 8, 1, Some(6), Some((EIGHT_AT_FIVE, &[]))),
+    (true, 1, 1, Some(6), None),
+];
+
+fn in_version(alloc: Global, schema: &Schema, number: u32) -> Result<AnyElement, AllocError> {
+    match schema.element(number) {
+        Some(definition) => AnyElement::of(alloc, schema, definition),
+        None => Err(AllocError),
     }
 }
 
-fn fills_row(alloc: Global, element: &AnyElement) -> Result<bool, AllocError> {
-    let row = row(alloc, 1, Some(5))?;
-    Ok(has_cells(&row) && fills(alloc, element, &row)?)
+/// The element of this number in a version, or by itself.
+fn element(alloc: Global, of_version: bool, number: u32) -> Result<AnyElement, AllocError> {
+    if !of_version {
+        return alone(alloc, number);
+    }
+    match version(alloc, &TABLE_T, G_AND_J_COME) {
+        Ok(schema) => in_version(alloc, &schema, number),
+        Err(_) => Err(AllocError),
+    }
 }
 
-/// The element's own number is told, a row's cells are found, and only an index is filled.
-fn reads(alloc: Global, number: u32) -> Result<bool, AllocError> {
-    let element = element(alloc, number)?;
+/// Whether the row has just this value, in this column.
+fn has_cell(row: &Row, column: u32, value: Option<i64>) -> bool {
+    let same = match (cell(row, column), value) {
+        (Some(Value::Int(found)), Some(value)) => *found == value,
+        (None, None) => true,
+        _ => false,
+    };
+    same && cell(row, 2).is_none()
+}
+
+fn is_pair(pair: &Option<(Bytes, Bytes)>, want: Option<(&[u8], &[u8])>) -> bool {
+    match (pair, want) {
+        (Some(pair), Some((key, value))) => {
+            pair.0.as_slice() == key && pair.1.as_slice() == value
+        }
+        (None, None) => true,
+        _ => false,
+    }
+}
+
+fn fills(alloc: Global, element: &AnyElement, case: &Filled) -> Result<bool, AllocError> {
+    let row = row(alloc, 1, case.2, case.3)?;
+    let pair = element.fill_of(alloc, &row)?;
+    Ok(has_cell(&row, case.2, case.3) && is_pair(&pair, case.4))
+}
+
+/// The element's own number is told, a row's cells are found, and what is filled has the pair that is wanted.
+fn reads(alloc: Global, case: &Filled) -> Result<bool, AllocError> {
+    let element = element(alloc, case.0, case.1)?;
     are_lawful(&element);
-    Ok(element.number() == number && fills_row(alloc, &element)?)
+    Ok(element.number() == case.1 && fills(alloc, &element, case)?)
 }
 
 /// The same, asked once more where memory was short.
-fn reads_at_last(alloc: Global, number: u32) -> bool {
-    match reads(alloc, number) {
-        Err(AllocError) => reads(alloc, number) == Ok(true),
+fn reads_at_last(alloc: Global, case: &Filled) -> bool {
+    match reads(alloc, case) {
+        Err(AllocError) => reads(alloc, case) == Ok(true),
         told => told == Ok(true),
     }
 }
@@ -295,7 +418,7 @@ fn reads_at_last(alloc: Global, number: u32) -> bool {
 #[test]
 fn under_refusal_fills_and_cells(rt: HostRuntime) {
     assert!(rt; mark(&rt));
-    for number in [1, 2] {
-        assert!(rt; reads_at_last(rt.alloc(), number), "element {number}");
+    for row in 0..FILLS.len() {
+        assert!(rt; reads_at_last(rt.alloc(), &FILLS[row]), "row {row}");
     }
 }

@@ -1,20 +1,31 @@
 //! Tables, versions and steps, made from plain literals.
-use keycode::Text;
+use keycode::{Text, Value};
 use listed::Listed;
 use row_map::ColumnType;
-use schema_version::ElementState::{self, DeleteOnly};
+use schema_version::ElementState::{self, DeleteOnly, Public, WriteOnly};
 use schema_version::{
     Columns, DeclareFault, Kind, Move, NewElement, Schema, Step, StepFault, TableDef,
 };
 use std::alloc::{AllocError, Global};
 
-/// A move of the table 1: an element goes to a state or turns back, a column of integers enters, or an index over these columns.
+/// A default as a literal; a text is told by how many letters it has.
+#[derive(Clone, Copy)]
+pub enum Literal {
+    Null,
+    Int(i64),
+    Bool(bool),
+    Letters(usize),
+}
+
+/// A move of the table 1: an element goes to a state or turns back, a column of integers enters, an index over these columns, or a
+/// required column of a type, with its default.
 #[derive(Clone, Copy)]
 pub enum Plain {
     Go(u32, ElementState),
     Turn(u32),
     Column(&'static str),
     Index(&'static str, &'static [u32], ElementState),
+    Required(&'static str, ColumnType, Literal, ElementState),
 }
 
 /// Steps in turn.
@@ -25,6 +36,16 @@ pub type PlainTable = (u8, &'static [u8], &'static [u8], &'static [u8]);
 
 /// The columns 1 to 5, and the index 6 over the first of them.
 pub const TABLE_T: PlainTable = (b't', b"abcde", b"i", b"a");
+
+/// The required column g, which is 7, with the default 5, and the index j over it, which is 8, both public.
+pub const G_AND_J_COME: Path = &[
+    &[Plain::Required("g", ColumnType::Int, Literal::Int(5), DeleteOnly)],
+    &[Plain::Go(7, WriteOnly)],
+    &[Plain::Go(7, Public)],
+    &[Plain::Index("j", &[7], DeleteOnly)],
+    &[Plain::Go(8, WriteOnly)],
+    &[Plain::Go(8, Public)],
+];
 
 /// A table with as many columns and indexes as there may be.
 pub const FULL: PlainTable = (
@@ -41,6 +62,20 @@ pub fn mark<R: Print>(rt: &R) -> bool {
 
 pub fn text(alloc: Global, name: &str) -> Result<Text, AllocError> {
     Ok(Text::new(String::from_str(alloc, name)?))
+}
+
+pub fn value(alloc: Global, literal: Literal) -> Result<Value, AllocError> {
+    match literal {
+        Literal::Null => Ok(Value::Null),
+        Literal::Int(number) => Ok(Value::Int(number)),
+        Literal::Bool(truth) => Ok(Value::Bool(truth)),
+        Literal::Letters(count) => letters(alloc, count),
+    }
+}
+
+/// The text of so many letters.
+fn letters(alloc: Global, count: usize) -> Result<Value, AllocError> {
+    Ok(Value::Text(Text::new("x".repeat(alloc, count)?)))
 }
 
 fn letter(alloc: Global, byte: u8) -> Result<Text, AllocError> {
@@ -118,6 +153,10 @@ fn made(alloc: Global, plain: Plain) -> Result<Move, AllocError> {
         Plain::Index(name, columns, to) => {
             let columns = Listed::new(Vec::from_slice(alloc, columns)?);
             enters(alloc, name, Kind::Index(columns), to)
+        }
+        Plain::Required(name, column, literal, to) => {
+            let fallback = value(alloc, literal)?;
+            enters(alloc, name, Kind::Required { column, fallback }, to)
         }
     }
 }

@@ -1,10 +1,12 @@
 //! Plans of small batches, worked out from the edges of columns and indexes.
-use crate::making::Plain::{self, Column, Go, Index, Turn};
-use crate::making::{Path, TABLE_T, mark, text, texts, version};
+use crate::making::Literal::{self, Bool, Int as Whole, Letters, Null};
+use crate::making::Plain::{self, Column, Go, Index, Required, Turn};
+use crate::making::{G_AND_J_COME, Path, TABLE_T, mark, text, texts, value, version};
 use change_plan::Reorg::{Clear, Fill};
 use change_plan::{Change, PlanFault, PlanStep, Reorg, plan};
-use row_map::ColumnType;
-use schema_version::ElementState::{Absent, DeleteOnly, Public, WriteOnly};
+use keycode::Value;
+use row_map::ColumnType::Int;
+use schema_version::ElementState::{self, Absent, DeleteOnly, Public, WriteOnly};
 use schema_version::{Kind, Move, NewElement, Schema};
 use std::alloc::{AllocError, Global};
 use std::test::*;
@@ -15,11 +17,13 @@ enum Verb {
     AddIndex,
     DropIndex,
     AddColumn,
+    /// A column of integers with this default.
+    AddRequired(Literal),
     DropColumn,
     Abandon,
 }
 
-use Verb::{Abandon, AddColumn, AddIndex, DropColumn, DropIndex};
+use Verb::{Abandon, AddColumn, AddIndex, AddRequired, DropColumn, DropIndex};
 
 /// A change by the name of an element, and the columns of a new index, a byte each.
 type Asked = (Verb, &'static str, &'static [u8]);
@@ -132,6 +136,88 @@ static PLANS: [Case; 15] = [
     ),
 ];
 
+/// Plans of required columns, which are filled as indexes are.
+static REQUIRED_PLANS: [Case; 8] = [
+    (
+        &[],
+        &[(AddRequired(Whole(7)), "g", b"")],
+        Ok(&[
+            (&[], &[Required("g", Int, Whole(7), DeleteOnly)]),
+            (&[], &[Go(7, WriteOnly)]),
+            (&[Fill(7)], &[Go(7, Public)]),
+        ]),
+    ),
+    // An index waits for its column, also where it stands before it in the batch.
+    (
+        &[],
+        &[(AddIndex, "j", b"g"), (AddRequired(Whole(7)), "g", b"")],
+        Ok(&[
+            (&[], &[Required("g", Int, Whole(7), DeleteOnly)]),
+            (&[], &[Go(7, WriteOnly)]),
+            (&[Fill(7)], &[Go(7, Public)]),
+            (&[], &[Index("j", &[7], DeleteOnly)]),
+            (&[], &[Go(8, WriteOnly)]),
+            (&[Fill(8)], &[Go(8, Public)]),
+        ]),
+    ),
+    // The column stays until the index over it has gone.
+    (
+        G_AND_J_COME,
+        &[(DropColumn, "g", b""), (DropIndex, "j", b"")],
+        Ok(&[
+            (&[], &[Go(8, WriteOnly)]),
+            (&[], &[Go(8, DeleteOnly)]),
+            (&[Clear(8)], &[Go(8, Absent)]),
+            (&[], &[Go(7, WriteOnly)]),
+            (&[], &[Go(7, DeleteOnly)]),
+            (&[Clear(7)], &[Go(7, Absent)]),
+        ]),
+    ),
+    // An index over columns of both kinds waits for the one that is public last.
+    (
+        &[],
+        &[
+            (AddColumn, "f", b""),
+            (AddRequired(Whole(7)), "g", b""),
+            (AddIndex, "j", b"fg"),
+        ],
+        Ok(&[
+            (
+                &[],
+                &[Column("f"), Required("g", Int, Whole(7), DeleteOnly)],
+            ),
+            (&[], &[Go(7, Public), Go(8, WriteOnly)]),
+            (&[Fill(8)], &[Go(8, Public)]),
+            (&[], &[Index("j", &[7, 8], DeleteOnly)]),
+            (&[], &[Go(9, WriteOnly)]),
+            (&[Fill(9)], &[Go(9, Public)]),
+        ]),
+    ),
+    (
+        &[
+            &[Required("g", Int, Whole(7), DeleteOnly)],
+            &[Go(7, WriteOnly)],
+        ],
+        &[(Abandon, "g", b"")],
+        Ok(&[
+            (&[], &[Turn(7)]),
+            (&[], &[Go(7, DeleteOnly)]),
+            (&[Clear(7)], &[Go(7, Absent)]),
+        ]),
+    ),
+    (&[], &[(AddRequired(Null), "g", b"")], Err(PlanFault::Limit)),
+    (
+        &[],
+        &[(AddRequired(Bool(true)), "g", b"")],
+        Err(PlanFault::Limit),
+    ),
+    (
+        &[],
+        &[(AddRequired(Null), "a", b"")],
+        Err(PlanFault::NameTaken),
+    ),
+];
+
 fn change(alloc: Global, asked: Asked) -> Result<Change, AllocError> {
     let table = 1;
     let name = text(alloc, asked.1)?;
@@ -146,7 +232,15 @@ fn change(alloc: Global, asked: Asked) -> Result<Change, AllocError> {
         }
         DropIndex => Ok(Change::DropIndex { table, name }),
         AddColumn => {
-            let kind = Kind::Optional(ColumnType::Int);
+            let kind = Kind::Optional(Int);
+            Ok(Change::AddColumn { table, name, kind })
+        }
+        AddRequired(literal) => {
+            let fallback = value(alloc, literal)?;
+            let kind = Kind::Required {
+                column: Int,
+                fallback,
+            };
             Ok(Change::AddColumn { table, name, kind })
         }
         DropColumn => Ok(Change::DropColumn { table, name }),
@@ -162,24 +256,44 @@ fn batch(alloc: Global, asked: &[Asked]) -> Result<Vec<Change>, AllocError> {
     Ok(changes)
 }
 
-fn is_entry(fresh: &NewElement, name: &str, columns: &[u32]) -> bool {
-    let listed = match &fresh.kind {
-        Kind::Index(listed) => listed.as_slice(),
-        Kind::Optional(_) => &[],
+fn is_value(value: &Value, want: Literal) -> bool {
+    match (value, want) {
+        (Value::Null, Null) => true,
+        (Value::Int(number), Whole(wanted)) => *number == wanted,
+        (Value::Bool(truth), Bool(wanted)) => *truth == wanted,
+        (Value::Text(text), Letters(count)) => text.as_bytes().len() == count,
+        _ => false,
+    }
+}
+
+/// Whether the element is the column that is wanted, or the index.
+fn is_kind(kind: &Kind, want: Plain) -> bool {
+    match (kind, want) {
+        (Kind::Optional(column), Column(_)) => *column == Int,
+        (Kind::Index(listed), Index(_, columns, _)) => listed.as_slice() == columns,
+        (Kind::Required { column, fallback }, Required(_, wanted, literal, _)) => {
+            *column == wanted && is_value(fallback, literal)
+        }
+        _ => false,
+    }
+}
+
+/// Whether the element enters in this state, and under this name.
+fn is_entry(fresh: &NewElement, to: ElementState, want: Plain) -> bool {
+    let (name, state) = match want {
+        Column(name) => (name, DeleteOnly),
+        Index(name, _, state) => (name, state),
+        Required(name, _, _, state) => (name, state),
+        Go(_, _) | Turn(_) => return false,
     };
-    fresh.table == 1 && fresh.name.as_str() == name && listed == columns
+    fresh.table == 1 && fresh.name.as_str() == name && to == state && is_kind(&fresh.kind, want)
 }
 
 fn is_move(got: &Move, want: Plain) -> bool {
     match (got, want) {
         (Move::Go { element, to }, Go(number, state)) => *element == number && *to == state,
         (Move::Turn { element }, Turn(number)) => *element == number,
-        (Move::Enter { fresh, to }, Column(name)) => {
-            is_entry(fresh, name, &[]) && *to == DeleteOnly
-        }
-        (Move::Enter { fresh, to }, Index(name, columns, state)) => {
-            is_entry(fresh, name, columns) && *to == state
-        }
+        (Move::Enter { fresh, to }, want) => is_entry(fresh, *to, want),
         _ => false,
     }
 }
@@ -248,5 +362,11 @@ fn under_refusal_plans(rt: HostRuntime) {
     assert!(rt; mark(&rt));
     for row in 0..PLANS.len() {
         assert!(rt; holds(rt.alloc(), &PLANS[row]), "row {row}");
+    }
+    for row in 0..REQUIRED_PLANS.len() {
+        assert!(rt;
+            holds(rt.alloc(), &REQUIRED_PLANS[row]),
+            "row {row} of required columns"
+        );
     }
 }

@@ -1,7 +1,8 @@
 //! Declarations, steps and readers of a version.
-use crate::making::Plain::{Column, Go, Index, Turn};
-use crate::making::{FULL, Path, PlainTable, TABLE_T, mark, version};
-use row_map::ColumnType::{self, Int};
+use crate::making::Literal::{Bool, Int as Whole, Letters, Null};
+use crate::making::Plain::{Column, Go, Index, Required, Turn};
+use crate::making::{FULL, G_AND_J_COME, Path, PlainTable, TABLE_T, mark, version};
+use row_map::ColumnType::{self, Int, Text};
 use row_map::TableShape;
 use schema_version::ElementState::{self, Absent, DeleteOnly, Public, WriteOnly};
 use schema_version::{ElementDef, Schema, StepFault};
@@ -58,6 +59,30 @@ const J_TURNS_BACK: Path = &[
 ];
 
 const E_COMES_BACK: Path = &[&[Go(5, DeleteOnly)], &[Go(5, Absent)], &[Column("e")]];
+
+const G_TURNS_BACK: Path = &[
+    &[Required("g", Int, Whole(5), DeleteOnly)],
+    &[Go(7, WriteOnly)],
+    &[Turn(7)],
+    &[Go(7, Public)],
+];
+
+const G_COMES_AND_GOES: Path = &[
+    &[Required("g", Int, Whole(5), DeleteOnly)],
+    &[Go(7, WriteOnly)],
+    &[Go(7, Public)],
+    &[Go(7, WriteOnly)],
+    &[Go(7, DeleteOnly)],
+    &[Go(7, Absent)],
+];
+
+const J_STANDS_OVER_G: Path = &[
+    &[Required("g", Int, Whole(5), DeleteOnly)],
+    &[Go(7, WriteOnly)],
+    &[Go(7, Public)],
+    &[Index("j", &[7], DeleteOnly)],
+    &[Go(7, WriteOnly)],
+];
 
 static REFUSED: [Case; 24] = [
     (
@@ -152,7 +177,67 @@ static REFUSED: [Case; 24] = [
     ),
 ];
 
-static ALLOWED: [Case; 18] = [
+/// Steps of required columns: a default is a value of the column's type, and no state is passed over.
+static REQUIRED_REFUSED: [Case; 10] = [
+    (
+        TABLE_T,
+        &[&[Required("g", Int, Null, DeleteOnly)]],
+        Refused(StepFault::Limit),
+    ),
+    (
+        TABLE_T,
+        &[&[Required("g", Int, Bool(true), DeleteOnly)]],
+        Refused(StepFault::Limit),
+    ),
+    (
+        TABLE_T,
+        &[&[Required("g", Text, Whole(5), DeleteOnly)]],
+        Refused(StepFault::Limit),
+    ),
+    (
+        TABLE_T,
+        &[&[Required("g", Text, Letters(1025), DeleteOnly)]],
+        Refused(StepFault::Limit),
+    ),
+    (
+        TABLE_T,
+        &[&[Required("g", Int, Whole(5), WriteOnly)]],
+        Refused(StepFault::NotAdjacent),
+    ),
+    (
+        TABLE_T,
+        &[
+            &[Required("g", Int, Whole(5), DeleteOnly)],
+            &[Go(7, Public)],
+        ],
+        Refused(StepFault::NotAdjacent),
+    ),
+    (
+        TABLE_T,
+        &[
+            &[Required("g", Int, Whole(5), DeleteOnly)],
+            &[Go(7, WriteOnly)],
+            &[Go(7, Public)],
+            &[Go(7, DeleteOnly)],
+        ],
+        Refused(StepFault::NotAdjacent),
+    ),
+    (TABLE_T, G_TURNS_BACK, Refused(StepFault::WrongWay)),
+    // An index stands over it.
+    (
+        TABLE_T,
+        J_STANDS_OVER_G,
+        Refused(StepFault::Dependent { on: 8 }),
+    ),
+    // Of two faults of a move the lower one is given.
+    (
+        TABLE_T,
+        &[&[Required("a", Int, Null, DeleteOnly)]],
+        Refused(StepFault::NameTaken),
+    ),
+];
+
+static ALLOWED: [Case; 24] = [
     (TABLE_T, &[], Numbered("i", Some(6), Some(6), 7)),
     (
         TABLE_T,
@@ -204,6 +289,34 @@ static ALLOWED: [Case; 18] = [
         Shape(1, Some(&[(1, Int), (2, Int), (3, Int), (4, Int)])),
     ),
     (TABLE_T, &[], Shape(2, None)),
+    (
+        TABLE_T,
+        &[&[Required("g", Int, Whole(5), DeleteOnly)]],
+        Number(7, DeleteOnly, "g", "", ""),
+    ),
+    (
+        TABLE_T,
+        &[&[Required("g", Text, Letters(1024), DeleteOnly)]],
+        Numbered("g", Some(7), Some(6), 8),
+    ),
+    (
+        TABLE_T,
+        &[
+            &[Required("g", Int, Whole(5), DeleteOnly)],
+            &[Go(7, WriteOnly)],
+        ],
+        Shape(1, Some(&[(1, Int), (2, Int), (3, Int), (4, Int), (5, Int)])),
+    ),
+    (
+        TABLE_T,
+        G_AND_J_COME,
+        Shape(
+            1,
+            Some(&[(1, Int), (2, Int), (3, Int), (4, Int), (5, Int), (7, Int)]),
+        ),
+    ),
+    (TABLE_T, G_AND_J_COME, Number(8, Public, "j", "", "")),
+    (TABLE_T, G_COMES_AND_GOES, Numbered("g", None, Some(6), 8)),
 ];
 
 fn number_of(element: Option<&ElementDef>) -> Option<u32> {
@@ -291,6 +404,12 @@ fn under_refusal_refused_steps(rt: HostRuntime) {
     assert!(rt; mark(&rt));
     for row in 0..REFUSED.len() {
         assert!(rt; holds(rt.alloc(), &REFUSED[row]), "row {row}");
+    }
+    for row in 0..REQUIRED_REFUSED.len() {
+        assert!(rt;
+            holds(rt.alloc(), &REQUIRED_REFUSED[row]),
+            "row {row} of a required column"
+        );
     }
 }
 
