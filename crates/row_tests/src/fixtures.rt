@@ -1,8 +1,7 @@
 //! Table 1, named t, has the primary key `id` and the column `a`, which is element 1, both numbers, and the index `i` on
 //! `a`, which is element 2. Where it is asked for, the required column `r` enters, numbers with the default 5, as element 3. The key of a
-//! row's pair is 52, the table, the primary key and the element, or 0 for the
-//! `exists` pair; that of an index's pair is 58, the element, the value and the primary key. A number is 02 and its eight
-//! bytes with the highest bit flipped, Null is 01.
+//! row's pair is 52, the table, the primary key and the element, or 0 for the `exists` pair; that of an index's pair is 58,
+//! the element, the value and the primary key. A number is 02 and its eight bytes with the highest bit flipped, Null is 01.
 use byte_map::{Bytes, KeyMap};
 use keycode::{Text, Value, Values};
 use listed::Listed;
