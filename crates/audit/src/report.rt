@@ -5,7 +5,7 @@ ghost use Rattle.audit.specs.Audit.{added};
 use std::alloc::AllocError;
 
 /// What an audit counts.
-#[derive(Clone, Copy, Debug, PartialEq, Eq)]
+#[derive(Clone, Copy, PartialEq, Eq)]
 pub struct CheckReport {
     /// The rows: the `exists` pairs.
     pub rows: u64,

@@ -5,7 +5,7 @@ use schema_version::Kind;
 
 /// One change of a schema, by names. A batch of them is planned as one: an index may be added over columns that the batch adds, and a
 /// column may be dropped with the indexes that list it, dropped or abandoned. `table` is the number of a table, from 1.
-#[derive(Clone, Debug, PartialEq, Eq, Drop)]
+#[derive(Clone, PartialEq, Eq, Drop)]
 pub enum Change {
     /// A new index of the table over these columns, live or added by the batch, in this order.
     AddIndex {

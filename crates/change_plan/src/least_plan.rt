@@ -5,7 +5,7 @@ use schema_version::Step;
 /// What a reorganisation does to the pairs of one element.
 ///
 /// After the reorganisations of "Online, Asynchronous Schema Change in F1" (Rae et al., 2013).
-#[derive(Clone, Copy, Debug, PartialEq, Eq)]
+#[derive(Clone, Copy, PartialEq, Eq)]
 pub enum Reorg {
     /// The pairs of the index or the required column of this number are written for all rows.
     Fill(u32),
@@ -14,7 +14,7 @@ pub enum Reorg {
 }
 
 /// A step of a plan.
-#[derive(Clone, Debug, PartialEq, Eq, Drop)]
+#[derive(Clone, PartialEq, Eq, Drop)]
 pub struct PlanStep {
     /// The reorganisations that must end before the step is published, in the order of its moves.
     pub before: Listed<Reorg>,
@@ -23,7 +23,7 @@ pub struct PlanStep {
 }
 
 /// A plan with as few steps as any that brings its changes about.
-#[derive(Clone, Debug, PartialEq, Eq, Drop)]
+#[derive(Clone, PartialEq, Eq, Drop)]
 pub struct LeastPlan {
     /// The steps in order; none for a batch with no changes.
     pub steps: Listed<PlanStep>,

@@ -5,7 +5,7 @@ ghost use Rattle.change_plan.specs.Schedule.{acts as acts_of, steps as steps_of_
 use schema_version::{ElementState, Kind, NewElement};
 
 /// What is done with an element in one step.
-#[derive(Clone, Copy, Debug, PartialEq, Eq)]
+#[derive(Clone, Copy, PartialEq, Eq)]
 pub(crate) enum Act {
     Wait,
     /// It enters as delete-only.
@@ -17,7 +17,7 @@ pub(crate) enum Act {
 }
 
 /// The moves of an element, one per step.
-#[derive(Clone, Copy, Debug, PartialEq, Eq)]
+#[derive(Clone, Copy, PartialEq, Eq)]
 pub(crate) enum Course {
     /// Of what no fill serves, as an optional column.
     PlainIn,

@@ -16,7 +16,7 @@ pub const MAX_WORKERS: u32 = 16;
 pub const MAX_LIMIT: u32 = 1_000;
 
 /// The size of a load. Its numbers are in their ranges just where `IsLoadSize` says so.
-#[derive(Clone, Copy, Debug, PartialEq, Eq)]
+#[derive(Clone, Copy, PartialEq, Eq)]
 pub struct LoadSize {
     /// How many threads insert rows, 1 to 16.
     pub servers: u32,

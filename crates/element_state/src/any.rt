@@ -17,7 +17,7 @@ use schema_version::{ElementDef, ElementState, Kind, Schema};
 use std::alloc::{AllocError, Global};
 
 /// An element of any kind. A new kind is one more variant here, with its arm in each call.
-#[derive(Debug, Drop)]
+#[derive(Drop)]
 pub enum AnyElement {
     /// A secondary index.
     Index(IndexElement),

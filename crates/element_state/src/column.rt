@@ -15,7 +15,7 @@ use std::alloc::{AllocError, Global};
 ///
 /// It is never write-only: a transaction that does not see the column cannot name a cell of it, so nothing has to be filled, and in
 /// delete-only it keeps up with the rows already.
-#[derive(Clone, Copy, Debug)]
+#[derive(Clone, Copy)]
 pub struct OptionalColumn {
     /// The number of its table.
     pub table: u32,

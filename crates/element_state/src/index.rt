@@ -18,7 +18,7 @@ use std::alloc::{AllocError, Global};
 
 /// A secondary index over columns of a table. Each row of the table has one pair for it, without a value, whose key has the row's
 /// values in these columns and then its primary key.
-#[derive(Debug, Drop)]
+#[derive(Drop)]
 pub struct IndexElement {
     /// The number of its table.
     pub table: u32,

@@ -19,7 +19,7 @@ use std::alloc::{AllocError, Global};
 ///
 /// It moves as an index does: in write-only each row that is inserted gets the default's pair, and a fill gives one to each row that was
 /// there before.
-#[derive(Debug, Drop)]
+#[derive(Drop)]
 pub struct RequiredColumn {
     /// The number of its table.
     pub table: u32,

@@ -2,7 +2,7 @@
 
 /// The right to use one schema version for a time, as in "Online, Asynchronous Schema Change in F1": a server
 /// without a lease in force neither reads nor writes.
-#[derive(Clone, Copy, Debug, PartialEq, Eq)]
+#[derive(Clone, Copy, PartialEq, Eq)]
 pub struct Lease {
     /// The number of the version, from 1.
     pub version: u64,

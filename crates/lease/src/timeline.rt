@@ -19,7 +19,7 @@ pub const MAX_LENGTH: u64 = 1 << 32;
 /// When each schema version was published. Version 1 is published at moment 0, and each other one at least the lease
 /// length after the one before. So every lease on a version has ended before the next version but one comes, and at
 /// most two versions are in use at once, as in "Online, Asynchronous Schema Change in F1".
-#[derive(Debug, Drop)]
+#[derive(Drop)]
 pub struct Timeline {
     /// For how long a lease is granted.
     lease_length: u64,

@@ -4,7 +4,7 @@ use locked_store::ReceiptFault;
 use std::alloc::{AllocError, Global};
 
 /// What a load found once all threads were done.
-#[derive(Clone, Copy, Debug, PartialEq, Eq)]
+#[derive(Clone, Copy, PartialEq, Eq)]
 pub(crate) struct Report {
     /// How many rows the store has.
     pub(crate) rows: u64,

@@ -10,7 +10,7 @@ pub struct WentBack {
 }
 
 /// Why a call through the lock was refused. Of several reasons the first in this order is told.
-#[derive(Debug, Drop)]
+#[derive(Drop)]
 pub enum SharedFault<E> {
     /// The log is shorter than the handle's front.
     WentBack {

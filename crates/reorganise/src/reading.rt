@@ -21,7 +21,7 @@ use std::alloc::{AllocError, Global};
 const MAX_LIMIT: u32 = 1000;
 
 /// A piece, and what was read of it.
-#[derive(Debug, Drop)]
+#[derive(Drop)]
 pub struct Reading {
     /// What is filled or cleared.
     pub(crate) element: ElementDef,

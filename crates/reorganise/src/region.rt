@@ -11,7 +11,7 @@ use schema_version::{ElementDef, Kind, Work};
 use std::alloc::{AllocError, Global};
 
 /// The keys that a reorganisation goes through.
-#[derive(Clone, Copy, Debug, PartialEq, Eq)]
+#[derive(Clone, Copy, PartialEq, Eq)]
 pub(crate) enum Region {
     /// Those of the rows of a table, by its number.
     Rows(u32),

@@ -8,7 +8,7 @@ use schema_version::{ElementDef, Work};
 use std::marker::Model;
 
 /// The next items of a piece as they were read, to be prepared. `Progress::read_piece` alone makes one.
-#[derive(Debug, Drop)]
+#[derive(Drop)]
 pub struct PieceView {
     pub(crate) inside: Reading,
 }

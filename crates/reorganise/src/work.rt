@@ -4,7 +4,7 @@ use listed::Listed;
 use schema_version::{ElementDef, Work};
 
 /// A piece of a reorganisation: its bounds, and how far it has come.
-#[derive(Clone, Debug, Drop, PartialEq, Eq)]
+#[derive(Clone, Drop, PartialEq, Eq)]
 pub struct Span {
     /// The first key that may be in the piece.
     pub low: Bytes,
@@ -15,7 +15,7 @@ pub struct Span {
 }
 
 /// How far a reorganisation has come. Whoever commits a piece moves its cursor.
-#[derive(Clone, Debug, Drop, PartialEq, Eq)]
+#[derive(Clone, Drop, PartialEq, Eq)]
 pub struct Progress {
     /// The element that is filled or cleared, as it was at the begin.
     pub element: ElementDef,

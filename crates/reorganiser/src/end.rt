@@ -2,7 +2,7 @@
 use world::PieceFault;
 
 /// What became of a piece.
-#[derive(Debug, Drop)]
+#[derive(Drop)]
 pub enum PieceEnd {
     /// It has ended: its cursor was found at its end, or its last items were committed.
     Finished,

@@ -1,7 +1,7 @@
 //! What all workers of one call share.
 
 /// Which reorganisation is to be worked off, and how.
-#[derive(Clone, Copy, Debug)]
+#[derive(Clone, Copy)]
 pub(crate) struct Job {
     /// The moment of each commit.
     pub(crate) moment: u64,

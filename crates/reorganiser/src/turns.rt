@@ -12,7 +12,7 @@ use std::sync::Wait;
 use world::{PieceDone, PieceFault, ReadFault, Receipt};
 
 /// What a turn came to.
-#[derive(Debug, Drop)]
+#[derive(Drop)]
 pub(crate) enum Turn {
     /// Its items are committed, and more are left.
     More,

@@ -6,7 +6,7 @@ use row_write::RowOps;
 use schema_version::Step;
 
 /// What an accepted call did.
-#[derive(Debug, Drop)]
+#[derive(Drop)]
 pub enum What {
     /// A lease was granted.
     Lease(Lease),
@@ -33,7 +33,7 @@ pub enum What {
 }
 
 /// An entry of the log, which has one for each accepted call and no other.
-#[derive(Debug, Drop)]
+#[derive(Drop)]
 pub struct Entry {
     /// The moment that counted in the call.
     pub moment: u64,

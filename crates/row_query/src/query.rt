@@ -4,7 +4,7 @@ use listed::Listed;
 
 /// What a row must meet to be answered. Columns go by their element numbers, and values are ordered as keycode has it. A
 /// text may be of any length: one over 1,024 bytes is no row's, and rows lie below and above it as by any other.
-#[derive(Clone, Debug, Drop, PartialEq, Eq)]
+#[derive(Clone, Drop, PartialEq, Eq)]
 pub enum Cond {
     /// The row has this primary key.
     Key(Values),
@@ -27,7 +27,7 @@ pub enum Cond {
 }
 
 /// A query: the rows of one table that meet every condition, with the values of the named columns.
-#[derive(Clone, Debug, Drop, PartialEq, Eq)]
+#[derive(Clone, Drop, PartialEq, Eq)]
 pub struct Query {
     /// The number of the table.
     pub table: u32,
@@ -39,7 +39,7 @@ pub struct Query {
 }
 
 /// How the rows of a query are found.
-#[derive(Clone, Copy, Debug, PartialEq, Eq)]
+#[derive(Clone, Copy, PartialEq, Eq)]
 pub enum Path {
     /// One row is read by its primary key.
     Key,

@@ -4,7 +4,7 @@ use keycode::{Value, Values};
 use listed::Listed;
 
 /// An operation on one row. Tables and columns go by their numbers.
-#[derive(Clone, Debug, Drop, PartialEq, Eq)]
+#[derive(Clone, Drop, PartialEq, Eq)]
 pub enum RowOp {
     /// A new row, refused where there is a row of this key.
     Insert {
@@ -37,7 +37,7 @@ pub enum RowOp {
 pub type RowOps = Listed<RowOp>;
 
 /// What plain rows say to a transaction.
-#[derive(Clone, Copy, Debug, PartialEq, Eq)]
+#[derive(Clone, Copy, PartialEq, Eq)]
 pub enum RowOutcome {
     /// Every operation is accepted.
     Done,

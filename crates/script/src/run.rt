@@ -9,7 +9,7 @@ use std::io::{Read, Write};
 use thiserror::Error;
 
 /// What came of a script that was run to its end.
-#[derive(Clone, Copy, Debug, PartialEq, Eq)]
+#[derive(Clone, Copy, PartialEq, Eq)]
 pub struct Summary {
     /// How many lines it has, with blank lines and remarks.
     pub lines: u64,

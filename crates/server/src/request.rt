@@ -3,7 +3,7 @@ use row_write::{PrepareFault, RowFault, RowOps};
 use world::{CommitFault, Receipt};
 
 /// A transaction that a server is to commit.
-#[derive(Debug, Drop)]
+#[derive(Drop)]
 pub struct Request {
     /// The moment of its lease and of its commit; the greater of it and the moment of the last entry counts.
     pub moment: u64,
@@ -12,7 +12,7 @@ pub struct Request {
 }
 
 /// What became of a request.
-#[derive(Debug, Drop)]
+#[derive(Drop)]
 pub enum Outcome {
     /// It is committed, and this is the receipt for its entry.
     Done(Receipt),

@@ -12,7 +12,7 @@ use std::alloc::AllocError;
 use world::{CommitFault, Committed, GrantFault};
 
 /// A port's last answer.
-#[derive(Clone, Copy, Debug, PartialEq, Eq)]
+#[derive(Clone, Copy, PartialEq, Eq)]
 pub enum Last {
     /// It was not called yet.
     Nothing,
@@ -54,7 +54,7 @@ pub enum Last {
 }
 
 /// What a port keeps of its answers.
-#[derive(Clone, Copy, Debug, PartialEq, Eq)]
+#[derive(Clone, Copy, PartialEq, Eq)]
 pub struct Tally {
     /// How many of its answers were a conflict or the end of a lease.
     pub retries: u64,

@@ -6,7 +6,7 @@ use std::sync::atomic::{AtomicBool, Ordering};
 use std::test::Fail;
 use tasks::{FreeGate, Gate, Performed, TaskFault, Worker, perform_all};
 
-#[derive(Clone, Copy, PartialEq, Eq, Debug)]
+#[derive(Clone, Copy, PartialEq, Eq)]
 enum Answer {
     Square(u64),
     HeldBack,

@@ -19,7 +19,7 @@ pub enum Token<'a> {
 }
 
 /// The marks `(`, `)`, `,`, `;`, `:`, `=`, `>=`, `<=`, `.` and `*`.
-#[derive(Clone, Copy, PartialEq, Eq, Debug)]
+#[derive(Clone, Copy, PartialEq, Eq)]
 pub enum Mark {
     Open,
     Close,

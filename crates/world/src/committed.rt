@@ -3,7 +3,7 @@ use crate::entry::Receipt;
 use row_write::RowFault;
 
 /// What became of a transaction that could be committed.
-#[derive(Debug, Drop)]
+#[derive(Drop)]
 pub enum Committed {
     /// It is committed, and this is the receipt for its entry.
     Done(Receipt),

@@ -3,7 +3,7 @@ use listed::Listed;
 use schema_version::TableDef;
 
 /// With what a world is opened.
-#[derive(Debug, Drop)]
+#[derive(Drop)]
 pub struct Config {
     /// For how long a lease is granted, in moments.
     pub length: u64,

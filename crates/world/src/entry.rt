@@ -5,7 +5,7 @@ use replay::Entry;
 use schema_version::Schema;
 
 /// The proof of an accepted call: where its entry stands in the log.
-#[derive(Debug, Drop)]
+#[derive(Drop)]
 pub struct Receipt {
     /// The place of the entry, counted from 1.
     pub place: u64,
@@ -25,7 +25,7 @@ pub struct Grant {
 }
 
 /// A piece that was committed.
-#[derive(Debug, Drop)]
+#[derive(Drop)]
 pub struct PieceDone {
     /// The receipt for its entry.
     pub receipt: Receipt,
