@@ -93,11 +93,11 @@ fn under_refusal_commits_and_queries(rt: HostRuntime) {
     are_right(&rt, rt.alloc(), &[], &COMMITS);
 }
 
-// A lease that is granted at 9.
+// A lease that is granted at 10.
 const LATER: Lease = Lease {
     version: 1,
-    granted: 9,
-    until: 19,
+    granted: 10,
+    until: 20,
 };
 
 // The lease still serves while version 2 is the newest, and its transactions have version 1's schema. The versions that are to be had

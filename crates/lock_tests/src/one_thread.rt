@@ -8,7 +8,7 @@ use crate::fixtures::{mark, opened};
 use Act::{Begin, Delete, Enter, Find, Go, Insert, Keep, Lease, Look, Piece, Stand, State};
 use locked_store::{Handle, ReceiptFault, Room, ShareFault, Shared, SharedFault, reconcile};
 use reorganise::Work::Fill;
-use schema_version::ElementState::{Public, WriteOnly};
+use schema_version::ElementState::{Absent, Public, WriteOnly};
 use std::alloc::{AllocError, Global};
 use std::marker::Brand;
 use std::sync::Wait;
@@ -19,7 +19,7 @@ use world::{Entry, Receipt, World};
 type Seen = (u64, u64);
 
 // What is asked in turn, and how many entries and rows there are then, while every pair has its reason and none is missing.
-static ACTS: [(Act, Seen); 23] = [
+static ACTS: [(Act, Seen); 25] = [
     (Lease, (1, 0)),
     (Insert(1, 5), (2, 1)),
     (Find(&[(1, 5)]), (2, 1)),
@@ -29,6 +29,8 @@ static ACTS: [(Act, Seen); 23] = [
     (Look(&[(1, 5)]), (3, 0)),
     (Keep, (3, 0)),
     (Look(&[]), (3, 0)),
+    (State(1, Some(Absent)), (3, 0)),
+    (State(2, None), (3, 0)),
     (Insert(5, 7), (4, 1)),
     (Enter, (5, 1)),
     (Go(WriteOnly, 20), (6, 1)),
@@ -165,6 +167,24 @@ fn shared_twice<R: Wait>(rt: &R, alloc: Global, world: World) -> Option<(World, 
     }
 }
 
+// The world that comes back where there may not be so many handles.
+fn unshared<L: Room>(alloc: Global, blank: Blank, world: World, count: u64) -> Option<World>
+    requires name { blank.name ≡ L.name }
+    requires parts { blank.parts ≡ L.parts }
+    requires picked { (L.handles ≡ count) × (L.handles ≡ L.parts) × (L.opening ≡ world.opening) × (L.since ≡ length world.log) }
+{
+    match Shared::<L>::new(alloc, blank, world, count) {
+        Err((ShareFault::BadCount, world)) => Some(world),
+        _ => None,
+    }
+}
+
+// A world is shared by 1 to 64 handles.
+fn neither_shared(alloc: Global, world: World) -> Option<World> {
+    let world = unshared::<Brand>(alloc, Blank::new(0), world, 0)?;
+    unshared::<Brand>(alloc, Blank::new(65), world, 65)
+}
+
 // The entry at this index with a moment that is so much later, as a receipt says it of this place.
 fn receipt_of(log: &[Entry], row: (u64, usize, u64)) -> Option<Receipt> {
     let (place, index, later) = row;
@@ -233,6 +253,9 @@ fn under_refusal_calls_through_the_lock(rt: HostRuntime) {
         panic!(rt; "no world");
     };
     assert!(rt; mark(&rt));
+    let Some(world) = neither_shared(alloc, world) else {
+        panic!(rt; "no handles, or 65");
+    };
     let Some((world, right)) = shared_twice(&rt, alloc, world) else {
         panic!(rt; "it was not shared");
     };

@@ -237,7 +237,10 @@ static REQUIRED_REFUSED: [Case; 10] = [
     ),
 ];
 
-static ALLOWED: [Case; 24] = [
+// table t (id int key, a int), index i on t (a)
+const Q: PlainTable = (b't', b"a", b"i", b"a");
+
+static ALLOWED: [Case; 25] = [
     (TABLE_T, &[], Numbered("i", Some(6), Some(6), 7)),
     (
         TABLE_T,
@@ -288,7 +291,8 @@ static ALLOWED: [Case; 24] = [
         &[&[Go(5, DeleteOnly)]],
         Shape(1, Some(&[(1, Int), (2, Int), (3, Int), (4, Int)])),
     ),
-    (TABLE_T, &[], Shape(2, None)),
+    (Q, &[], Shape(1, Some(&[(1, Int)]))),
+    (Q, &[], Shape(2, None)),
     (
         TABLE_T,
         &[&[Required("g", Int, Whole(5), DeleteOnly)]],

@@ -12,10 +12,19 @@ use std::sync::ledger::Blank;
 use std::thread::{Threads, yield_now};
 use world::World;
 
-// Holds request 0 until request 1 is answered.
+/// Holds request 0 until request 1 is answered.
 #[derive(Drop)]
-struct Behind {
+pub(crate) struct Behind {
     answered: AtomicU64,
+}
+
+impl Behind {
+    /// Where none is answered yet.
+    pub(crate) fn new() -> Behind {
+        Behind {
+            answered: AtomicU64::new(0),
+        }
+    }
 }
 
 impl Gate for Behind {
@@ -30,10 +39,19 @@ impl Gate for Behind {
     }
 }
 
-// Each request waits inside the call until the other's was entered, so only two threads pass.
+/// Each request waits inside the call until the other's was entered, so only two threads pass.
 #[derive(Drop)]
-struct Together {
+pub(crate) struct Together {
     entered: AtomicU64,
+}
+
+impl Together {
+    /// Where none was entered yet.
+    pub(crate) fn new() -> Together {
+        Together {
+            entered: AtomicU64::new(0),
+        }
+    }
 }
 
 impl Gate for Together {
@@ -105,9 +123,7 @@ fn one_request_waits_for_the_other(rt: HostRuntime) {
     let Some((world, requests)) = two_inserts(alloc) else {
         panic!(rt; "no world");
     };
-    let gate = Behind {
-        answered: AtomicU64::new(0),
-    };
+    let gate = Behind::new();
     let found = serves::<Brand, _, _>(&rt, alloc, Blank::new(2), world, requests.as_slice(), &gate);
     assert!(rt; found == Some([2, 2, 4]));
 }
@@ -118,9 +134,7 @@ fn two_requests_run_at_once(rt: HostRuntime) {
     let Some((world, requests)) = two_inserts(alloc) else {
         panic!(rt; "no world");
     };
-    let gate = Together {
-        entered: AtomicU64::new(0),
-    };
+    let gate = Together::new();
     let found = serves::<Brand, _, _>(&rt, alloc, Blank::new(2), world, requests.as_slice(), &gate);
     assert!(rt; found == Some([2, 2, 4]));
 }

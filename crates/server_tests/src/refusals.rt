@@ -1,13 +1,14 @@
-//! Two handles fill an index and then serve two requests, on threads: where memory was short, each number has its outcome all the same,
-//! the handles come back, and what is left is done by a second call.
+//! Two handles fill an index and then serve two requests, twice, behind gates that only servers on threads of their own can pass: where
+//! memory was short, each number has its outcome all the same, the handles come back, and what is left is done by a second call.
 ghost use Rattle.std.specs.Prelude.{◌≡◌, length};
 
 use crate::fills::filling;
+use crate::gates::{Behind, Together};
 use crate::table::{insert, mark};
 use locked_store::{Handle, Room, Shared};
 use reorganise::Work;
 use reorganiser::{PieceEnd, ReorganiseFault, Reorganised, reorganise_all};
-use server::{FreeGate, Outcome, Request, ServeFault, Served, serve};
+use server::{FreeGate, Gate, Outcome, Request, ServeFault, Served, serve};
 use std::alloc::{AllocError, Global};
 use std::marker::Brand;
 use std::sync::Wait;
@@ -15,11 +16,11 @@ use std::sync::ledger::Blank;
 use std::thread::Threads;
 use world::World;
 
-// 1 where a request is committed, 0 where memory was short or an earlier call committed it.
+// 1 where a request is committed, 0 where memory was short, also for the thread that its gate waits for, or an earlier call committed it.
 fn is_done(outcome: &Outcome) -> Option<u64> {
     match outcome {
         Outcome::Done(_) => Some(1),
-        Outcome::Memory | Outcome::Row { .. } => Some(0),
+        Outcome::Memory | Outcome::Held | Outcome::Row { .. } => Some(0),
         _ => None,
     }
 }
@@ -34,15 +35,16 @@ fn dones(outcomes: &[(usize, Outcome)]) -> Option<u64> {
     }
 }
 
-// Serves the requests: how many were committed.
-fn served<L: Room + Send + Sync, R: Threads + Wait + Sync>(
+// Serves the requests behind a gate: how many were committed.
+fn served<L: Room + Send + Sync, G: Gate + Sync, R: Threads + Wait + Sync>(
     rt: &R,
     alloc: Global,
     shared: &Shared<L>,
     handles: Vec<Handle<L>>,
     requests: &[Request],
+    gate: &G,
 ) -> (Vec<Handle<L>>, Option<u64>) {
-    match serve(rt, alloc, shared, handles, requests, 10, &FreeGate) {
+    match serve(rt, alloc, shared, handles, requests, 10, gate) {
         Ok(done) => {
             let Served {
                 outcomes,
@@ -56,16 +58,17 @@ fn served<L: Room + Send + Sync, R: Threads + Wait + Sync>(
     }
 }
 
-// Serves them twice. Each is committed once.
-fn all_served<L: Room + Send + Sync, R: Threads + Wait + Sync>(
+// Serves them behind the gate and then with none. Each is committed once.
+fn all_served<L: Room + Send + Sync, G: Gate + Sync, R: Threads + Wait + Sync>(
     rt: &R,
     alloc: Global,
     shared: &Shared<L>,
     handles: Vec<Handle<L>>,
     requests: &[Request],
+    gate: &G,
 ) -> Option<Vec<Handle<L>>> {
-    let (handles, first) = served(rt, alloc, shared, handles, requests);
-    let (handles, second) = served(rt, alloc, shared, handles, requests);
+    let (handles, first) = served(rt, alloc, shared, handles, requests, gate);
+    let (handles, second) = served(rt, alloc, shared, handles, requests, &FreeGate);
     if first?.wrapping_add(second?) == 2 {
         Some(handles)
     } else {
@@ -134,7 +137,7 @@ fn works<L: Room + Send + Sync, R: Threads + Wait + Sync + Print>(
     alloc: Global,
     blank: Blank,
     world: World,
-    requests: &[Request],
+    requests: [&[Request]; 2],
 ) -> Option<World>
     requires name { blank.name ≡ L.name }
     requires parts { blank.parts ≡ L.parts }
@@ -145,7 +148,9 @@ fn works<L: Room + Send + Sync, R: Threads + Wait + Sync + Print>(
         return None;
     }
     let handles = all_filled(rt, alloc, &shared, handles)?;
-    let handles = all_served(rt, alloc, &shared, handles, requests)?;
+    let [first, second] = requests;
+    let handles = all_served(rt, alloc, &shared, handles, first, &Behind::new())?;
+    let handles = all_served(rt, alloc, &shared, handles, second, &Together::new())?;
     shared.close(handles).ok()
 }
 
@@ -156,7 +161,7 @@ fn inserts(alloc: Global, first: i64, second: i64) -> Result<Vec<Request>, Alloc
     Ok(vec![in alloc; first, second]?)
 }
 
-// Whether all four rows have their pairs, and the fill has ended.
+// Whether all six rows have their pairs, and the fill has ended.
 fn is_filled(alloc: Global, world: &World) -> bool {
     let told = match world.check(alloc) {
         Err(AllocError) => world.check(alloc),
@@ -164,7 +169,7 @@ fn is_filled(alloc: Global, world: &World) -> bool {
     };
     match told {
         Ok(found) => {
-            (found.rows, found.missing, found.extra) == (4, 0, 0)
+            (found.rows, found.missing, found.extra) == (6, 0, 0)
                 && world.progress(2) == Some((Work::Fill, 2, true))
         }
         Err(AllocError) => false,
@@ -172,9 +177,11 @@ fn is_filled(alloc: Global, world: &World) -> bool {
 }
 
 fn is_worked_off<R: Threads + Wait + Sync + Print>(rt: &R, alloc: Global) -> Option<bool> {
-    let requests = inserts(alloc, 3, 4).ok()?;
+    let first = inserts(alloc, 3, 4).ok()?;
+    let second = inserts(alloc, 5, 6).ok()?;
+    let requests = [first.as_slice(), second.as_slice()];
     let world = filling(alloc, 2, 2)?;
-    let world = works::<Brand, R>(rt, alloc, Blank::new(2), world, requests.as_slice())?;
+    let world = works::<Brand, R>(rt, alloc, Blank::new(2), world, requests)?;
     Some(is_filled(alloc, &world))
 }
 

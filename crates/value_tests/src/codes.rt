@@ -99,9 +99,27 @@ const LISTS: &[(&[u8], usize, &[Plain], Result<Option<usize>, KeyFault>)] = &[
     (b"\x03\xff\0\x01", 1, &[], Err(KeyFault::NotUtf8)),
 ];
 
+// What is told of a text of so many letters, which is spelled whatever its length.
+fn letters_read(alloc: Global, count: usize) -> Result<usize, KeyFault> {
+    let text = Value::Text(keycode::Text::new("x".repeat(alloc, count)?));
+    let bytes = encode(alloc, &[text])?;
+    let (_, taken) = decode(alloc, bytes.as_slice(), 1)?;
+    Ok(taken)
+}
+
+/// The same, asked once more where memory was short.
+fn letters_told(alloc: Global, count: usize) -> Result<usize, KeyFault> {
+    match letters_read(alloc, count) {
+        Err(KeyFault::Memory) => letters_read(alloc, count),
+        told => told,
+    }
+}
+
 #[test]
 fn under_refusal_lists_are_read_and_spelled_so(rt: HostRuntime) {
     assert!(rt; mark(&rt));
+    assert!(rt; letters_told(rt.alloc(), 1_024) == Ok(1_027));
+    assert!(rt; letters_told(rt.alloc(), 1_025) == Err(KeyFault::TextTooLong));
     for (bytes, count, plain, want) in LISTS {
         assert!(rt;
             told(rt.alloc(), bytes, *count, plain) == *want,
