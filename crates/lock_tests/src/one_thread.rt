@@ -179,10 +179,14 @@ fn unshared<L: Room>(alloc: Global, blank: Blank, world: World, count: u64) -> O
     }
 }
 
+fn unshared_once(alloc: Global, world: World, count: u64) -> Option<World> {
+    unshared::<Brand>(alloc, Blank::new(count), world, count)
+}
+
 // A world is shared by 1 to 64 handles.
 fn neither_shared(alloc: Global, world: World) -> Option<World> {
-    let world = unshared::<Brand>(alloc, Blank::new(0), world, 0)?;
-    unshared::<Brand>(alloc, Blank::new(65), world, 65)
+    let world = unshared_once(alloc, world, 0)?;
+    unshared_once(alloc, world, 65)
 }
 
 // The entry at this index with a moment that is so much later, as a receipt says it of this place.
