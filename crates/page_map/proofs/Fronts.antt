@@ -78,7 +78,7 @@ below (suc n) at a b less =
     ]
 
 pub front_less : (a b : List ℕ) → bytes_cmp (front_of a) (front_of b) ≡ Less → bytes_cmp a b ≡ Less
-front_less a b less = below 16 0 a b less
+front_less a b less = below 24 0 a b less
 
 pub front_greater : (a b : List ℕ) → bytes_cmp (front_of a) (front_of b) ≡ Greater → bytes_cmp a b ≡ Greater
 front_greater a b greater = greater_from_less b a (front_less b a (less_from_greater (front_of a) (front_of b) greater))
