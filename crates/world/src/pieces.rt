@@ -91,7 +91,7 @@ impl From<SetFault> for PieceFault {
 fn copied(alloc: Global, bytes: &[u8]) -> Result<Bytes, AllocError>
     ensures { IfOk result (λ copy. copy ≡ bytes.now) }
 {
-    Bytes::new(Vec::from_slice(alloc, bytes)?)
+    Bytes::from_slice(alloc, bytes)
 }
 
 /// A copy of a reorganisation, with that cursor come on where it is the one of this element.

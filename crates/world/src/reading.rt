@@ -6,17 +6,22 @@ ghost use Rattle.world.specs.Reading.{noted_reads};
 
 use crate::world::World;
 use byte_map::{Bytes, KeyMap};
-use row_map::{PairView, ReadSet, ReadView};
+use row_map::{ReadSet, ReadView};
 use std::alloc::{AllocError, Global};
-use txn_store::Store;
+use txn_store::{Near, Store};
 
 /// The value of a key as a view keeps it.
-fn value_of(alloc: Global, store: &Store, key: &Bytes) -> Result<Option<Bytes>, AllocError>
+fn value_of(
+    alloc: Global,
+    store: &Store,
+    key: &Bytes,
+    near: &mut Near,
+) -> Result<Option<Bytes>, AllocError>
     ensures { IfOk result (λ value. value ≡ map.get store.now key.now) }
 {
-    match store.get(key.as_slice()) {
+    match store.get_near(key.as_slice(), near) {
         None => Ok(None),
-        Some(value) => Ok(Some(Bytes::new(Vec::from_slice(alloc, value)?)?)),
+        Some(value) => Ok(Some(Bytes::from_slice(alloc, value)?)),
     }
 }
 
@@ -25,8 +30,10 @@ fn read_all(alloc: Global, store: &Store, keys: &[(Bytes, ())]) -> Result<ReadVi
     ensures { IfOk result (λ view. view ≡ noted_reads store.now map.empty keys.now) }
 {
     let mut view = KeyMap::new(alloc);
+    // The keys rise, and those of a row stand side by side.
+    let mut near = Near::new();
     for (key, _) in keys {
-        let value = value_of(alloc, store, key)?;
+        let value = value_of(alloc, store, key, &mut near)?;
         view.insert(key.clone()?, value)?;
     }
     Ok(view)
