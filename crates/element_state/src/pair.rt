@@ -13,7 +13,7 @@ use std::alloc::{AllocError, Global};
 pub(crate) fn encoded(alloc: Global, value: &Value) -> Result<Bytes, AllocError>
     ensures { IfOk result (λ bytes. bytes ≡ code value.now) }
 {
-    let mut out = Vec::new(alloc);
+    let mut out = Vec::with_capacity(alloc, 9)?;
     push_value(&mut out, value)?;
     Bytes::new(out)
 }
