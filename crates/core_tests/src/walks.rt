@@ -167,12 +167,12 @@ fn under_refusal_fills(rt: HostRuntime) {
     are_right(&rt, rt.alloc(), &OTHER, &FILL);
 }
 
-// A lease, and 32 rows of even keys, whose 64 pairs are one page.
+// A lease, and 22 rows of even keys, whose 44 pairs are one page.
 fn fills_a_page(alloc: Global, world: &mut World, kept: &mut Kept) -> bool {
     if !is_right(alloc, world, kept, &Act::Lease(FIRST)) {
         return false;
     }
-    for row in 0..32i64 {
+    for row in 0..22i64 {
         if !is_right(alloc, world, kept, &Insert(FIRST, (row.wrapping_mul(2), 5))) {
             return false;
         }
@@ -181,7 +181,7 @@ fn fills_a_page(alloc: Global, world: &mut World, kept: &mut Kept) -> bool {
 }
 
 // The row of an odd key comes between them.
-static CUT: [Row; 2] = [(Insert(FIRST, (31, 5)), 34), (Check(33), 34)];
+static CUT: [Row; 2] = [(Insert(FIRST, (21, 5)), 24), (Check(23), 24)];
 
 fn is_page_cut<R: Print>(rt: &R, alloc: Global) -> bool {
     let mut kept = nothing();

@@ -66,21 +66,21 @@ fn is_set(alloc: Global, store: &mut Store, count: u16, is_put: bool) -> Result<
     Ok(set(alloc, store, &nothing, &batch).is_ok())
 }
 
-/// How many pairs a walk over a snapshot finds once 65 keys were removed; none where a call could not be made.
+/// How many pairs a walk over a snapshot finds once 45 keys were removed; none where a call could not be made.
 fn found_behind(alloc: Global, store: &mut Store) -> Result<usize, AllocError> {
     let Some(snapshot) = snapshot(store) else {
         return Ok(0);
     };
-    let is_removed = is_set(alloc, store, 65, false)?;
+    let is_removed = is_set(alloc, store, 45, false)?;
     Ok(if is_removed { walked(&snapshot) } else { 0 })
 }
 
-/// Whether 65 keys could be put behind the first ones, how many pairs a range gives then, how many a snapshot has, and how many are left once
+/// Whether 45 keys could be put behind the first ones, how many pairs a range gives then, how many a snapshot has, and how many are left once
 /// they are removed.
 fn counts(alloc: Global, first: u16) -> Result<(bool, usize, usize, usize), AllocError> {
     let mut store = Store::new(alloc);
     let is_begun = is_set(alloc, &mut store, first, true)?;
-    let is_put = is_set(alloc, &mut store, 65, true)?;
+    let is_put = is_set(alloc, &mut store, 45, true)?;
     let given = ranged(&store);
     let found = found_behind(alloc, &mut store)?;
     Ok((is_begun && is_put, given, found, store.len()))
@@ -94,13 +94,13 @@ fn counts_at_last(alloc: Global, first: u16) -> Result<(bool, usize, usize, usiz
     }
 }
 
-/// A page has 64 pairs: 65 that are put at once take two, and a 65th that comes behind 64 cuts their page.
+/// A page is cut behind 44 pairs: 45 that are put at once take two, and a 45th that comes behind 44 cuts their page.
 #[test]
 fn under_refusal_pages_are_cut_and_a_snapshot_stays(rt: HostRuntime) {
     assert!(rt; mark(&rt));
-    for first in [0, 64] {
+    for first in [0, 44] {
         assert!(rt;
-            counts_at_last(rt.alloc(), first) == Ok((true, 65, 65, 0)),
+            counts_at_last(rt.alloc(), first) == Ok((true, 45, 45, 0)),
             "behind {first}"
         );
     }
