@@ -6,9 +6,9 @@ ghost use Rattle.world.specs.Reading.{noted_reads};
 
 use crate::world::World;
 use byte_map::{Bytes, KeyMap};
-use row_map::{ReadSet, ReadView};
+use row_map::{Near, PairView, ReadSet, ReadView};
 use std::alloc::{AllocError, Global};
-use txn_store::{Near, Store};
+use txn_store::Store;
 
 /// The value of a key as a view keeps it.
 fn value_of(

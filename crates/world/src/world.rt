@@ -13,7 +13,7 @@ use lease::{Lease, Timeline};
 use listed::Counted;
 use reorganise::Progress;
 use replay::{Entry, kept_agrees};
-use row_map::{PairView, Walk};
+use row_map::{Near, PairView, Walk};
 use schema_version::Schema;
 use std::marker::Model;
 use txn_store::Store;
@@ -144,6 +144,10 @@ impl PairView for World {
 
     fn get(&self, key: &[u8]) -> Option<&[u8]> {
         self.store.get(key)
+    }
+
+    fn get_near(&self, key: &[u8], near: &mut Near) -> Option<&[u8]> {
+        self.store.get_near(key, near)
     }
 
     fn next_at(&self, key: &[u8]) -> Option<(&[u8], &[u8])> {
