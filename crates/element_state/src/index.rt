@@ -7,7 +7,7 @@ ghost use Rattle.element_state.specs.IndexLaws.{index_clears, index_laws};
 ghost use Rattle.element_state.specs.Operations.{cells_of};
 ghost use Rattle.element_state.specs.Kinds.{meaning_of_index};
 
-use crate::cells::copied;
+use crate::cells::{copied, lent};
 use crate::element::Element;
 use byte_map::Bytes;
 use keycode::{Value, Values};
@@ -15,6 +15,7 @@ use listed::Listed;
 use row_map::{Batch, Row, index_key};
 use schema_version::ElementState;
 use std::alloc::{AllocError, Global};
+use std::slice::from_ref;
 
 /// A secondary index over columns of a table. Each row of the table has one pair for it, without a value, whose key has the row's
 /// values in these columns and then its primary key.
@@ -45,6 +46,11 @@ impl IndexElement {
     fn key_of(&self, alloc: Global, row: &Row) -> Result<Bytes, AllocError>
         ensures { IfOk result (λ key. key ≡ index_pair self.now.number self.now.columns (self.now.table, row.now.key) (cells_of row.now)) }
     {
+        if let [column] = self.columns.as_slice() {
+            // The one value of most indexes needs no copy.
+            let value = from_ref(lent(row, column));
+            return index_key(alloc, self.number, value, row.key.as_slice());
+        }
         let values = indexed_values(alloc, self.columns.as_slice(), row)?;
         index_key(alloc, self.number, values.as_slice(), row.key.as_slice())
     }

@@ -5,7 +5,7 @@ ghost use Rattle.keycode.specs.Code.{code};
 ghost use Rattle.element_state.specs.Column.{column_pair};
 
 use byte_map::Bytes;
-use keycode::{Value, Values, push_value};
+use keycode::{Value, Values, encode_int, push_value};
 use row_map::{Batch, column_key};
 use std::alloc::{AllocError, Global};
 
@@ -13,7 +13,10 @@ use std::alloc::{AllocError, Global};
 pub(crate) fn encoded(alloc: Global, value: &Value) -> Result<Bytes, AllocError>
     ensures { IfOk result (λ bytes. bytes ≡ code value.now) }
 {
-    let mut out = Vec::with_capacity(alloc, 9)?;
+    if let Value::Int(n) = value {
+        return Bytes::from_slice(alloc, &encode_int(*n));
+    }
+    let mut out = Vec::new(alloc);
     push_value(&mut out, value)?;
     Bytes::new(out)
 }
