@@ -15,7 +15,7 @@ use Rattle.row_write.specs.declared.op.RowOp.{RowOp}
 use Rattle.row_write.specs.Plain.{table_of, key_of}
 use Rattle.row_write.specs.Reads.{IsRowKey, IsRead}
 use Rattle.row_write.specs.Served.{IsServed}
-use Rattle.row_write.specs.Entering.{KeySet, entered, column_keys, keys_in, op_keys, entered_all}
+use Rattle.row_write.specs.Entering.{KeySet, entered, column_keys, row_keys, keys_in, op_keys, entered_all}
 use Rattle.row_write.proofs.Columns.{column_listed, listed_column}
 
 insert_here : (m : KeySet) (q : Bytes) → get (insert m q tt) q ≡ Some tt
@@ -62,13 +62,16 @@ column_key_from op (d ∷ columns) q there = elim (here_or_later (row_code (tabl
 ]
 
 module _ (v : Version) (served : IsServed v) where
-  abbrev InTable : RowOp → Bytes → Type 0
+  abbrev pub InTable : RowOp → Bytes → Type 0
   InTable op q = ((table : Table) × (table_at v (table_of op) ≡ Some table)) × IsRowKey v (table_of op) (key_of op) q
 
   abbrev shape_from : RowOp → Option Table → Option TableShape
   shape_from op o = option_map (λ (table : Table). record { number = table_of op; key = key_types table.key; columns = column_types v (table_of op) }) o
 
-  op_key_has : (op : RowOp) (q : Bytes) → InTable op q → Contains (op_keys v op) q
+  pub op_keys_are : (op : RowOp) (table : Table) → table_at v (table_of op) ≡ Some table → op_keys v op ≡ row_keys op (column_types v (table_of op))
+  op_keys_are op table at = ap (λ o. keys_in op (shape_from op o)) at
+
+  pub op_key_has : (op : RowOp) (q : Bytes) → InTable op q → Contains (op_keys v op) q
   op_key_has op q ((table, at), is) =
       let shape : shape_of v (table_of op) ≡ shape_from op (Some table) = ap (shape_from op) at in
       subst (λ o. Contains (keys_in op o) q) (sym shape) (elim is [
@@ -77,7 +80,7 @@ module _ (v : Version) (served : IsServed v) where
             (subst (Contains (column_keys op (column_types v (table_of op)))) (sym column.3) (column_key_has op (column_types v (table_of op)) (column.0, column.1) (column_listed v served (table_of op) column.0 column.1 column.2)))
       ])
 
-  op_key_from : (op : RowOp) (q : Bytes) → Contains (op_keys v op) q → InTable op q
+  pub op_key_from : (op : RowOp) (q : Bytes) → Contains (op_keys v op) q → InTable op q
   op_key_from op q there =
       elim (table_at v (table_of op)) as (λ o. table_at v (table_of op) ≡ o → Contains (keys_in op (shape_from op o)) q → InTable op q) [
         | None ↦ λ _ t. absurd (omega (arith, t.1))

@@ -1,20 +1,30 @@
--- Two maps with the same keys, by tests of their entries.
-use Rattle.std.proofs.Common.{◌≡◌, ◌↔◌, ◌&&◌, Bool, true, false, cond, List, [], ◌∷◌, Option, Some, None, is_some, refl, sym, ap, ◌∙◌, IsTrue}
+-- Two maps with the same keys, by tests of their entries, and a view with the keys of one row.
+use Rattle.std.proofs.Common.{◌≡◌, ◌↔◌, ◌&&◌, ℕ, Bool, true, false, cond, List, [], ◌∷◌, Option, Some, None, is_some, inl, inr, refl, sym, ap, subst, ◌∙◌, IsTrue, arith, Contains}
 use Rattle.std.specs.List.{list_all, AllByRecursion}
 use Rattle.std.specs.Ordering.{eq_by_cmp}
 use Rattle.std.specs.Cmp.{Equal-is}
 use Rattle.std.specs.FinMap.{FinMap, get, find, entries, get-entries}
+use Rattle.keycode.specs.declared.value.Value.{Value}
 use Rattle.keycode.specs.Order.{bytes_cmp}
 use Rattle.keycode.proofs.Orders.{bytes_cmp_total, bytes_cmp-IsAntisymmetric}
 use Rattle.row_map.specs.Rows.{Bytes, Rows}
 use Rattle.row_map.specs.Expect.{View}
 use Rattle.row_map.proofs.Entries.{each_entry}
+use Rattle.row_map.specs.Writes.{written}
+use Rattle.byte_map.proofs.Written.{tied, apart, same_or_apart}
 use Rattle.schema_version.specs.Version.{Version}
+use Rattle.schema_version.specs.Shape.{column_types}
+use Rattle.schema_version.proofs.Lists.{here, later, here_or_later}
 use Rattle.row_write.specs.declared.op.RowOp.{RowOp}
 use Rattle.row_write.specs.Reads.{IsRead}
 use Rattle.row_write.specs.Prepare.{IsSpelledRow, Spells}
-use Rattle.row_write.specs.Entering.{KeySet}
-use Rattle.row_write.specs.Viewing.{HaveSameKeys}
+use Rattle.row_write.specs.Plain.{table_of, row_of}
+use Rattle.row_write.specs.Made.{IsSound}
+use Rattle.row_write.specs.Served.{IsServed}
+use Rattle.row_write.specs.Entering.{KeySet, row_keys, op_keys}
+use Rattle.row_write.specs.Viewing.{HaveSameKeys, keys_of, IsSeen, cells_there}
+use Rattle.row_write.proofs.Entered.{InTable, op_keys_are, op_key_has, op_key_from}
+use Rattle.row_write.proofs.Spelled.{spelled_once}
 use Rattle.row_write.proofs.Decides.{both_true, and_true}
 
 module _ {X : Type 0} (test : Bytes → Bool) where
@@ -64,3 +74,61 @@ module _ (v : Version) (ops : List RowOp) (view : View) (reads : KeySet) (read :
 
   pub same_keys : (rows : Rows) → Spells v ops view rows → HaveSameKeys reads view
   same_keys rows s key = (λ at. (s.keys key).0 ((read key).0 at), λ seen. (read key).1 ((s.keys key).1 seen))
+
+-- ---- the keys of entries, in their order
+
+module _ {X : Type 0} where
+  key_there : (es : List (Bytes × X)) (q : Bytes) → Contains (keys_of es) q → (value : X) × (find bytes_cmp q es ≡ Some value)
+  key_there [] q (k, below, is) = absurd (omega (arith, below))
+  key_there (e ∷ es) q has = elim (here_or_later e.0 q (keys_of es) has) [
+    | inl same ↦ (e.1, ap (λ b. cond b (Some e.1) (find bytes_cmp q es)) (ap (eq_by_cmp bytes_cmp q) same ∙ tied bytes_cmp_total bytes_cmp-IsAntisymmetric q))
+    | inr more ↦ (let r = key_there es q more in elim (same_or_apart bytes_cmp_total bytes_cmp-IsAntisymmetric q e.0) [
+      | inl same ↦ (e.1, ap (λ b. cond b (Some e.1) (find bytes_cmp q es)) (ap (eq_by_cmp bytes_cmp q) (sym same) ∙ tied bytes_cmp_total bytes_cmp-IsAntisymmetric q))
+      | inr other ↦ (r.0, ap (λ b. cond b (Some e.1) (find bytes_cmp q es)) (apart bytes_cmp_total bytes_cmp-IsAntisymmetric q e.0 other) ∙ r.1)
+    ])
+  ]
+
+  there_key : (es : List (Bytes × X)) (q : Bytes) (value : X) → find bytes_cmp q es ≡ Some value → Contains (keys_of es) q
+  there_key [] q value e = absurd (let y : None ≡ Some value = e in cc)
+  there_key (d ∷ es) q value e = elim (same_or_apart bytes_cmp_total bytes_cmp-IsAntisymmetric q d.0) [
+    | inl same ↦ subst (Contains (keys_of (d ∷ es))) (sym same) (here d.0 (keys_of es))
+    | inr other ↦ later d.0 q (keys_of es) (there_key es q value (sym (ap (λ b. cond b (Some d.1) (find bytes_cmp q es)) (apart bytes_cmp_total bytes_cmp-IsAntisymmetric q d.0 other)) ∙ e))
+  ]
+
+pub same_lists : (reads : KeySet) (view : View) → keys_of (entries reads) ≡ keys_of (entries view) → HaveSameKeys reads view
+same_lists reads view same key = (
+  λ at.
+      let there = key_there (entries view) key (subst (λ (ks : List Bytes). Contains ks key) same (there_key (entries reads) key tt (sym (get-entries reads key) ∙ at))) in
+      (there.0, get-entries view key ∙ there.1),
+  λ (value, at). get-entries reads key ∙ (key_there (entries reads) key (subst (λ (ks : List Bytes). Contains ks key) (sym same) (there_key (entries view) key value (sym (get-entries view key) ∙ at)))).1,
+)
+
+-- ---- the keys of one row
+
+module _ (v : Version) (served : IsServed v) (op : RowOp) (sound : IsSound v op) (view : View) (same : keys_of (entries view) ≡ row_keys op (column_types v (table_of op))) where
+  -- a view with the keys of one operation's row has just the keys that it reads
+  keys_are : keys_of (entries view) ≡ op_keys v op
+  keys_are = same ∙ sym (op_keys_are v served op sound.table sound.known)
+
+  only : (o : RowOp) → Contains (op ∷ []) o → op ≡ o
+  only o there = elim (here_or_later op o [] there) [
+    | inl is ↦ is
+    | inr (k, below, is) ↦ absurd (omega (arith, below))
+  ]
+
+  pub reads_one : (key : Bytes) → IsRead v (op ∷ []) key ↔ ((value : Option Bytes) × (get view key ≡ Some value))
+  reads_one key = (
+    λ (o, there, table, row).
+        let has = op_key_has v served op key (subst (λ (x : RowOp). InTable v served x key) (sym (only o there)) (table, row)) in
+        let found = key_there (entries view) key (subst (λ (ks : List Bytes). Contains ks key) (sym keys_are) has) in
+        (found.0, get-entries view key ∙ found.1),
+    λ (value, at).
+        let from = op_key_from v served op key (subst (λ (ks : List Bytes). Contains ks key) keys_are (there_key (entries view) key value (sym (get-entries view key) ∙ at))) in
+        (op, here op [], from.0, from.1),
+  )
+
+  pub spelled_one : (rows before : Rows) (there : Bool) (cells : List (ℕ × Value)) → IsSeen view op (column_types v (table_of op)) there cells → rows ≡ written before (row_of op) (cells_there there cells) → Spells v (op ∷ []) view rows
+  spelled_one rows before there cells seen made = record {
+    keys = reads_one;
+    spelled = (spelled_once v served view op before rows there cells seen made, tt);
+  }

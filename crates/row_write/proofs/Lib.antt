@@ -4,6 +4,7 @@ pub mod Entered
 pub mod Sound
 pub mod Viewed
 pub mod Worked
+pub mod InOrder
 pub mod Spelled
 pub mod Keys
 pub mod Edited

@@ -171,15 +171,18 @@ module _ (v : Version) (served : IsServed v) (view : View) where
     still ops op rows row s all.1,
   )
 
+  pub spelled_once : (op : RowOp) (rows next : Rows) (there : Bool) (cells : List (ℕ × Value)) → IsSeen view op (column_types v (table_of op)) there cells → next ≡ written rows (row_of op) (cells_there there cells) → IsSpelledRow v view next op
+  spelled_once op rows next there cells seen made =
+      let at : get next (row_of op) ≡ cells_there there cells = ap (λ (m : Rows). get m (row_of op)) made ∙ written_here row_cmp_total row_cmp-IsAntisymmetric rows (row_of op) (cells_there there cells) in
+      to_row v view next op (subst (IsSpelledAs v view (row_of op)) (sym at) (seen_spelled op there cells seen))
+
   pub spelled_more : (ops : List RowOp) (i : ℕ) (op : RowOp) (rows next : Rows) (there : Bool) (cells : List (ℕ × Value)) → i < length ops → op ≡ get_or ops i op → IsSeen view op (column_types v (table_of op)) there cells
       → next ≡ written rows (row_of op) (cells_there there cells) → AllByRecursion (IsSpelledRow v view rows) (take i ops) → AllByRecursion (IsSpelledRow v view next) (take (i + 1) ops)
   spelled_more ops i op rows next there cells lt is seen made all =
       let s = seen_spelled op there cells seen in
-      let key = row_of op in
-      let here_is : IsSpelledAs v view key (get next key) = subst (IsSpelledAs v view key) (sym (ap (λ (m : Rows). get m key) made ∙ written_here row_cmp_total row_cmp-IsAntisymmetric rows key (cells_there there cells))) s in
       AllByRecursion-take_more (IsSpelledRow v view next) ops i op lt
       (subst (λ (m : Rows). AllByRecursion (IsSpelledRow v view m) (take i ops)) (sym made) (still (take i ops) op rows (cells_there there cells) s all))
-      (subst (IsSpelledRow v view next) is (to_row v view next op here_is))
+      (subst (IsSpelledRow v view next) is (spelled_once op rows next there cells seen made))
 
 pub all_at : {X : Type 0} (P : X → Type 0) (xs : List X) (i : ℕ) (d : X) → i < length xs → AllByRecursion P xs → P (get_or xs i d)
 all_at P [] i d lt all = absurd (omega arith)

@@ -2,7 +2,7 @@
 use Rattle.std.proofs.Common.{◌≡◌, ◌==◌, ◌++◌, ℕ, Bool, true, false, cond, List, [], ◌∷◌, Option, Some, None, option_map, refl, sym, ap, ◌∙◌, IfSome, eqb-true, eq-eqb}
 use Rattle.std.specs.Ordering.{eq_by_cmp, is_eq}
 use Rattle.std.specs.Cmp.{Equal-is}
-use Rattle.std.specs.FinMap.{get, empty, get-empty}
+use Rattle.std.specs.FinMap.{get, empty, get-empty, same_map}
 use mathlib.Core.List.{map as each}
 use Rattle.std.proofs.lemmas.List.{map-append}
 use Rattle.keycode.specs.declared.value.Value.{Value}
@@ -90,3 +90,14 @@ put_rows old new x rows made is =
     ∙ ap (λ ws. written_all empty ws) (map-append mention_write old (x ∷ []))
     ∙ written_all-append empty (each mention_write old) (mention_write x ∷ [])
     ∙ ap (λ (m : Rows). written m (x.table, x.row.key) (cells_if x.there x.row)) is
+
+abbrev no_rows : Rows
+no_rows = empty
+
+-- to take a row away where there is none changes nothing
+pub none_written : (key : RowKey) → written no_rows key None ≡ no_rows
+none_written key = same_map row_cmp_total row_cmp-IsAntisymmetric (written no_rows key None) no_rows (λ q. get-written row_cmp_total row_cmp-IsAntisymmetric no_rows key None q ∙ none (eq_by_cmp row_cmp q key) q)
+  where
+    none : (b : Bool) (q : RowKey) → cond b None (get no_rows q) ≡ get no_rows q
+    none true q = sym (get-empty row_cmp q)
+    none false q = refl

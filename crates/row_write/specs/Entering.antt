@@ -25,9 +25,13 @@ abbrev pub column_keys : RowOp → List (ℕ × ColumnType) → List Bytes
 column_keys op [] = []
 column_keys op (column ∷ columns) = row_code (table_of op) (key_of op) column.0 ∷ column_keys op columns
 
+-- the keys of the row's `exists` pair and of those pairs
+abbrev pub row_keys : RowOp → List (ℕ × ColumnType) → List Bytes
+row_keys op columns = row_code (table_of op) (key_of op) 0 ∷ column_keys op columns
+
 abbrev pub keys_in : RowOp → Option TableShape → List Bytes
 keys_in op None = []
-keys_in op (Some shape) = row_code (table_of op) (key_of op) 0 ∷ column_keys op shape.columns
+keys_in op (Some shape) = row_keys op shape.columns
 
 -- the keys of an operation's row
 abbrev pub op_keys : Version → RowOp → List Bytes

@@ -1,6 +1,7 @@
 -- What a view says of one row.
 use Rattle.std.specs.Prelude.{◌≡◌, ℕ, Bool, true, false, List, [], ◌∷◌, Option, Some, None, option_map, IsTrue, ◌↔◌, ◌⊎◌}
 use Rattle.std.specs.FinMap as map
+use mathlib.Core.List.{map as each}
 use Rattle.keycode.specs.declared.value.Value.{Value}
 use Rattle.keycode.specs.Code.{code}
 use Rattle.keycode.specs.Valid.{IsStorable}
@@ -56,3 +57,13 @@ cells_there false cells = None
 -- what is read and what was read have the same keys
 abbrev pub HaveSameKeys : KeySet → View → Type 0
 HaveSameKeys reads view = (key : Bytes) → (map.get reads key ≡ Some tt) ↔ ((value : Option Bytes) × (map.get view key ≡ Some value))
+
+-- the keys of entries, in their order
+abbrev pub keys_of : {X : Type 0} → List (Bytes × X) → List Bytes
+keys_of entries = each (λ entry. entry.0) entries
+
+-- the entries hold what was read at the columns' keys, in the columns' order
+abbrev pub AreHeld : (ℕ → Option (Option Bytes)) → List (ℕ × ColumnType) → List (Bytes × Option Bytes) → Type 0
+AreHeld seen [] [] = Unit {0}
+AreHeld seen (column ∷ columns) (entry ∷ entries) = (seen column.0 ≡ Some entry.1) × AreHeld seen columns entries
+AreHeld seen _ _ = ⊥

@@ -6,6 +6,7 @@ ghost use Rattle.row_write.specs.Reads.{IsRead};
 ghost use Rattle.row_write.specs.Entering.{entered, column_keys, op_keys, entered_all};
 
 use crate::op::RowOp;
+use crate::public_columns::columns_of;
 use crate::served::served;
 use byte_map::KeyMap;
 use row_map::{ColumnType, ReadSet, column_key, exists_key};
@@ -36,12 +37,13 @@ fn enter_row(
 ) -> Result<(), AllocError>
     ensures { OnOk result (set.new ≡ entered set.old (op_keys schema.now op.now)) }
 {
-    let Some(shape) = schema.shape(alloc, op.table())? else {
+    if schema.key_of(op.table()).is_none() {
         return Ok(());
-    };
+    }
     let key = exists_key(alloc, op.table(), op.key().as_slice())?;
     set.insert(key, ())?;
-    enter_columns(alloc, set, op, shape.columns.as_slice())
+    let columns = columns_of(alloc, schema, op.table())?;
+    enter_columns(alloc, set, op, columns.as_slice())
 }
 
 fn read_set(alloc: Global, schema: &Schema, ops: &[RowOp]) -> Result<ReadSet, AllocError>

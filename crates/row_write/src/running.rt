@@ -1,11 +1,13 @@
 //! The operations of a transaction, one after another on working rows.
-ghost use Rattle.std.specs.Prelude.{◌≡◌, IfOk, IfSome, OnOk, option_map};
+ghost use Rattle.std.specs.Prelude.{◌≡◌, ◌∷◌, [], IfOk, IfSome, OnOk, option_map};
 ghost use Rattle.std.specs.FinMap as map;
 ghost use Rattle.row_map.specs.Writes.{written, noted};
 ghost use Rattle.element_state.specs.Operations.{cells_of};
+ghost use Rattle.element_state.specs.Schemas.{version_writes};
+ghost use Rattle.element_state.specs.Versions.{the_kinds, schema_of};
 ghost use Rattle.row_write.specs.Plain.{key_of, row_of, outcome};
 ghost use Rattle.row_write.specs.Prepare.{txn_writes};
-ghost use Rattle.row_write.specs.Running.{IsStep};
+ghost use Rattle.row_write.specs.Running.{change_at, IsNext, IsStep};
 
 use crate::editing::{copy_key, next_row};
 use crate::fault::RowFault;
@@ -32,6 +34,26 @@ fn keep(alloc: Global, rows: &mut WorkRows, op: &RowOp, new: Option<Row>) -> Res
     }
 }
 
+/// Makes one operation's change and notes its writes. Gives the row that it leaves.
+fn change_op(
+    alloc: Global,
+    schema: &Schema,
+    rows: &WorkRows,
+    batch: &mut Batch,
+    op: &RowOp,
+) -> Result<Result<Option<Row>, RowFault>, AllocError>
+    ensures next { IfOk result (λ next. IsNext (map.get rows.now (row_of op.now)) op.now next) }
+    ensures batch { IfOk result (λ next. IfOk next (λ new. batch.new ≡ noted batch.old (version_writes the_kinds (schema_of schema.now) (change_at (row_of op.now) (map.get rows.now (row_of op.now)) (option_map cells_of new))))) }
+{
+    let old = rows.find(op.table(), op.key().as_slice());
+    let new = match next_row(alloc, old, op)? {
+        Err(why) => return Ok(Err(why)),
+        Ok(new) => new,
+    };
+    write_change(alloc, schema, op, old, new.as_ref(), batch)?;
+    Ok(Ok(new))
+}
+
 /// Makes one operation's change, notes its writes and keeps its row.
 fn run_op(
     alloc: Global,
@@ -42,18 +64,33 @@ fn run_op(
 ) -> Result<Result<(), RowFault>, AllocError>
     ensures { IfOk result (λ done. IsStep schema.now rows.old op.now done rows.new batch.old batch.new) }
 {
-    let old = rows.find(op.table(), op.key().as_slice());
-    let new = match next_row(alloc, old, op)? {
+    let new = match change_op(alloc, schema, rows, batch, op)? {
         Err(why) => return Ok(Err(why)),
         Ok(new) => new,
     };
-    write_change(alloc, schema, op, old, new.as_ref(), batch)?;
     keep(alloc, rows, op, new)?;
     Ok(Ok(()))
 }
 
-/// Runs the operations up to the first that is refused. With one, nothing is written.
-pub(crate) fn run(
+/// Runs the only operation. Its row needs no keeping.
+fn run_one(
+    alloc: Global,
+    schema: &Schema,
+    rows: &WorkRows,
+    op: &RowOp,
+) -> Result<(RowOutcome, Batch), AllocError>
+    ensures told { IfOk result (λ done. done.0 ≡ outcome rows.now (op.now ∷ [])) }
+    ensures batch { IfOk result (λ done. done.1 ≡ noted map.empty (txn_writes schema.now rows.now (op.now ∷ []))) }
+{
+    let mut batch = Batch::new(alloc);
+    match change_op(alloc, schema, rows, &mut batch, op)? {
+        Err(why) => Ok((RowOutcome::Refused { op: 0, why }, Batch::new(alloc))),
+        Ok(_new) => Ok((RowOutcome::Done, batch)),
+    }
+}
+
+/// Runs any number of operations.
+fn run_all(
     alloc: Global,
     schema: &Schema,
     rows: WorkRows,
@@ -72,4 +109,21 @@ pub(crate) fn run(
         place += 1;
     }
     Ok((RowOutcome::Done, batch))
+}
+
+/// Runs the operations up to the first that is refused. With one, nothing is written.
+pub(crate) fn run(
+    alloc: Global,
+    schema: &Schema,
+    rows: WorkRows,
+    ops: &[RowOp],
+) -> Result<(RowOutcome, Batch), AllocError>
+    ensures told { IfOk result (λ done. done.0 ≡ outcome rows ops.now) }
+    ensures batch { IfOk result (λ done. done.1 ≡ noted map.empty (txn_writes schema.now rows ops.now)) }
+{
+    // Most transactions have one operation.
+    if let [op] = ops {
+        return run_one(alloc, schema, &rows, op);
+    }
+    run_all(alloc, schema, rows, ops)
 }

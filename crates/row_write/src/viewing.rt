@@ -1,9 +1,13 @@
 //! The rows that a view spells.
-ghost use Rattle.std.specs.Prelude.{◌≡◌, ◌++◌, [], IfOk, IfErr, OnOk, option_map};
+ghost use Rattle.std.specs.Prelude.{◌≡◌, ◌++◌, ◌∷◌, [], ℕ, List, IsTrue, Some, IfOk, IfErr, IfSome, OnOk, option_map, length};
 ghost use Rattle.std.specs.FinMap as map;
 ghost use Rattle.keycode.specs.declared.value.Value.{Value};
+ghost use Rattle.row_map.specs.Keys.{row_code};
 ghost use Rattle.row_map.specs.Cell.{IsTypedSpelling};
-ghost use Rattle.row_write.specs.Viewing.{IsMissed, IsCell, IsThere, with_front, AreCells, seen_at, IsSeen};
+ghost use Rattle.row_write.specs.declared.op.RowOp.{RowOp};
+ghost use Rattle.row_write.specs.Plain.{table_of, key_of};
+ghost use Rattle.row_write.specs.Entering.{column_keys, row_keys};
+ghost use Rattle.row_write.specs.Viewing.{IsMissed, IsCell, IsThere, with_front, AreCells, seen_at, IsSeen, keys_of, AreHeld};
 
 use crate::fault::PrepareFault;
 use crate::op::RowOp;
@@ -133,4 +137,122 @@ pub(crate) fn read_row(
     let there = read_presence(alloc, view, op)?;
     let cells = read_cells(alloc, view, op, there, columns)?;
     Ok((there, cells))
+}
+
+/// Whether a key is the `exists` key of a row with this number in the place of its last four bytes.
+fn is_column_key(key: &[u8], exists: &[u8], number: u32) -> bool
+    ensures { IsTrue result → (table : ℕ) (primary : List Value) → exists.now ≡ row_code table primary 0 → key.now ≡ row_code table primary number }
+{
+    if key.len() < 4 || key.len() != exists.len() {
+        return false;
+    }
+    let place = key.len() - 4;
+    let (front, end) = key.split_at(place);
+    if front != exists.split_at(place).0 {
+        return false;
+    }
+    let spelled = number.to_be_bytes();
+    end == spelled.as_slice()
+}
+
+/// Whether these entries have the keys of a row's pairs for these columns, in their order.
+fn are_column_keys(
+    entries: &[(Bytes, Option<Bytes>)],
+    exists: &[u8],
+    columns: &[(u32, ColumnType)],
+) -> bool
+    ensures long { IsTrue result → length entries.now ≡ length columns.now }
+    ensures keys { IsTrue result → (op : RowOp) → exists.now ≡ row_code (table_of op) (key_of op) 0 → keys_of entries.now ≡ column_keys op columns.now }
+{
+    if entries.len() != columns.len() {
+        return false;
+    }
+    for i in 0..columns.len() {
+        if !is_column_key(entries[i].0.as_slice(), exists, columns[i].0) {
+            return false;
+        }
+    }
+    true
+}
+
+/// Whether these entries have just the keys of the operation's row, in their order.
+fn are_row_keys(
+    alloc: Global,
+    first: &(Bytes, Option<Bytes>),
+    rest: &[(Bytes, Option<Bytes>)],
+    op: &RowOp,
+    columns: &[(u32, ColumnType)],
+) -> Result<bool, AllocError>
+    ensures long { IfOk result (λ same. IsTrue same → length rest.now ≡ length columns.now) }
+    ensures keys { IfOk result (λ same. IsTrue same → first.now.0 ∷ keys_of rest.now ≡ row_keys op.now columns.now) }
+{
+    let exists = exists_key(alloc, op.table(), op.key().as_slice())?;
+    if first.0 != exists {
+        return Ok(false);
+    }
+    Ok(are_column_keys(rest, exists.as_slice(), columns))
+}
+
+/// Whether the row is there, from the entry of its `exists` pair.
+fn presence_in(entry: &(Bytes, Option<Bytes>)) -> Result<bool, PrepareFault>
+    ensures found { IfOk result (λ there. IsThere (Some entry.now.1) there) }
+    ensures missed { IfErr result (IsMissed ((there : _) → ¬ (IsThere (Some entry.now.1) there))) }
+{
+    seen_presence(Some(&entry.1))
+}
+
+/// A column's cell, from the entry of its pair.
+fn cell_in(
+    alloc: Global,
+    kind: ColumnType,
+    there: bool,
+    entry: &(Bytes, Option<Bytes>),
+) -> Result<Option<Value>, PrepareFault>
+    ensures found { IfOk result (λ cell. IsCell kind there (Some entry.now.1) cell) }
+    ensures missed { IfErr result (IsMissed ((cell : _) → ¬ (IsCell kind there (Some entry.now.1) cell))) }
+{
+    seen_cell(alloc, kind, there, Some(&entry.1))
+}
+
+/// The cells of columns, from the entries of their pairs in the columns' order.
+fn cells_in(
+    alloc: Global,
+    there: bool,
+    entries: &[(Bytes, Option<Bytes>)],
+    columns: &[(u32, ColumnType)],
+) -> Result<Listed<(u32, Value)>, PrepareFault>
+    requires { length entries.now ≡ length columns.now }
+    ensures found { IfOk result (λ cells. (seen : _) → AreHeld seen columns.now entries.now → AreCells there seen columns.now cells) }
+    ensures missed { IfErr result (IsMissed ((seen : _) → AreHeld seen columns.now entries.now → (cells : _) → ¬ (AreCells there seen columns.now cells))) }
+{
+    let mut cells = Vec::new(alloc);
+    for i in 0..columns.len() {
+        let (number, kind) = columns[i];
+        let cell = cell_in(alloc, kind, there, &entries[i])?;
+        push_cell(&mut cells, number, cell)?;
+    }
+    Ok(Listed::new(cells))
+}
+
+/// What `read_row` gives, without a look-up, where the view's keys are those of the operation's row in their order. None of a view
+/// with other keys or in another order.
+pub(crate) fn row_in_order(
+    alloc: Global,
+    view: &ReadView,
+    op: &RowOp,
+    columns: &[(u32, ColumnType)],
+) -> Result<Option<(bool, Listed<(u32, Value)>)>, PrepareFault>
+    ensures keys { IfOk result (λ found. IfSome found (λ row. keys_of (map.entries view.now) ≡ row_keys op.now columns.now)) }
+    ensures found { IfOk result (λ found. IfSome found (λ row. IsSeen view.now op.now columns.now row.0 row.1)) }
+    ensures missed { IfErr result (IsMissed ((there : _) (cells : _) → ¬ (IsSeen view.now op.now columns.now there cells))) }
+{
+    let [first, rest @ ..] = view.entries() else {
+        return Ok(None);
+    };
+    if !are_row_keys(alloc, first, rest, op, columns)? {
+        return Ok(None);
+    }
+    let there = presence_in(first)?;
+    let cells = cells_in(alloc, there, rest, columns)?;
+    Ok(Some((there, cells)))
 }
