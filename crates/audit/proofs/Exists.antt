@@ -33,7 +33,7 @@ bytes_of [] all i = omega arith
 bytes_of (b ∷ bytes) all zero = all.0
 bytes_of (b ∷ bytes) all (suc i) = bytes_of bytes all.1 i
 
-found_says : (r : Result KeyOf KeyFault) (k : KeyOf) → found r ≡ Some k → r ≡ Ok k
+pub found_says : (r : Result KeyOf KeyFault) (k : KeyOf) → found r ≡ Some k → r ≡ Ok k
 found_says (Ok l) k e = ap Ok (same_Some l k e)
 found_says (Err fault) k e = absurd (none_some k e)
 
@@ -46,19 +46,19 @@ there_is : {A : Type 0} (o : Option A) → is_some o ≡ true → (a : A) × (o 
 there_is None e = absurd (true≢false (sym e))
 there_is (Some a) e = (a, refl)
 
-record Named (o : Option KeyOf) : Type 0 where
-  table : ℕ
-  primary : List Value
-  is : o ≡ Some (Exists table primary)
+pub record Named (o : Option KeyOf) : Type 0 where
+  pub table : ℕ
+  pub primary : List Value
+  pub is : o ≡ Some (Exists table primary)
 
-named_is : (o : Option KeyOf) → is_exists o ≡ true → Named o
+pub named_is : (o : Option KeyOf) → is_exists o ≡ true → Named o
 named_is None e = absurd (true≢false (sym e))
 named_is (Some (Exists table primary)) e = record { table = table; primary = primary; is = refl }
 named_is (Some (Column table primary number)) e = absurd (true≢false (sym e))
 named_is (Some (Index number values)) e = absurd (true≢false (sym e))
 
 -- equal keys of rows are of one row
-same_row : (t u : ℕ) (a b : List Value) → t < 2 ^ 32 → u < 2 ^ 32 → AreValues a → AreValues b → row_code t a 0 ≡ row_code u b 0 → (t ≡ u) × (a ≡ b)
+pub same_row : (t u : ℕ) (a b : List Value) → t < 2 ^ 32 → u < 2 ^ 32 → AreValues a → AreValues b → row_code t a 0 ≡ row_code u b 0 → (t ≡ u) × (a ≡ b)
 same_row t u a b lt lu p q same =
     let equal : ordering_then (nat_cmp t u) (ordering_then (values_cmp a b) (nat_cmp 0 0)) ≡ Equal =
     sym (row_keys t u a b 0 0 lt lu p q (omega arith) (omega arith)) ∙ ap (bytes_cmp (row_code t a 0)) (sym same) ∙ same_itself (row_code t a 0) in

@@ -5,3 +5,5 @@ pub mod RowsRead
 pub mod Present
 pub mod Exists
 pub mod Reasons
+pub mod LastMet
+pub mod Elements

@@ -1,5 +1,5 @@
 -- Nothing is extra where each pair belongs to a row that the pairs spell.
-use Rattle.std.proofs.Common.{◌≡◌, ℕ, zero, suc, ◌-◌, ◌<◌, ◌≤◌, ◌^◌, ◌==◌, ◌&&◌, not, Bool, true, false, cond, List, [], ◌∷◌, ◌++◌, length, drop, Option, Some, None, refl, sym, ap, subst, ◌∙◌, eqb-true, eq-eqb, arith, true≢false}
+use Rattle.std.proofs.Common.{◌≡◌, ℕ, ◌-◌, ◌<◌, ◌≤◌, ◌^◌, ◌==◌, ◌&&◌, not, Bool, true, false, cond, List, [], ◌++◌, length, drop, Option, Some, None, refl, sym, ap, subst, ◌∙◌, eqb-true, eq-eqb, arith, true≢false}
 use Rattle.std.specs.Prelude.{bytes_eq, count_by, slice_get}
 use Rattle.std.specs.FinMap as map
 use Rattle.std.specs.List.{find}
@@ -37,6 +37,7 @@ use Rattle.audit.specs.Meaning.Belongs.{ExistsPair, ColumnPair, IndexPair}
 use Rattle.audit.proofs.RowsRead.{read_cells, read_is_spelled}
 use Rattle.audit.proofs.Exists.{key_form, row_from, row_says, spelled_storable}
 use Rattle.audit.proofs.Present.{given_by_index, given_by_optional, given_by_required, code_or, same_pair_key}
+use Rattle.audit.proofs.LastMet.{values_behind}
 use Rattle.audit.proofs.Zero.{count_zero, zero_count, all_found}
 
 true_of_not : (b : Bool) → not b ≡ false → b ≡ true
@@ -57,11 +58,6 @@ column_typed (Required t fallback) type e = refl
 abbrev is_index_key : Option KeyOf → Bool
 is_index_key (Some (IndexKey number values)) = true
 is_index_key _ = false
-
-values_behind : (n : ℕ) (vs : List Value) → AreValues vs → AreValues (drop n vs)
-values_behind zero vs all = all
-values_behind (suc n) [] all = tt
-values_behind (suc n) (v ∷ vs) all = values_behind n vs all.1
 
 table_within : (version : Version) (number : ℕ) (table : Table) → table_at version number ≡ Some table → number ≤ length version.tables
 table_within version number table e =

@@ -1,13 +1,16 @@
 //! Going over a store's pairs and counting the rows, what is missing and what is too much.
-ghost use Rattle.std.specs.Prelude.{◌≡◌, IfOk};
+ghost use Rattle.std.specs.Prelude.{◌≡◌, IfOk, Some};
 ghost use Rattle.audit.specs.Audit.{IsAudit, missing_by, judged as judged_of, tally};
+ghost use Rattle.audit.specs.Made.{AreMade};
+ghost use Rattle.audit.specs.Met.{IsThere};
 ghost use Rattle.std.specs.FinMap as map;
 
+use crate::met::{MetRow, remember};
 use crate::reason::has_reason;
 use crate::report::CheckReport;
 use crate::spelled::{key_of, row_at};
-use crate::wanted::lacking;
-use row_map::{KeyOf, PairView};
+use crate::wanted::{Made, all_made, lacking};
+use row_map::{KeyOf, Near, PairView};
 use schema_version::Schema;
 use std::alloc::{AllocError, Global};
 
@@ -16,34 +19,45 @@ fn missing<V: PairView>(
     alloc: Global,
     schema: &Schema,
     view: &V,
+    near: &mut Near,
+    elements: &[Made<'_>],
     read: &Option<KeyOf>,
 ) -> Result<u64, AllocError>
+    requires { AreMade schema.now elements.now }
     ensures { IfOk result (λ n. n ≡ missing_by schema.now (V.pairs view.now) read.now) }
 {
     match read {
         Some(KeyOf::Exists { table, key }) => {
-            let row = row_at(alloc, schema, view, *table, key)?;
-            lacking(alloc, schema, view, *table, &row)
+            let row = row_at(alloc, schema, view, near, *table, key.as_slice())?;
+            lacking(alloc, schema, view, elements, *table, &row)
         }
         _ => Ok(0),
     }
 }
 
-// What one pair counts for.
+// What one pair counts for. The row of an `exists` pair is then the one that was met last.
 fn judged<V: PairView>(
     alloc: Global,
     schema: &Schema,
     view: &V,
-    key: &[u8],
-    value: &[u8],
+    near: &mut Near,
+    elements: &[Made<'_>],
+    last: &mut Option<MetRow>,
+    pair: (&[u8], &[u8]),
 ) -> Result<CheckReport, AllocError>
-    ensures { IfOk result (λ report. report ≡ judged_of schema.now (V.pairs view.now) (key.now, value.now)) }
+    requires made { AreMade schema.now elements.now }
+    requires present { map.get (V.pairs view.now) pair.0.now ≡ Some pair.1.now }
+    requires there { IsThere (V.pairs view.now) last.old }
+    ensures report { IfOk result (λ report. report ≡ judged_of schema.now (V.pairs view.now) (pair.entry.0.now, pair.entry.1.now)) }
+    ensures there { IsThere (V.pairs view.now) last.new }
 {
-    let read = key_of(alloc, key)?;
-    let missing = missing(alloc, schema, view, &read)?;
-    let reason = has_reason(alloc, schema, view, &read, key, value)?;
+    let read = key_of(alloc, pair.0)?;
+    let missing = missing(alloc, schema, view, near, elements, &read)?;
+    let reason = has_reason(alloc, schema, view, near, elements, &read, last, pair)?;
+    let rows = u64::from(matches!(read, Some(KeyOf::Exists { .. })));
+    remember(last, read);
     Ok(CheckReport {
-        rows: u64::from(matches!(read, Some(KeyOf::Exists { .. }))),
+        rows,
         missing,
         extra: u64::from(!reason),
     })
@@ -58,9 +72,14 @@ fn tallied<V: PairView>(alloc: Global, schema: &Schema, view: &V) -> Result<Chec
         missing: 0,
         extra: 0,
     };
+    let all = all_made(alloc, schema)?;
+    let elements = all.as_slice();
+    let mut last = None;
+    // The pairs of a row stand side by side.
+    let mut near = Near::new();
     let mut walk = view.walk();
-    while let Some((key, value)) = walk.next() {
-        let more = judged(alloc, schema, view, key, value)?;
+    while let Some(pair) = walk.next() {
+        let more = judged(alloc, schema, view, &mut near, elements, &mut last, pair)?;
         report = report.and(more)?;
     }
     Ok(report)

@@ -3,6 +3,7 @@
 
 mod counting;
 mod laws;
+mod met;
 mod reason;
 mod report;
 mod spelled;

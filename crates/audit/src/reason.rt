@@ -1,24 +1,30 @@
 //! Why a pair stands in a store.
-ghost use Rattle.std.specs.Prelude.{◌≡◌, IfOk, option_map, length, drop};
+ghost use Rattle.std.specs.Prelude.{◌≡◌, ◌==◌, IfOk, IfSome, option_map, length, drop};
 ghost use Rattle.std.specs.List.{find};
 ghost use Rattle.std.specs.Option.{option_copied};
 ghost use Rattle.schema_version.specs.Version.{live, is_column as is_column_of, listed as listed_of};
-ghost use Rattle.audit.specs.Audit.{numbered as numbered_of, is_column_of_row, is_same_pair, is_given as is_given_of, is_index_pair as is_index_pair_of, has_reason as has_reason_of, reason_by};
+ghost use Rattle.keycode.specs.Valid.{AreShort, AreValues};
+ghost use Rattle.row_map.specs.Keys.{IsKey};
+ghost use Rattle.audit.specs.Met.{IsThere};
+ghost use Rattle.audit.specs.Made.{definition_of, definition_in, IsMade, AreMade};
+ghost use Rattle.audit.specs.Audit.{is_column_of_row, is_same_pair, is_given as is_given_of, is_index_pair as is_index_pair_of, has_reason as has_reason_of, reason_by};
 
+use crate::met::{MetRow, is_there};
 use crate::spelled::{is_row, row_at};
-use crate::wanted::given;
+use crate::wanted::{Made, given};
 use byte_map::Bytes;
-use keycode::{Value, Values};
-use listed::Listed;
-use row_map::{KeyOf, PairView};
+use keycode::Value;
+use row_map::{KeyOf, Near, PairView};
 use schema_version::{ElementDef, Schema};
 use std::alloc::{AllocError, Global};
 
 // The live element of this number.
-fn numbered(schema: &Schema, number: u32) -> Option<&ElementDef>
-    ensures { option_copied result ≡ numbered_of schema.now number }
+fn numbered<'a, 'b>(elements: &'b [Made<'a>], number: u32) -> Option<&'b Made<'a>>
+    ensures { option_copied result ≡ find (λ made. (definition_of made).number == number) elements.now }
 {
-    schema.elements().iter().find(|e| e.number == number)
+    elements
+        .iter()
+        .find(|made| made.definition.number == number)
 }
 
 // How many columns an index lists.
@@ -39,29 +45,13 @@ fn behind(values: &[Value], first: usize) -> &[Value]
     }
 }
 
-fn copy_of(value: &Value) -> Result<Value, AllocError>
-    ensures { IfOk result (λ copy. copy ≡ value.now) }
-{
-    value.clone()
-}
-
-fn copied(alloc: Global, values: &[Value]) -> Result<Values, AllocError>
-    ensures { IfOk result (λ copy. copy ≡ values.now) }
-{
-    let mut copy = Vec::new(alloc);
-    for value in values {
-        copy.push(copy_of(value)?)?;
-    }
-    Ok(Listed::new(copy))
-}
-
 // Whether this is the pair.
-fn is_same(own: Option<&(Bytes, Bytes)>, key: &[u8], value: &[u8]) -> bool
-    ensures { result ≡ is_same_pair (option_map (λ p. p.now) own.entry) (key.now, value.now) }
+fn is_same(own: Option<&(Bytes, Bytes)>, pair: (&[u8], &[u8])) -> bool
+    ensures { result ≡ is_same_pair (option_map (λ p. p.now) own.entry) (pair.entry.0.now, pair.entry.1.now) }
 {
     match own {
         None => false,
-        Some(own) => own.0.as_slice() == key && own.1.as_slice() == value,
+        Some(own) => own.0.as_slice() == pair.0 && own.1.as_slice() == pair.1,
     }
 }
 
@@ -70,38 +60,47 @@ fn is_given<V: PairView>(
     alloc: Global,
     schema: &Schema,
     view: &V,
-    element: &ElementDef,
+    near: &mut Near,
+    made: &Made<'_>,
     values: &[Value],
-    key: &[u8],
-    value: &[u8],
+    pair: (&[u8], &[u8]),
 ) -> Result<bool, AllocError>
-    ensures { IfOk result (λ b. b ≡ is_given_of schema.now (V.pairs view.now) values.now (key.now, value.now) element.now) }
+    requires made { IsMade schema.now made.now }
+    requires values { AreValues values.now }
+    requires short { AreShort values.now }
+    ensures { IfOk result (λ b. b ≡ is_given_of schema.now (V.pairs view.now) values.now (pair.entry.0.now, pair.entry.1.now) (definition_of made.now)) }
 {
-    let primary = copied(alloc, behind(values, width(element)))?;
-    if !is_row(alloc, view, element.table, primary.as_slice())? {
+    let element = made.definition;
+    let primary = behind(values, width(element));
+    if !is_row(alloc, view, near, element.table, primary)? {
         return Ok(false);
     }
-    let row = row_at(alloc, schema, view, element.table, &primary)?;
-    let own = given(alloc, schema, element, &row)?;
-    Ok(is_same(own.as_ref(), key, value))
+    let row = row_at(alloc, schema, view, near, element.table, primary)?;
+    let own = given(alloc, made, &row)?;
+    Ok(is_same(own.as_ref(), pair))
 }
 
-// Whether the element of this number is a column of the table, beside whose row it stands.
+// Whether the element is a column of the table, beside whose row it stands.
 fn is_column<V: PairView>(
     alloc: Global,
-    schema: &Schema,
     view: &V,
+    near: &mut Near,
+    last: &Option<MetRow>,
     table: u32,
     primary: &[Value],
-    number: u32,
+    found: Option<&Made<'_>>,
 ) -> Result<bool, AllocError>
-    ensures { IfOk result (λ b. b ≡ is_column_of_row (V.pairs view.now) table primary.now (numbered_of schema.now number)) }
+    requires there { IsThere (V.pairs view.now) last.now }
+    requires values { AreValues primary.now }
+    requires short { AreShort primary.now }
+    ensures { IfOk result (λ b. b ≡ is_column_of_row (V.pairs view.now) table primary.now (definition_in (option_copied found.entry))) }
 {
-    match numbered(schema, number) {
+    match found {
         None => Ok(false),
-        Some(element) => {
+        Some(made) => {
+            let element = made.definition;
             if element.table == table && element.kind.is_column() {
-                is_row(alloc, view, table, primary)
+                is_there(alloc, view, near, last, table, primary)
             } else {
                 Ok(false)
             }
@@ -109,21 +108,24 @@ fn is_column<V: PairView>(
     }
 }
 
-// Whether a row gives the index of this number the pair.
+// Whether a row gives the index the pair.
 fn is_index<V: PairView>(
     alloc: Global,
     schema: &Schema,
     view: &V,
-    number: u32,
+    near: &mut Near,
+    found: Option<&Made<'_>>,
     values: &[Value],
-    key: &[u8],
-    value: &[u8],
+    pair: (&[u8], &[u8]),
 ) -> Result<bool, AllocError>
-    ensures { IfOk result (λ b. b ≡ is_index_pair_of schema.now (V.pairs view.now) values.now (key.now, value.now) (numbered_of schema.now number)) }
+    requires made { IfSome (option_copied found) (IsMade schema.now) }
+    requires values { AreValues values.now }
+    requires short { AreShort values.now }
+    ensures { IfOk result (λ b. b ≡ is_index_pair_of schema.now (V.pairs view.now) values.now (pair.entry.0.now, pair.entry.1.now) (definition_in (option_copied found.entry))) }
 {
-    match numbered(schema, number) {
+    match found {
         None => Ok(false),
-        Some(element) => is_given(alloc, schema, view, element, values, key, value),
+        Some(made) => is_given(alloc, schema, view, near, made, values, pair),
     }
 }
 
@@ -132,11 +134,16 @@ pub(crate) fn has_reason<V: PairView>(
     alloc: Global,
     schema: &Schema,
     view: &V,
+    near: &mut Near,
+    elements: &[Made<'_>],
     read: &Option<KeyOf>,
-    key: &[u8],
-    value: &[u8],
+    last: &Option<MetRow>,
+    pair: (&[u8], &[u8]),
 ) -> Result<bool, AllocError>
-    ensures { IfOk result (λ b. b ≡ reason_by schema.now (V.pairs view.now) (key.now, value.now) read.now) }
+    requires made { AreMade schema.now elements.now }
+    requires there { IsThere (V.pairs view.now) last.now }
+    requires keyed { IfSome read.now IsKey }
+    ensures { IfOk result (λ b. b ≡ reason_by schema.now (V.pairs view.now) (pair.entry.0.now, pair.entry.1.now) read.now) }
 {
     match read {
         None => Ok(false),
@@ -144,12 +151,16 @@ pub(crate) fn has_reason<V: PairView>(
         Some(
             KeyOf::Column {
                 table,
-                key: primary,
+                key,
                 element,
             },
-        ) => is_column(alloc, schema, view, *table, primary.as_slice(), *element),
+        ) => {
+            let found = numbered(elements, *element);
+            is_column(alloc, view, near, last, *table, key.as_slice(), found)
+        }
         Some(KeyOf::Index { element, values }) => {
-            is_index(alloc, schema, view, *element, values.as_slice(), key, value)
+            let found = numbered(elements, *element);
+            is_index(alloc, schema, view, near, found, values.as_slice(), pair)
         }
     }
 }

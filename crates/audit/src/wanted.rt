@@ -1,6 +1,7 @@
 //! The pairs that indexes and required columns give rows.
 ghost use Rattle.std.specs.Prelude.{◌≡◌, IfOk, option_map, count_by};
-ghost use Rattle.audit.specs.Audit.{given as given_of, is_absent as is_absent_of, lacks as lacks_of};
+ghost use Rattle.audit.specs.Audit.{is_absent as is_absent_of, lacks as lacks_of};
+ghost use Rattle.audit.specs.Made.{definition_of, given_by, IsMade, AreMade};
 ghost use Rattle.schema_version.specs.Version.{live};
 
 use byte_map::Bytes;
@@ -9,16 +10,49 @@ use row_map::{PairView, Row};
 use schema_version::{ElementDef, Schema};
 use std::alloc::{AllocError, Global};
 
+/// A live element of a version, made once for all rows.
+#[derive(Drop)]
+pub(crate) struct Made<'a> {
+    /// What the version says of it.
+    pub(crate) definition: &'a ElementDef,
+    /// What gives rows their pairs for it, with what stands in the version for values that a row lacks.
+    pub(crate) element: AnyElement,
+}
+
+fn made_of<'a>(
+    alloc: Global,
+    schema: &Schema,
+    definition: &'a ElementDef,
+) -> Result<Made<'a>, AllocError>
+    ensures definition { IfOk result (λ made. definition_of made ≡ definition.now) }
+    ensures made { IfOk result (λ made. IsMade schema.now made) }
+{
+    Ok(Made {
+        definition,
+        element: AnyElement::of(alloc, schema, definition)?,
+    })
+}
+
+// The live elements of a version, in their order.
+pub(crate) fn all_made<'a>(alloc: Global, schema: &'a Schema) -> Result<Vec<Made<'a>>, AllocError>
+    ensures { IfOk result (λ all. AreMade schema.now all.items) }
+{
+    let mut all = Vec::new(alloc);
+    for definition in schema.elements() {
+        all.push(made_of(alloc, schema, definition)?)?;
+    }
+    Ok(all)
+}
+
 // The pair that an element gives a row of its table, where it is an index or a required column.
 pub(crate) fn given(
     alloc: Global,
-    schema: &Schema,
-    element: &ElementDef,
+    made: &Made<'_>,
     row: &Row,
 ) -> Result<Option<(Bytes, Bytes)>, AllocError>
-    ensures { IfOk result (λ pair. pair ≡ given_of schema.now element.now row.now) }
+    ensures { IfOk result (λ pair. pair ≡ given_by made.now row.now) }
 {
-    AnyElement::of(alloc, schema, element)?.fill_of(alloc, row)
+    made.element.fill_of(alloc, row)
 }
 
 // Whether there is a pair to be, and the store hasn't got it with just this value.
@@ -41,14 +75,16 @@ fn lacks<V: PairView>(
     view: &V,
     table: u32,
     row: &Row,
-    element: &ElementDef,
+    made: &Made<'_>,
 ) -> Result<bool, AllocError>
-    ensures { IfOk result (λ b. b ≡ lacks_of schema.now (V.pairs view.now) table row.now element.now) }
+    requires { IsMade schema.now made.now }
+    ensures { IfOk result (λ b. b ≡ lacks_of schema.now (V.pairs view.now) table row.now (definition_of made.now)) }
 {
+    let element = made.definition;
     if element.table != table || !element.state.is_public() {
         return Ok(false);
     }
-    let pair = given(alloc, schema, element, row)?;
+    let pair = given(alloc, made, row)?;
     Ok(is_absent(view, pair.as_ref()))
 }
 
@@ -57,14 +93,16 @@ pub(crate) fn lacking<V: PairView>(
     alloc: Global,
     schema: &Schema,
     view: &V,
+    elements: &[Made<'_>],
     table: u32,
     row: &Row,
 ) -> Result<u64, AllocError>
+    requires { AreMade schema.now elements.now }
     ensures { IfOk result (λ n. n ≡ count_by (lacks_of schema.now (V.pairs view.now) table row.now) (live schema.now)) }
 {
     let mut count = 0u64;
-    for element in schema.elements() {
-        if lacks(alloc, schema, view, table, row, element)? {
+    for made in elements {
+        if lacks(alloc, schema, view, table, row, made)? {
             count += 1;
         }
     }

@@ -1,11 +1,17 @@
 use Rattle.std.proofs.Common.{◌≡◌, length}
 use Rattle.std.specs.FinMap as map
 use Rattle.audit.specs.Audit.{added, tally}
+use Rattle.audit.specs.Met.{IsThere}
+use Rattle.audit.proofs.LastMet.{ArePresent}
 use Rattle.audit.proofs.counting.tallied.Given as goal
 
--- what was counted and what is left are all
-abbrev pub invariant-loop-key : goal.invariant-loop-key
-invariant-loop-key g l = added l.report (tally l.schema (g.V.PairView.pairs l.view) l.walk) ≡ tally l.schema (g.V.PairView.pairs l.view) (map.entries (g.V.PairView.pairs l.view))
+-- what was counted and what is left are all; what is left are pairs of the store, and the row that was met last is there
+abbrev pub invariant-loop-pair : goal.invariant-loop-pair
+invariant-loop-pair g l = record {
+  counted : added l.report (tally l.schema (g.V.PairView.pairs l.view) l.walk) ≡ tally l.schema (g.V.PairView.pairs l.view) (map.entries (g.V.PairView.pairs l.view));
+  present : ArePresent (g.V.PairView.pairs l.view) l.walk;
+  there : IsThere (g.V.PairView.pairs l.view) l.last;
+}
 
-abbrev pub decreases-loop-key : goal.decreases-loop-key
-decreases-loop-key g l = length l.walk
+abbrev pub decreases-loop-pair : goal.decreases-loop-pair
+decreases-loop-pair g l = length l.walk
