@@ -9,6 +9,7 @@ mod op;
 mod parts;
 mod prepared;
 mod preparing;
+mod public_columns;
 mod reading;
 mod reads;
 mod running;

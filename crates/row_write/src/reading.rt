@@ -13,6 +13,7 @@ ghost use Rattle.row_write.specs.Viewing.{IsMissed, IsSeen, cells_there, keys_of
 use crate::editing::copy_key;
 use crate::fault::PrepareFault;
 use crate::op::RowOp;
+use crate::public_columns::columns_of;
 use crate::reads::reads_of;
 use crate::served::served;
 use crate::viewing::{read_row, row_in_order};
@@ -65,7 +66,7 @@ fn read_rows(
     served(schema);
     let mut rows = WorkRows::new(alloc);
     for op in ops {
-        let columns = schema.public_columns(alloc, op.table())?;
+        let columns = columns_of(alloc, schema, op.table())?;
         read_op(alloc, view, &mut rows, op, columns.as_slice())?;
     }
     Ok(rows)
@@ -147,7 +148,7 @@ fn spelled_row(
     ensures missed { IfErr result (IsMissed ((rows : Rows) → ¬ (Spells schema.now (op.now ∷ []) view.now rows))) }
 {
     served(schema);
-    let columns = schema.public_columns(alloc, op.table())?;
+    let columns = columns_of(alloc, schema, op.table())?;
     let Some((there, cells)) = row_in_order(alloc, view, op, columns.as_slice())? else {
         return Ok(None);
     };

@@ -6,6 +6,7 @@ ghost use Rattle.row_write.specs.Reads.{IsRead};
 ghost use Rattle.row_write.specs.Entering.{entered, column_keys, op_keys, entered_all};
 
 use crate::op::RowOp;
+use crate::public_columns::columns_of;
 use crate::served::served;
 use byte_map::KeyMap;
 use row_map::{ColumnType, ReadSet, column_key, exists_key};
@@ -41,7 +42,7 @@ fn enter_row(
     }
     let key = exists_key(alloc, op.table(), op.key().as_slice())?;
     set.insert(key, ())?;
-    let columns = schema.public_columns(alloc, op.table())?;
+    let columns = columns_of(alloc, schema, op.table())?;
     enter_columns(alloc, set, op, columns.as_slice())
 }
 

@@ -1,5 +1,6 @@
 //! The shape of a table's rows in a version.
 ghost use Rattle.std.specs.Prelude.{◌≡◌, IfOk};
+ghost use Rattle.std.specs.List.{filter_map};
 ghost use Rattle.schema_version.specs.Shape.{public_column as public_column_of, column_types, key_types as key_types_of, shape_of};
 
 use crate::element::ElementDef;
@@ -22,6 +23,19 @@ fn public_column(element: &ElementDef, table: u32) -> Option<(u32, ColumnType)>
         .map(|column_type| (element.number, column_type))
 }
 
+fn public_columns(
+    alloc: Global,
+    elements: &[ElementDef],
+    table: u32,
+) -> Result<Vec<(u32, ColumnType)>, AllocError>
+    ensures { IfOk result (λ columns. columns.items ≡ filter_map (public_column_of table) elements.now) }
+{
+    elements
+        .iter()
+        .filter_map(|e| public_column(e, table))
+        .collect(alloc)
+}
+
 fn key_types(alloc: Global, key: &[(Text, ColumnType)]) -> Result<Vec<ColumnType>, AllocError>
     ensures { IfOk result (λ types. types.items ≡ key_types_of key.now) }
 {
@@ -29,21 +43,6 @@ fn key_types(alloc: Global, key: &[(Text, ColumnType)]) -> Result<Vec<ColumnType
 }
 
 impl Schema {
-    /// The public columns of the table of this number, each by its element number with its type, by rising number. An empty list where
-    /// there is no such table. The only refusal is want of memory.
-    pub fn public_columns(
-        &self,
-        alloc: Global,
-        table: u32,
-    ) -> Result<Vec<(u32, ColumnType)>, AllocError>
-        ensures { IfOk result (λ columns. columns.items ≡ column_types self.now table) }
-    {
-        self.elements()
-            .iter()
-            .filter_map(|e| public_column(e, table))
-            .collect(alloc)
-    }
-
     /// The shape of the table of this number: its key's types, and its public columns with their types by rising number. None where
     /// there is no such table. The only refusal is want of memory.
     pub fn shape(&self, alloc: Global, table: u32) -> Result<Option<TableShape>, AllocError>
@@ -53,7 +52,7 @@ impl Schema {
             return Ok(None);
         };
         let key = key_types(alloc, key)?;
-        let columns = self.public_columns(alloc, table)?;
+        let columns = public_columns(alloc, self.elements(), table)?;
         Ok(Some(TableShape {
             number: table,
             key: Listed::new(key),
