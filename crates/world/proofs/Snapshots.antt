@@ -1,13 +1,21 @@
 -- Each answer of a snapshot under a lease, and what it says of the state.
-use Rattle.std.proofs.Common.{◌≡◌, ℕ, ◌<◌, ◌≤◌, Ok, Err, refl, sym, ap, subst, ◌∙◌, inl, inr, arith}
+use Rattle.std.proofs.Common.{◌≡◌, ℕ, ◌<◌, ◌≤◌, ◌⊎◌, List, Result, Ok, Err, refl, sym, ap, subst, ◌∙◌, inl, inr, arith}
+use Rattle.std.specs.Prelude.{IfOk, IfErr, OnOk}
 use Rattle.listed.specs.Refusal.{IsClear, IsFirst}
 use Rattle.lease.specs.declared.lease.Lease.{Lease}
 use Rattle.lease.specs.declared.fault.LeaseFault.{LeaseFault}
 use Rattle.lease.specs.declared.fault.LeaseFault.TheVariants as lease_fault
 use Rattle.lease.specs.Refusals.{Serves, Condition as LeaseCondition, rank as lease_rank}
 use Rattle.lease.specs.Timeline.{Timeline}
-use Rattle.row_map.specs.Rows.{Pairs}
+use Rattle.row_map.specs.declared.shape.Row.{Row}
+use Rattle.row_map.specs.Rows.{Pairs, Rows}
+use Rattle.row_query.specs.declared.fault.QueryFault.{QueryFault}
+use Rattle.row_query.specs.declared.fault.QueryFault.TheVariants.{Memory}
+use Rattle.row_query.specs.declared.query.Query.{Query}
+use Rattle.row_query.specs.Answer.{plain_answer}
+use Rattle.row_query.specs.Refused.{IsRefused, IsSound}
 use Rattle.element_state.specs.Consistent.{IsConsistent}
+use Rattle.element_state.specs.Seen.{seen}
 use Rattle.schema_version.specs.Version.{Version}
 use Rattle.replay.specs.Laws.{LeasesKeep, KeptAgrees}
 use Rattle.world.specs.declared.snapshot.SnapshotFault.{SnapshotFault}
@@ -15,7 +23,7 @@ use Rattle.world.specs.declared.snapshot.SnapshotFault.TheVariants as snapshot_f
 use Rattle.world.specs.declared.world.World.TheInside.{Inside}
 use Rattle.world.specs.Calls.{counted}
 use Rattle.world.specs.Inside.{state_of, IsHeld}
-use Rattle.world.specs.Snapshots.{snapshot_rank, SnapshotCondition, SnapshotAt, SnapshotStep}
+use Rattle.world.specs.Snapshots.{Taken, IsSnapshotAnswer, snapshot_rank, SnapshotCondition, SnapshotAt, SnapshotStep}
 use Rattle.world.specs.State.{State, facts_of}
 use Rattle.world.specs.Told.{snapshot_told}
 use Rattle.world.proofs.Holding.{follow_of}
@@ -67,3 +75,13 @@ snapshot_taken f s moment now lease schema pairs goes agrees v same =
         consistent = subst (λ (p : Pairs). IsConsistent schema (facts_of s).rows p) (sym same) (consistent_held f s moment now lease schema goes agrees v);
       },
     )
+
+-- ---- what a snapshot answers
+
+pub is_answer : (taken : Taken) (query : Query) (answer : Result (List Row) QueryFault)
+    → IfErr answer (λ fault. ((fault ≡ Memory) × IsSound taken.version query) ⊎ IsRefused taken.version query fault)
+    → OnOk answer (IsSound taken.version query)
+    → ((rows : Rows) → IsConsistent taken.version rows taken.pairs → IfOk answer (λ found. found ≡ plain_answer (seen taken.version rows) query))
+    → IsSnapshotAnswer taken query answer
+is_answer taken query (Ok found) refused clear rows = (clear, rows)
+is_answer taken query (Err fault) refused clear rows = refused

@@ -1,5 +1,5 @@
 -- What the calls on a begun reorganisation answer.
-use Rattle.std.specs.Prelude.{◌≡◌, ◌≢◌, ℕ, ◌<◌, ◌≤◌, length, Bool, Option, Some, None, Result, Ok, Err}
+use Rattle.std.specs.Prelude.{◌≡◌, ◌≢◌, ℕ, ◌<◌, ◌≤◌, length, Bool, Option, Some, None, Result, Ok, Err, slice_get}
 use Rattle.std.specs.Bool.{Decides}
 use Rattle.std.specs.Option.{option_map}
 use Rattle.lease.specs.Timeline.{max_moment}
@@ -11,7 +11,7 @@ use Rattle.reorganise.specs.declared.work.Progress.{Progress}
 use Rattle.reorganise.specs.declared.reading.Reading.{Reading}
 use Rattle.reorganise.specs.declared.fault.ViewFault.TheVariants.{Memory as OutOfMemory}
 use Rattle.reorganise.specs.Moving.{IsSpanOf}
-use Rattle.reorganise.specs.Pieces.{are_ended, IsReadOf}
+use Rattle.reorganise.specs.Pieces.{is_ended, are_ended, IsReadOf}
 use Rattle.reorganise.specs.Batches.{expect_of}
 use Rattle.reorganise.specs.Refusals.{rank as view_rank, Condition as ViewCondition}
 use Rattle.replay.specs.declared.entry.What.TheVariants.{Piece}
@@ -32,6 +32,17 @@ standing progress = (progress.kind, length progress.pieces, are_ended progress.p
 
 abbrev pub standing_at : Facts → ℕ → Option (Work × ℕ × Bool)
 standing_at facts number = option_map standing (progress_of facts.progress number)
+
+-- the work of a reorganisation, and whether its piece of this number has ended
+abbrev pub piece_standing : Progress → ℕ → Option (Work × Bool)
+piece_standing progress piece = option_map (λ span. (progress.kind, is_ended span)) (slice_get progress.pieces piece)
+
+abbrev pub piece_standing_in : Option Progress → ℕ → Option (Work × Bool)
+piece_standing_in None piece = None
+piece_standing_in (Some progress) piece = piece_standing progress piece
+
+abbrev pub piece_standing_at : Facts → ℕ → ℕ → Option (Work × Bool)
+piece_standing_at facts number piece = piece_standing_in (progress_of facts.progress number) piece
 
 -- ---- reading a piece
 

@@ -1,11 +1,18 @@
--- What a snapshot under a lease is of.
-use Rattle.std.specs.Prelude.{◌≡◌, ℕ, ◌<◌, Some, Result, Ok, Err}
+-- What a snapshot under a lease is of, and what it answers.
+use Rattle.std.specs.Prelude.{◌≡◌, ℕ, ◌<◌, List, Some, Result, Ok, Err, ◌⊎◌}
 use Rattle.element_state.specs.Consistent.{IsConsistent}
+use Rattle.element_state.specs.Seen.{seen}
 use Rattle.lease.specs.declared.lease.Lease.{Lease}
 use Rattle.lease.specs.Timeline.{IsHonest, IsInForce, max_moment}
 use Rattle.listed.specs.Refusal.{IsRefusal, IsClear}
 use Rattle.replay.specs.Replay.{version_at}
-use Rattle.row_map.specs.Rows.{Pairs}
+use Rattle.row_map.specs.declared.shape.Row.{Row}
+use Rattle.row_map.specs.Rows.{Pairs, Rows}
+use Rattle.row_query.specs.declared.fault.QueryFault.{QueryFault}
+use Rattle.row_query.specs.declared.fault.QueryFault.TheVariants.{Memory}
+use Rattle.row_query.specs.declared.query.Query.{Query}
+use Rattle.row_query.specs.Answer.{plain_answer}
+use Rattle.row_query.specs.Refused.{IsRefused, IsSound}
 use Rattle.schema_version.specs.Version.{Version}
 use Rattle.world.specs.declared.snapshot.SnapshotFault.{SnapshotFault}
 use Rattle.world.specs.declared.snapshot.SnapshotFault.TheVariants as snapshot_fault
@@ -43,3 +50,9 @@ SnapshotAt old now lease (Err fault) = IsRefusal snapshot_rank (SnapshotConditio
 
 abbrev pub SnapshotStep : State → ℕ → Lease → Result Taken SnapshotFault → Type 0
 SnapshotStep old moment = SnapshotAt old (counted old moment)
+
+-- what a snapshot answers to a query, whenever it is asked: over any rows with which its pairs agree, the plain answer as its version sees
+-- them; or the first refusal of a query that the version does not allow; or that there was no memory, for one that it allows
+abbrev pub IsSnapshotAnswer : Taken → Query → Result (List Row) QueryFault → Type 0
+IsSnapshotAnswer taken query (Ok found) = IsSound taken.version query × ((rows : Rows) → IsConsistent taken.version rows taken.pairs → found ≡ plain_answer (seen taken.version rows) query)
+IsSnapshotAnswer taken query (Err fault) = ((fault ≡ Memory) × IsSound taken.version query) ⊎ IsRefused taken.version query fault

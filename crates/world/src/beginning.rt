@@ -102,8 +102,12 @@ impl World {
         Some((found, work))
     }
 
-    // Whether each version that a lease may use at the moment that counts has the element in the same state.
-    fn is_settled(&self, now: u64, number: u32) -> bool
+    /// Whether each version that a lease may use at the moment that counts has the element in the same state, so that its
+    /// reorganisation may begin.
+    ///
+    /// - `now`: the moment that counts.
+    /// - `number`: the number of the element.
+    pub fn is_settled(&self, now: u64, number: u32) -> bool
         ensures { Decides result (IsSettled (facts_of self.now) now number) }
     {
         if now >= self.line.earliest() {

@@ -6,7 +6,7 @@ ghost use Rattle.listed.specs.Refusal.{IsRefusal};
 ghost use Rattle.replay.specs.Replay.{moved_to};
 ghost use Rattle.world.specs.declared.pieces.PieceFault.TheVariants.{Memory};
 ghost use Rattle.world.specs.declared.pieces.ReadFault.TheVariants.{View as ViewOf};
-ghost use Rattle.world.specs.Piecework.{standing_at, ReadStep, PieceStep, PieceAt, PieceCondition, IsCurrent, piece_rank};
+ghost use Rattle.world.specs.Piecework.{standing_at, piece_standing, piece_standing_at, ReadStep, PieceStep, PieceAt, PieceCondition, IsCurrent, piece_rank};
 ghost use Rattle.world.specs.State.{facts_of};
 ghost use Rattle.world.specs.Told.{piece_told};
 
@@ -94,6 +94,14 @@ fn copied(alloc: Global, bytes: &[u8]) -> Result<Bytes, AllocError>
     Bytes::from_slice(alloc, bytes)
 }
 
+/// The work of a reorganisation, and whether its piece of this number has ended.
+fn standing_of(progress: &Progress, piece: u32) -> Option<(Work, bool)>
+    ensures { result ≡ piece_standing progress.now piece }
+{
+    let span = progress.pieces.as_slice().get(piece as usize)?;
+    Some((progress.kind, span.cursor.cmp(&span.high).is_eq()))
+}
+
 /// A copy of a reorganisation, with that cursor come on where it is the one of this element.
 fn moved(
     progress: &Progress,
@@ -142,6 +150,20 @@ impl World {
     {
         let progress = self.begun_of(element)?;
         Some((progress.kind, progress.pieces.len(), progress.finished()))
+    }
+
+    /// How one piece of the begun reorganisation of an element stands: what the reorganisation does, and whether the piece
+    /// has ended. None if none has begun, if it is over, or if it has no such piece.
+    ///
+    /// - `element`: the number of the element whose reorganisation it is.
+    /// - `piece`: the number of the piece, from 0.
+    pub fn piece_progress(&self, element: u32, piece: u32) -> Option<(Work, bool)>
+        ensures { result ≡ piece_standing_at (facts_of self.now) element piece }
+    {
+        match self.begun_of(element) {
+            Some(progress) => standing_of(progress, piece),
+            None => None,
+        }
     }
 
     /// Reads the next items of a piece, to be prepared with `prepare_piece`.

@@ -6,7 +6,7 @@ ghost use Rattle.row_map.specs.Rows.{Rows};
 ghost use Rattle.row_query.specs.declared.fault.QueryFault.TheVariants.{Memory};
 ghost use Rattle.row_query.specs.Answer.{plain_answer};
 ghost use Rattle.row_query.specs.Refused.{IsRefused, IsSound};
-ghost use Rattle.world.specs.Snapshots.{SnapshotStep};
+ghost use Rattle.world.specs.Snapshots.{IsSnapshotAnswer, SnapshotStep};
 ghost use Rattle.world.specs.Told.{snapshot_told};
 ghost use Rattle.world.specs.declared.snapshot.SnapshotFault.TheVariants as snapshot_fault;
 
@@ -94,7 +94,15 @@ impl Snapshot {
     /// `row_query::answer`, and refused as there: `NoTable`; then of the named columns in their order and the conditions in
     /// theirs, the first with a fault by its lowest, `NotPublic` and then `WrongType`; `Memory` last. A refusal leaves
     /// nothing behind.
+    #[tactic(auto, using(crate::proofs::Snapshots::is_answer))]
     pub fn query(&self, alloc: Global, query: &Query) -> Result<Listed<Row>, QueryFault>
+        ensures { IsSnapshotAnswer self.now query.now result }
+    {
+        self.rows_of(alloc, query)
+    }
+
+    // The same, by the contract of `answer`.
+    fn rows_of(&self, alloc: Global, query: &Query) -> Result<Listed<Row>, QueryFault>
         ensures refused { IfErr result (λ fault. ((fault ≡ Memory) × IsSound self.now.version query.now) ⊎ IsRefused self.now.version query.now fault) }
         ensures clear { OnOk result (IsSound self.now.version query.now) }
         ensures rows { (rows : Rows) → IsConsistent self.now.version rows self.now.pairs → IfOk result (λ found. found ≡ plain_answer (seen self.now.version rows) query.now) }

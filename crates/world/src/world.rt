@@ -3,8 +3,9 @@ ghost use Rattle.std.specs.Option.{option_copied};
 ghost use Rattle.std.specs.Prelude.{◌≡◌, ◌≤◌, max, option_map, Some};
 ghost use Rattle.lease.specs.Refusals.{Serves};
 ghost use Rattle.lease.specs.Timeline.{IsValid, last_publication};
-ghost use Rattle.replay.specs.Kept.{AreInPieces};
+ghost use Rattle.replay.specs.Kept.{AreInPieces, IsKept};
 ghost use Rattle.replay.specs.Replay.{progress_of, version_at};
+ghost use Rattle.schema_version.specs.Sound.{IsSoundVersion};
 ghost use Rattle.world.specs.Calls.{counted};
 ghost use Rattle.world.specs.State.{facts_of, recent, IsReplayed, Agrees};
 
@@ -126,12 +127,18 @@ impl World {
     }
 
     /// Tells that the pairs are those that the log gives, and that they agree with the rows of the log for every
-    /// version that a lease may still use: whatever was called before, in whatever order. Begun reorganisations have at
-    /// most 64 pieces, and no cursor stands past its piece's end.
+    /// version that a lease may still use: whatever was called before, in whatever order. The timeline is valid, its last
+    /// publication is not after the moment of the last entry, and the newest version is sound. Begun reorganisations have
+    /// at most 64 pieces, and no cursor is past its piece's end. All that the theorem rests on is kept, for instance that what
+    /// is begun is what its element wants.
     pub fn agrees(&self)
         ensures replayed { IsReplayed self.now }
         ensures agrees { Agrees self.now }
         ensures in_pieces { AreInPieces (facts_of self.now).progress }
+        ensures valid { IsValid (facts_of self.now).line }
+        ensures past { last_publication (facts_of self.now).line ≤ (facts_of self.now).moment }
+        ensures sound { IsSoundVersion (facts_of self.now).newest }
+        ensures kept { IsKept (facts_of self.now) }
     {
         kept_agrees();
         let _log = &self.log;
