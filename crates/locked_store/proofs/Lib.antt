@@ -1,2 +1,4 @@
 pub mod Through
 pub mod Marks
+pub mod WholeLog
+pub mod Logging

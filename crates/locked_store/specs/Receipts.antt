@@ -1,7 +1,10 @@
 -- Receipts against a log.
-use Rattle.std.specs.Prelude.{◌≡◌, ◌≢◌, ℕ, ◌-◌, ◌<◌, List, Some, slice_get}
+use Rattle.std.specs.Prelude.{◌≡◌, ◌≢◌, ℕ, ◌+◌, ◌-◌, ◌<◌, ◌≤◌, List, length, Some, slice_get}
 use Rattle.replay.specs.declared.entry.Entry.{Entry}
+use Rattle.replay.specs.Replay.{Opening}
 use Rattle.world.specs.declared.entry.Receipt.{Receipt}
+use Rattle.world.specs.State.{State}
+use Rattle.locked_store.specs.Cores.{IsCore}
 
 -- the entry of the receipt stands at its place, counted from 1
 abbrev pub Stands : List Entry → Receipt → Type 0
@@ -18,3 +21,30 @@ EachOnce rs = (i j : ℕ) (r q : Receipt) → j < i → slice_get rs i ≡ Some 
 pub record Agree (log : List Entry) (rs : List Receipt) : Type 0 where
   pub stands : EachStands log rs
   pub once : EachOnce rs
+
+-- ---- receipts that are as many as the entries
+
+abbrev pub AreAfter : ℕ → List Receipt → Type 0
+AreAfter since rs = (i : ℕ) (r : Receipt) → slice_get rs i ≡ Some r → since < r.place
+
+-- the receipt at i is that of the entry at this place
+abbrev pub IsReceiptAt : List Entry → List Receipt → ℕ → ℕ → Type 0
+IsReceiptAt log rs place i = (r : Receipt) × (slice_get rs i ≡ Some r) × (r.place ≡ place) × Stands log r
+
+-- each entry after so many has its receipt, and no other
+abbrev pub AreTheLog : List Entry → ℕ → List Receipt → Type 0
+AreTheLog log since rs =
+    (place : ℕ) → since < place → place ≤ length log → (i : ℕ) × IsReceiptAt log rs place i × ((j : ℕ) → IsReceiptAt log rs place j → j ≡ i)
+
+-- receipts that agree with the log, come after so many entries, and are as many as the entries from there on are that part of the log
+abbrev pub ReceiptsAreTheLog : Type 0
+ReceiptsAreTheLog = (log : List Entry) (since : ℕ) (rs : List Receipt) → Agree log rs → AreAfter since rs → length log ≡ since + length rs → AreTheLog log since rs
+
+-- ---- receipts that a call gives
+
+-- the receipt's entry is in the log of a core behind the lock, after all that a handle of this front has seen
+pub record IsLogged (opening : Opening) (front : ℕ) (receipt : Receipt) : Type 0 where
+  pub core : State
+  pub is_core : IsCore opening core
+  pub stands : Stands core.log receipt
+  pub new : front < receipt.place

@@ -5,7 +5,7 @@ ghost use Rattle.std.specs.Prelude.{◌≡◌, IfOk};
 ghost use Rattle.locked_store.specs.Answers.{Answers, AnswersBack, Finds, told, told_back, no_place, grant_place, commit_place, publish_place, receipt_place, piece_place};
 ghost use Rattle.world.specs.Beginning.{BeginStep};
 ghost use Rattle.world.specs.Calls.{LeaseStep, CommitStep, IsReadView, IsCheck};
-ghost use Rattle.world.specs.Piecework.{PieceStep, ReadStep, standing_at};
+ghost use Rattle.world.specs.Piecework.{PieceStep, ReadStep, standing_at, piece_standing_at};
 ghost use Rattle.world.specs.Publishing.{PublishStep};
 ghost use Rattle.world.specs.Querying.{QueryStep};
 ghost use Rattle.world.specs.Snapshots.{SnapshotStep};
@@ -65,10 +65,7 @@ impl<L: Room> Shared<L> {
         ensures { Answers L.opening me.old result me.new (λ c r d. LeaseStep c moment r d) grant_place }
     {
         let mut locked = self.locked.lock(rt);
-        let seen = locked.len();
-        if seen < me.front {
-            return Err(SharedFault::WentBack { seen });
-        }
+        locked.check_front(me)?;
         through(locked.lease(alloc, me, moment))
     }
 
@@ -86,10 +83,7 @@ impl<L: Room> Shared<L> {
         ensures { Answers L.opening me.old result me.new (λ c r d. IfOk r (λ s. s ≡ recent (facts_of c) version) × (d ≡ c)) no_place }
     {
         let locked = self.locked.lock(rt);
-        let seen = locked.len();
-        if seen < me.front {
-            return Err(SharedFault::WentBack { seen });
-        }
+        locked.check_front(me)?;
         through(locked.schema(me, version))
     }
 
@@ -108,10 +102,7 @@ impl<L: Room> Shared<L> {
         ensures { Answers L.opening me.old result me.new (λ c r d. IfOk r (λ view. IsReadView c keys.now view) × (d ≡ c)) no_place }
     {
         let locked = self.locked.lock(rt);
-        let seen = locked.len();
-        if seen < me.front {
-            return Err(SharedFault::WentBack { seen });
-        }
+        locked.check_front(me)?;
         through(locked.read(alloc, me, keys))
     }
 
@@ -131,8 +122,7 @@ impl<L: Room> Shared<L> {
         ensures { AnswersBack L.opening me.old prepared result me.new (λ c r d. CommitStep c moment prepared r d) commit_place }
     {
         let mut locked = self.locked.lock(rt);
-        let seen = locked.len();
-        if seen < me.front {
+        if let Err(WentBack { seen }) = locked.check_front(me) {
             return Err((SharedFault::WentBack { seen }, prepared));
         }
         through_back(locked.commit(alloc, me, moment, prepared))
@@ -155,10 +145,7 @@ impl<L: Room> Shared<L> {
         ensures { Answers L.opening me.old result me.new (λ c r d. QueryStep c moment lease.now query.now r × (d ≡ c)) no_place }
     {
         let locked = self.locked.lock(rt);
-        let seen = locked.len();
-        if seen < me.front {
-            return Err(SharedFault::WentBack { seen });
-        }
+        locked.check_front(me)?;
         through(locked.query(alloc, me, moment, lease, query))
     }
 
@@ -178,10 +165,7 @@ impl<L: Room> Shared<L> {
         ensures { Answers L.opening me.old result me.new (λ c r d. SnapshotStep c moment lease.now r × (d ≡ c)) no_place }
     {
         let locked = self.locked.lock(rt);
-        let seen = locked.len();
-        if seen < me.front {
-            return Err(SharedFault::WentBack { seen });
-        }
+        locked.check_front(me)?;
         through(locked.snapshot(me, moment, lease))
     }
 
@@ -201,10 +185,7 @@ impl<L: Room> Shared<L> {
         ensures { Answers L.opening me.old result me.new (λ c r d. PublishStep c moment step.now r d) publish_place }
     {
         let mut locked = self.locked.lock(rt);
-        let seen = locked.len();
-        if seen < me.front {
-            return Err(SharedFault::WentBack { seen });
-        }
+        locked.check_front(me)?;
         through(locked.publish(alloc, me, moment, step))
     }
 
@@ -225,10 +206,7 @@ impl<L: Room> Shared<L> {
         ensures { Answers L.opening me.old result me.new (λ c r d. BeginStep c moment element pieces r d) receipt_place }
     {
         let mut locked = self.locked.lock(rt);
-        let seen = locked.len();
-        if seen < me.front {
-            return Err(SharedFault::WentBack { seen });
-        }
+        locked.check_front(me)?;
         through(locked.begin_reorg(alloc, me, moment, element, pieces))
     }
 
@@ -244,11 +222,25 @@ impl<L: Room> Shared<L> {
         ensures { Finds L.opening me.old result me.new (λ c x. x ≡ standing_at (facts_of c) element) }
     {
         let locked = self.locked.lock(rt);
-        let seen = locked.len();
-        if seen < me.front {
-            return Err(WentBack { seen });
-        }
+        locked.check_front(me)?;
         Ok(locked.progress(me, element))
+    }
+
+    /// How one piece of the begun reorganisation of an element stands, as `World::piece_progress` tells it. Refused with
+    /// `WentBack` alone, if the log is shorter than the handle's front.
+    #[tactic(auto, using(crate::proofs::Through::finds))]
+    pub fn piece_progress(
+        &self,
+        rt: &impl Wait,
+        me: &mut Handle<L>,
+        element: u32,
+        piece: u32,
+    ) -> Result<Option<(Work, bool)>, WentBack>
+        ensures { Finds L.opening me.old result me.new (λ c x. x ≡ piece_standing_at (facts_of c) element piece) }
+    {
+        let locked = self.locked.lock(rt);
+        locked.check_front(me)?;
+        Ok(locked.piece_progress(me, element, piece))
     }
 
     /// Reads the next items of a piece, as `World::read_piece` does.
@@ -268,10 +260,7 @@ impl<L: Room> Shared<L> {
         ensures { Answers L.opening me.old result me.new (λ c r d. ReadStep c element piece limit r × (d ≡ c)) no_place }
     {
         let locked = self.locked.lock(rt);
-        let seen = locked.len();
-        if seen < me.front {
-            return Err(SharedFault::WentBack { seen });
-        }
+        locked.check_front(me)?;
         through(locked.read_piece(alloc, me, element, piece, limit))
     }
 
@@ -291,8 +280,7 @@ impl<L: Room> Shared<L> {
         ensures { AnswersBack L.opening me.old prepared result me.new (λ c r d. PieceStep c moment prepared r d) piece_place }
     {
         let mut locked = self.locked.lock(rt);
-        let seen = locked.len();
-        if seen < me.front {
+        if let Err(WentBack { seen }) = locked.check_front(me) {
             return Err((SharedFault::WentBack { seen }, prepared));
         }
         through_back(locked.commit_piece(alloc, me, moment, prepared))
@@ -312,10 +300,7 @@ impl<L: Room> Shared<L> {
         ensures { Answers L.opening me.old result me.new (λ c r d. IfOk r (λ report. IsCheck c report) × (d ≡ c)) no_place }
     {
         let locked = self.locked.lock(rt);
-        let seen = locked.len();
-        if seen < me.front {
-            return Err(SharedFault::WentBack { seen });
-        }
+        locked.check_front(me)?;
         through(locked.check(alloc, me))
     }
 }

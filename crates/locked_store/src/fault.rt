@@ -21,6 +21,17 @@ pub enum SharedFault<E> {
     World(E),
 }
 
+impl<E> From<WentBack> for SharedFault<E> {
+    ghost use Rattle.std.specs.Prelude.{◌≡◌};
+    ghost use Rattle.locked_store.specs.declared.fault.SharedFault.TheVariants as shared_fault;
+
+    ghost from_gives = { λ back fault. fault ≡ shared_fault.WentBack back.seen };
+
+    fn from(back: WentBack) -> SharedFault<E> {
+        SharedFault::WentBack { seen: back.seen }
+    }
+}
+
 /// Why a world was not shared. Of several reasons the first in this order is told.
 #[derive(Clone, Copy, Debug, PartialEq, Eq, Error)]
 pub enum ShareFault {

@@ -1,5 +1,6 @@
 //! The right to call a shared world.
-ghost use Rattle.std.specs.Prelude.{◌≡◌};
+ghost use Rattle.std.specs.Prelude.{◌≡◌, ◌<◌, length};
+ghost use Rattle.locked_store.specs.Known.{IsLeastFront};
 
 use crate::room::Room;
 use std::marker::Model;
@@ -32,4 +33,17 @@ impl<L: Room> Handle<L> {
     {
         self.front
     }
+}
+
+/// The least front of these handles: the length of the log that all of them have seen.
+pub fn least_front<L: Room>(handles: &[Handle<L>]) -> u64
+    requires { 0 < length handles.now }
+    ensures { IsLeastFront handles.now result }
+{
+    let first = &handles[0];
+    let mut least = first.front;
+    for handle in handles {
+        least = least.min(handle.front);
+    }
+    least
 }

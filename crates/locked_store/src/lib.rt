@@ -10,7 +10,7 @@ mod room;
 mod shared;
 
 pub use fault::{Missing, ReceiptFault, ShareFault, SharedFault, WentBack};
-pub use handle::Handle;
-pub use receipts::reconcile;
+pub use handle::{Handle, least_front};
+pub use receipts::{receipts_are_the_log, reconcile};
 pub use room::Room;
 pub use shared::Shared;

@@ -1,15 +1,16 @@
 //! What lies behind the lock, and the calls of one critical section: each is one call of the world.
-ghost use Rattle.std.specs.Prelude.{◌≡◌, ◌≤◌, length, IfOk, option_map};
+ghost use Rattle.std.specs.Prelude.{◌≡◌, ◌<◌, ◌≤◌, length, IfOk, IfErr, OnOk, option_map};
 ghost use Rattle.locked_store.specs.Answers.{Takes, Found, no_place, grant_place, commit_place, publish_place, receipt_place, piece_place};
-ghost use Rattle.locked_store.specs.Cores.{IsCore};
+ghost use Rattle.locked_store.specs.Cores.{IsCore, WasLength};
 ghost use Rattle.world.specs.Beginning.{BeginStep};
 ghost use Rattle.world.specs.Calls.{LeaseStep, CommitStep, IsReadView, IsCheck};
-ghost use Rattle.world.specs.Piecework.{PieceStep, ReadStep, standing_at};
+ghost use Rattle.world.specs.Piecework.{PieceStep, ReadStep, standing_at, piece_standing_at};
 ghost use Rattle.world.specs.Publishing.{PublishStep};
 ghost use Rattle.world.specs.Querying.{QueryStep};
 ghost use Rattle.world.specs.Snapshots.{SnapshotStep};
 ghost use Rattle.world.specs.State.{facts_of, recent};
 
+use crate::fault::WentBack;
 use crate::handle::Handle;
 use crate::room::Room;
 use lease::Lease;
@@ -71,10 +72,16 @@ fn same(schema: Option<&Counted<Schema>>) -> Result<Option<Counted<Schema>>, All
 }
 
 impl<L: Room> Locked<L> {
-    pub(crate) fn len(&self) -> u64
-        ensures { result ≡ length self.now.log }
+    // Refuses if the log is shorter than the handle's front.
+    pub(crate) fn check_front(&self, me: &Handle<L>) -> Result<(), WentBack>
+        ensures ok { OnOk result (me.now.front ≤ length self.now.log) }
+        ensures back { IfErr result (λ back. (back.seen < me.now.front) × WasLength L.opening back.seen) }
     {
-        log_len(&self.world)
+        let seen = log_len(&self.world);
+        if seen < me.front {
+            return Err(WentBack { seen });
+        }
+        Ok(())
     }
 
     // Tells that the world is a core of the opening.
@@ -245,6 +252,19 @@ impl<L: Room> Locked<L> {
     {
         self.look(me);
         self.world.progress(element)
+    }
+
+    pub(crate) fn piece_progress(
+        &self,
+        me: &mut Handle<L>,
+        element: u32,
+        piece: u32,
+    ) -> Option<(Work, bool)>
+        requires { me.old.front ≤ length self.now.log }
+        ensures { Found L.opening me.old self.now result me.new (λ c x. x ≡ piece_standing_at (facts_of c) element piece) }
+    {
+        self.look(me);
+        self.world.piece_progress(element, piece)
     }
 
     pub(crate) fn read_piece(

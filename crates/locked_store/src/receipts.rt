@@ -1,7 +1,7 @@
 //! Receipts against the log of a world. No lock is taken: the world is one that is handed in, as `Shared::close` gives it back.
 ghost use Rattle.std.specs.Prelude.{◌≡◌, ◌<◌, ℕ, IfOk, IfErr, OnOk, vec_len, slice_index_or, true, false};
 ghost use Rattle.locked_store.specs.Faults.{Faulty};
-ghost use Rattle.locked_store.specs.Receipts.{Agree};
+ghost use Rattle.locked_store.specs.Receipts.{Agree, ReceiptsAreTheLog};
 
 use crate::fault::ReceiptFault;
 use std::alloc::{AllocError, Global};
@@ -70,3 +70,9 @@ pub fn reconcile(alloc: Global, world: &World, receipts: &[Receipt]) -> Result<(
 {
     tested(alloc, world.log(), receipts)
 }
+
+/// Tells what receipts are that agree with a log, are as many as its entries after the first so many, and all come after
+/// those: each entry from there on has its receipt, and no other.
+pub fn receipts_are_the_log()
+    ensures { ReceiptsAreTheLog }
+{}
