@@ -8,3 +8,4 @@ mod Counted
 mod Missing
 mod Reasons
 mod Clean
+mod Shared

@@ -2,3 +2,4 @@ pub mod Recent
 pub mod Found
 pub mod Clean
 pub mod Snapshots
+pub mod Shared

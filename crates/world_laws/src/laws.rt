@@ -2,6 +2,7 @@
 ghost use Rattle.world_laws.specs.Recent.{CommitsAreRecent, QueriesAreRecent};
 ghost use Rattle.world_laws.specs.Found.{FindsConsistent, FindsExact, FindsEmpty};
 ghost use Rattle.world_laws.specs.Clean.{ChecksAreClean};
+ghost use Rattle.world_laws.specs.Shared.{SharedCommitsAreRecent, SharedQueriesAreRecent, SharedSnapshotsAreRecent, SharedSnapshotsAnswerTheirLog, SharedChecksAreClean, SharedPublicationsFindConsistent, SharedPublicationsFindExact, SharedPublicationsFindEmpty};
 ghost use Rattle.world_laws.specs.Snapshots.{SnapshotsAnswerTheirLog, SnapshotsAnswerAsQueries, SnapshotsAreRecent};
 
 /// A transaction that is accepted, whether it is committed or its rows refuse it, and a query that is answered run on the
@@ -47,4 +48,21 @@ pub fn snapshots_answer_their_log()
     ensures found { SnapshotsAnswerTheirLog }
     ensures answers { SnapshotsAnswerAsQueries }
     ensures recent { SnapshotsAreRecent }
+{}
+
+/// The same of what is answered through the lock of a shared world, each of the very state in which the call was answered:
+/// what is accepted or answered runs on a recent version, a snapshot answers from the log at which it was taken, an audit
+/// is clean, and a publication finds the pairs that the version after it demands.
+///
+/// The calls of `Shared` tell the premises: their answers are those of a state that the world behind the lock may have,
+/// whose timeline is valid, whose last publication is not after its moment, and whose newest version is sound.
+pub fn shared_answers_are_lawful()
+    ensures commits { SharedCommitsAreRecent }
+    ensures queries { SharedQueriesAreRecent }
+    ensures snapshots { SharedSnapshotsAreRecent }
+    ensures answers { SharedSnapshotsAnswerTheirLog }
+    ensures checks { SharedChecksAreClean }
+    ensures consistent { SharedPublicationsFindConsistent }
+    ensures public { SharedPublicationsFindExact }
+    ensures absent { SharedPublicationsFindEmpty }
 {}

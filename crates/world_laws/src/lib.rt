@@ -8,5 +8,6 @@
 mod laws;
 
 pub use laws::{
-    checks_are_clean, commits_are_recent, publications_find_exact, snapshots_answer_their_log,
+    checks_are_clean, commits_are_recent, publications_find_exact, shared_answers_are_lawful,
+    snapshots_answer_their_log,
 };
