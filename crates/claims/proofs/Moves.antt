@@ -9,7 +9,7 @@ use Rattle.atomic_table.proofs.Lists.{at_set, at_snoc}
 use Rattle.claims.specs.declared.rule.Hand.{Hand}
 use Rattle.claims.specs.declared.rule.Terms.{Terms}
 use Rattle.claims.specs.Draws.{hand, times, late, total_of, once_below, FitsHand, Drawn, Draws}
-use Rattle.claims.proofs.Totals.{total_set, total_snoc, total_le, total_whole, times_append, late_append, once_below_next, late_next, late_one_le}
+use Rattle.claims.proofs.Totals.{total_set, total_snoc, total_le, total_part, total_whole, times_append, late_append, once_below_next, late_next, late_one_le}
 
 -- what holds of each view holds after one was changed
 fits_set : (t : ℕ) (views : List Hand) (id : ℕ) (w : Hand) → FitsHand t w → ((j : ℕ) (u : Hand) → get_elem? views j ≡ some u → FitsHand t u)
@@ -107,29 +107,41 @@ joins k id v other w some_seat s b at two here =
       b.5,
     )
 
--- who stands for all seats knows that its numbers are those below the word, each once, and how many of them are late
-pub closes : (k : Terms) (id : ℕ) (v : Hand) (words : List ℕ) (slots : List (Unit {0})) → v.seats ≡ k.seats → Final (Seen (Drawn k) id v) words slots
-    → ((x : ℕ) → times x v.drawn ≡ once_below x (slice_index words 0)) × (late k.total v.drawn ≡ slice_index words 0 - k.total)
-closes k id v words slots all f =
-    let s = f.0 in
-    let b = f.1.0 in
-    let at = f.1.1 in
-    let is = f.2 in
-    let whole : total_of (λ u. u.seats) s.views ≡ v.seats = b.1 ∙ sym all in (
-      (λ x. sym (total_whole (λ u. times x u.drawn) s.views id v at whole refl (λ j u here none. ap (times x) ((b.4 j u here).0 none))) ∙ b.2 x ∙ ap (λ l. once_below x (slice_index l 0)) is),
-      sym (total_whole (λ u. late k.total u.drawn) s.views id v at whole refl (λ j u here none. ap (late k.total) ((b.4 j u here).0 none))) ∙ b.3 ∙ ap (λ l. slice_index l 0 - k.total) is,
-    )
-
 at_head : (ws : List ℕ) (n : ℕ) → get_elem? ws 0 ≡ some n → slice_index ws 0 ≡ n
 at_head [] n e = absurd (some-ne-none n (sym e))
 at_head (w ∷ ws) n e = some-injective w n e
 
--- the same of the word that was read, by the names of a type parameter
-pub ends : (k : Terms) (total seats id : ℕ) (v : Hand) (words : List ℕ) (slots : List (Unit {0})) (word : ℕ) → k.total ≡ total → k.seats ≡ seats → get_elem? words 0 ≡ some word
-    → Final (Seen (Drawn k) id v) words slots → v.seats ≡ seats → ((x : ℕ) → times x v.drawn ≡ once_below x word) × (late total v.drawn ≡ word - total)
-ends k total seats id v words slots word total_is seats_is read f all =
-    let c = closes k id v words slots (all ∙ sym seats_is) f in
-    let here = at_head words word read in (
-      (λ x. c.0 x ∙ ap (once_below x) here),
-      ap (λ t. late t v.drawn) (sym total_is) ∙ c.1 ∙ (λ i. here i - total_is i),
+-- the rule of the word that was read at the end, by the names of a type parameter
+
+found : (words ws : List ℕ) (word : ℕ) → words ≡ ws → get_elem? ws 0 ≡ some word → slice_index words 0 ≡ word
+found words ws word is read = ap (λ l. slice_index l 0) is ∙ at_head ws word read
+
+-- the word is at most the number of numbers and seats
+pub ends_most : (k : Terms) (total seats : ℕ) (words : List ℕ) (slots : List (Unit {0})) (word : ℕ) → k.total ≡ total → k.seats ≡ seats → get_elem? words 0 ≡ some word
+    → Final (Drawn k) words slots → word ≤ total + seats
+ends_most k total seats words slots word total_is seats_is read f =
+    omega (arith, few k f.0 f.1, found f.0.words words word f.2 read, total_is, seats_is)
+
+-- the numbers of one seat are below the word, each once, and its late numbers are among those from the total on
+pub ends_with : (k : Terms) (total seats id : ℕ) (v : Hand) (words : List ℕ) (slots : List (Unit {0})) (word : ℕ) → k.total ≡ total → k.seats ≡ seats → get_elem? words 0 ≡ some word
+    → Final (Seen (Drawn k) id v) words slots
+    → ((x : ℕ) → times x v.drawn ≤ once_below x word) × (late total v.drawn ≤ word - total) × (word ≤ total + seats)
+ends_with k total seats id v words slots word total_is seats_is read f =
+    let s = f.0 in
+    let b = f.1.0 in
+    let at = f.1.1 in
+    let is = found s.words words word f.2 read in (
+      (λ x. omega (arith, total_part (λ u. times x u.drawn) s.views id v at, b.2 x, ap (once_below x) is)),
+      omega (arith, total_part (λ u. late k.total u.drawn) s.views id v at, b.3, is, total_is, ap (λ t. late t v.drawn) total_is),
+      omega (arith, few k s b, is, total_is, seats_is),
     )
+
+-- the numbers of a seat that stands for all seats are all that are below the word
+pub ends_all : (k : Terms) (seats id : ℕ) (v : Hand) (words : List ℕ) (slots : List (Unit {0})) (word : ℕ) → k.seats ≡ seats → get_elem? words 0 ≡ some word
+    → Final (Seen (Drawn k) id v) words slots → v.seats ≡ seats → (x : ℕ) → times x v.drawn ≡ once_below x word
+ends_all k seats id v words slots word seats_is read f all x =
+    let s = f.0 in
+    let b = f.1.0 in
+    let at = f.1.1 in
+    let whole : total_of (λ u. u.seats) s.views ≡ v.seats = b.1 ∙ seats_is ∙ sym all in
+    sym (total_whole (λ u. times x u.drawn) s.views id v at whole refl (λ j u here none. ap (times x) ((b.4 j u here).0 none))) ∙ b.2 x ∙ ap (once_below x) (found s.words words word f.2 read)

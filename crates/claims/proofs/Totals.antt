@@ -32,6 +32,12 @@ part_zero f [] none id v at = absurd (some-ne-none v (sym at))
 part_zero f (x ∷ xs) none zero v at = omega (arith, ap f (some-injective x v at))
 part_zero f (x ∷ xs) none (suc id) v at = part_zero f xs (omega arith) id v at
 
+-- one part of a sum
+pub total_part : (f : Hand → ℕ) (views : List Hand) (id : ℕ) (v : Hand) → get_elem? views id ≡ some v → f v ≤ total_of f views
+total_part f [] id v at = absurd (some-ne-none v (sym at))
+total_part f (x ∷ xs) zero v at = omega (arith, ap f (some-injective x v at))
+total_part f (x ∷ xs) (suc id) v at = omega (arith, total_part f xs id v at)
+
 -- who stands for all seats has the total
 pub total_whole : (f : Hand → ℕ) (views : List Hand) (id : ℕ) (v : Hand) → get_elem? views id ≡ some v → total_of (λ u. u.seats) views ≡ v.seats
     → f (hand 0 0 []) ≡ 0 → ((j : ℕ) (u : Hand) → get_elem? views j ≡ some u → u.seats ≡ 0 → f u ≡ 0) → total_of f views ≡ f v

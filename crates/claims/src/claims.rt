@@ -178,12 +178,14 @@ impl<T: Drawing> Claims<T> {
         Some(all)
     }
 
-    /// Ends the counter, and tells the number that would have come next. Where every seat is handed in, the numbers that they drew
-    /// are those below it, each once; it is above the total where one of them met None, by at most the number of seats.
+    /// Ends the counter, and tells the number that would have come next. The numbers that the seats handed in have drawn are below
+    /// it, each once. It is above the total if one of these seats has met None, and at most by the number of all seats. If all seats
+    /// are handed in, the numbers that they drew are all that are below it.
     pub fn finish(self, seats: Vec<ClaimSeat<T>>) -> u64
+        ensures some { (x : ℕ) → times x (all_drawn seats.items) ≤ once_below x result }
         ensures all { vec_len seats ≡ T.seats → (x : ℕ) → times x (all_drawn seats.items) ≡ once_below x result }
-        ensures past { vec_len seats ≡ T.seats → any_done seats.items ≡ true → T.total < result }
-        ensures most { vec_len seats ≡ T.seats → result ≤ T.total + T.seats }
+        ensures past { any_done seats.items ≡ true → T.total < result }
+        ensures most { result ≤ T.total + T.seats }
     {
         match self.united(seats) {
             Some(all) => self.end_with(all),
@@ -191,8 +193,10 @@ impl<T: Drawing> Claims<T> {
         }
     }
 
-    // The word, where no seat is handed in.
-    fn end(self) -> u64 {
+    // The word, if no seat is handed in.
+    fn end(self) -> u64
+        ensures { result ≤ T.total + T.seats }
+    {
         let Claims {
             table,
             total: _,
@@ -204,10 +208,13 @@ impl<T: Drawing> Claims<T> {
         word
     }
 
-    // The word, where this seat is handed in.
+    // The word, if this seat is handed in.
     fn end_with(self, all: Seat<(), Hand>) -> u64
         requires { all.table_id ≡ T.table }
-        ensures { all.me.0.seats ≡ T.seats → ((x : ℕ) → times x all.me.0.drawn ≡ once_below x result) × (late T.total all.me.0.drawn ≡ result - T.total) }
+        ensures some { (x : ℕ) → times x all.me.0.drawn ≤ once_below x result }
+        ensures all { all.me.0.seats ≡ T.seats → (x : ℕ) → times x all.me.0.drawn ≡ once_below x result }
+        ensures late { late T.total all.me.0.drawn ≤ result - T.total }
+        ensures most { result ≤ T.total + T.seats }
     {
         let Claims {
             table,

@@ -90,3 +90,15 @@ on_start worker done plan_of fits plan ss handed from idle all =
     let same : map worker ss ≡ reverse handed = sym (reverse-reverse (map worker ss)) ∙ ap reverse from in
     let on : All (λ w. plan_of w ≡ plan) (map worker ss) = All-same (λ w. plan_of w ≡ plan) (map worker ss) (reverse handed) same (each_reversed (λ w. plan_of w ≡ plan) handed all) in
     λ k d lt. (each_mapped worker (λ w. plan_of w ≡ plan) ss on k d lt, All-same (λ o. fits plan o.0 o.1) _ [] (idle k d lt) (All-nil (λ o. fits plan o.0 o.1)))
+
+-- workers of stations that are all on one plan come back on that plan
+
+mapped_each : {S W : Type 0} (f : S → W) (P : W → Type 0) (ss : List S) → All (λ s. P (f s)) ss → All P (map f ss)
+mapped_each f P [] all k d lt = absurd (omega arith)
+mapped_each f P (s ∷ ss) all zero d lt = all 0 s (omega arith)
+mapped_each f P (s ∷ ss) all (suc k) d lt = mapped_each f P ss (λ j e l. all (suc j) e (omega arith)) k d (omega arith)
+
+pub at_end : {S W P O : Type 0} (worker : S → W) (done : S → List (ℕ × O)) (plan_of : W → P) (fits : P → ℕ → O → Type 0) (plan : P) (zs : List S) (back : List W)
+    → back ≡ reverse (map worker zs) → All (λ s. IsOnPlan plan_of fits plan (worker s) (done s)) zs → All (λ w. plan_of w ≡ plan) back
+at_end worker done plan_of fits plan zs back to on =
+    All-same (λ w. plan_of w ≡ plan) back (reverse (map worker zs)) to (each_reversed (λ w. plan_of w ≡ plan) (map worker zs) (mapped_each worker (λ w. plan_of w ≡ plan) zs (λ k d lt. (on k d lt).0)))

@@ -1,4 +1,5 @@
 //! Who may hold tasks back.
+ghost use Rattle.std.specs.Prelude.{◌≡◌, true};
 
 /// Decides when a task may start. Any number of threads call it at once.
 pub trait Gate {
@@ -14,7 +15,9 @@ pub trait Gate {
 pub struct FreeGate;
 
 impl Gate for FreeGate {
-    fn may_start(&self, _number: usize, _turn: u64) -> bool {
+    fn may_start(&self, _number: usize, _turn: u64) -> bool
+        ensures { result ≡ true }
+    {
         true
     }
 

@@ -30,6 +30,8 @@ pub struct Performed<W: Worker> {
 ///
 /// The gate is asked up to 10,000,000 times before a task; if it never lets pass, the task is held back.
 ///
+/// Workers that share a plan still have it when they come back.
+///
 /// Refused in this order, with the workers: `BadCount` where there are more than 1,000,000 tasks, or where the number of workers is
 /// not from 1 to 64; `Memory`. All room is made before the first task, and nothing is refused from then on.
 pub fn perform_all<W: Worker + Send, G: Gate + Sync, R: Threads + Sync>(
@@ -43,6 +45,7 @@ pub fn perform_all<W: Worker + Send, G: Gate + Sync, R: Threads + Sync>(
     ensures each { IfOk result (λ p. IsRow total p.outcomes.items) }
     ensures fits { (plan : W.Plan) → All (λ w. W.plan w ≡ plan) workers.items → IfOk result (λ p. All (λ o. W.fits plan o.0 o.1) p.outcomes.items) }
     ensures back { IfOk result (λ p. map W.id p.workers.items ≡ map W.id workers.items) }
+    ensures plans { (plan : W.Plan) → All (λ w. W.plan w ≡ plan) workers.items → IfOk result (λ p. All (λ w. W.plan w ≡ plan) p.workers.items) }
     ensures counted { IfOk result (λ p. sum_by W.count p.workers.items + sum_by W.kept workers.items ≡ sum_by W.count workers.items + sum_by W.kept p.workers.items + held_in W.held p.outcomes.items) }
     ensures counts { IfOk result (λ _. IsCount total (vec_len workers)) }
     ensures refused { IfErr result (λ r. IsRefused total (vec_len workers) r.0) }
@@ -70,6 +73,7 @@ fn perform_in<W: Worker + Send, T: Drawing + Send + Sync, G: Gate + Sync, R: Thr
     ensures each { IfOk result (λ p. IsRow total p.outcomes.items) }
     ensures fits { (plan : W.Plan) → All (λ w. W.plan w ≡ plan) workers.items → IfOk result (λ p. All (λ o. W.fits plan o.0 o.1) p.outcomes.items) }
     ensures back { IfOk result (λ p. map W.id p.workers.items ≡ map W.id workers.items) }
+    ensures plans { (plan : W.Plan) → All (λ w. W.plan w ≡ plan) workers.items → IfOk result (λ p. All (λ w. W.plan w ≡ plan) p.workers.items) }
     ensures counted { IfOk result (λ p. sum_by W.count p.workers.items + sum_by W.kept workers.items ≡ sum_by W.count workers.items + sum_by W.kept p.workers.items + held_in W.held p.outcomes.items) }
     ensures memory { IfErr result (λ r. IsRefused total (vec_len workers) r.0) }
     ensures unchanged { IfErr result (λ r. r.1.items ≡ workers.items) }
@@ -110,6 +114,7 @@ fn run<W: Worker + Send, T: Drawing + Send + Sync, G: Gate + Sync, R: Threads + 
     ensures each { IsRow total result.outcomes.items }
     ensures fits { (plan : W.Plan) → All (λ w. W.plan w ≡ plan) workers.items → All (λ o. W.fits plan o.0 o.1) result.outcomes.items }
     ensures back { map W.id result.workers.items ≡ map W.id workers.items }
+    ensures plans { (plan : W.Plan) → All (λ w. W.plan w ≡ plan) workers.items → All (λ w. W.plan w ≡ plan) result.workers.items }
     ensures counted { sum_by W.count result.workers.items + sum_by W.kept workers.items ≡ sum_by W.count workers.items + sum_by W.kept result.workers.items + held_in W.held result.outcomes.items }
 {
     let mut workers = workers;

@@ -3,7 +3,7 @@ use Rattle.claims.specs.Seats.{all_drawn}
 use Rattle.tasks.specs.Outcomes.{AreOnce}
 use Rattle.tasks.specs.declared.station.Station.{Station}
 use Rattle.tasks.proofs.Placing.{are_once}
-use Rattle.tasks.proofs.Seating.{same_back, counted_back, on_start}
+use Rattle.tasks.proofs.Seating.{same_back, counted_back, on_start, at_end}
 use Rattle.tasks.proofs.perform.run.Given.{Over}
 use Rattle.tasks.proofs.perform.run.Goals as goal
 
@@ -18,6 +18,11 @@ returns-clause-fits g c plan all =
 pub returns-clause-back : goal.returns-clause-back
 returns-clause-back g c =
     same_back (λ (s : Here g). s.worker) g.W.Worker.id c.seated-stations.result.items c.work_all.new.stations.items c.args.workers.items c.collect.new.workers.items c.seated-stations.ensures.workers c.collect.ensures.workers c.work_all.ensures.ids
+
+pub returns-clause-plans : goal.returns-clause-plans
+returns-clause-plans g c plan all =
+    let on = on_start (λ (s : Here g). s.worker) (λ (s : Here g). s.done.items) g.W.Worker.plan g.W.Worker.fits plan c.seated-stations.result.items c.args.workers.items c.seated-stations.ensures.workers c.seated-stations.ensures.idle all in
+    at_end (λ (s : Here g). s.worker) (λ (s : Here g). s.done.items) g.W.Worker.plan g.W.Worker.fits plan c.work_all.new.stations.items c.collect.new.workers.items c.collect.ensures.workers (c.work_all.ensures.fits plan on)
 
 pub returns-clause-counted : goal.returns-clause-counted
 returns-clause-counted g c =
