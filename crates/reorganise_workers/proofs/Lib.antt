@@ -1,0 +1,3 @@
+pub mod Crews
+pub mod Ends
+pub mod Reorganises

@@ -1,0 +1,184 @@
+-- What a call for all pieces answers, from what its tasks came to.
+use Rattle.std.proofs.Common.{◌≡◌, ℕ, ◌+◌, ◌≤◌, subst, List, [], ◌∷◌, ◌++◌, length, map, reverse, sum_by, All, Some, refl, sym, ap, ◌∙◌, arith, append_assoc}
+use Rattle.std.specs.Prelude.{Bool, Option, None, Result, Ok, Err, IfOk, IfErr}
+use Rattle.std.specs.Option.{option_map}
+use Rattle.std.proofs.lemmas.List.{reverse-reverse}
+use Rattle.std.proofs.lemmas.List.Elements.{All-push, All-pop, All-same}
+use Rattle.std.proofs.lemmas.List.Sums.{sum_by-le, sum_by_push}
+use Rattle.tasks.proofs.Handing.{map_reverse, map_map, map_push, sum_reverse, sum_map}
+use Rattle.tasks.proofs.Seating.{reverse_push}
+use Rattle.tasks.specs.Outcomes.{IsRow, held_in}
+use Rattle.schema_version.specs.declared.element.Work.{Work}
+use Rattle.reorganise.specs.declared.work.Progress.{Progress}
+use Rattle.replay.specs.Replay.{Opening, progress_of}
+use Rattle.world.specs.Piecework.{standing, standing_at}
+use Rattle.world.specs.State.{State, facts_of}
+use Rattle.world.specs.declared.entry.Receipt.{Receipt}
+use Rattle.locked_store.specs.Cores.{IsCore}
+use Rattle.locked_store.specs.Known.{Known, total_count, IsLeastFront, OfLast}
+use Rattle.locked_store.specs.Receipts.{IsLogged}
+use Rattle.reorganise_workers.specs.Crews.{Filling, AreIdle}
+use Rattle.reorganise_workers.specs.Ends.{IsEndOf}
+use Rattle.reorganise_workers.specs.Reorganised.{IsCount, IsRefused, Reorganises, IsWorkedOff, WasBegun, WasRefused, Stays, right, asked}
+use Rattle.reorganise_workers.specs.declared.reorganising.ReorganiseFault.{ReorganiseFault}
+use Rattle.reorganise_workers.specs.declared.reorganising.ReorganiseFault.TheVariants as fault
+use Rattle.reorganise_workers.specs.declared.end.PieceEnd.{PieceEnd}
+use Rattle.reorganise_workers.specs.declared.job.Job.{Job}
+
+-- the handles of all workers, the last one first, are the handles that were handed in
+pub given_back : (handles : List Known) (ws : List Filling) → map (λ w. w.handle) ws ≡ reverse handles → reverse (map (λ w. w.handle) ws) ≡ handles
+given_back handles ws staff = ap reverse staff ∙ reverse-reverse handles
+
+-- idle workers keep nothing
+idle_none : (job : Job) (ws : List Filling) → AreIdle job ws → sum_by (λ w. length w.kept) ws ≡ 0
+idle_none job ws idle = omega (arith, sum_by-le (λ (w : Filling). length w.kept) 0 ws (λ i d lt. omega (arith, ap (λ (l : List Receipt). length l) (idle i d lt).0)))
+
+-- each worker has the whole job before it
+pub planned : (job : Job) (ws : List Filling) → AreIdle job ws → All (λ w. w.job.pieces ≡ job.pieces) ws
+planned job ws idle i d lt = ap (λ (j : Job). j.pieces) (idle i d lt).1
+
+shares : (handles : List Known) (ws : List Filling) → map (λ w. w.handle) ws ≡ reverse handles → total_count handles ≡ sum_by (λ w. w.handle.count) ws
+shares handles ws staff = sym (sum_reverse (λ (h : Known). h.count) handles) ∙ ap (sum_by (λ (h : Known). h.count)) (sym staff) ∙ sum_map (λ (h : Known). h.count) (λ (w : Filling). w.handle) ws
+
+numbers : (handles : List Known) (ws : List Filling) → handles ≡ reverse (map (λ w. w.handle) ws) → map (λ h. h.id) handles ≡ reverse (map (λ w. w.handle.id) ws)
+numbers handles ws is =
+    ap (map (λ (h : Known). h.id)) is ∙ map_reverse (λ (h : Known). h.id) (map (λ (w : Filling). w.handle) ws) ∙ ap reverse (map_map (λ (h : Known). h.id) (λ (w : Filling). w.handle) ws)
+
+-- ends hold no receipt
+none_held : (ends : List (ℕ × PieceEnd)) → held_in (λ (e : PieceEnd). 0) ends ≡ 0
+none_held [] = refl
+none_held (e ∷ ends) = omega (arith, none_held ends)
+
+pub reorganises : (opening : Opening) (job : Job) (handles : List Known) (ws ps : List Filling) (ends : List (ℕ × PieceEnd)) (back : List Known) (receipts : List (List Receipt))
+    → map (λ w. w.handle) ws ≡ reverse handles → AreIdle job ws → IsRow job.pieces ends
+    → ((plan : Job) → All (λ w. w.job ≡ plan) ws → All (λ e. IsEndOf opening plan e.0 e.1) ends)
+    → map (λ w. w.handle.id) ps ≡ map (λ w. w.handle.id) ws
+    → ((plan : Job) → All (λ w. w.job ≡ plan) ws → All (λ w. w.job ≡ plan) ps)
+    → sum_by (λ w. w.handle.count) ps + sum_by (λ w. length w.kept) ws ≡ sum_by (λ w. w.handle.count) ws + sum_by (λ w. length w.kept) ps + held_in (λ (e : PieceEnd). 0) ends
+    → back ≡ reverse (map (λ w. w.handle) ps) → sum_by length receipts ≡ sum_by (λ w. length w.kept) ps
+    → ((plan : Job) → All (λ w. w.job ≡ plan) ps → All (All (IsLogged opening plan.front)) receipts)
+    → Reorganises opening job handles ends back receipts
+reorganises opening job handles ws ps ends back receipts staff idle row fits ids plans counted back_is kept logged =
+    let first : handles ≡ reverse (map (λ (w : Filling). w.handle) ws) = sym (given_back handles ws staff) in
+    let staff_back : map (λ (w : Filling). w.handle) ps ≡ reverse back = sym (ap reverse back_is ∙ reverse-reverse (map (λ (w : Filling). w.handle) ps)) in
+    record {
+      each = row;
+      own = fits job (λ i d lt. (idle i d lt).1);
+      same = numbers back ps back_is ∙ ap reverse ids ∙ sym (numbers handles ws first);
+      counted = omega (arith, counted, idle_none job ws idle, shares handles ws staff, shares back ps staff_back, kept, none_held ends);
+      logged = logged job (plans job (λ i d lt. (idle i d lt).1));
+    }
+
+-- one worker taken apart: its handle comes after the others'
+pub handle_apart : (all left : List Filling) (w : Filling) (handle : Known) (handles new total : List Known) → all ≡ left ++ w ∷ [] → new ≡ handles ++ handle ∷ [] → w.handle ≡ handle
+    → handles ++ reverse (map (λ w. w.handle) all) ≡ total → new ++ reverse (map (λ w. w.handle) left) ≡ total
+handle_apart all left w handle handles new total all_is new_is own_is so_far =
+    let rest : List Known = reverse (map (λ (v : Filling). v.handle) left) in
+    ap (λ l. l ++ rest) new_is ∙ append_assoc handles (handle ∷ []) rest ∙ ap (λ h. handles ++ h ∷ rest) (sym own_is)
+    ∙ ap (λ l. handles ++ l) (sym (reverse_push (λ (v : Filling). v.handle) left w) ∙ ap (λ l. reverse (map (λ (v : Filling). v.handle) l)) (sym all_is)) ∙ so_far
+
+-- and so do its receipts
+pub receipts_apart : (all left : List Filling) (w : Filling) (kept : List Receipt) (receipts new : List (List Receipt)) (total : ℕ) → all ≡ left ++ w ∷ [] → new ≡ receipts ++ kept ∷ [] → w.kept ≡ kept
+    → sum_by length receipts + sum_by (λ w. length w.kept) all ≡ total → sum_by length new + sum_by (λ w. length w.kept) left ≡ total
+receipts_apart all left w kept receipts new total all_is new_is own_is so_far =
+    omega (
+      arith,
+      so_far,
+      ap (sum_by (λ (l : List Receipt). length l)) new_is,
+      sum_by_push (λ (l : List Receipt). length l) receipts kept,
+      ap (sum_by (λ (v : Filling). length v.kept)) all_is,
+      sum_by_push (λ (v : Filling). length v.kept) left w,
+      ap (λ (l : List Receipt). length l) own_is,
+    )
+
+-- which are logged, as the others' are
+pub logged_apart : (opening : Opening) (job own : Job) (all left : List Filling) (w : Filling) (kept : List Receipt) (receipts new : List (List Receipt))
+    → all ≡ left ++ w ∷ [] → new ≡ receipts ++ kept ∷ [] → w.job ≡ own → All (IsLogged opening own.front) kept
+    → All (λ v. v.job ≡ job) all × All (All (IsLogged opening job.front)) receipts → All (λ v. v.job ≡ job) left × All (All (IsLogged opening job.front)) new
+logged_apart opening job own all left w kept receipts new all_is new_is own_is logged h =
+    let parts = All-pop (λ (v : Filling). v.job ≡ job) all left (Some w) all_is h.0 in
+    let same : own ≡ job = sym own_is ∙ parts.1 in (
+      parts.0,
+      All-same (All (IsLogged opening job.front)) new (receipts ++ kept ∷ []) new_is
+          (All-push (All (IsLogged opening job.front)) receipts kept h.1 (subst (λ (j : Job). All (IsLogged opening j.front) kept) same logged)),
+    )
+
+-- ---- the look at the progress, which moves one front
+
+pub stays_ids : (old new : List Known) → Stays old new → map (λ h. h.id) new ≡ map (λ h. h.id) old
+stays_ids old new s = sym (map_map (λ (p : ℕ × ℕ). p.0) right new) ∙ ap (map (λ (p : ℕ × ℕ). p.0)) s ∙ map_map (λ (p : ℕ × ℕ). p.0) right old
+
+pub stays_count : (old new : List Known) → Stays old new → total_count new ≡ total_count old
+stays_count old new s = sym (sum_map (λ (p : ℕ × ℕ). p.1) right new) ∙ ap (sum_by (λ (p : ℕ × ℕ). p.1)) s ∙ sum_map (λ (p : ℕ × ℕ). p.1) right old
+
+pair_same : (a b c d : ℕ) → a ≡ c → b ≡ d → (let p : ℕ × ℕ = (a, b) in p) ≡ (c, d)
+pair_same a b c d e f = cc
+
+-- the last handle looked, and is the last again
+pub looked : (old popped new : List Known) (before after : Known) → old ≡ popped ++ before ∷ [] → new ≡ popped ++ after ∷ [] → after.id ≡ before.id → after.count ≡ before.count → Stays old new
+looked old popped new before after old_is new_is id count =
+    ap (map right) new_is ∙ map_push right popped after ∙ ap (λ (p : ℕ × ℕ). map right popped ++ p ∷ []) (pair_same _ _ _ _ id count)
+    ∙ sym (map_push right popped before) ∙ sym (ap (map right) old_is)
+
+-- what is begun in a core has at most 64 pieces
+abbrev count_of : Option (Work × ℕ × Bool) → ℕ
+count_of None = 0
+count_of (Some told) = told.1
+
+pub few : (opening : Opening) (core : State) (element pieces : ℕ) (work : Work) (ended : Bool) → IsCore opening core → standing_at (facts_of core) element ≡ Some (work, pieces, ended) → pieces ≤ 64
+few opening core element pieces work ended c is = go (progress_of (facts_of core).progress element) refl is
+  where
+    go : (o : Option Progress) → progress_of (facts_of core).progress element ≡ o → option_map standing o ≡ Some (work, pieces, ended) → pieces ≤ 64
+    go None e h = absurd (cc)
+    go (Some p) e h = let m : length p.pieces ≡ pieces = ap count_of h in omega (arith, m, (c.in_pieces element p e).few)
+
+-- the handle that looked has seen no less than before
+pub seen_still : (front : ℕ) (old popped new : List Known) (before after : Known) → old ≡ popped ++ before ∷ [] → new ≡ popped ++ after ∷ [] → before.front ≤ after.front
+    → All (λ h. front ≤ h.front) old → All (λ h. front ≤ h.front) new
+seen_still front old popped new before after old_is new_is rises all =
+    let parts = All-pop (λ (h : Known). front ≤ h.front) old popped (Some before) old_is all in
+    All-same (λ (h : Known). front ≤ h.front) new (popped ++ after ∷ []) new_is (All-push (λ (h : Known). front ≤ h.front) popped after parts.0 (omega (arith, parts.1, rises)))
+
+pub of_last : (handles others : List Known) (last : Known) (P : Known → Type 0) → handles ≡ others ++ last ∷ [] → P last → OfLast handles P
+of_last handles others last P are is = record { others = others; last = last; are = are; is = is }
+
+-- what the last handle found, of all handles
+pub refused_of_last : (opening : Opening) (element limit tries : ℕ) (handles others : List Known) (last : Known) (f : ReorganiseFault) → IsCount (length handles) limit tries
+    → handles ≡ others ++ last ∷ [] → WasRefused opening element last.front f → IsRefused opening element limit tries handles f
+refused_of_last opening element limit tries handles others last fault.BadCount counts are is = absurd is
+refused_of_last opening element limit tries handles others last (fault.WentBack seen) counts are is = (counts, of_last handles others last _ are is)
+refused_of_last opening element limit tries handles others last fault.NotBegun counts are is = (counts, of_last handles others last _ are is)
+refused_of_last opening element limit tries handles others last fault.Memory counts are is = absurd is
+
+-- all that was asked for, by handles of which one has looked
+pub worked_off : (opening : Opening) (moment element limit tries : ℕ) (job : Job) (handles mid : List Known) (ends : List (ℕ × PieceEnd)) (back : List Known) (receipts : List (List Receipt))
+    → Stays handles mid → job ≡ asked moment element job.kind job.pieces limit tries job.front → OfLast handles (λ last. WasBegun opening element job.kind job.pieces last.front)
+    → IsLeastFront handles job.front → Reorganises opening job mid ends back receipts → IsWorkedOff opening moment element limit tries handles ends back receipts
+worked_off opening moment element limit tries job handles mid ends back receipts s is begun least r =
+    record {
+      kind = job.kind;
+      pieces = job.pieces;
+      begun = begun;
+      front = job.front;
+      least = least;
+      done = record {
+        each = r.each;
+        own = subst (λ (j : Job). All (λ e. IsEndOf opening j e.0 e.1) ends) is r.own;
+        same = r.same ∙ stays_ids handles mid s;
+        counted = omega (arith, r.counted, stays_count handles mid s);
+        logged = r.logged;
+      };
+    }
+
+pub same_stays : (old mid new : List Known) → Stays old mid → new ≡ mid → Stays old new
+same_stays old mid new s is = ap (map right) is ∙ s
+
+-- ---- what holds of a result
+
+pub ok_map : {A E : Type 0} {P Q : A → Type 0} (r : Result A E) → IfOk r P → ((x : A) → P x → Q x) → IfOk r Q
+ok_map (Ok x) p f = f x p
+ok_map (Err e) p f = tt
+
+pub err_map : {A E : Type 0} {P Q : E → Type 0} (r : Result A E) → IfErr r P → ((x : E) → P x → Q x) → IfErr r Q
+err_map (Ok x) p f = tt
+err_map (Err e) p f = f e p

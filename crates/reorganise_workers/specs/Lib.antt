@@ -1,0 +1,5 @@
+pub mod Jobs
+pub mod Ends
+pub mod Turns
+pub mod Crews
+pub mod Reorganised

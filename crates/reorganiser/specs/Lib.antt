@@ -1,4 +1,0 @@
-pub mod Jobs
-pub mod Ends
-pub mod Crews
-pub mod Reorganised
