@@ -1,4 +1,5 @@
 pub mod Ends
+pub mod Says
 pub mod Desks
 pub mod Serves
 pub mod Works

@@ -6,7 +6,8 @@ use Rattle.tasks.proofs.Handing.{map_reverse, map_map, sum_reverse, sum_map}
 use Rattle.tasks.specs.Outcomes.{IsRow, held_in}
 use Rattle.replay.specs.Replay.{Opening}
 use Rattle.world.specs.declared.entry.Receipt.{Receipt}
-use Rattle.locked_store.specs.Known.{Known, total_count}
+use Rattle.locked_store.specs.Known.{Known, total_count, IsLeastFront}
+use Rattle.locked_store.specs.Receipts.{IsLogged}
 use Rattle.server.specs.Outcomes.{receipts_of}
 use Rattle.server.specs.Works.{Orders, Serving, AreIdle, IsOutcomeAt}
 use Rattle.server.specs.Served.{Serves}
@@ -18,8 +19,8 @@ pub given_back : (handles : List Known) (ws : List Serving) → map (λ w. w.han
 given_back handles ws staff = ap reverse staff ∙ reverse-reverse handles
 
 -- idle servers keep nothing
-idle_none : (orders : Orders) (ws : List Serving) → AreIdle orders ws → sum_by (λ w. w.kept) ws ≡ 0
-idle_none orders ws idle = omega (arith, sum_by-le (λ (w : Serving). w.kept) 0 ws (λ i d lt. omega (arith, (idle i d lt).0)))
+idle_none : (orders : Orders) (ws : List Serving) → AreIdle orders ws → sum_by (λ w. length w.kept) ws ≡ 0
+idle_none orders ws idle = omega (arith, sum_by-le (λ (w : Serving). length w.kept) 0 ws (λ i d lt. omega (arith, ap (λ (rs : List Receipt). length rs) (idle i d lt).0)))
 
 -- each server has all requests before it
 pub planned : (orders : Orders) (ws : List Serving) (total : ℕ) → AreIdle orders ws → total ≡ length orders.requests → All (λ w. length w.orders.requests ≡ total) ws
@@ -32,20 +33,26 @@ numbers : (handles : List Known) (ws : List Serving) → handles ≡ reverse (ma
 numbers handles ws is =
     ap (map (λ (h : Known). h.id)) is ∙ map_reverse (λ (h : Known). h.id) (map (λ (w : Serving). w.handle) ws) ∙ ap reverse (map_map (λ (h : Known). h.id) (λ (w : Serving). w.handle) ws)
 
-pub serves : (opening : Opening) (requests : List Request) (tries : ℕ) (handles : List Known) (ws ps : List Serving) (outcomes : List (ℕ × Outcome)) (back : List Known) (receipts : List (List Receipt))
-    → map (λ w. w.handle) ws ≡ reverse handles → AreIdle (record { requests = requests; tries = tries }) ws → IsRow (length requests) outcomes
+pub serves : (opening : Opening) (requests : List Request) (tries front : ℕ) (handles : List Known) (ws ps : List Serving) (outcomes : List (ℕ × Outcome)) (back : List Known) (receipts : List (List Receipt))
+    → IsLeastFront handles front → map (λ w. w.handle) ws ≡ reverse handles → AreIdle (record { requests = requests; tries = tries; front = front }) ws → IsRow (length requests) outcomes
     → ((orders : Orders) → All (λ w. w.orders ≡ orders) ws → All (λ o. IsOutcomeAt opening orders o.0 o.1) outcomes)
     → map (λ w. w.handle.id) ps ≡ map (λ w. w.handle.id) ws
-    → sum_by (λ w. w.handle.count) ps + sum_by (λ w. w.kept) ws ≡ sum_by (λ w. w.handle.count) ws + sum_by (λ w. w.kept) ps + held_in receipts_of outcomes
-    → back ≡ reverse (map (λ w. w.handle) ps) → sum_by length receipts ≡ sum_by (λ w. w.kept) ps
+    → ((orders : Orders) → All (λ w. w.orders ≡ orders) ws → All (λ w. w.orders ≡ orders) ps)
+    → sum_by (λ w. w.handle.count) ps + sum_by (λ w. length w.kept) ws ≡ sum_by (λ w. w.handle.count) ws + sum_by (λ w. length w.kept) ps + held_in receipts_of outcomes
+    → back ≡ reverse (map (λ w. w.handle) ps) → sum_by length receipts ≡ sum_by (λ w. length w.kept) ps
+    → ((orders : Orders) → All (λ w. w.orders ≡ orders) ps → All (All (IsLogged opening orders.front)) receipts)
     → Serves opening requests tries handles outcomes back receipts
-serves opening requests tries handles ws ps outcomes back receipts staff idle row fits ids counted back_is kept =
-    let orders : Orders = record { requests = requests; tries = tries } in
+serves opening requests tries front handles ws ps outcomes back receipts least staff idle row fits ids plans counted back_is kept logged =
+    let orders : Orders = record { requests = requests; tries = tries; front = front } in
+    let on_plan : All (λ (w : Serving). w.orders ≡ orders) ws = λ i d lt. (idle i d lt).1 in
     let first : handles ≡ reverse (map (λ (w : Serving). w.handle) ws) = sym (given_back handles ws staff) in
     let staff_back : map (λ (w : Serving). w.handle) ps ≡ reverse back = sym (ap reverse back_is ∙ reverse-reverse (map (λ (w : Serving). w.handle) ps)) in
     record {
+      front = front;
+      least = least;
       each = row;
-      own = fits orders (λ i d lt. (idle i d lt).1);
+      own = fits orders on_plan;
       same = numbers back ps back_is ∙ ap reverse ids ∙ sym (numbers handles ws first);
       counted = omega (arith, counted, idle_none orders ws idle, shares handles ws staff, shares back ps staff_back, kept);
+      logged = logged orders (plans orders on_plan);
     }

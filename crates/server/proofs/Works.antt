@@ -1,41 +1,31 @@
 -- What becomes of one request at a desk.
-use Rattle.std.proofs.Common.{ℕ, List, subst}
-use Rattle.std.specs.Prelude.{slice_index_or}
+use Rattle.std.proofs.Common.{◌≡◌, ℕ, List, [], ◌∷◌, ◌++◌, subst, sym, ap, ◌∙◌}
+use Rattle.std.specs.Prelude.{All, Some, slice_index_or}
 use Rattle.std.proofs.lemmas.List.{get_or_default}
-use Rattle.row_write.specs.declared.op.RowOp.{RowOp}
+use Rattle.std.proofs.lemmas.List.Elements.{All-pop, All-push, All-same}
 use Rattle.replay.specs.Replay.{Opening}
-use Rattle.world.specs.declared.committing.CommitFault.{CommitFault}
-use Rattle.world.specs.declared.committing.CommitFault.TheVariants as commit_fault
+use Rattle.world.specs.declared.entry.Receipt.{Receipt}
+use Rattle.locked_store.specs.Receipts.{IsLogged}
 use Rattle.server.specs.declared.request.Request.{Request}
 use Rattle.server.specs.declared.request.Outcome.{Outcome}
-use Rattle.server.specs.declared.request.Outcome.TheVariants as outcome
-use Rattle.server.specs.declared.tally.Tally.{Tally}
-use Rattle.server.specs.declared.tally.Last.{Last}
-use Rattle.server.specs.Desks.{IsGranted, IsReadOfCore, IsRefusedByCore}
-use Rattle.server.specs.Outcomes.{IsRejected, IsServed}
-use Rattle.server.specs.Works.{IsFinal, IsOutcomeOf, Orders, IsOutcomeAt}
+use Rattle.server.specs.Works.{IsOutcomeOf, Orders, Serving, IsAtWork, IsOutcomeAt}
 
-final : (fault : CommitFault) (answer : Last) → IsRejected fault answer → IsFinal fault
-final commit_fault.MomentTooLarge answer r = tt
-final commit_fault.BadLease answer r = tt
-final (commit_fault.LeaseEnded until now) answer r = r
-final commit_fault.WrongSchema answer r = tt
-final (commit_fault.Conflict key) answer r = r
-final commit_fault.Memory answer r = r
-
--- a request that was served through a desk, as all servers together tell it
-pub served_so : (opening : Opening) (ops : List RowOp) (tries : ℕ) (before : Tally) (o : Outcome) (after : Tally)
-    → IsServed (IsGranted opening) (IsReadOfCore opening) (IsRefusedByCore opening) ops tries before o after → IsOutcomeOf opening ops tries o
-served_so opening ops tries before (outcome.Done receipt) after s = s.1
-served_so opening ops tries before (outcome.Row op why) after s = s.1
-served_so opening ops tries before (outcome.Unprepared fault) after s = s
-served_so opening ops tries before (outcome.Rejected fault) after s = final fault after.last s
-served_so opening ops tries before (outcome.Busy n) after s = s.0
-served_so opening ops tries before outcome.Held after s = tt
-served_so opening ops tries before (outcome.WentBack seen) after s = tt
-served_so opening ops tries before outcome.Memory after s = tt
-
--- of the request that stands at this number, whatever would stand in for none
-pub outcome_at : (opening : Opening) (orders : Orders) (number : ℕ) (e : Request) (o : Outcome) → IsOutcomeOf opening (slice_index_or orders.requests number e).ops orders.tries o
+-- of the request of this number, whatever is given for none
+pub outcome_at : (opening : Opening) (orders : Orders) (number : ℕ) (e : Request) (o : Outcome) → IsOutcomeOf opening orders.front (slice_index_or orders.requests number e) orders.tries o
     → IsOutcomeAt opening orders number o
-outcome_at opening orders number e o own d lt = subst (λ (r : Request). IsOutcomeOf opening r.ops orders.tries o) (get_or_default orders.requests number e d lt) own
+outcome_at opening orders number e o own d lt = subst (λ (r : Request). IsOutcomeOf opening orders.front r orders.tries o) (get_or_default orders.requests number e d lt) own
+
+-- the receipts that a server of these orders keeps
+kept_logged : (opening : Opening) (orders : Orders) (w : Serving) → IsAtWork opening w → w.orders ≡ orders → All (IsLogged opening orders.front) w.kept
+kept_logged opening orders w at is = subst (λ (o : Orders). All (IsLogged opening o.front) w.kept) is at.logged
+
+-- a server leaves, the last one of all, and its receipts are put beside those of the others
+pub one_more_logged : (opening : Opening) (orders : Orders) (ws rest : List Serving) (w v : Serving) (rs qs : List (List Receipt)) (kept : List Receipt)
+    → ws ≡ rest ++ w ∷ [] → v ≡ w → kept ≡ v.kept → qs ≡ rs ++ kept ∷ [] → IsAtWork opening v
+    → All (λ (x : Serving). x.orders ≡ orders) ws × All (All (IsLogged opening orders.front)) rs → All (λ (x : Serving). x.orders ≡ orders) rest × All (All (IsLogged opening orders.front)) qs
+one_more_logged opening orders ws rest w v rs qs kept ws_is w_is kept_is qs_is at was =
+    let on_plan : All (λ (x : Serving). x.orders ≡ orders) rest × (w.orders ≡ orders) = All-pop (λ (x : Serving). x.orders ≡ orders) ws rest (Some w) ws_is was.0 in (
+      on_plan.0,
+      All-same (All (IsLogged opening orders.front)) qs (rs ++ kept ∷ []) qs_is
+          (All-push (All (IsLogged opening orders.front)) rs kept was.1 (subst (λ (x : List Receipt). All (IsLogged opening orders.front) x) (sym kept_is) (kept_logged opening orders v at (ap (λ (x : Serving). x.orders) w_is ∙ on_plan.1)))),
+    )

@@ -1,38 +1,49 @@
 -- What a handle's server may be given.
-use Rattle.std.specs.Prelude.{◌≡◌, ℕ, List, Result, Ok, Err}
-use Rattle.row_map.specs.Expect.{View}
+use Rattle.std.specs.Prelude.{◌≡◌, ℕ, ◌<◌, List, [], ◌∷◌, ◌++◌, Result, Ok, Err}
 use Rattle.row_write.specs.declared.op.RowOp.{RowOp}
 use Rattle.row_write.specs.declared.op.RowOutcome.TheVariants.{Refused}
-use Rattle.row_write.specs.declared.fault.RowFault.{RowFault}
 use Rattle.row_write.specs.Plain.{outcome}
 use Rattle.lease.specs.declared.lease.Lease.{Lease}
-use Rattle.lease.specs.Timeline.{granted_at}
+use Rattle.lease.specs.Timeline.{granted_at, max_moment}
 use Rattle.schema_version.specs.Version.{Version}
 use Rattle.replay.specs.Replay.{Opening}
-use Rattle.world.specs.Calls.{IsReadView, counted}
+use Rattle.world.specs.Calls.{CommitStep, IsReadView, counted}
+use Rattle.world.specs.declared.committing.CommitFault.{CommitFault}
+use Rattle.row_write.specs.Made.{PreparedTxn}
 use Rattle.world.specs.declared.entry.Grant.{Grant}
+use Rattle.world.specs.declared.entry.Receipt.{Receipt}
 use Rattle.world.specs.State.{State, facts_of}
-use Rattle.locked_store.specs.Cores.{IsCore}
-use Rattle.server.specs.Outcomes.{Keys}
+use Rattle.locked_store.specs.Cores.{IsCoreSince, WasLength}
+use Rattle.locked_store.specs.Receipts.{IsLogged}
+use Rattle.server.specs.Outcomes.{Said}
 
--- a lease on the newest version of some core behind the lock, with the schema of that version
-abbrev pub IsGranted : Opening → Lease → Version → Type 0
-IsGranted opening lease schema =
-    (core : State) × (moment : ℕ) × IsCore opening core × (lease ≡ granted_at (facts_of core).line (counted core moment)) × (schema ≡ (facts_of core).newest)
+-- a core behind the lock refused to commit a prepared transaction of these operations, for this reason
+pub record WasUncommitted (opening : Opening) (front moment : ℕ) (ops : List RowOp) (fault : CommitFault) : Type 0 where
+  pub core : State
+  pub is_core : IsCoreSince opening front core
+  pub prepared : PreparedTxn
+  pub own : prepared.ops ≡ ops
+  pub back : PreparedTxn
+  pub left : State
+  pub refused : CommitStep core moment prepared (Err (fault, back)) left
 
--- each key with its value in some core behind the lock, or with none
-abbrev pub IsReadOfCore : Opening → Keys → View → Type 0
-IsReadOfCore opening keys view = (core : State) × IsCore opening core × IsReadView core keys view
-
--- the rows of some core behind the lock refuse the operations, this one first and for this reason
-abbrev pub IsRefusedByCore : Opening → List RowOp → ℕ → RowFault → Type 0
-IsRefusedByCore opening ops op why = (core : State) × IsCore opening core × (outcome (facts_of core).rows ops ≡ Refused op why)
+-- what a handle's server may say, each of a core behind the lock that has at least so many entries
+abbrev pub SaidByCore : Opening → ℕ → Said → Type 0
+SaidByCore opening front (Said.granted moment lease schema) =
+    (core : State) × IsCoreSince opening front core × (lease ≡ granted_at (facts_of core).line (counted core moment)) × (schema ≡ (facts_of core).newest)
+SaidByCore opening front (Said.overdue moment) = (core : State) × IsCoreSince opening front core × (max_moment < counted core moment)
+SaidByCore opening front (Said.viewed keys view) = (core : State) × IsCoreSince opening front core × IsReadView core keys view
+SaidByCore opening front (Said.logged receipt) = IsLogged opening front receipt
+SaidByCore opening front (Said.unfit ops op why) = (core : State) × IsCoreSince opening front core × (outcome (facts_of core).rows ops ≡ Refused op why)
+SaidByCore opening front (Said.uncommitted moment ops fault) = WasUncommitted opening front moment ops fault
+SaidByCore opening front (Said.went_back seen) = WasLength opening seen
 
 -- a lease and its schema, without the receipt
 abbrev pub lent : {E : Type 0} → Result Grant E → Result (Lease × Version) E
 lent (Ok given) = Ok (given.lease, given.schema)
 lent (Err fault) = Err fault
 
-abbrev pub lent_count : {E : Type 0} → Result Grant E → ℕ
-lent_count (Ok given) = 1
-lent_count (Err fault) = 0
+-- the receipts that are kept, with that of the lease
+abbrev pub kept_with : {E : Type 0} → List Receipt → Result Grant E → List Receipt
+kept_with before (Ok given) = before ++ given.receipt ∷ []
+kept_with before (Err fault) = before

@@ -1,55 +1,46 @@
 -- What workers do.
-use Rattle.std.specs.Prelude.{◌≡◌, ℕ, ◌<◌, List, length, All, slice_index_or}
-use Rattle.row_write.specs.declared.op.RowOp.{RowOp}
+use Rattle.std.specs.Prelude.{◌≡◌, ℕ, ◌<◌, ◌≤◌, List, [], length, All, slice_index_or}
 use Rattle.replay.specs.Replay.{Opening}
-use Rattle.world.specs.declared.committing.CommitFault.{CommitFault}
-use Rattle.world.specs.declared.committing.CommitFault.TheVariants as commit_fault
+use Rattle.world.specs.declared.entry.Receipt.{Receipt}
 use Rattle.locked_store.specs.Known.{Known}
+use Rattle.locked_store.specs.Receipts.{IsLogged}
 use Rattle.server.specs.declared.request.Request.{Request}
 use Rattle.server.specs.declared.request.Outcome.{Outcome}
-use Rattle.server.specs.declared.request.Outcome.TheVariants as outcome
-use Rattle.server.specs.Desks.{IsGranted, IsReadOfCore, IsRefusedByCore}
-use Rattle.server.specs.Outcomes.{IsReceiptOf, IsUnprepared}
+use Rattle.server.specs.Desks.{SaidByCore}
+use Rattle.server.specs.Outcomes.{IsTrueOf}
 
--- a refusal after which no further try would help
-abbrev pub IsFinal : CommitFault → Type 0
-IsFinal commit_fault.MomentTooLarge = Unit {0}
-IsFinal commit_fault.BadLease = Unit {0}
-IsFinal (commit_fault.LeaseEnded until now) = ⊥
-IsFinal commit_fault.WrongSchema = Unit {0}
-IsFinal (commit_fault.Conflict key) = ⊥
-IsFinal commit_fault.Memory = ⊥
-
--- what may become of these operations, served in a world of this opening with so many tries
-abbrev pub IsOutcomeOf : Opening → List RowOp → ℕ → Outcome → Type 0
-IsOutcomeOf opening ops tries (outcome.Done receipt) = IsReceiptOf ops receipt
-IsOutcomeOf opening ops tries (outcome.Row op why) = IsRefusedByCore opening ops op why
-IsOutcomeOf opening ops tries (outcome.Unprepared fault) = IsUnprepared (IsGranted opening) (IsReadOfCore opening) ops fault
-IsOutcomeOf opening ops tries (outcome.Rejected fault) = IsFinal fault
-IsOutcomeOf opening ops tries (outcome.Busy n) = n ≡ tries
-IsOutcomeOf opening ops tries outcome.Held = Unit {0}
-IsOutcomeOf opening ops tries (outcome.WentBack seen) = Unit {0}
-IsOutcomeOf opening ops tries outcome.Memory = Unit {0}
-
--- what all servers share: the requests, and how often each is tried at most
+-- what all servers share: the requests, how often each is tried at most, and how many entries all their handles had seen
 pub record Orders : Type 0 where
   pub requests : List Request
   pub tries : ℕ
+  pub front : ℕ
+
+-- what may become of a request, served in a world of this opening after so many entries, with so many tries
+abbrev pub IsOutcomeOf : Opening → ℕ → Request → ℕ → Outcome → Type 0
+IsOutcomeOf opening front request tries = IsTrueOf (SaidByCore opening front) request.moment request.ops tries
 
 -- what may become of the request of this number
 abbrev pub IsOutcomeAt : Opening → Orders → ℕ → Outcome → Type 0
-IsOutcomeAt opening orders number o = (d : Request) → number < length orders.requests → IsOutcomeOf opening (slice_index_or orders.requests number d).ops orders.tries o
+IsOutcomeAt opening orders number o = (d : Request) → number < length orders.requests → IsOutcomeOf opening orders.front (slice_index_or orders.requests number d) orders.tries o
 
 -- each outcome is one of the request of its number
 abbrev pub AreOutcomes : Opening → Orders → List (ℕ × Outcome) → Type 0
 AreOutcomes opening orders os = All (λ o. IsOutcomeAt opening orders o.0 o.1) os
 
--- a worker, as contracts see it: its handle, how many receipts of leases it keeps, and its orders
+-- a worker, as contracts see it: its handle, the receipts of leases that it keeps, and its orders
 pub record Serving : Type 0 where
   pub handle : Known
-  pub kept : ℕ
+  pub kept : List Receipt
   pub orders : Orders
+
+-- it has so many tries; its handle has seen at least what the orders say that all handles had seen, and each receipt is of an entry that
+-- came after that
+pub record IsAtWork (opening : Opening) (w : Serving) : Type 0 where
+  pub some_tries : 1 ≤ w.orders.tries
+  pub few_tries : w.orders.tries ≤ 1000
+  pub seen : w.orders.front ≤ w.handle.front
+  pub logged : All (IsLogged opening w.orders.front) w.kept
 
 -- servers with these orders that have served no request yet
 abbrev pub AreIdle : Orders → List Serving → Type 0
-AreIdle orders ws = All (λ w. (w.kept ≡ 0) × (w.orders ≡ orders)) ws
+AreIdle orders ws = All (λ w. (w.kept ≡ []) × (w.orders ≡ orders)) ws

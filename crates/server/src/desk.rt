@@ -1,6 +1,6 @@
 //! The port of one handle of a shared world.
-ghost use Rattle.std.specs.Prelude.{◌≡◌, ◌+◌, ◌<◌, length, vec_len, vec_capacity};
-ghost use Rattle.server.specs.Desks.{lent, lent_count};
+ghost use Rattle.std.specs.Prelude.{◌≡◌, ◌<◌, vec_len, vec_capacity};
+ghost use Rattle.server.specs.Desks.{lent, kept_with};
 
 use crate::port::Port;
 use crate::tally::{Last, Tally, last_of_commit, last_of_grant, last_of_read};
@@ -31,7 +31,7 @@ fn kept_apart(
 ) -> Result<(Lease, Counted<Schema>), SharedFault<GrantFault>>
     requires room { vec_len kept.old < vec_capacity kept.old }
     ensures lent { result ≡ lent granted }
-    ensures kept { length kept.new.items ≡ length kept.old.items + lent_count granted }
+    ensures kept { kept.new.items ≡ kept_with kept.old.items granted }
 {
     let Grant {
         lease,
@@ -43,8 +43,7 @@ fn kept_apart(
 }
 
 impl<'a, L: Room, R: Wait> Port for Desk<'a, L, R> {
-    ghost use Rattle.std.specs.Prelude.{length};
-    ghost use Rattle.server.specs.Desks.{IsGranted, IsReadOfCore, IsRefusedByCore};
+    ghost use Rattle.server.specs.Desks.{SaidByCore};
 
     ghost id = { λ d. d.handle.id };
 
@@ -52,15 +51,13 @@ impl<'a, L: Room, R: Wait> Port for Desk<'a, L, R> {
 
     ghost count = { λ d. d.handle.count };
 
-    ghost kept = { λ d. length d.kept.items };
+    ghost front = { λ d. d.handle.front };
 
-    ghost grants = { IsGranted L.opening };
+    ghost kept = { λ d. d.kept.items };
 
-    ghost reads = { IsReadOfCore L.opening };
+    ghost may = { SaidByCore L.opening };
 
-    ghost refuses = { IsRefusedByCore L.opening };
-
-    #[tactic(auto, using(crate::proofs::Desks::granted, crate::proofs::Desks::granted_count, crate::proofs::Desks::same_id))]
+    #[tactic(auto, using(crate::proofs::Desks::same_id))]
     fn lease(
         &mut self,
         alloc: Global,
@@ -76,14 +73,14 @@ impl<'a, L: Room, R: Wait> Port for Desk<'a, L, R> {
         answer
     }
 
-    #[tactic(auto, using(crate::proofs::Desks::viewed, crate::proofs::Desks::same_id))]
+    #[tactic(auto, using(crate::proofs::Desks::same_id))]
     fn read(&mut self, alloc: Global, keys: &ReadSet) -> Result<ReadView, SharedFault<AllocError>> {
         let answer = self.shared.read(self.rt, alloc, &mut self.handle, keys);
         self.tally.note(last_of_read(&answer));
         answer
     }
 
-    #[tactic(auto, using(crate::proofs::Desks::own, crate::proofs::Desks::same_id_back))]
+    #[tactic(auto, using(crate::proofs::Desks::same_id_back))]
     fn commit(
         &mut self,
         alloc: Global,

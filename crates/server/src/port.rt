@@ -1,7 +1,7 @@
 //! What one server needs of a shared world.
-ghost use Rattle.std.specs.Prelude.{◌≡◌, ◌+◌, ◌<◌, ◌^◌, IfOk};
+ghost use Rattle.std.specs.Prelude.{◌≡◌, ℕ, ◌+◌, ◌<◌, ◌≤◌, ◌^◌, length};
 ghost use Rattle.server.specs.Tallies.{tally as tally_of, retried, last_of_grant, last_of_read, last_of_commit};
-ghost use Rattle.server.specs.Outcomes.{IsCommitOf, given_by};
+ghost use Rattle.server.specs.Outcomes.{GrantSays, Keeps, ReadSays, CommitSays, given_by};
 
 use crate::tally::Tally;
 use lease::Lease;
@@ -15,14 +15,13 @@ use world::{CommitFault, Committed, GrantFault};
 
 /// Leases, reads and commits of one server, as `Shared` answers them through a handle. A port keeps the receipts of its leases, and
 /// a tally of its answers.
+///
+/// Each answer is of a state of the world that is no older than what the port had seen before the call: the lease that it grants, the
+/// pairs that it reads, the receipt of an entry that came after, and each refusal but `WentBack` and `Memory`.
 pub trait Port {
     ghost use Rattle.std.specs.Prelude.{ℕ, List};
-    ghost use Rattle.lease.specs.declared.lease.Lease.{Lease};
-    ghost use Rattle.schema_version.specs.Version.{Version};
-    ghost use Rattle.row_map.specs.Expect.{View};
-    ghost use Rattle.row_write.specs.declared.op.RowOp.{RowOp};
-    ghost use Rattle.row_write.specs.declared.fault.RowFault.{RowFault};
-    ghost use Rattle.server.specs.Outcomes.{Keys};
+    ghost use Rattle.world.specs.declared.entry.Receipt.{Receipt};
+    ghost use Rattle.server.specs.Outcomes.{Said};
     ghost use Rattle.server.specs.declared.tally.Tally.{Tally};
 
     // through which handle it calls
@@ -34,22 +33,19 @@ pub trait Port {
     // how many entries its calls added
     ghost count: { Self → ℕ };
 
-    // how many receipts it keeps
-    ghost kept: { Self → ℕ };
+    // the length of the log that it last saw
+    ghost front: { Self → ℕ };
 
-    // which leases it may grant, each with the schema of its version
-    ghost grants: { Lease → Version → Type 0 };
+    // the receipts that it keeps
+    ghost kept: { Self → List Receipt };
 
-    // what it may answer where these keys are to be read
-    ghost reads: { Keys → View → Type 0 };
-
-    // of which operations it may say that the rows refuse them, at which one and why
-    ghost refuses: { List RowOp → ℕ → RowFault → Type 0 };
+    // what it may say of the world that it calls, after so many entries of the log
+    ghost may: { ℕ → Said → Type 0 };
 
     /// Takes a lease on the newest version at `moment`, and gives it with the schema of that version. The port keeps the receipt,
     /// whose room is made first.
     ///
-    /// Refused as `Shared::lease` is; `Memory` also where there is no room for the receipt.
+    /// Refused as `Shared::lease` is; `Memory` also if there is no room for the receipt.
     fn lease(
         &mut self,
         alloc: Global,
@@ -58,8 +54,10 @@ pub trait Port {
         requires { (tally self.old).retries < 2 ^ 63 }
         ensures tallied { tally self.new ≡ tally_of (tally self.old).retries (last_of_grant result) }
         ensures own_handle { id self.new ≡ id self.old }
-        ensures counted { count self.new + kept self.old ≡ count self.old + kept self.new }
-        ensures granted { IfOk result (λ given. grants given.0 given.1) };
+        ensures rises { front self.old ≤ front self.new }
+        ensures counted { count self.new + length (kept self.old) ≡ count self.old + length (kept self.new) }
+        ensures keeps { (f : ℕ) → f ≤ front self.old → Keeps (may f) (kept self.old) result (kept self.new) }
+        ensures says { (f : ℕ) → f ≤ front self.old → GrantSays (may f) moment result };
 
     /// The pairs of these keys. Refused as `Shared::read` is.
     fn read(&mut self, alloc: Global, keys: &ReadSet) -> Result<ReadView, SharedFault<AllocError>>
@@ -67,7 +65,8 @@ pub trait Port {
         ensures tallied { tally self.new ≡ tally_of (tally self.old).retries (last_of_read result) }
         ensures own_handle { id self.new ≡ id self.old }
         ensures same { (count self.new ≡ count self.old) × (kept self.new ≡ kept self.old) }
-        ensures viewed { IfOk result (λ view. reads keys.now view) };
+        ensures rises { front self.old ≤ front self.new }
+        ensures says { (f : ℕ) → f ≤ front self.old → ReadSays (may f) keys.now result };
 
     /// Commits a prepared transaction at `moment`: `Done` has the receipt for an entry of its operations, and `Refused` tells that the rows
     /// refuse them. The call is refused as `Shared::commit` is; what was prepared comes back with each such refusal.
@@ -81,7 +80,8 @@ pub trait Port {
         ensures tallied { tally self.new ≡ tally_of ((tally self.old).retries + retried (last_of_commit result)) (last_of_commit result) }
         ensures own_handle { id self.new ≡ id self.old }
         ensures counted { (count self.new ≡ count self.old + given_by result) × (kept self.new ≡ kept self.old) }
-        ensures own { IfOk result (λ done. IsCommitOf refuses prepared.ops done) };
+        ensures rises { front self.old ≤ front self.new }
+        ensures says { (f : ℕ) → f ≤ front self.old → CommitSays (may f) moment prepared.ops result };
 
     /// How many of its answers were a conflict or the end of a lease, and its last answer.
     fn tally(&self) -> Tally

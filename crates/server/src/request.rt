@@ -14,7 +14,7 @@ pub struct Request {
 /// What became of a request.
 #[derive(Drop)]
 pub enum Outcome {
-    /// It is committed, and this is the receipt for its entry.
+    /// It is committed, and this is the receipt for its entry, which is in the log.
     Done(Receipt),
     /// The rows refuse it, and nothing changed.
     Row {
@@ -39,6 +39,6 @@ pub enum Outcome {
         /// The length of the log.
         seen: u64,
     },
-    /// Want of memory.
+    /// Out of memory.
     Memory,
 }

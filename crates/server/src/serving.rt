@@ -1,6 +1,7 @@
 //! One request, tried until a try ends otherwise than in a conflict or with the end of its lease.
-ghost use Rattle.std.specs.Prelude.{◌≡◌, ℕ, ◌+◌, ◌<◌, ◌≤◌, ◌^◌, IfOk, IfErr, MatchOption};
-ghost use Rattle.server.specs.Outcomes.{IsEnd, IsServed, receipts_of, receipts_by, unprepared_by};
+ghost use Rattle.std.specs.Prelude.{◌≡◌, ℕ, ◌+◌, ◌<◌, ◌≤◌, ◌^◌, length, All, IfOk, IfErr};
+ghost use Rattle.server.specs.Outcomes.{Said, IsAgain, IsEnd, IsServed, IsTrueOf, receipts_of, receipts_by, unprepared_by};
+ghost use Rattle.server.specs.Tries.{HasFailed, IsHeld, IsNext, StayLogged};
 
 use crate::port::Port;
 use crate::request::{Outcome, Request};
@@ -20,12 +21,14 @@ fn held_or_new<P: Port>(
     held: Option<(Lease, Counted<Schema>)>,
 ) -> Result<(Lease, Counted<Schema>), Outcome>
     requires room { (P.tally port.old).retries < 2 ^ 63 }
-    requires held { MatchOption held (Unit {0}) (λ h. P.grants h.0 h.1) }
-    ensures granted { IfOk result (λ h. P.grants h.0 h.1) }
-    ensures over { IfErr result (λ o. IsEnd P.grants P.reads P.refuses request.now.ops o (P.tally port.new).last) }
+    ensures granted { (f : ℕ) → f ≤ P.front port.old → IsHeld (P.may f) request.now.moment held → IfOk result (λ h. P.may f (Said.granted request.now.moment h.0 h.1)) }
+    ensures over { IfErr result (λ o. IsEnd o (P.tally port.new).last) }
+    ensures own { (f n : ℕ) → f ≤ P.front port.old → IfErr result (λ o. IsTrueOf (P.may f) request.now.moment request.now.ops n o) }
     ensures retries { (P.tally port.new).retries ≡ (P.tally port.old).retries }
     ensures own_handle { P.id port.new ≡ P.id port.old }
-    ensures counted { P.count port.new + P.kept port.old ≡ P.count port.old + P.kept port.new + receipts_by result }
+    ensures rises { P.front port.old ≤ P.front port.new }
+    ensures counted { P.count port.new + length (P.kept port.old) ≡ P.count port.old + length (P.kept port.new) + receipts_by result }
+    ensures kept { (f : ℕ) → f ≤ P.front port.old → StayLogged (P.may f) (P.kept port.old) (P.kept port.new) }
 {
     if let Some(held) = held {
         return Ok(held);
@@ -66,12 +69,14 @@ fn prepared_by<P: Port>(
     schema: &Counted<Schema>,
 ) -> Result<Prepared, Outcome>
     requires room { (P.tally port.old).retries < 2 ^ 63 }
-    requires granted { P.grants lease schema.now }
-    ensures own { IfOk result (λ p. p.ops ≡ request.now.ops) }
-    ensures over { IfErr result (λ o. IsEnd P.grants P.reads P.refuses request.now.ops o (P.tally port.new).last) }
+    ensures of_request { IfOk result (λ p. p.ops ≡ request.now.ops) }
+    ensures over { IfErr result (λ o. IsEnd o (P.tally port.new).last) }
+    ensures own { (f n : ℕ) → f ≤ P.front port.old → P.may f (Said.granted request.now.moment lease schema.now) → IfErr result (λ o. IsTrueOf (P.may f) request.now.moment request.now.ops n o) }
     ensures retries { (P.tally port.new).retries ≡ (P.tally port.old).retries }
     ensures own_handle { P.id port.new ≡ P.id port.old }
-    ensures counted { P.count port.new + P.kept port.old ≡ P.count port.old + P.kept port.new + receipts_by result }
+    ensures rises { P.front port.old ≤ P.front port.new }
+    ensures counted { P.count port.new + length (P.kept port.old) ≡ P.count port.old + length (P.kept port.new) + receipts_by result }
+    ensures kept { P.kept port.new ≡ P.kept port.old }
 {
     let Ok(keys) = reads_of(alloc, schema.get(), request.ops.as_slice()) else {
         return Err(Outcome::Memory);
@@ -93,7 +98,7 @@ fn prepared_by<P: Port>(
     }
 }
 
-// Commits what was prepared. Where another try is to follow: whether the lease still serves.
+// Commits what was prepared. If another try is to follow: whether the lease still serves.
 fn committed_by<P: Port>(
     alloc: Global,
     port: &mut P,
@@ -101,12 +106,17 @@ fn committed_by<P: Port>(
     prepared: Prepared,
 ) -> Result<bool, Outcome>
     requires room { (P.tally port.old).retries < 2 ^ 63 }
-    requires own { prepared.ops ≡ request.now.ops }
-    ensures over { IfErr result (λ o. IsEnd P.grants P.reads P.refuses request.now.ops o (P.tally port.new).last) }
-    ensures again { IfOk result (λ _. (P.tally port.new).retries ≡ (P.tally port.old).retries + 1) }
+    requires of_request { prepared.ops ≡ request.now.ops }
+    ensures again { IfOk result (λ serves. IsAgain serves (P.tally port.new).last) }
+    ensures failed { (f : ℕ) → f ≤ P.front port.old → IfOk result (λ _. HasFailed (P.may f) request.now.moment request.now.ops) }
+    ensures over { IfErr result (λ o. IsEnd o (P.tally port.new).last) }
+    ensures own { (f n : ℕ) → f ≤ P.front port.old → IfErr result (λ o. IsTrueOf (P.may f) request.now.moment request.now.ops n o) }
+    ensures more { IfOk result (λ _. (P.tally port.new).retries ≡ (P.tally port.old).retries + 1) }
     ensures once { IfErr result (λ _. (P.tally port.new).retries ≡ (P.tally port.old).retries) }
     ensures own_handle { P.id port.new ≡ P.id port.old }
-    ensures counted { P.count port.new + P.kept port.old ≡ P.count port.old + P.kept port.new + receipts_by result }
+    ensures rises { P.front port.old ≤ P.front port.new }
+    ensures counted { P.count port.new + length (P.kept port.old) ≡ P.count port.old + length (P.kept port.new) + receipts_by result }
+    ensures kept { P.kept port.new ≡ P.kept port.old }
 {
     match port.commit(alloc, request.moment, prepared) {
         Ok(Committed::Done(receipt)) => Err(Outcome::Done(receipt)),
@@ -127,7 +137,7 @@ fn committed_by<P: Port>(
     }
 }
 
-// One try. Where another is to follow: the lease, where it still serves.
+// One try. If another is to follow: the lease, if it still serves.
 fn tried<P: Port>(
     alloc: Global,
     port: &mut P,
@@ -135,13 +145,17 @@ fn tried<P: Port>(
     held: Option<(Lease, Counted<Schema>)>,
 ) -> Result<Option<(Lease, Counted<Schema>)>, Outcome>
     requires room { (P.tally port.old).retries < 2 ^ 63 }
-    requires held { MatchOption held (Unit {0}) (λ h. P.grants h.0 h.1) }
-    ensures held { IfOk result (λ held. MatchOption held (Unit {0}) (λ h. P.grants h.0 h.1)) }
-    ensures over { IfErr result (λ o. IsEnd P.grants P.reads P.refuses request.now.ops o (P.tally port.new).last) }
-    ensures again { IfOk result (λ _. (P.tally port.new).retries ≡ (P.tally port.old).retries + 1) }
+    ensures held { (f : ℕ) → f ≤ P.front port.old → IsHeld (P.may f) request.now.moment held → IfOk result (λ next. IsHeld (P.may f) request.now.moment next) }
+    ensures again { IfOk result (λ next. IsNext next (P.tally port.new).last) }
+    ensures failed { (f : ℕ) → f ≤ P.front port.old → IfOk result (λ _. HasFailed (P.may f) request.now.moment request.now.ops) }
+    ensures over { IfErr result (λ o. IsEnd o (P.tally port.new).last) }
+    ensures own { (f n : ℕ) → f ≤ P.front port.old → IsHeld (P.may f) request.now.moment held → IfErr result (λ o. IsTrueOf (P.may f) request.now.moment request.now.ops n o) }
+    ensures more { IfOk result (λ _. (P.tally port.new).retries ≡ (P.tally port.old).retries + 1) }
     ensures once { IfErr result (λ _. (P.tally port.new).retries ≡ (P.tally port.old).retries) }
     ensures own_handle { P.id port.new ≡ P.id port.old }
-    ensures counted { P.count port.new + P.kept port.old ≡ P.count port.old + P.kept port.new + receipts_by result }
+    ensures rises { P.front port.old ≤ P.front port.new }
+    ensures counted { P.count port.new + length (P.kept port.old) ≡ P.count port.old + length (P.kept port.new) + receipts_by result }
+    ensures kept { (f : ℕ) → f ≤ P.front port.old → StayLogged (P.may f) (P.kept port.old) (P.kept port.new) }
 {
     let (lease, schema) = held_or_new(alloc, port, request, held)?;
     let prepared = prepared_by(alloc, port, request, lease, &schema)?;
@@ -152,21 +166,28 @@ fn tried<P: Port>(
     }
 }
 
-/// Serves one request through a port. A try is a lease where there is none at hand, a read, a preparation and a commit. One that
+/// Serves one request through a port. A try is a lease if there is none at hand, a read, a preparation and a commit. One that
 /// ends in a conflict is followed by another under the same lease, and one whose lease has ended by another under a new one.
 ///
 /// - `request`: the operations, and the moment of each lease and commit.
 /// - `tries`: how many such tries there are at most, from 1 to 1,000. After so many the outcome is `Busy`.
 ///
-/// A lease that is refused with `MomentTooLarge` gives `Rejected` with it, and any want of memory `Memory`.
+/// A lease that is refused with `MomentTooLarge` gives `Rejected` with it, and running out of memory `Memory`.
+///
+/// What the outcome tells is what the port said after all that it had seen when the call began: `Done` has a receipt whose entry is in
+/// the log, `Row` and `Rejected` have a refusal, `Unprepared` comes of a lease that was granted and of what was read under it, `WentBack`
+/// has a length of the log, and `Busy` comes after that many tries that ended in a conflict or with the end of their lease.
 #[tactic(auto, using(crate::proofs::Ends::served))]
 pub fn serve_one<P: Port>(alloc: Global, port: &mut P, request: &Request, tries: u32) -> Outcome
     requires tries { (1 ≤ tries) × (tries ≤ 1000) }
     requires room { (P.tally port.old).retries ≤ 2 ^ 62 }
-    ensures served { IsServed P.grants P.reads P.refuses request.now.ops tries (P.tally port.old) result (P.tally port.new) }
+    ensures served { IsServed tries (P.tally port.old) result (P.tally port.new) }
+    ensures own { (f : ℕ) → f ≤ P.front port.old → IsTrueOf (P.may f) request.now.moment request.now.ops tries result }
     ensures few { (P.tally port.new).retries ≤ (P.tally port.old).retries + tries }
     ensures own_handle { P.id port.new ≡ P.id port.old }
-    ensures counted { P.count port.new + P.kept port.old ≡ P.count port.old + P.kept port.new + receipts_of result }
+    ensures rises { P.front port.old ≤ P.front port.new }
+    ensures counted { P.count port.new + length (P.kept port.old) ≡ P.count port.old + length (P.kept port.new) + receipts_of result }
+    ensures kept { (f : ℕ) → f ≤ P.front port.old → All (λ r. P.may f (Said.logged r)) (P.kept port.old) → All (λ r. P.may f (Said.logged r)) (P.kept port.new) }
 {
     let mut held = None;
     for _i in 0..tries {

@@ -1,6 +1,7 @@
 //! Many requests, by as many servers as there are handles.
-ghost use Rattle.std.specs.Prelude.{◌≡◌, ◌≤◌, length, map, reverse, sum_by, vec_len, vec_capacity, [], IfOk, IfErr};
-ghost use Rattle.server.specs.Works.{AreIdle};
+ghost use Rattle.std.specs.Prelude.{◌≡◌, ◌≤◌, length, map, reverse, sum_by, vec_len, vec_capacity, [], All, IfOk, IfErr};
+ghost use Rattle.locked_store.specs.Receipts.{IsLogged};
+ghost use Rattle.server.specs.Works.{Orders, AreIdle};
 ghost use Rattle.server.specs.Served.{IsRefused, IsCount, Serves, told};
 
 use crate::desk::Desk;
@@ -8,7 +9,7 @@ use crate::request::{Outcome, Request};
 use crate::tally::{Last, Tally};
 use crate::worker::RequestWorker;
 use listed::Listed;
-use locked_store::{Handle, Room, Shared};
+use locked_store::{Handle, Room, Shared, least_front};
 use std::alloc::Global;
 use std::sync::Wait;
 use std::thread::Threads;
@@ -42,7 +43,7 @@ pub enum ServeFault {
     /// The number of handles is not from 1 to 64, the number of tries not from 1 to 1,000, or there are more than 1,000,000 requests.
     #[error("not from 1 to 64 handles, 1 to 1,000 tries, or more than 1,000,000 requests")]
     BadCount,
-    /// Want of memory.
+    /// Out of memory.
     #[error("out of memory")]
     Memory,
 }
@@ -54,14 +55,16 @@ fn staffed<'a, L: Room, R: Wait>(
     shared: &'a Shared<L>,
     requests: &'a [Request],
     tries: u32,
+    front: u64,
     room: Vec<RequestWorker<'a, L, R>>,
     handles: &mut Vec<Handle<L>>,
 ) -> Vec<RequestWorker<'a, L, R>>
     requires tries { (1 ≤ tries) × (tries ≤ 1000) }
+    requires seen { All (λ h. front ≤ h.front) handles.old.items }
     requires room { (room.items ≡ []) × (vec_len handles.old ≤ vec_capacity room) }
     ensures taken { (handles.new.items ≡ []) × (vec_capacity handles.new ≡ vec_capacity handles.old) }
     ensures staff { map (λ w. w.handle) result.items ≡ reverse handles.old.items }
-    ensures idle { AreIdle (record { requests = requests.now; tries = tries }) result.items }
+    ensures idle { AreIdle (record { requests = requests.now; tries = tries; front = front }) result.items }
 {
     let mut workers = room;
     while let Some(handle) = handles.pop() {
@@ -78,6 +81,7 @@ fn staffed<'a, L: Room, R: Wait>(
             },
             requests,
             tries,
+            front,
         });
     }
     workers
@@ -92,7 +96,8 @@ fn disbanded<L: Room, R: Wait>(
     requires handles { (handles.old.items ≡ []) × (vec_len workers ≤ vec_capacity handles.old) }
     requires receipts { (receipts.old.items ≡ []) × (vec_len workers ≤ vec_capacity receipts.old) }
     ensures back { handles.new.items ≡ reverse (map (λ w. w.handle) workers.entry.items) }
-    ensures kept { sum_by length receipts.new.items ≡ sum_by (λ w. w.kept) workers.entry.items }
+    ensures kept { sum_by length receipts.new.items ≡ sum_by (λ w. length w.kept) workers.entry.items }
+    ensures logged { (orders : Orders) → All (λ w. w.orders ≡ orders) workers.entry.items → All (All (IsLogged L.opening orders.front)) receipts.new.items }
 {
     let mut workers = workers;
     while let Some(worker) = workers.pop() {
@@ -127,7 +132,17 @@ fn run<'a, L: Room + Send + Sync, G: Gate + Sync, R: Threads + Wait + Sync>(
 {
     let mut handles = handles;
     let mut receipts = receipts;
-    let workers = staffed(rt, alloc, shared, requests, tries, room, &mut handles);
+    let front = least_front(&handles);
+    let workers = staffed(
+        rt,
+        alloc,
+        shared,
+        requests,
+        tries,
+        front,
+        room,
+        &mut handles,
+    );
     match perform_all(rt, alloc, workers, requests.len(), gate) {
         Ok(Performed { outcomes, workers }) => {
             disbanded(workers, &mut handles, &mut receipts);
@@ -162,17 +177,22 @@ fn told(fault: TaskFault) -> ServeFault
 /// - `tries`: how often a request is tried at most, from 1 to 1,000.
 /// - `gate`: it is asked up to 10,000,000 times before a request; if it never lets pass, the outcome is `Held`.
 ///
-/// Each outcome is true of its own request:
+/// Each outcome is true of its own request, in the world that the handles call. A state is meant here that is no older than what all
+/// handles had seen when the call began:
 ///
-/// - `Done` has the receipt for an entry of its operations.
-/// - `Row` is how the rows of a state that the world may have refuse its operations.
+/// - `Done` has the receipt of an entry of its operations, which is in the log, after all that the handles had seen.
+/// - `Row` is how the rows of such a state refuse its operations.
 /// - `Unprepared` is why its operations cannot be prepared, by the schema of a lease on the newest version of such a state and by what
 ///   was read of such a state.
-/// - `Rejected` has a refusal after which no further try would help, and `Busy` the number of tries that were allowed.
-/// - `Held`, `WentBack` and `Memory` say nothing of it.
+/// - `Rejected` has a refusal by such a state after which no further try would help.
+/// - `Busy` comes after as many tries as were allowed, each refused by such a state with a conflict or with the end of its lease.
+/// - `WentBack` has the length of the log of some state of the world.
+/// - `Held` and `Memory` say nothing of it.
 ///
-/// Refused in this order, and then nothing was served and the handles come back: `BadCount` where one of these numbers is out of its
-/// range; `Memory`. Once a request has begun, want of memory is the outcome of single requests.
+/// The receipts that come back beside the outcomes, those of leases, are of entries in the log, after all that the handles had seen.
+///
+/// Refused in this order, and then nothing was served and the handles come back: `BadCount` if one of these numbers is out of its
+/// range; `Memory`. Once a request has begun, running out of memory is the outcome of single requests.
 pub fn serve<L: Room + Send + Sync, G: Gate + Sync, R: Threads + Wait + Sync>(
     rt: &R,
     alloc: Global,

@@ -49,7 +49,7 @@ pub enum Last {
         /// The length of the log.
         seen: u64,
     },
-    /// Want of memory.
+    /// Out of memory.
     Memory,
 }
 

@@ -1,6 +1,8 @@
 //! One worker: a server that commits the requests whose numbers it draws.
-ghost use Rattle.std.specs.Prelude.{◌≡◌, ℕ, ◌+◌, ◌≤◌, length};
-ghost use Rattle.server.specs.Outcomes.{receipts_of};
+ghost use Rattle.std.specs.Prelude.{◌≡◌, ℕ, ◌+◌, ◌≤◌, length, All};
+ghost use Rattle.locked_store.specs.Receipts.{IsLogged};
+ghost use Rattle.server.specs.Outcomes.{IsServed, receipts_of};
+ghost use Rattle.server.specs.Tallies.{tally};
 ghost use Rattle.server.specs.Works.{Orders, IsOutcomeOf, IsOutcomeAt};
 
 use crate::desk::Desk;
@@ -13,27 +15,26 @@ use std::marker::Model;
 use std::sync::Wait;
 use tasks::Worker;
 
-/// A server at its desk, and the requests that all servers share.
+/// A server at its desk, the requests that all servers share, and the length of the log that all their handles had seen.
 #[derive(Drop)]
 pub(crate) struct RequestWorker<'a, L: Room, R: Wait> {
     pub(crate) desk: Desk<'a, L, R>,
     pub(crate) requests: &'a [Request],
     pub(crate) tries: u32,
+    pub(crate) front: u64,
 }
 
 impl<'a, L: Room, R: Wait> Model for RequestWorker<'a, L, R> {
-    ghost use Rattle.std.specs.Prelude.{◌≤◌, length};
-    ghost use Rattle.server.specs.Works.{Serving};
+    ghost use Rattle.server.specs.Works.{Serving, IsAtWork};
 
     ghost Value = { Serving };
 
-    ghost view = { λ w. record { handle = w.desk.handle; kept = length w.desk.kept.items; orders = record { requests = w.requests.now; tries = w.tries } } };
+    ghost view = { λ w. record { handle = w.desk.handle; kept = w.desk.kept.items; orders = record { requests = w.requests.now; tries = w.tries; front = w.front } } };
 
-    ghost invariant = { λ w. (1 ≤ w.tries) × (w.tries ≤ 1000) };
+    ghost invariant = { λ w. IsAtWork L.opening (record { handle = w.desk.handle; kept = w.desk.kept.items; orders = record { requests = w.requests.now; tries = w.tries; front = w.front } }) };
 }
 
 // The outcome of one request, by a tally of its own.
-#[tactic(auto, using(crate::proofs::Works::served_so))]
 fn outcome_of<L: Room, R: Wait>(
     alloc: Global,
     desk: &mut Desk<L, R>,
@@ -41,7 +42,10 @@ fn outcome_of<L: Room, R: Wait>(
     tries: u32,
 ) -> Outcome
     requires tries { (1 ≤ tries) × (tries ≤ 1000) }
-    ensures own { IsOutcomeOf L.opening request.now.ops tries result }
+    ensures served { IsServed tries (tally 0 Last.Nothing) result desk.new.tally }
+    ensures own { (f : ℕ) → f ≤ desk.old.handle.front → IsOutcomeOf L.opening f request.now tries result }
+    ensures logged { (f : ℕ) → f ≤ desk.old.handle.front → All (IsLogged L.opening f) desk.old.kept.items → All (IsLogged L.opening f) desk.new.kept.items }
+    ensures rises { desk.old.handle.front ≤ desk.new.handle.front }
     ensures same { desk.new.handle.id ≡ desk.old.handle.id }
     ensures counted { desk.new.handle.count + length desk.old.kept.items ≡ desk.old.handle.count + length desk.new.kept.items + receipts_of result }
 {
@@ -69,7 +73,7 @@ impl<'a, L: Room, R: Wait> Worker for RequestWorker<'a, L, R> {
 
     ghost count = { λ w. w.handle.count };
 
-    ghost kept = { λ w. w.kept };
+    ghost kept = { λ w. length w.kept };
 
     ghost held = { receipts_of };
 
@@ -80,6 +84,7 @@ impl<'a, L: Room, R: Wait> Worker for RequestWorker<'a, L, R> {
             desk,
             requests,
             tries,
+            ..
         } = self;
         outcome_of(alloc, desk, &requests[number], *tries)
     }

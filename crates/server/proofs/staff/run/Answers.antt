@@ -1,7 +1,10 @@
+use Rattle.std.proofs.Common.{List, subst}
+use Rattle.locked_store.specs.Known.{Known, IsLeastFront}
 use Rattle.server.proofs.Serves.{serves}
 use Rattle.server.proofs.staff.run.Goals as goal
 
 pub returns-in-Ok-clause-served : goal.returns-in-Ok-clause-served
 returns-in-Ok-clause-served g c =
-    serves g.L.Room.opening c.args.requests.now c.args.tries c.args.handles.items c.staffed-workers.result.items c.in-Ok.field-0.workers.items c.in-Ok.field-0.outcomes.items c.disbanded.new.handles.items c.disbanded.new.receipts.items
-    c.staffed-workers.ensures.staff c.staffed-workers.ensures.idle c.in-Ok.ensures.each c.in-Ok.ensures.fits c.in-Ok.ensures.back c.in-Ok.ensures.counted c.disbanded.ensures.back c.disbanded.ensures.kept
+    serves g.L.Room.opening c.args.requests.now c.args.tries c.least_front-front.result c.args.handles.items c.staffed-workers.result.items c.in-Ok.field-0.workers.items c.in-Ok.field-0.outcomes.items c.disbanded.new.handles.items c.disbanded.new.receipts.items
+    (subst (λ (hs : List Known). IsLeastFront hs c.least_front-front.result) c.deref.ensures.value c.least_front-front.ensures) c.staffed-workers.ensures.staff c.staffed-workers.ensures.idle c.in-Ok.ensures.each c.in-Ok.ensures.fits c.in-Ok.ensures.back c.in-Ok.ensures.plans c.in-Ok.ensures.counted c.disbanded.ensures.back c.disbanded.ensures.kept
+    c.disbanded.ensures.logged

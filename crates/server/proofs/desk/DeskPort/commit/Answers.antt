@@ -1,5 +1,5 @@
-use Rattle.server.proofs.Desks.{own}
+use Rattle.server.proofs.Desks.{commit_says}
 use Rattle.server.proofs.desk.DeskPort.commit.Goals as goal
 
-pub returns-clause-own : goal.returns-clause-own
-returns-clause-own g c = own g.L.Room.opening _ _ _ _ _ c.commit-answer.ensures
+pub returns-clause-says : goal.returns-clause-says
+returns-clause-says g c f le = commit_says g.L.Room.opening f _ _ c.args.moment c.args.prepared _ c.commit-answer.ensures le

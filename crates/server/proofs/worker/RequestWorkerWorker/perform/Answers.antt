@@ -1,10 +1,19 @@
-use Rattle.std.proofs.Common.{subst}
+use Rattle.std.proofs.Common.{arith, subst}
 use Rattle.server.specs.Works.{Orders, Serving, IsOutcomeAt}
 use Rattle.server.proofs.Works.{outcome_at}
 use Rattle.server.proofs.worker.RequestWorkerWorker.perform.Goals as goal
 
+pub invariant_of-self : goal.invariant_of-self
+invariant_of-self g c =
+    record {
+      some_tries = c.self.invariant.some_tries;
+      few_tries = c.self.invariant.few_tries;
+      seen = omega (arith, c.self.invariant.seen, c.outcome_of.ensures.rises);
+      logged = c.outcome_of.ensures.logged c.self.inside.front c.self.invariant.seen c.self.invariant.logged;
+    }
+
 pub returns-clause-fits : goal.returns-clause-fits
 returns-clause-fits g c =
-    let orders : Orders = record { requests = c.self.inside.requests.now; tries = c.self.inside.tries } in
+    let orders : Orders = record { requests = c.self.inside.requests.now; tries = c.self.inside.tries; front = c.self.inside.front } in
     subst (λ (w : Serving). IsOutcomeAt g.L.Room.opening w.orders c.args.number c.outcome_of.result) c.self.view_is
-    (outcome_at g.L.Room.opening orders c.args.number c.index-requests-number.result _ c.outcome_of.ensures.own)
+    (outcome_at g.L.Room.opening orders c.args.number c.index-requests-number.result _ (c.outcome_of.ensures.own c.self.inside.front c.self.invariant.seen))
