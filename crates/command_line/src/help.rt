@@ -1,4 +1,4 @@
-//! The texts of the help.
+//! The texts of the help, and of words that are not text.
 
 pub(crate) const ABOUT: &str = "A database in memory whose schema changes while servers write";
 
@@ -7,6 +7,13 @@ pub(crate) const ABOUT_RUN: &str =
 
 pub(crate) const ABOUT_LOAD: &str =
     "Inserts rows on many threads while an index is added, and checks what came of it";
+
+/// What is printed if an argument is not UTF-8.
+pub const NOT_UTF8: &str = "\
+error: an argument is not valid UTF-8
+
+For more information, try '--help'.
+";
 
 /// The exit statuses of the program as a whole.
 pub(crate) const STATUSES: &str = "\

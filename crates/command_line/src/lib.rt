@@ -7,4 +7,5 @@ mod load_size;
 mod number;
 
 pub use choosing::{Chosen, options, status_of};
+pub use help::NOT_UTF8;
 pub use load_size::{LoadSize, MAX_LIMIT, MAX_PIECES, MAX_ROWS, MAX_SERVERS, MAX_WORKERS};

@@ -1,10 +1,10 @@
-//! Command lines that are taken, and what each chooses; what is refused, and what is printed then, the gate tries with the program (.ci/loads).
+//! Command lines that are taken, and what each chooses; what is refused, and what is printed then, the gate tries with the program (.ci/load_runs).
 
 use command_line::{Chosen, LoadSize, options};
 use std::alloc::{AllocError, Global};
 
 // Lines behind the program's name, and the size of load that each chooses: servers, rows, pieces, workers, limit.
-const LOADS: [(&str, [u32; 5]); 17] = [
+const LOADS: [(&str, [u32; 5]); 18] = [
     ("load", [4, 1_000, 6, 3, 50]),
     ("load --rows 5", [4, 5, 6, 3, 50]),
     ("load --rows=5", [4, 5, 6, 3, 50]),
@@ -27,6 +27,11 @@ const LOADS: [(&str, [u32; 5]); 17] = [
     (
         "load --servers 9 --rows 8 --pieces 7 --workers 6 --limit 5",
         [9, 8, 7, 6, 5],
+    ),
+    // no number is another's, or a default
+    (
+        "load --servers 16 --rows 15 --pieces 14 --workers 13 --limit 12",
+        [16, 15, 14, 13, 12],
     ),
 ];
 

@@ -5,7 +5,7 @@ use crate::table::{INDEX, entering, going};
 use command_line::LoadSize;
 use listed::Listed;
 use locked_store::{Handle, Room, Shared, SharedFault};
-use reorganiser::{PieceEnd, ReorganiseFault, Reorganised, reorganise_all};
+use reorganise_workers::{PieceEnd, ReorganiseFault, Reorganised, reorganise_all};
 use schema_version::{ElementState, Step};
 use std::alloc::Global;
 use std::sync::Wait;

@@ -1,6 +1,7 @@
 //! The run of a load.
-ghost use Rattle.std.specs.Prelude.{◌≡◌, length};
+ghost use Rattle.std.specs.Prelude.{◌≡◌, length, IfOk, None, true};
 ghost use Rattle.command_line.specs.LoadSize.{IsLoadSize};
+ghost use Rattle.locked_store.specs.Receipts.{AreTheLog};
 
 use crate::adding::{Added, add_index};
 use crate::fault::LoadFault;
@@ -8,7 +9,7 @@ use crate::report::Report;
 use crate::table::{inserts, opened};
 use command_line::LoadSize;
 use listed::Listed;
-use locked_store::{Handle, ReceiptFault, Room, Shared, reconcile};
+use locked_store::{Handle, ReceiptFault, Room, Shared, receipts_are_the_log, reconcile};
 use server::{Outcome, Request, ServeFault, Served, serve};
 use std::alloc::{AllocError, Global};
 use std::io::Write;
@@ -147,28 +148,44 @@ fn at_once<L: Room + Send + Sync, R: Threads + Wait + Sync>(
     Ok(united(alloc, served, added)?)
 }
 
+// Whether there are as many receipts as entries, and what is wrong with them, if anything is. If nothing is wrong with either, the receipts
+// are the log: each entry has its receipt, and no other.
+fn compared(
+    alloc: Global,
+    world: &World,
+    receipts: &[Receipt],
+) -> Result<(bool, Option<ReceiptFault>), LoadFault>
+    ensures { IfOk result (λ r. r.0 ≡ true → r.1 ≡ None → AreTheLog world.now.log 0 receipts.now) }
+{
+    receipts_are_the_log();
+    let is_counted = receipts.len() == world.log().len();
+    match reconcile(alloc, world, receipts) {
+        Ok(()) => Ok((is_counted, None)),
+        Err(ReceiptFault::Memory) => Err(LoadFault::Memory),
+        Err(fault) => Ok((is_counted, Some(fault))),
+    }
+}
+
 // What the world has in the end, beside the receipts.
 fn reported(
     alloc: Global,
     world: &World,
     receipts: &[Receipt],
     outcome: Result<(), LoadFault>,
-) -> Result<Report, LoadFault> {
+) -> Result<Report, LoadFault>
+    ensures { IfOk result (λ r. r.is_counted ≡ true → r.receipts ≡ None → AreTheLog world.now.log 0 receipts.now) }
+{
     if outcome == Err(LoadFault::Memory) {
         return Err(LoadFault::Memory);
     }
     let found = world.check(alloc)?;
-    let receipts_are = match reconcile(alloc, world, receipts) {
-        Ok(()) => None,
-        Err(ReceiptFault::Memory) => return Err(LoadFault::Memory),
-        Err(fault) => Some(fault),
-    };
+    let (is_counted, fault) = compared(alloc, world, receipts)?;
     Ok(Report {
         rows: found.rows,
         missing: found.missing,
         extra: found.extra,
-        is_counted: receipts.len() == world.log().len(),
-        receipts: receipts_are,
+        is_counted,
+        receipts: fault,
         is_done: outcome.is_ok(),
     })
 }
@@ -221,9 +238,11 @@ fn load<R: Threads + Wait + Sync>(
 /// - `size`: how many servers, rows, pieces of the fill, workers, and rows of a piece that are filled at a time.
 /// - `writer`: takes the lines.
 ///
-/// Answers the exit status: 0 where all is as it has to be; 6 where a difference was found, a step was refused or an outcome was
-/// another than a committed row or a finished piece; 4 where the lines could not be written; 5 for want of memory of any call or
-/// outcome, and then nothing is written. Of several the first in the order 5, 4, 6 is answered.
+/// The lines `counts equal` and `receipts ok` together mean that the receipts are the log: each entry has its receipt, and no other.
+///
+/// Answers the exit status: 0 if all is as it has to be; 6 if a difference was found, a call was refused for another reason than memory, or
+/// an outcome was another than a committed row or a finished piece; 4 if the lines could not be written; 5 if any call or outcome found no
+/// memory, and then nothing is written. Of several the first in the order 5, 4, 6 is answered.
 pub fn run_load<R: Threads + Wait + Sync, W: Write>(
     rt: &R,
     alloc: Global,
@@ -232,8 +251,10 @@ pub fn run_load<R: Threads + Wait + Sync, W: Write>(
 ) -> u8
     requires { IsLoadSize size }
 {
-    let Ok(report) = load(rt, alloc, size) else {
-        return 5;
+    let report = match load(rt, alloc, size) {
+        Ok(report) => report,
+        Err(LoadFault::Memory) => return 5,
+        Err(LoadFault::Refused) => return 6,
     };
     let Ok(text) = report.text(alloc) else {
         return 5;
