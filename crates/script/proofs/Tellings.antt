@@ -2,7 +2,7 @@
 use Rattle.std.proofs.Common.{◌≡◌, ◌≤◌, ℕ, List, [], length, Option, Some, None, Result, Ok, Err, IfSome, sym, subst, refl}
 use Rattle.std.specs.Str.{IsUtf8}
 use Rattle.std.specs.Str.Lines.{lines}
-use Rattle.session.specs.Session.{empty}
+use Rattle.script_session.specs.Session.{empty}
 use Rattle.script.specs.Script.{IsRead, Told, Answered, limit}
 use Rattle.script.specs.declared.run.Summary.{Summary}
 use Rattle.script.specs.declared.run.ScriptFault.{ScriptFault}

@@ -9,8 +9,8 @@ use Rattle.std.specs.List.{slice_split, count_by}
 use Rattle.std.proofs.lemmas.List.Splits.{length-slice_split}
 use Rattle.std.proofs.lemmas.Grind.{common_steps}
 use Rattle.std.specs.declared.str.Lines.{Lines}
-use Rattle.session.specs.Session.{Session, empty}
-use Rattle.session.specs.Replies.{Reply}
+use Rattle.script_session.specs.Session.{Session, empty}
+use Rattle.script_session.specs.Replies.{Reply}
 use Rattle.script.specs.Script.{Replies, IsCutTextOf, limit}
 
 pub one_more : (s : Session) (ls : List (List ℕ)) (text : List ℕ) (bad : ℕ) (t : Session) (l reply : List ℕ) (b : Bool) (u : Session) → Replies s ls text bad t → Reply t l reply b u → Replies s (ls ++ l ∷ []) (text ++ reply) (bad + cond b 1 0) u

@@ -5,8 +5,8 @@ use Rattle.std.specs.Str.{IsUtf8}
 use Rattle.std.specs.Str.Lines.{lines}
 use Rattle.std.specs.declared.vec.Vec.{Vec}
 use Rattle.std.specs.declared.alloc.Global.{Global}
-use Rattle.session.specs.Session.{Session, empty}
-use Rattle.session.specs.Replies.{Reply}
+use Rattle.script_session.specs.Session.{Session, empty}
+use Rattle.script_session.specs.Replies.{Reply}
 use Rattle.script.specs.declared.run.Summary.{Summary}
 use Rattle.script.specs.declared.run.ScriptFault.{ScriptFault}
 use Rattle.script.specs.declared.run.ScriptFault.TheVariants.{Read, TooLong, NotUtf8, Write, Memory}

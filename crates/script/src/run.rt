@@ -3,7 +3,7 @@ ghost use Rattle.std.specs.Prelude.{◌≡◌, ◌++◌, ◌+◌, ◌<◌, ◌�
 ghost use Rattle.std.specs.Io.KnownBytes.{Keeps, Appends};
 ghost use Rattle.script.specs.Script.{limit, Answered, Ran, IsRead, AppendsFront};
 
-use session::Session;
+use script_session::Session;
 use std::alloc::Global;
 use std::io::{Read, Write};
 use thiserror::Error;

@@ -7,7 +7,7 @@ use Rattle.std.specs.Str.Lines.{lines}
 use Rattle.std.proofs.lemmas.List.{append-nil}
 use Rattle.std.specs.Io.KnownBytes.{Appends}
 use Rattle.script.specs.Script.{Replies}
-use Rattle.session.specs.Session.{empty}
+use Rattle.script_session.specs.Session.{empty}
 use Rattle.script.proofs.Texts.{next_line, no_line, byte_few, one_more_counted, goes_on, lines_fit, cut_within}
 use Rattle.script.proofs.run.answer_lines.Goals as goal
 

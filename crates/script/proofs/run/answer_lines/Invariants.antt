@@ -3,7 +3,7 @@ use Rattle.std.proofs.lemmas.Iterator.{YieldsList}
 use Rattle.std.specs.Io.KnownBytes.{Appends}
 use Rattle.std.specs.Str.Iter.{lines_steps}
 use Rattle.std.specs.Str.Lines.{lines}
-use Rattle.session.specs.Session.{empty}
+use Rattle.script_session.specs.Session.{empty}
 use Rattle.script.specs.Script.{Replies}
 use Rattle.script.proofs.run.answer_lines.Given as goal
 

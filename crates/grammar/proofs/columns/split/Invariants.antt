@@ -1,9 +1,0 @@
-use Rattle.std.proofs.Common.{◌≡◌}
-use Rattle.grammar.specs.Commands.{key_columns, other_columns}
-use Rattle.grammar.proofs.columns.split.Given as goal
-
-abbrev pub invariant-loop-column : goal.invariant-loop-column
-invariant-loop-column l = record {
-  keys : l.keys.items ≡ key_columns l.yielded;
-  others : l.others.items ≡ other_columns l.yielded;
-}

@@ -1,7 +1,0 @@
-use Rattle.std.proofs.Common.{◌≡◌}
-use mathlib.Core.List.{map}
-use Rattle.naming.specs.Names.{looked_up}
-use Rattle.naming.proofs.rows.all_looked_up.Given as goal
-
-abbrev pub invariant-loop-condition : goal.invariant-loop-condition
-invariant-loop-condition l = l.conds.items ≡ map (looked_up l.schema l.table) l.yielded

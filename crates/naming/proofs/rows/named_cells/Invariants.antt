@@ -1,6 +1,0 @@
-use Rattle.std.proofs.Common.{◌≡◌}
-use Rattle.naming.specs.Names.{named_cells}
-use Rattle.naming.proofs.rows.named_cells.Given as goal
-
-abbrev pub invariant-loop-name : goal.invariant-loop-name
-invariant-loop-name l = l.cells.items ≡ named_cells l.schema l.table l.yielded

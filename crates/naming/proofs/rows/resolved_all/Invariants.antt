@@ -1,6 +1,0 @@
-use Rattle.std.proofs.Common.{◌≡◌}
-use Rattle.naming.specs.Names.{resolved_all}
-use Rattle.naming.proofs.rows.resolved_all.Given as goal
-
-abbrev pub invariant-loop-operation : goal.invariant-loop-operation
-invariant-loop-operation l = l.ops.items ≡ resolved_all l.schema l.yielded

@@ -1,0 +1,172 @@
+//! The names of operations and queries, looked up in a version of the schema.
+ghost use Rattle.std.specs.Prelude.{◌≡◌, IfOk};
+ghost use mathlib.Core.List.{map};
+ghost use Rattle.schema_version.specs.Version.{public_columns};
+ghost use Rattle.script_names.specs.Names.{table_number, element_number, numbered, named_cells, resolved, resolved_all, column_numbers, looked_up, asked};
+
+use keycode::{Text, Value};
+use listed::Listed;
+use row_query::{Cond, Query};
+use row_write::{RowOp, RowOps};
+use schema_version::Schema;
+use script_grammar::{Condition, ElementName, Operation, Selection};
+use std::alloc::{AllocError, Global};
+
+/// The number of a table, or 0.
+pub fn table_number(schema: &Schema, name: &Text) -> u32
+    ensures { result ≡ table_number schema.now name.now }
+{
+    match schema.table(name.as_str()) {
+        Some(number) => number,
+        None => 0,
+    }
+}
+
+/// The number of an element of the table, or 0.
+pub fn element_number(schema: &Schema, table: u32, name: &Text) -> u32
+    ensures { result ≡ element_number schema.now table name.now }
+{
+    match schema.by_name(table, name.as_str()) {
+        Some(element) => element.number,
+        None => 0,
+    }
+}
+
+/// The number of the element of these names, or 0.
+pub fn element_of(schema: &Schema, element: &ElementName) -> u32
+    ensures { result ≡ numbered schema.now element.now }
+{
+    let table = table_number(schema, &element.table);
+    element_number(schema, table, &element.name)
+}
+
+fn named_cells(
+    alloc: Global,
+    schema: &Schema,
+    table: u32,
+    sets: Listed<(Text, Value)>,
+) -> Result<Listed<(u32, Value)>, AllocError>
+    ensures { IfOk result (λ cells. cells ≡ named_cells schema.now table sets) }
+{
+    let mut cells = Vec::new(alloc);
+    for (name, value) in sets.into_vec() {
+        cells.push((element_number(schema, table, &name), value))?;
+    }
+    Ok(Listed::new(cells))
+}
+
+fn resolved(alloc: Global, schema: &Schema, operation: Operation) -> Result<RowOp, AllocError>
+    ensures { IfOk result (λ op. op ≡ resolved schema.now operation) }
+{
+    match operation {
+        Operation::Insert { table, key, sets } => {
+            let table = table_number(schema, &table);
+            let cells = named_cells(alloc, schema, table, sets)?;
+            Ok(RowOp::Insert { table, key, cells })
+        }
+        Operation::Update { table, key, sets } => {
+            let table = table_number(schema, &table);
+            let cells = named_cells(alloc, schema, table, sets)?;
+            Ok(RowOp::Update { table, key, cells })
+        }
+        Operation::Delete { table, key } => {
+            let table = table_number(schema, &table);
+            Ok(RowOp::Delete { table, key })
+        }
+    }
+}
+
+/// The operations with their names looked up. Refused for want of memory alone.
+pub fn resolved_all(
+    alloc: Global,
+    schema: &Schema,
+    operations: Listed<Operation>,
+) -> Result<RowOps, AllocError>
+    ensures { IfOk result (λ ops. ops ≡ resolved_all schema.now operations) }
+{
+    let mut ops = Vec::new(alloc);
+    for operation in operations.into_vec() {
+        let op = resolved(alloc, schema, operation)?;
+        ops.push(op)?;
+    }
+    Ok(Listed::new(ops))
+}
+
+fn all_columns(alloc: Global, schema: &Schema, table: u32) -> Result<Vec<u32>, AllocError>
+    ensures { IfOk result (λ columns. columns.items ≡ map (λ e. e.number) (public_columns schema.now table)) }
+{
+    schema
+        .elements()
+        .iter()
+        .filter(|e| e.is_public_column(table))
+        .map(|e| e.number)
+        .collect(alloc)
+}
+
+fn column_numbers(
+    alloc: Global,
+    schema: &Schema,
+    table: u32,
+    names: &Option<Listed<Text>>,
+) -> Result<Vec<u32>, AllocError>
+    ensures { IfOk result (λ columns. columns.items ≡ column_numbers schema.now table names.now) }
+{
+    match names {
+        None => all_columns(alloc, schema, table),
+        Some(names) => names
+            .as_slice()
+            .iter()
+            .map(|name| element_number(schema, table, name))
+            .collect(alloc),
+    }
+}
+
+fn looked_up(schema: &Schema, table: u32, condition: Condition) -> Cond
+    ensures { result ≡ looked_up schema.now table condition }
+{
+    match condition {
+        Condition::Key(key) => Cond::Key(key),
+        Condition::Equal { column, value } => {
+            let column = element_number(schema, table, &column);
+            Cond::Equal { column, value }
+        }
+        Condition::Between { column, low, high } => {
+            let column = element_number(schema, table, &column);
+            Cond::Between { column, low, high }
+        }
+    }
+}
+
+fn all_looked_up(
+    alloc: Global,
+    schema: &Schema,
+    table: u32,
+    conditions: Listed<Condition>,
+) -> Result<Vec<Cond>, AllocError>
+    ensures { IfOk result (λ conds. conds.items ≡ map (looked_up schema.now table) conditions) }
+{
+    let mut conds = Vec::new(alloc);
+    for condition in conditions.into_vec() {
+        conds.push(looked_up(schema, table, condition))?;
+    }
+    Ok(conds)
+}
+
+/// A selection with its names looked up. Refused for want of memory alone.
+pub fn asked(alloc: Global, schema: &Schema, selection: Selection) -> Result<Query, AllocError>
+    ensures { IfOk result (λ query. query ≡ asked schema.now selection) }
+{
+    let Selection {
+        table,
+        columns,
+        conditions,
+    } = selection;
+    let table = table_number(schema, &table);
+    let columns = column_numbers(alloc, schema, table, &columns)?;
+    let conditions = all_looked_up(alloc, schema, table, conditions)?;
+    Ok(Query {
+        table,
+        columns: Listed::new(columns),
+        conditions: Listed::new(conditions),
+    })
+}

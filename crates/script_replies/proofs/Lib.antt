@@ -1,0 +1,4 @@
+pub mod Cells
+pub mod Joining
+pub mod Lines
+pub mod Uses

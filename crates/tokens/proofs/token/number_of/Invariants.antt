@@ -1,6 +1,0 @@
-use Rattle.std.proofs.Common.{◌≡◌, drop}
-use Rattle.tokens.specs.Tokens.{read_on}
-use Rattle.tokens.proofs.token.number_of.Given as goal
-
-abbrev pub invariant-loop-digit : goal.invariant-loop-digit
-invariant-loop-digit l = read_on l.number (drop l.digit-index l.digits) ≡ read_on 0 l.digits
