@@ -25,6 +25,12 @@ fn writing(alloc: Global) -> Result<Step, AllocError> {
     Ok(Listed::new(vec![in alloc; Move::Go { element: 2, to }]?))
 }
 
+/// move t.i to delete_only
+pub(crate) fn dropping(alloc: Global) -> Result<Step, AllocError> {
+    let to = ElementState::DeleteOnly;
+    Ok(Listed::new(vec![in alloc; Move::Go { element: 2, to }]?))
+}
+
 /// turn t.i
 pub(crate) fn turning(alloc: Global) -> Result<Step, AllocError> {
     Ok(Listed::new(vec![in alloc; Move::Turn { element: 2 }]?))

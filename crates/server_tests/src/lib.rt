@@ -2,6 +2,8 @@
 #![tactic(auto)]
 
 #[cfg(test)]
+mod contended;
+#[cfg(test)]
 mod counter;
 #[cfg(test)]
 mod fills;

@@ -1,6 +1,6 @@
 //! One request through a port that refuses calls of chosen numbers.
-ghost use Rattle.std.specs.Prelude.{◌≡◌, ◌+◌, ◌≤◌, IfOk, vec_len};
-ghost use Rattle.server.specs.Outcomes.{IsCommitOf, given_by};
+ghost use Rattle.std.specs.Prelude.{◌≡◌, ◌+◌, vec_len};
+ghost use Rattle.server.specs.Outcomes.{CommitSays, Keeps, given_by};
 
 use crate::table::{insert, mark, opened};
 use Answer::{Conflict, LeaseEnded, Memory};
@@ -15,9 +15,9 @@ use server::{
     Last, Outcome, Port, Request, Tally, last_of_commit, last_of_grant, last_of_read, serve_one,
 };
 use std::alloc::{AllocError, Global};
-use world::{CommitFault, Committed, GrantFault, World};
+use world::{CommitFault, Committed, GrantFault, Receipt, World};
 
-/// How a call is answered: as the port's world answers it, or by a refusal, where that call has it.
+/// How a call is answered: as the port's world answers it, or by a refusal, if that call has one.
 #[derive(Clone, Copy)]
 pub(crate) enum Answer {
     Own,
@@ -29,13 +29,16 @@ pub(crate) enum Answer {
 /// Calls by their numbers, counted from 1, with their answers. Every other call is answered as the port's world answers it.
 pub(crate) type Answers = &'static [(u32, Answer)];
 
-/// A port over a world of its own. It keeps no receipt of a lease, and a mark for each transaction that it committed.
+/// A port over a world of its own. It keeps the receipts of its leases, which it grants at rising moments, a mark for each transaction that it
+/// committed, and which lease each try used.
 #[derive(Drop)]
 pub(crate) struct Stubborn {
     world: World,
     answers: Answers,
     calls: u32,
+    kept: Vec<Receipt>,
     committed: Vec<()>,
+    used: u64,
     tally: Tally,
 }
 
@@ -72,6 +75,7 @@ fn refusal(alloc: Global, answer: Answer, moment: u64) -> Option<CommitFault> {
 }
 
 // What the port's world makes of a commit, its mark's room made first.
+#[tactic(auto, using(crate::proofs::Words::refuses))]
 fn commits(
     alloc: Global,
     world: &mut World,
@@ -80,7 +84,7 @@ fn commits(
     prepared: Prepared,
 ) -> Result<Committed, (SharedFault<CommitFault>, Prepared)>
     ensures counted { vec_len committed.new ≡ vec_len committed.old + given_by result }
-    ensures own { IfOk result (λ done. IsCommitOf (λ ops op why. Unit {0}) prepared.ops done) }
+    ensures says { CommitSays (λ said. Unit {0}) moment prepared.ops result }
 {
     if committed.reserve(1).is_err() {
         return Err((SharedFault::World(CommitFault::Memory), prepared));
@@ -95,23 +99,52 @@ fn commits(
     }
 }
 
+// What the port's world makes of a lease, whose receipt is kept.
+fn leases(
+    alloc: Global,
+    world: &mut World,
+    kept: &mut Vec<Receipt>,
+    moment: u64,
+) -> Result<(Lease, Counted<Schema>), SharedFault<GrantFault>>
+    ensures keeps { Keeps (λ said. Unit {0}) kept.old.items result kept.new.items }
+{
+    if kept.reserve(1).is_err() {
+        return Err(SharedFault::World(GrantFault::Memory));
+    }
+    // the first at 0, the second at 1, and so on, so that each tells which it is
+    let later = moment.max((kept.len() as u64).min(9));
+    match world.lease(alloc, later) {
+        Ok(grant) => {
+            kept.push_reserved(grant.receipt);
+            Ok((grant.lease, grant.schema))
+        }
+        Err(fault) => Err(SharedFault::World(fault)),
+    }
+}
+
+// One digit more: the number of the lease, counted from 1.
+fn with_digit(used: u64, lease: &Lease) -> u64 {
+    used.wrapping_mul(10)
+        .wrapping_add(lease.granted)
+        .wrapping_add(1)
+}
+
 impl Port for Stubborn {
-    ghost use Rattle.std.specs.Prelude.{length};
+    ghost use Rattle.std.specs.Prelude.{◌+◌, length};
 
     ghost id = { λ p. 0 };
 
     ghost tally = { λ p. p.tally };
 
-    ghost count = { λ p. length p.committed.items };
+    ghost count = { λ p. length p.committed.items + length p.kept.items };
 
-    ghost kept = { λ p. 0 };
+    ghost front = { λ p. 0 };
 
-    ghost grants = { λ lease schema. Unit {0} };
+    ghost kept = { λ p. p.kept.items };
 
-    ghost reads = { λ keys view. Unit {0} };
+    ghost may = { λ f said. Unit {0} };
 
-    ghost refuses = { λ ops op why. Unit {0} };
-
+    #[tactic(auto, using(crate::proofs::Words::grants))]
     fn lease(
         &mut self,
         alloc: Global,
@@ -119,15 +152,13 @@ impl Port for Stubborn {
     ) -> Result<(Lease, Counted<Schema>), SharedFault<GrantFault>> {
         let answer = match next_answer(self.answers, &mut self.calls) {
             Answer::Memory => Err(SharedFault::World(GrantFault::Memory)),
-            _ => match self.world.lease(alloc, moment) {
-                Ok(grant) => Ok((grant.lease, grant.schema)),
-                Err(fault) => Err(SharedFault::World(fault)),
-            },
+            _ => leases(alloc, &mut self.world, &mut self.kept, moment),
         };
         self.tally.note(last_of_grant(&answer));
         answer
     }
 
+    #[tactic(auto, using(crate::proofs::Words::reads))]
     fn read(&mut self, alloc: Global, keys: &ReadSet) -> Result<ReadView, SharedFault<AllocError>> {
         let answer = match next_answer(self.answers, &mut self.calls) {
             Answer::Memory => Err(SharedFault::World(AllocError)),
@@ -140,12 +171,14 @@ impl Port for Stubborn {
         answer
     }
 
+    #[tactic(auto, using(crate::proofs::Words::refuses))]
     fn commit(
         &mut self,
         alloc: Global,
         moment: u64,
         prepared: Prepared,
     ) -> Result<Committed, (SharedFault<CommitFault>, Prepared)> {
+        self.used = with_digit(self.used, prepared.lease());
         let chosen = next_answer(self.answers, &mut self.calls);
         let answer = match refusal(alloc, chosen, moment) {
             Some(fault) => Err((SharedFault::World(fault), prepared)),
@@ -166,9 +199,9 @@ impl Port for Stubborn {
     }
 }
 
-/// What became of a request: the place of its entry, or the number of tries that Busy tells, or neither where memory ran out; then how
-/// many retries the port counted, and how many entries its world has.
-type Ending = (Option<u64>, Option<u32>, u64, usize);
+/// What became of a request: the place of its entry, or the number of tries that Busy tells, or neither if memory ran out; then how
+/// many retries the port counted, how many entries its world has, and which lease each try used, by one digit each.
+type Ending = (Option<u64>, Option<u32>, u64, usize, u64);
 
 /// A port over a world, of these answers.
 pub(crate) fn port(alloc: Global, world: World, answers: Answers) -> Stubborn {
@@ -176,7 +209,9 @@ pub(crate) fn port(alloc: Global, world: World, answers: Answers) -> Stubborn {
         world,
         answers,
         calls: 0,
+        kept: Vec::new(alloc),
         committed: Vec::new(alloc),
+        used: 0,
         tally: Tally {
             retries: 0,
             last: Last::Nothing,
@@ -191,7 +226,9 @@ impl Stubborn {
             world,
             answers: _,
             calls: _,
+            kept: _,
             committed: _,
+            used: _,
             tally: _,
         } = self;
         world
@@ -199,11 +236,12 @@ impl Stubborn {
 }
 
 // How a request ended, by its outcome.
-fn ending_of(outcome: &Outcome, retries: u64, entries: usize) -> Option<Ending> {
+fn ending_of(outcome: &Outcome, port: &Stubborn) -> Option<Ending> {
+    let (retries, entries, used) = (port.tally().retries, port.world.log().len(), port.used);
     match outcome {
-        Outcome::Done(receipt) => Some((Some(receipt.place), None, retries, entries)),
-        Outcome::Busy { tries } => Some((None, Some(*tries), retries, entries)),
-        Outcome::Memory => Some((None, None, retries, entries)),
+        Outcome::Done(receipt) => Some((Some(receipt.place), None, retries, entries, used)),
+        Outcome::Busy { tries } => Some((None, Some(*tries), retries, entries, used)),
+        Outcome::Memory => Some((None, None, retries, entries, used)),
         _ => None,
     }
 }
@@ -224,7 +262,7 @@ pub(crate) fn outcome_of(
 // How it ends.
 fn ended(alloc: Global, port: &mut Stubborn, request: &Request, tries: u32) -> Option<Ending> {
     let outcome = outcome_of(alloc, port, request, tries)?;
-    ending_of(&outcome, port.tally().retries, port.world.log().len())
+    ending_of(&outcome, port)
 }
 
 // What becomes of the insert of key 1 through a port of these answers, with so many tries.
@@ -234,55 +272,71 @@ fn served_once(alloc: Global, answers: Answers, tries: u32) -> Option<Ending> {
     ended(alloc, &mut port, &request, tries)
 }
 
-// Whether that becomes of it; in another port alike where memory was short.
+// Whether that becomes of it; in another port alike if memory was short.
 fn is_served(alloc: Global, answers: Answers, tries: u32, ending: Ending) -> bool {
     let first = served_once(alloc, answers, tries);
     if first == Some(ending) {
         return true;
     }
     match first {
-        None | Some((None, None, _, _)) => served_once(alloc, answers, tries) == Some(ending),
+        None | Some((None, None, _, _, _)) => served_once(alloc, answers, tries) == Some(ending),
         Some(_) => false,
     }
 }
 
-// Answers, how many tries, and what becomes of the request. A try is a lease, where none is at hand, a read and a commit: behind a
-// conflict the next try begins with its read, behind the end of a lease with a new lease, which is one entry more.
+// Answers, how many tries, and what becomes of the request. A try is a lease, if none is at hand, a read and a commit: after a
+// conflict the next try begins with its read under the same lease, after the end of a lease with a new one, which is one entry more.
 static CASES: [(Answers, u32, Ending); 19] = [
-    (&[], 1, (Some(2), None, 0, 2)),
-    (&[(1, Memory)], 2, (None, None, 0, 0)),
-    (&[(2, Memory)], 2, (None, None, 0, 1)),
-    (&[(3, Memory)], 2, (None, None, 0, 1)),
-    (&[(3, Conflict)], 1, (None, Some(1), 1, 1)),
-    (&[(3, Conflict)], 2, (Some(2), None, 1, 2)),
-    (&[(3, LeaseEnded)], 1, (None, Some(1), 1, 1)),
-    (&[(3, LeaseEnded)], 2, (Some(3), None, 1, 3)),
-    (&[(3, Conflict), (4, Memory)], 2, (None, None, 1, 1)),
-    (&[(3, LeaseEnded), (4, Memory)], 2, (None, None, 1, 1)),
-    (&[(3, Conflict), (5, Memory)], 2, (None, None, 1, 1)),
-    (&[(3, Conflict), (5, LeaseEnded)], 2, (None, Some(2), 2, 1)),
-    (&[(3, Conflict), (5, LeaseEnded)], 3, (Some(3), None, 2, 3)),
-    (&[(3, LeaseEnded), (6, Conflict)], 2, (None, Some(2), 2, 2)),
-    (&[(3, LeaseEnded), (6, Conflict)], 3, (Some(3), None, 2, 3)),
+    (&[], 1, (Some(2), None, 0, 2, 1)),
+    (&[(1, Memory)], 2, (None, None, 0, 0, 0)),
+    (&[(2, Memory)], 2, (None, None, 0, 1, 0)),
+    (&[(3, Memory)], 2, (None, None, 0, 1, 1)),
+    (&[(3, Conflict)], 1, (None, Some(1), 1, 1, 1)),
+    (&[(3, Conflict)], 2, (Some(2), None, 1, 2, 11)),
+    (&[(3, LeaseEnded)], 1, (None, Some(1), 1, 1, 1)),
+    (&[(3, LeaseEnded)], 2, (Some(3), None, 1, 3, 12)),
+    (&[(3, Conflict), (4, Memory)], 2, (None, None, 1, 1, 1)),
+    (&[(3, LeaseEnded), (4, Memory)], 2, (None, None, 1, 1, 1)),
+    (&[(3, Conflict), (5, Memory)], 2, (None, None, 1, 1, 11)),
+    (
+        &[(3, Conflict), (5, LeaseEnded)],
+        2,
+        (None, Some(2), 2, 1, 11),
+    ),
+    (
+        &[(3, Conflict), (5, LeaseEnded)],
+        3,
+        (Some(3), None, 2, 3, 112),
+    ),
+    (
+        &[(3, LeaseEnded), (6, Conflict)],
+        2,
+        (None, Some(2), 2, 2, 12),
+    ),
+    (
+        &[(3, LeaseEnded), (6, Conflict)],
+        3,
+        (Some(3), None, 2, 3, 122),
+    ),
     (
         &[(3, Conflict), (5, Conflict), (7, Conflict)],
         3,
-        (None, Some(3), 3, 1),
+        (None, Some(3), 3, 1, 111),
     ),
     (
         &[(3, Conflict), (5, Conflict), (7, Conflict)],
         4,
-        (Some(2), None, 3, 2),
+        (Some(2), None, 3, 2, 1111),
     ),
     (
         &[(3, LeaseEnded), (6, LeaseEnded), (9, LeaseEnded)],
         3,
-        (None, Some(3), 3, 3),
+        (None, Some(3), 3, 3, 123),
     ),
     (
         &[(3, LeaseEnded), (6, LeaseEnded), (9, LeaseEnded)],
         4,
-        (Some(5), None, 3, 5),
+        (Some(5), None, 3, 5, 1234),
     ),
 ];
 

@@ -7,7 +7,7 @@ use crate::gates::{Behind, Together};
 use crate::table::{insert, mark};
 use locked_store::{Handle, Room, Shared};
 use reorganise::Work;
-use reorganiser::{PieceEnd, ReorganiseFault, Reorganised, reorganise_all};
+use reorganise_workers::{PieceEnd, ReorganiseFault, Reorganised, reorganise_all};
 use server::{FreeGate, Gate, Outcome, Request, ServeFault, Served, serve};
 use std::alloc::{AllocError, Global};
 use std::marker::Brand;

@@ -46,3 +46,14 @@ pub(crate) fn insert(alloc: Global, id: i64) -> Result<Request, AllocError> {
     let ops = Listed::new(vec![in alloc; insert]?);
     Ok(Request { moment: 0, ops })
 }
+
+/// update t (ID) set a = VALUE, at moment 30
+pub(crate) fn update(alloc: Global, id: i64, value: i64) -> Result<Request, AllocError> {
+    let update = RowOp::Update {
+        table: 1,
+        key: Listed::new(vec![in alloc; Value::Int(id)]?),
+        cells: Listed::new(vec![in alloc; (1, Value::Int(value))]?),
+    };
+    let ops = Listed::new(vec![in alloc; update]?);
+    Ok(Request { moment: 30, ops })
+}

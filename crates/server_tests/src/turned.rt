@@ -1,93 +1,136 @@
-//! An index is turned back while all pieces of its fill are held: none of them is worked on, and the fill is over.
+//! An index is abandoned while all pieces of its fill are held: none of them is worked on, and the fill is over. So it is also if the index
+//! goes on to delete-only meanwhile and its clear has begun: no piece of the clear is worked on either, and a second call finishes it.
 ghost use Rattle.std.specs.Prelude.{◌≡◌, length};
 
-use crate::fills::{filling, turning};
+use crate::fills::{dropping, filling, turning};
 use locked_store::{Handle, Room, Shared};
-use reorganiser::{PieceEnd, Reorganised, reorganise_all};
-use schema_version::ElementState::WriteOnly;
+use reorganise::Work;
+use reorganise_workers::{PieceEnd, Reorganised, reorganise_all};
+use schema_version::ElementState::{DeleteOnly, WriteOnly};
 use schema_version::Step;
 use std::alloc::Global;
 use std::marker::Brand;
 use std::sync::ledger::Blank;
 use std::sync::{Mutex, Wait};
 use std::thread::Threads;
-use tasks::Gate;
+use tasks::{FreeGate, Gate};
 use world::{PieceFault, World};
 
-// A handle by which the turn is published, and once it was, the version that it gave and the place of its entry.
+// What is published while the pieces are held: the turn, and if a clear is to begin, the step to delete-only.
+#[derive(Drop)]
+struct Steps {
+    turn: Step,
+    down: Option<Step>,
+}
+
+// A handle by which they are published, and once they were, the version that the turn gave and the place of its entry.
 #[derive(Drop)]
 struct Turner<L: Room> {
     me: Handle<L>,
     given: Option<(u64, u64)>,
 }
 
-// Publishes the turn at 30 where it was not yet.
+// The index goes to delete-only at 40, and its clear begins at 50 in three pieces.
+fn has_begun<L: Room, R: Wait>(
+    rt: &R,
+    alloc: Global,
+    shared: &Shared<L>,
+    me: &mut Handle<L>,
+    down: &Step,
+) -> bool {
+    shared.publish(rt, alloc, me, 40, down).is_ok()
+        && shared.begin_reorg(rt, alloc, me, 50, 2, 3).is_ok()
+}
+
+// Publishes the turn at 30, and what comes after it, if it was not yet.
 fn turn<L: Room, R: Wait>(
     rt: &R,
     alloc: Global,
     shared: &Shared<L>,
     turner: &mut Turner<L>,
-    step: &Step,
+    steps: &Steps,
 ) {
-    if turner.given.is_none() {
-        if let Ok((version, receipt)) = shared.publish(rt, alloc, &mut turner.me, 30, step) {
-            turner.given = Some((version, receipt.place));
-        }
+    if turner.given.is_some() {
+        return;
+    }
+    let Ok((version, receipt)) = shared.publish(rt, alloc, &mut turner.me, 30, &steps.turn) else {
+        return;
+    };
+    let begun = match &steps.down {
+        Some(down) => has_begun(rt, alloc, shared, &mut turner.me, down),
+        None => true,
+    };
+    if begun {
+        turner.given = Some((version, receipt.place));
     }
 }
 
-// Holds each piece, whoever asks first, until the turn is published.
+// Holds each piece, whoever asks first, until all is published.
 #[derive(Drop)]
 struct Held<'a, L: Room, R: Wait> {
     rt: &'a R,
     alloc: Global,
     shared: &'a Shared<L>,
-    step: Step,
+    steps: Steps,
     turner: Mutex<Turner<L>>,
 }
 
 impl<'a, L: Room, R: Wait> Gate for Held<'a, L, R> {
     fn may_start(&self, _number: usize, _turn: u64) -> bool {
         let mut turner = self.turner.lock(self.rt);
-        turn(self.rt, self.alloc, self.shared, &mut *turner, &self.step);
+        turn(self.rt, self.alloc, self.shared, &mut *turner, &self.steps);
         turner.given.is_some()
     }
 
     fn answered(&self, _number: usize) {}
 }
 
-fn is_unwanted(end: &PieceEnd) -> bool {
-    matches!(end, PieceEnd::Refused(PieceFault::NotWanted))
+// How a piece ends: after the turn, after the begin of the clear, and of the clear itself.
+#[derive(Clone, Copy)]
+enum Wanted {
+    Unwanted,
+    OfAnotherKind,
+    Finished,
 }
 
-// Each of the three pieces was refused, both handles are back, and each gave no receipt.
-fn is_refused<L: Room>(done: &Reorganised<L>) -> bool {
+fn is_wanted(end: &PieceEnd, wanted: Wanted) -> bool {
+    match (end, wanted) {
+        (PieceEnd::Refused(PieceFault::NotWanted), Wanted::Unwanted) => true,
+        (PieceEnd::Refused(PieceFault::WrongElement), Wanted::OfAnotherKind) => true,
+        (PieceEnd::Finished, Wanted::Finished) => true,
+        _ => false,
+    }
+}
+
+// Each of the three pieces ended so, both handles are back, and together they gave so many receipts.
+fn are_ended<L: Room>(done: &Reorganised<L>, wanted: Wanted, given: usize) -> bool {
     let each = match done.ends.as_slice() {
         [(one, first), (two, second), (three, third)] => {
             (*one, *two, *three) == (0, 1, 2)
-                && is_unwanted(first)
-                && is_unwanted(second)
-                && is_unwanted(third)
+                && is_wanted(first, wanted)
+                && is_wanted(second, wanted)
+                && is_wanted(third, wanted)
         }
         _ => false,
     };
-    let none = match done.receipts.as_slice() {
-        [first, second] => first.len() == 0 && second.len() == 0,
+    let counted = match done.receipts.as_slice() {
+        [first, second] => first.len().checked_add(second.len()) == Some(given),
         _ => false,
     };
-    each && none && done.handles.len() == 2
+    each && counted && done.handles.len() == 2
 }
 
-// All pieces by two handles, held by a gate with the third.
-fn worked<L: Room + Send + Sync, R: Threads + Wait + Sync>(
+// All pieces by two handles through a gate, which come back if the pieces ended so.
+fn worked<L: Room + Send + Sync, G: Gate + Sync, R: Threads + Wait + Sync>(
     rt: &R,
     alloc: Global,
     shared: &Shared<L>,
     handles: Vec<Handle<L>>,
-    gate: &Held<L, R>,
+    gate: &G,
+    ends: (Wanted, usize),
 ) -> Option<Vec<Handle<L>>> {
     let done = reorganise_all(rt, alloc, shared, handles, 30, 2, 10, 5, gate).ok()?;
-    if !is_refused(&done) {
+    if !are_ended(&done, ends.0, ends.1) {
         return None;
     }
     let Reorganised {
@@ -98,31 +141,54 @@ fn worked<L: Room + Send + Sync, R: Threads + Wait + Sync>(
     Some(handles)
 }
 
-// The same, with the third handle back behind the others, and what the turn gave.
+// The clear is as it was begun, and then a second call finishes it: one piece has all items, the other two had ended at the begin.
+fn cleared<L: Room + Send + Sync, R: Threads + Wait + Sync>(
+    rt: &R,
+    alloc: Global,
+    shared: &Shared<L>,
+    me: &mut Handle<L>,
+    handles: Vec<Handle<L>>,
+) -> Option<Vec<Handle<L>>> {
+    if shared.progress(rt, me, 2) != Ok(Some((Work::Clear, 3, false))) || me.front() != 12 {
+        return None;
+    }
+    worked(rt, alloc, shared, handles, &FreeGate, (Wanted::Finished, 1))
+}
+
+// The pieces of the fill, held by a gate with the third handle, and then those of the clear, if one has begun.
 fn worked_and_back<L: Room + Send + Sync, R: Threads + Wait + Sync>(
     rt: &R,
     alloc: Global,
     shared: &Shared<L>,
     mut handles: Vec<Handle<L>>,
-    step: Step,
+    steps: Steps,
 ) -> Option<(Vec<Handle<L>>, Option<(u64, u64)>)> {
     let me = handles.pop()?;
+    let clears = steps.down.is_some();
     let gate = Held {
         rt,
         alloc,
         shared,
-        step,
+        steps,
         turner: Mutex::new(Turner { me, given: None }),
     };
-    let mut handles = worked(rt, alloc, shared, handles, &gate)?;
+    let wanted = if clears {
+        Wanted::OfAnotherKind
+    } else {
+        Wanted::Unwanted
+    };
+    let mut handles = worked(rt, alloc, shared, handles, &gate, (wanted, 0))?;
     let Held {
         rt: _,
         alloc: _,
         shared: _,
-        step: _step,
+        steps: _steps,
         turner,
     } = gate;
-    let Turner { me, given } = turner.into_inner();
+    let Turner { mut me, given } = turner.into_inner();
+    if clears {
+        handles = cleared(rt, alloc, shared, &mut me, handles)?;
+    }
     handles.push(me).ok()?;
     Some((handles, given))
 }
@@ -133,40 +199,57 @@ fn turned<L: Room + Send + Sync, R: Threads + Wait + Sync>(
     alloc: Global,
     blank: Blank,
     world: World,
-    step: Step,
+    steps: Steps,
 ) -> Option<(World, Option<(u64, u64)>)>
     requires name { blank.name ≡ L.name }
     requires parts { blank.parts ≡ L.parts }
     requires picked { (L.handles ≡ 3) × (L.handles ≡ L.parts) × (L.opening ≡ world.opening) × (L.since ≡ length world.log) }
 {
     let (shared, handles) = Shared::<L>::new(alloc, blank, world, 3).ok()?;
-    let (handles, given) = worked_and_back(rt, alloc, &shared, handles, step)?;
+    let (handles, given) = worked_and_back(rt, alloc, &shared, handles, steps)?;
     let world = shared.close(handles).ok()?;
     Some((world, given))
 }
 
-// Behind nine entries the turn is the last one; the index keeps its state and its fill is forgotten. All three rows are there, and
-// of no pair of the index too much.
-fn is_forgotten(alloc: Global, world: &World) -> bool {
+// After nine entries and the turn: the fill is forgotten and the index keeps its state; or it is delete-only and its clear has ended. All three
+// rows are there, and the index has no pair too much.
+fn is_left(alloc: Global, world: &World, clears: bool) -> bool {
     let newest = world.newest().get();
     let Ok(found) = world.check(alloc) else {
         return false;
     };
-    world.log().len() == 10
-        && world.timeline().newest() == 4
-        && newest.state(2) == WriteOnly
-        && world.progress(2).is_none()
-        && (found.rows, found.missing, found.extra) == (3, 0, 0)
+    let how = (
+        world.log().len(),
+        world.timeline().newest(),
+        newest.state(2),
+        world.progress(2),
+    );
+    let wanted = if clears {
+        (13, 5, DeleteOnly, Some((Work::Clear, 3, true)))
+    } else {
+        (10, 4, WriteOnly, None)
+    };
+    how == wanted && (found.rows, found.missing, found.extra) == (3, 0, 0)
 }
 
-fn turns<R: Threads + Wait + Sync>(rt: &R, alloc: Global) -> Option<bool> {
-    let step = turning(alloc).ok()?;
+fn turns<R: Threads + Wait + Sync>(rt: &R, alloc: Global, clears: bool) -> Option<bool> {
+    let turn = turning(alloc).ok()?;
+    let down = if clears {
+        Some(dropping(alloc).ok()?)
+    } else {
+        None
+    };
     let world = filling(alloc, 3, 3)?;
-    let (world, given) = turned::<Brand, R>(rt, alloc, Blank::new(3), world, step)?;
-    Some(given == Some((4, 10)) && is_forgotten(alloc, &world))
+    let (world, given) = turned::<Brand, R>(rt, alloc, Blank::new(3), world, Steps { turn, down })?;
+    Some(given == Some((4, 10)) && is_left(alloc, &world, clears))
 }
 
 #[test]
 fn a_turn_ends_all_held_pieces(rt: HostRuntime) {
-    assert!(rt; turns(&rt, rt.alloc()) == Some(true));
+    assert!(rt; turns(&rt, rt.alloc(), false) == Some(true));
+}
+
+#[test]
+fn a_fill_does_not_work_on_a_clear(rt: HostRuntime) {
+    assert!(rt; turns(&rt, rt.alloc(), true) == Some(true));
 }

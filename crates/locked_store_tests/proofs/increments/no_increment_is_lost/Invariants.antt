@@ -1,0 +1,8 @@
+use Rattle.std.specs.Prelude.{length}
+use Rattle.locked_store_tests.proofs.increments.no_increment_is_lost.Given as goal
+
+abbrev pub ghosts-both_at_once-L-Ledger : goal.ghosts-both_at_once-L-Ledger
+ghosts-both_at_once-L-Ledger g a = record { name = a.blank.name; parts = a.blank.parts }
+
+abbrev pub ghosts-both_at_once-L-Room : goal.ghosts-both_at_once-L-Room
+ghosts-both_at_once-L-Room g a = record { handles = a.blank.parts; opening = a.world.opening; since = length a.world.log }

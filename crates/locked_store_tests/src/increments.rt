@@ -1,0 +1,151 @@
+//! Two handles increment one counter at once, each by what it read: it reads, computes the new value from what it read, prepares with just
+//! that, and commits; after a conflict it reads again. No increment is lost.
+ghost use Rattle.std.specs.Prelude.{◌≡◌, length};
+
+use crate::desk::{Desk, committed, prepared};
+use crate::fixtures::{FIRST, are, insert, opened, update, whole_table};
+use keycode::Value;
+use locked_store::{Handle, Room, Shared, SharedFault};
+use row_map::{ColumnType, ReadView, column_key, read_typed_value};
+use row_write::{prepare, reads_of};
+use std::alloc::Global;
+use std::marker::Brand;
+use std::sync::Wait;
+use std::sync::ledger::Blank;
+use std::thread::{Threads, join};
+use world::{CommitFault, Committed, World};
+
+// How often each handle increments.
+const TIMES: i64 = 200;
+
+// The counter's value, as it was read.
+fn value_of(alloc: Global, view: &ReadView) -> Option<i64> {
+    let key = column_key(alloc, 1, &[Value::Int(1)], 1).ok()?;
+    let bytes = view.get(key.as_slice())?.as_ref()?;
+    match read_typed_value(alloc, ColumnType::Int, bytes.as_slice()) {
+        Ok(Some(Value::Int(value))) => Some(value),
+        _ => None,
+    }
+}
+
+// One try: whether it is committed, and not in conflict. What is read depends on the table and the key alone, so the keys are asked for with
+// a value that is not known yet.
+fn is_incremented<L: Room, R: Wait>(desk: &mut Desk<L, R>) -> Option<bool> {
+    let alloc = desk.alloc;
+    let schema = desk.shared.schema(desk.rt, &mut desk.me, 1).ok()??;
+    let unknown = update(alloc, 1, 0).ok()?;
+    let keys = reads_of(alloc, schema.get(), unknown.as_slice()).ok()?;
+    let view = desk.shared.read(desk.rt, alloc, &mut desk.me, &keys).ok()?;
+    let next = value_of(alloc, &view)?.checked_add(1)?;
+    let work = prepare(alloc, schema, FIRST, update(alloc, 1, next).ok()?, view).ok()?;
+    match desk.shared.commit(desk.rt, alloc, &mut desk.me, 0, work) {
+        Ok(Committed::Done(_)) => Some(true),
+        Err((SharedFault::World(CommitFault::Conflict { key: _ }), _)) => Some(false),
+        _ => None,
+    }
+}
+
+// All increments of one handle. Each conflict is with one of the other's, so there are at most twice as many tries.
+fn increments<L: Room, R: Wait>(desk: &mut Desk<L, R>) -> Option<i64> {
+    let mut done = 0i64;
+    for _try in 0..2 * TIMES {
+        if done < TIMES && is_incremented(desk)? {
+            done = done.checked_add(1)?;
+        }
+    }
+    Some(done)
+}
+
+// The same through a handle that is handed in, and comes back.
+fn worked<L: Room, R: Wait>(
+    rt: &R,
+    alloc: Global,
+    shared: &Shared<L>,
+    me: Handle<L>,
+) -> (Handle<L>, Option<i64>) {
+    let mut desk = Desk {
+        rt,
+        alloc,
+        shared,
+        me,
+    };
+    let done = increments(&mut desk);
+    let Desk {
+        rt: _,
+        alloc: _,
+        shared: _,
+        me,
+    } = desk;
+    (me, done)
+}
+
+// The row of the counter, with 0.
+fn begun<L: Room, R: Wait>(
+    rt: &R,
+    alloc: Global,
+    shared: &Shared<L>,
+    me: Handle<L>,
+) -> Option<Handle<L>> {
+    let mut desk = Desk {
+        rt,
+        alloc,
+        shared,
+        me,
+    };
+    let work = prepared(&mut desk, insert(alloc, 1, 0)).ok()?;
+    committed(&mut desk, &mut None, work).ok()?;
+    let Desk {
+        rt: _,
+        alloc: _,
+        shared: _,
+        me,
+    } = desk;
+    Some(me)
+}
+
+// Both handles at once: how often each incremented, and the world.
+fn both_at_once<L: Room + Send + Sync, R: Threads + Wait + Sync>(
+    rt: &R,
+    alloc: Global,
+    blank: Blank,
+    world: World,
+) -> Option<(World, Option<i64>, Option<i64>)>
+    requires name { blank.name ≡ L.name }
+    requires parts { blank.parts ≡ L.parts }
+    requires picked { (L.handles ≡ 2) × (L.handles ≡ L.parts) × (L.opening ≡ world.opening) × (L.since ≡ length world.log) }
+{
+    let (shared, mut handles) = Shared::<L>::new(alloc, blank, world, 2).ok()?;
+    let second = handles.pop()?;
+    let first = begun(rt, alloc, &shared, handles.pop()?)?;
+    let lent = &shared;
+    let ((first, one), (second, other)) = join(
+        rt,
+        move || worked(rt, alloc, lent, first),
+        move || worked(rt, alloc, lent, second),
+    );
+    handles.push(first).ok()?;
+    handles.push(second).ok()?;
+    let world = shared.close(handles).ok()?;
+    Some((world, one, other))
+}
+
+// One insert and all increments are in the log, and the counter has them all.
+fn is_counted(alloc: Global, world: &World) -> Option<bool> {
+    let query = whole_table(alloc).ok()?;
+    let rows = world.query(alloc, 0, &FIRST, &query).ok()?;
+    Some(world.log().len() == 401 && are(rows.as_slice(), &[(1, 400)]))
+}
+
+#[test]
+fn no_increment_is_lost(rt: HostRuntime) {
+    let alloc = rt.alloc();
+    let Ok(world) = opened(alloc) else {
+        panic!(rt; "no world");
+    };
+    let Some((world, one, other)) = both_at_once::<Brand, _>(&rt, alloc, Blank::new(2), world)
+    else {
+        panic!(rt; "a call was refused");
+    };
+    assert!(rt; (one, other) == (Some(TIMES), Some(TIMES)));
+    assert!(rt; is_counted(alloc, &world) == Some(true));
+}

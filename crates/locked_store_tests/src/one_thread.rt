@@ -1,0 +1,268 @@
+//! One handle: rows come and go beside a snapshot, and an index enters, is filled and becomes public; then receipts of the log are
+//! altered. Each call is asked once more where memory was short.
+ghost use Rattle.std.specs.Prelude.{◌≡◌, length};
+
+use crate::acts::{Act, Kept, acted};
+use crate::desk::{Desk, Told};
+use crate::fixtures::{mark, opened};
+use Act::{Begin, Delete, Enter, Find, Go, Insert, Keep, Lease, Look, Piece, Stand, State};
+use locked_store::{Handle, ReceiptFault, Room, ShareFault, Shared, SharedFault, reconcile};
+use reorganise::Work::Fill;
+use schema_version::ElementState::{Absent, Public, WriteOnly};
+use std::alloc::{AllocError, Global};
+use std::marker::Brand;
+use std::sync::Wait;
+use std::sync::ledger::Blank;
+use world::{Entry, Receipt, World};
+
+// The length of the log and the number of rows.
+type Seen = (u64, u64);
+
+// What is asked in turn, and how many entries and rows there are then, while every pair has its reason and none is missing.
+static ACTS: [(Act, Seen); 25] = [
+    (Lease, (1, 0)),
+    (Insert(1, 5), (2, 1)),
+    (Find(&[(1, 5)]), (2, 1)),
+    (Keep, (2, 1)),
+    (Delete(1), (3, 0)),
+    (Find(&[]), (3, 0)),
+    (Look(&[(1, 5)]), (3, 0)),
+    (Keep, (3, 0)),
+    (Look(&[]), (3, 0)),
+    (State(1, Some(Absent)), (3, 0)),
+    (State(2, None), (3, 0)),
+    (Insert(5, 7), (4, 1)),
+    (Enter, (5, 1)),
+    (Go(WriteOnly, 20), (6, 1)),
+    (Stand(None), (6, 1)),
+    (Begin, (7, 1)),
+    (Stand(Some((Fill, 1, false))), (7, 1)),
+    (Piece, (8, 1)),
+    (Stand(Some((Fill, 1, true))), (8, 1)),
+    (Go(Public, 30), (9, 1)),
+    (Stand(None), (9, 1)),
+    (State(4, Some(Public)), (9, 1)),
+    (State(3, Some(WriteOnly)), (9, 1)),
+    (State(2, None), (9, 1)),
+    (State(5, None), (9, 1)),
+];
+
+// How the world stands, where no pair is missing and none too much.
+fn seen_once<L: Room, R: Wait>(desk: &mut Desk<L, R>) -> Result<Seen, Told> {
+    match desk.shared.check(desk.rt, desk.alloc, &mut desk.me) {
+        Ok(found) if (found.missing, found.extra) == (0, 0) => Ok((desk.me.front(), found.rows)),
+        Err(SharedFault::World(AllocError)) => Err(Told::Short),
+        _ => Err(Told::Wrong),
+    }
+}
+
+// The same, asked once more where memory was short.
+fn seen<L: Room, R: Wait>(desk: &mut Desk<L, R>) -> Option<Seen> {
+    match seen_once(desk) {
+        Err(Told::Short) => seen_once(desk).ok(),
+        told => told.ok(),
+    }
+}
+
+// Whether an act is answered as it has to be, and the world then stands so. Where memory was short it stands as before, and the act
+// is asked once more.
+fn is_right<L: Room, R: Wait>(
+    desk: &mut Desk<L, R>,
+    kept: &mut Kept,
+    act: &Act,
+    before: Seen,
+    after: Seen,
+) -> bool {
+    let told = match acted(desk, kept, act) {
+        Told::Short if seen(desk) == Some(before) => acted(desk, kept, act),
+        told => told,
+    };
+    matches!(told, Told::Right) && seen(desk) == Some(after)
+}
+
+// How many of the acts are answered as they have to be, up to the first that is not.
+fn walked<L: Room, R: Wait>(desk: &mut Desk<L, R>, kept: &mut Kept) -> usize {
+    let mut before = (0, 0);
+    for (place, (act, after)) in ACTS.iter().enumerate() {
+        if !is_right(desk, kept, act, before, *after) {
+            return place;
+        }
+        before = *after;
+    }
+    ACTS.len()
+}
+
+// The same through a handle that is handed in, and comes back.
+fn handled<L: Room, R: Wait>(
+    rt: &R,
+    alloc: Global,
+    shared: &Shared<L>,
+    me: Handle<L>,
+) -> (Handle<L>, usize) {
+    let mut desk = Desk {
+        rt,
+        alloc,
+        shared,
+        me,
+    };
+    let mut kept = Kept {
+        snapshot: None,
+        work: None,
+        piece: None,
+    };
+    let right = walked(&mut desk, &mut kept);
+    let Desk {
+        rt: _,
+        alloc: _,
+        shared: _,
+        me,
+    } = desk;
+    (me, right)
+}
+
+// How many are, and the world behind them.
+fn closed<L: Room, R: Wait>(
+    rt: &R,
+    alloc: Global,
+    shared: Shared<L>,
+    mut handles: Vec<Handle<L>>,
+) -> Option<(World, usize)> {
+    let me = handles.pop()?;
+    let (me, right) = handled(rt, alloc, &shared, me);
+    handles.push(me).ok()?;
+    let world = shared.close(handles).ok()?;
+    Some((world, right))
+}
+
+// The world comes back as an error where there was no memory to share it.
+fn shared<L: Room, R: Wait>(
+    rt: &R,
+    alloc: Global,
+    blank: Blank,
+    world: World,
+) -> Result<Option<(World, usize)>, World>
+    requires name { blank.name ≡ L.name }
+    requires parts { blank.parts ≡ L.parts }
+    requires picked { (L.handles ≡ 1) × (L.handles ≡ L.parts) × (L.opening ≡ world.opening) × (L.since ≡ length world.log) }
+{
+    match Shared::<L>::new(alloc, blank, world, 1) {
+        Ok((shared, handles)) => Ok(closed(rt, alloc, shared, handles)),
+        Err((ShareFault::Memory, world)) => Err(world),
+        Err(_) => Ok(None),
+    }
+}
+
+fn shared_once<R: Wait>(
+    rt: &R,
+    alloc: Global,
+    world: World,
+) -> Result<Option<(World, usize)>, World> {
+    shared::<Brand, R>(rt, alloc, Blank::new(1), world)
+}
+
+fn shared_twice<R: Wait>(rt: &R, alloc: Global, world: World) -> Option<(World, usize)> {
+    match shared_once(rt, alloc, world) {
+        Ok(told) => told,
+        Err(world) => shared_once(rt, alloc, world).ok()?,
+    }
+}
+
+// The world that comes back where there may not be so many handles.
+fn unshared<L: Room>(alloc: Global, blank: Blank, world: World, count: u64) -> Option<World>
+    requires name { blank.name ≡ L.name }
+    requires parts { blank.parts ≡ L.parts }
+    requires picked { (L.handles ≡ count) × (L.handles ≡ L.parts) × (L.opening ≡ world.opening) × (L.since ≡ length world.log) }
+{
+    match Shared::<L>::new(alloc, blank, world, count) {
+        Err((ShareFault::BadCount, world)) => Some(world),
+        _ => None,
+    }
+}
+
+fn unshared_once(alloc: Global, world: World, count: u64) -> Option<World> {
+    unshared::<Brand>(alloc, Blank::new(count), world, count)
+}
+
+// A world is shared by 1 to 64 handles.
+fn neither_shared(alloc: Global, world: World) -> Option<World> {
+    let world = unshared_once(alloc, world, 0)?;
+    unshared_once(alloc, world, 65)
+}
+
+// The entry at this index with a moment that is so much later, as a receipt says it of this place.
+fn receipt_of(log: &[Entry], row: (u64, usize, u64)) -> Option<Receipt> {
+    let (place, index, later) = row;
+    let entry = log.get(index)?;
+    let moment = entry.moment.checked_add(later)?;
+    let what = entry.what.clone().ok()?;
+    let entry = Entry { moment, what };
+    Some(Receipt { place, entry })
+}
+
+// What is told of two receipts.
+fn told(
+    alloc: Global,
+    world: &World,
+    rows: [(u64, usize, u64); 2],
+) -> Option<Result<(), ReceiptFault>> {
+    let [first, second] = rows;
+    let receipts = [
+        receipt_of(world.log(), first)?,
+        receipt_of(world.log(), second)?,
+    ];
+    match reconcile(alloc, world, &receipts) {
+        Err(ReceiptFault::Memory) => Some(reconcile(alloc, world, &receipts)),
+        told => Some(told),
+    }
+}
+
+// Two receipts, each by its place, the index of its entry and how much later that is, and what is told of them. The log has the
+// lease at place 1 and the insert at place 2.
+fn is_each_told(alloc: Global, world: &World) -> bool {
+    let rows = [
+        ([(2, 1, 0), (1, 0, 0)], Ok(())),
+        (
+            [(1, 0, 0), (0, 1, 0)],
+            Err(ReceiptFault::NoPlace { place: 0 }),
+        ),
+        (
+            [(1, 0, 0), (10, 1, 0)],
+            Err(ReceiptFault::NoPlace { place: 10 }),
+        ),
+        (
+            [(1, 0, 0), (2, 1, 1)],
+            Err(ReceiptFault::OtherEntry { place: 2 }),
+        ),
+        (
+            [(1, 1, 0), (2, 1, 0)],
+            Err(ReceiptFault::OtherEntry { place: 1 }),
+        ),
+        (
+            [(2, 1, 0), (2, 1, 0)],
+            Err(ReceiptFault::Twice { place: 2 }),
+        ),
+    ];
+    for (receipts, answer) in rows {
+        if told(alloc, world, receipts) != Some(answer) {
+            return false;
+        }
+    }
+    world.log().len() == 9
+}
+
+#[test]
+fn under_refusal_calls_through_the_lock(rt: HostRuntime) {
+    let alloc = rt.alloc();
+    let Ok(world) = opened(alloc) else {
+        panic!(rt; "no world");
+    };
+    assert!(rt; mark(&rt));
+    let Some(world) = neither_shared(alloc, world) else {
+        panic!(rt; "no handles, or 65");
+    };
+    let Some((world, right)) = shared_twice(&rt, alloc, world) else {
+        panic!(rt; "it was not shared");
+    };
+    assert!(rt; right == ACTS.len(), "act {right}");
+    assert!(rt; is_each_told(alloc, &world));
+}

@@ -1,0 +1,37 @@
+//! Bad numbers are refused by name, and a call that stopped for a moment is gone on with.
+
+use crate::fixtures::{states, with_changes};
+use lease::MAX_MOMENT;
+use rollout::{AdvanceFault, advance, complete};
+use schema_version::ElementState;
+
+#[test]
+fn bad_numbers_are_refused(rt: HostRuntime) {
+    let alloc = rt.alloc();
+    let Some(mut world) = with_changes(alloc) else {
+        panic!(rt; "no world");
+    };
+    let entries = world.log().len();
+    let late = MAX_MOMENT + 1;
+    for (moment, pieces, limit, fault) in [
+        (20u64, 0u32, 1u32, AdvanceFault::BadCount),
+        (20, 65, 1, AdvanceFault::BadCount),
+        (20, 1, 0, AdvanceFault::BadCount),
+        (late, 64, 1_001, AdvanceFault::BadCount),
+        (late, 64, 1_000, AdvanceFault::MomentTooLarge),
+    ] {
+        assert!(rt; advance(alloc, &mut world, moment, pieces, limit).err() == Some(fault));
+        assert!(rt; complete(alloc, &mut world, moment, pieces, limit) == Err(fault));
+    }
+    assert!(rt; world.log().len() == entries);
+    // From here on each version has to wait for a moment that is too large: the first one is published, and no other.
+    assert!(rt; complete(alloc, &mut world, MAX_MOMENT, 1, 1) == Err(AdvanceFault::MomentTooLarge));
+    assert!(rt;
+        states(&world)
+            == (
+                ElementState::DeleteOnly,
+                ElementState::WriteOnly,
+                ElementState::WriteOnly
+            )
+    );
+}

@@ -1,0 +1,59 @@
+//! An index and a required column are added and a column is dropped, all begun in one step: advances do the rest, at the moments that
+//! they report.
+
+use crate::fixtures::{is_whole, states, with_changes};
+use rollout::{Advanced, advance};
+use schema_version::ElementState;
+use std::alloc::Global;
+use world::World;
+
+// The next act but for pieces, and its element, version or moment.
+fn next_act(alloc: Global, world: &mut World, moment: u64) -> Option<(&'static str, u64)> {
+    for _pieces in 0..20u32 {
+        match advance(alloc, world, moment, 2, 2).ok()? {
+            Advanced::Began { element, .. } => return Some(("begin", element as u64)),
+            Advanced::Published { version, .. } => return Some(("publish", version)),
+            Advanced::Worked { .. } => {}
+            Advanced::Waiting { until } => return Some(("wait", until)),
+            Advanced::Finished => return Some(("finished", 0)),
+        }
+    }
+    None
+}
+
+#[test]
+fn changes_go_on_side_by_side(rt: HostRuntime) {
+    let alloc = rt.alloc();
+    let Some(mut world) = with_changes(alloc) else {
+        panic!(rt; "no world");
+    };
+    let mut moment = 10u64;
+    let acts = [
+        ("wait", 20u64),
+        ("begin", 2),
+        ("publish", 3),
+        ("wait", 30),
+        ("begin", 3),
+        ("begin", 4),
+        ("publish", 4),
+        ("wait", 40),
+        ("publish", 5),
+        ("finished", 0),
+    ];
+    for (what, number) in acts {
+        let act = next_act(alloc, &mut world, moment);
+        assert!(rt; act == Some((what, number)), "{what} {number}");
+        if what == "wait" {
+            moment = number;
+        }
+    }
+    assert!(rt;
+        states(&world)
+            == (
+                ElementState::Absent,
+                ElementState::Public,
+                ElementState::Public
+            )
+    );
+    assert!(rt; is_whole(alloc, &world));
+}

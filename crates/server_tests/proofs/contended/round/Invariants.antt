@@ -1,0 +1,8 @@
+use Rattle.std.specs.Prelude.{length}
+use Rattle.server_tests.proofs.contended.round.Given as goal
+
+abbrev pub ghosts-contended-L-Ledger : goal.ghosts-contended-L-Ledger
+ghosts-contended-L-Ledger g a = record { name = a.blank.name; parts = a.blank.parts }
+
+abbrev pub ghosts-contended-L-Room : goal.ghosts-contended-L-Room
+ghosts-contended-L-Room g a = record { handles = a.blank.parts; opening = a.world.opening; since = length a.world.log }

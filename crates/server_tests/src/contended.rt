@@ -1,0 +1,161 @@
+//! A piece of a fill whose rows another handle updates meanwhile: it is given up after as many failed tries as are allowed, and not before.
+ghost use Rattle.std.specs.Prelude.{◌≡◌, length};
+
+use crate::fills::filling;
+use crate::table::update;
+use locked_store::{Handle, Room, Shared};
+use reorganise_workers::{PieceEnd, Reorganised, reorganise_all};
+use server::{Request, Served, serve};
+use std::alloc::Global;
+use std::marker::Brand;
+use std::sync::Wait;
+use std::sync::atomic::{AtomicU64, Ordering};
+use std::sync::ledger::Blank;
+use std::thread::{Threads, join};
+use tasks::Gate;
+use world::World;
+
+// Lets every request start, and the piece once the first request is answered.
+#[derive(Drop)]
+struct AfterFirst {
+    answered: AtomicU64,
+}
+
+impl Gate for AfterFirst {
+    fn may_start(&self, _number: usize, _turn: u64) -> bool {
+        true
+    }
+
+    fn answered(&self, _number: usize) {
+        self.answered.store(1, Ordering::SeqCst);
+    }
+}
+
+// The same gate, as the piece sees it.
+#[derive(Drop)]
+struct Waiting<'a> {
+    first: &'a AfterFirst,
+}
+
+impl<'a> Gate for Waiting<'a> {
+    fn may_start(&self, _number: usize, _turn: u64) -> bool {
+        self.first.answered.load(Ordering::SeqCst) != 0
+    }
+
+    fn answered(&self, _number: usize) {}
+}
+
+// Whether the piece was given up, or finished; None for any other end, or if the receipts are not those of its commits.
+fn is_given_up<L: Room>(done: &Reorganised<L>, tries: u32) -> Option<bool> {
+    let [receipts] = done.receipts.as_slice() else {
+        return None;
+    };
+    match done.ends.as_slice() {
+        [(0, PieceEnd::Finished)] if receipts.len() == 1 => Some(false),
+        [(0, PieceEnd::Busy { tries: told })] if *told == tries && receipts.len() == 0 => Some(
+            true,
+        ),
+        _ => None,
+    }
+}
+
+// One handle updates the row, once for each request, while the other works the piece off.
+fn at_once<L: Room + Send + Sync, R: Threads + Wait + Sync>(
+    rt: &R,
+    alloc: Global,
+    shared: &Shared<L>,
+    writer: Vec<Handle<L>>,
+    worker: Vec<Handle<L>>,
+    requests: &[Request],
+    tries: u32,
+) -> Option<(Vec<Handle<L>>, bool)> {
+    let first = AfterFirst {
+        answered: AtomicU64::new(0),
+    };
+    let gate = Waiting { first: &first };
+    let (served, worked) = join(
+        rt,
+        || serve(rt, alloc, shared, writer, requests, 1_000, &first),
+        || reorganise_all(rt, alloc, shared, worker, 30, 2, 1_000, tries, &gate),
+    );
+    let Served { mut handles, .. } = served.ok()?;
+    let done = worked.ok()?;
+    let is_busy = is_given_up(&done, tries)?;
+    let Reorganised {
+        handles: mut last,
+        ..
+    } = done;
+    handles.append(&mut last).ok()?;
+    Some((handles, is_busy))
+}
+
+fn contended<L: Room + Send + Sync, R: Threads + Wait + Sync>(
+    rt: &R,
+    alloc: Global,
+    blank: Blank,
+    world: World,
+    requests: &[Request],
+    tries: u32,
+) -> Option<(World, bool)>
+    requires name { blank.name ≡ L.name }
+    requires parts { blank.parts ≡ L.parts }
+    requires picked { (L.handles ≡ 2) × (L.handles ≡ L.parts) × (L.opening ≡ world.opening) × (L.since ≡ length world.log) }
+{
+    let (shared, mut writer) = Shared::<L>::new(alloc, blank, world, 2).ok()?;
+    let worker = vec![in alloc; writer.pop()?].ok()?;
+    let (handles, is_busy) = at_once(rt, alloc, &shared, writer, worker, requests, tries)?;
+    Some((shared.close(handles).ok()?, is_busy))
+}
+
+// So many updates of one row beside a fill of so many rows in one piece: whether the piece was given up. Its fill has ended just if it was not.
+fn round<R: Threads + Wait + Sync>(
+    rt: &R,
+    alloc: Global,
+    rows: i64,
+    updates: i64,
+    tries: u32,
+) -> Option<bool> {
+    let mut requests = Vec::new(alloc);
+    for value in 0..updates {
+        requests.push(update(alloc, 0, value).ok()?).ok()?;
+    }
+    let world = filling(alloc, rows, 1)?;
+    let (world, is_busy) = contended::<Brand, R>(
+        rt,
+        alloc,
+        Blank::new(2),
+        world,
+        requests.as_slice(),
+        tries,
+    )?;
+    let (_, pieces, ended) = world.progress(2)?;
+    let found = world.check(alloc).ok()?;
+    if pieces == 1 && ended != is_busy && found.rows == rows as u64 && found.extra == 0 {
+        Some(is_busy)
+    } else {
+        None
+    }
+}
+
+// Each update fails one try at most, so two of them leave a third try that does not fail.
+#[test]
+fn a_piece_is_not_given_up_early(rt: HostRuntime) {
+    for _round in 0..5 {
+        assert!(rt; round(&rt, rt.alloc(), 100, 2, 3) == Some(false));
+    }
+}
+
+// With updates all the time each try fails, but for those between which the writer was not scheduled: then it is tried anew.
+#[test]
+fn a_piece_that_fails_in_each_try_is_given_up(rt: HostRuntime) {
+    let mut is_busy = false;
+    for _round in 0..20 {
+        if !is_busy {
+            let Some(busy) = round(&rt, rt.alloc(), 200, 1_000, 2) else {
+                panic!(rt; "another end");
+            };
+            is_busy = busy;
+        }
+    }
+    assert!(rt; is_busy);
+}

@@ -1,0 +1,173 @@
+//! Calls of a world, each with the answer that it has to give.
+
+use crate::fixtures::{a_is_5, are_1_and_3, entering, going};
+use crate::pieces::{Refusal, begins, commits, piece, piece_by_hand};
+use crate::told::{Told, judged};
+use crate::transactions::{inserts, lets_go};
+use lease::Lease;
+use reorganise::{PreparedPiece, Work};
+use row_query::QueryFault;
+use schema_version::{ElementState, Step};
+use std::alloc::{AllocError, Global};
+use std::mem;
+use world::{BeginFault, GrantFault, PublishFault, QueryRefusal, Snapshot, SnapshotFault, World};
+
+/// What is asked of the world.
+#[derive(Drop)]
+pub(crate) enum Act {
+    /// A lease at the moment of its grant.
+    Lease(Lease),
+    /// insert t (ID) set a = A, committed at 0
+    Insert(Lease, (i64, i64)),
+    /// The same, prepared by the schema of this version, and refused for it.
+    Strange(u64, Lease, (i64, i64)),
+    /// The same, prepared by the schema of its lease's version and let go before it is committed, which leaves no trace.
+    LetGo(Lease, (i64, i64)),
+    /// select a from t where a = 5 at 9, which finds rows 1 and 3.
+    Find(Lease),
+    /// A snapshot at 9.
+    Keep(Lease),
+    /// The same query of the snapshot.
+    Look,
+    /// add index NAME on t (a), at 10
+    Enter(&'static str),
+    /// move ELEMENT to STATE, at this moment: the version that it gives
+    Go(u32, ElementState, u64, Result<u64, PublishFault>),
+    /// The begin of a reorganisation of an element in so many pieces.
+    Begin(u32, u32, Result<(), BeginFault>),
+    /// The one piece of the fill, read and prepared and kept.
+    Read,
+    /// One made by hand of column a, and kept.
+    ByHand(Work),
+    /// The kept piece is laid aside, and what was laid aside is kept.
+    Swap,
+    /// The kept piece is committed and ends, or is refused so.
+    Commit(Result<(), Refusal>),
+    /// How the reorganisation of the index stands.
+    Stand(Option<(Work, usize, bool)>),
+    /// The state of the index in a version, none where the version is not to be had.
+    State(u64, Option<ElementState>),
+    /// So many rows, with no pair missing and none without a reason.
+    Check(u64),
+}
+
+/// What acts keep for later ones.
+#[derive(Drop)]
+pub(crate) struct Kept {
+    pub(crate) snapshot: Option<Snapshot>,
+    pub(crate) piece: Option<PreparedPiece>,
+    pub(crate) aside: Option<PreparedPiece>,
+}
+
+fn leases(alloc: Global, world: &mut World, lease: Lease) -> Told {
+    match world.lease(alloc, lease.granted) {
+        Ok(grant) => judged(grant.lease == lease),
+        Err(GrantFault::Memory) => Told::Short,
+        Err(_) => Told::Wrong,
+    }
+}
+
+fn finds(alloc: Global, world: &World, lease: Lease) -> Told {
+    let Ok(query) = a_is_5(alloc) else {
+        return Told::Short;
+    };
+    match world.query(alloc, 9, &lease, &query) {
+        Ok(rows) => judged(are_1_and_3(rows.as_slice())),
+        Err(QueryRefusal::Query(QueryFault::Memory)) => Told::Short,
+        Err(_) => Told::Wrong,
+    }
+}
+
+fn keeps(world: &World, kept: &mut Option<Snapshot>, lease: Lease) -> Told {
+    match world.snapshot(9, &lease) {
+        Ok(snapshot) => {
+            *kept = Some(snapshot);
+            Told::Right
+        }
+        Err(SnapshotFault::Memory) => Told::Short,
+        Err(_) => Told::Wrong,
+    }
+}
+
+fn looks(alloc: Global, kept: &Option<Snapshot>) -> Told {
+    let Some(snapshot) = kept else {
+        return Told::Wrong;
+    };
+    let Ok(query) = a_is_5(alloc) else {
+        return Told::Short;
+    };
+    match snapshot.query(alloc, &query) {
+        Ok(rows) => judged(are_1_and_3(rows.as_slice())),
+        Err(QueryFault::Memory) => Told::Short,
+        Err(_) => Told::Wrong,
+    }
+}
+
+fn publishes(
+    alloc: Global,
+    world: &mut World,
+    moment: u64,
+    step: Result<Step, AllocError>,
+    wanted: &Result<u64, PublishFault>,
+) -> Told {
+    let Ok(step) = step else {
+        return Told::Short;
+    };
+    match world.publish(alloc, moment, &step) {
+        Ok((version, _)) => judged(*wanted == Ok(version)),
+        Err(PublishFault::Memory) => Told::Short,
+        Err(fault) => judged(*wanted == Err(fault)),
+    }
+}
+
+fn keeps_piece(kept: &mut Option<PreparedPiece>, piece: Result<PreparedPiece, Told>) -> Told {
+    match piece {
+        Ok(piece) => {
+            *kept = Some(piece);
+            Told::Right
+        }
+        Err(told) => told,
+    }
+}
+
+fn swaps(kept: &mut Kept) -> Told {
+    mem::swap(&mut kept.piece, &mut kept.aside);
+    Told::Right
+}
+
+fn state_in(world: &World, version: u64) -> Option<ElementState> {
+    let schema = world.schema(version)?;
+    Some(schema.get().state(2))
+}
+
+fn checks(alloc: Global, world: &World, rows: u64) -> Told {
+    match world.check(alloc) {
+        Ok(found) => judged((found.rows, found.missing, found.extra) == (rows, 0, 0)),
+        Err(AllocError) => Told::Short,
+    }
+}
+
+/// What comes of an act.
+pub(crate) fn acted(alloc: Global, world: &mut World, kept: &mut Kept, act: &Act) -> Told {
+    match act {
+        Act::Lease(lease) => leases(alloc, world, *lease),
+        Act::Insert(lease, row) => inserts(alloc, world, lease.version, *lease, *row),
+        Act::Strange(version, lease, row) => inserts(alloc, world, *version, *lease, *row),
+        Act::LetGo(lease, row) => lets_go(alloc, world, *lease, *row),
+        Act::Find(lease) => finds(alloc, world, *lease),
+        Act::Keep(lease) => keeps(world, &mut kept.snapshot, *lease),
+        Act::Look => looks(alloc, &kept.snapshot),
+        Act::Enter(name) => publishes(alloc, world, 10, entering(alloc, name), &Ok(2)),
+        Act::Go(element, to, moment, wanted) => {
+            publishes(alloc, world, *moment, going(alloc, *element, *to), wanted)
+        }
+        Act::Begin(element, pieces, wanted) => begins(alloc, world, *element, *pieces, wanted),
+        Act::Read => keeps_piece(&mut kept.piece, piece(alloc, world)),
+        Act::ByHand(kind) => keeps_piece(&mut kept.piece, piece_by_hand(alloc, world, *kind)),
+        Act::Swap => swaps(kept),
+        Act::Commit(wanted) => commits(alloc, world, &mut kept.piece, wanted),
+        Act::Stand(progress) => judged(world.progress(2) == *progress),
+        Act::State(version, state) => judged(state_in(world, *version) == *state),
+        Act::Check(rows) => checks(alloc, world, *rows),
+    }
+}

@@ -1,0 +1,19 @@
+//! Each call of the core once, and what no script can ask of it: work under another schema, pieces of another world, a run of events.
+#![tactic(auto)]
+
+#[cfg(test)]
+mod acts;
+#[cfg(test)]
+mod events;
+#[cfg(test)]
+mod fixtures;
+#[cfg(test)]
+mod leases;
+#[cfg(test)]
+mod pieces;
+#[cfg(test)]
+mod told;
+#[cfg(test)]
+mod transactions;
+#[cfg(test)]
+mod walks;

@@ -1,0 +1,201 @@
+//! Acts on a world in turn: commits, queries and a snapshot, a column that is cleared, an index that enters and is filled, work under
+//! another schema, pieces of another world, a commit that cuts a page in two.
+
+use crate::acts::{Act, Kept, acted};
+use crate::fixtures::{FIRST, mark, opened};
+use crate::pieces::Refusal::{Moved, NotWanted, WrongElement};
+use crate::told::{Told, seen};
+use Act::{
+    Begin, ByHand, Check, Commit, Enter, Find, Go, Insert, Keep, LetGo, Look, Read, Stand, State,
+    Strange, Swap,
+};
+use lease::Lease;
+use reorganise::Work::{Clear, Fill};
+use schema_version::ElementState::{DeleteOnly, Public, WriteOnly};
+use std::alloc::Global;
+use std::process::Abort;
+use world::{BeginFault, PublishFault, World};
+
+// An act, and how many entries there are then.
+type Row = (Act, usize);
+
+// Whether an act is answered as it has to be. Where memory was short the world stands as before, and it is asked once more.
+fn is_right(alloc: Global, world: &mut World, kept: &mut Kept, act: &Act) -> bool {
+    let before = seen(world);
+    let told = match acted(alloc, world, kept, act) {
+        Told::Short if seen(world) == before => acted(alloc, world, kept, act),
+        told => told,
+    };
+    matches!(told, Told::Right)
+}
+
+// How many of the acts are, up to the first that is not.
+fn walked(alloc: Global, world: &mut World, kept: &mut Kept, rows: &[Row]) -> usize {
+    for (place, (act, entries)) in rows.iter().enumerate() {
+        if !is_right(alloc, world, kept, act) || world.log().len() != *entries {
+            return place;
+        }
+    }
+    rows.len()
+}
+
+// The same on a world of its own.
+fn walked_anew(alloc: Global, kept: &mut Kept, rows: &[Row]) -> usize {
+    match opened(alloc) {
+        Ok(mut world) => walked(alloc, &mut world, kept, rows),
+        Err(_) => 0,
+    }
+}
+
+fn nothing() -> Kept {
+    Kept {
+        snapshot: None,
+        piece: None,
+        aside: None,
+    }
+}
+
+// Behind the mark, the acts on two worlds in turn, which share what they keep.
+fn are_right<R: Print + Abort>(rt: &R, alloc: Global, first: &[Row], second: &[Row]) {
+    assert!(rt; mark(rt));
+    let mut kept = nothing();
+    let one = walked_anew(alloc, &mut kept, first);
+    let other = walked_anew(alloc, &mut kept, second);
+    let are_all = (one, other) == (first.len(), second.len());
+    assert!(rt; are_all, "acts {one} and {other}");
+}
+
+// Rows 1 and 3 have the value, row 2 another. An insert that is let go leaves no trace, so that row 4 can be added; a snapshot from
+// before it has rows 1 and 3 all the same. Then the column is cleared: a fill of the same definition, over the same
+// range, is not one of its pieces; a clear that is made by hand in the same way is.
+static COMMITS: [Row; 17] = [
+    (Act::Lease(FIRST), 1),
+    (Insert(FIRST, (1, 5)), 2),
+    (Insert(FIRST, (2, 9)), 3),
+    (Insert(FIRST, (3, 5)), 4),
+    (Find(FIRST), 4),
+    (Keep(FIRST), 4),
+    (Check(3), 4),
+    (LetGo(FIRST, (4, 5)), 4),
+    (Insert(FIRST, (4, 5)), 5),
+    (Look, 5),
+    (Go(1, DeleteOnly, 10, Ok(2)), 6),
+    (Begin(1, 1, Ok(())), 7),
+    (ByHand(Fill), 7),
+    (Commit(Err(WrongElement)), 7),
+    (ByHand(Clear), 7),
+    (Commit(Ok(())), 8),
+    (Check(4), 8),
+];
+
+#[test]
+fn under_refusal_commits_and_queries(rt: HostRuntime) {
+    are_right(&rt, rt.alloc(), &[], &COMMITS);
+}
+
+// A lease that is granted at 10.
+const LATER: Lease = Lease {
+    version: 1,
+    granted: 10,
+    until: 20,
+};
+
+// The lease still serves while version 2 is the newest, and its transactions have version 1's schema. The versions that are to be had
+// are the newest and the one before it.
+static VERSIONS: [Row; 10] = [
+    (Act::Lease(LATER), 1),
+    (Enter("i"), 2),
+    (Strange(2, LATER, (9, 6)), 2),
+    (Insert(LATER, (8, 6)), 3),
+    (State(0, None), 3),
+    (State(3, None), 3),
+    (Go(2, WriteOnly, 20, Ok(3)), 4),
+    (State(1, None), 4),
+    (State(2, Some(DeleteOnly)), 4),
+    (State(3, Some(WriteOnly)), 4),
+];
+
+#[test]
+fn under_refusal_two_versions(rt: HostRuntime) {
+    are_right(&rt, rt.alloc(), &[], &VERSIONS);
+}
+
+// A piece of a world whose element 2 is an index of another name.
+static OTHER: [Row; 6] = [
+    (Act::Lease(FIRST), 1),
+    (Insert(FIRST, (7, 5)), 2),
+    (Enter("j"), 3),
+    (Go(2, WriteOnly, 20, Ok(3)), 4),
+    (Begin(2, 1, Ok(())), 5),
+    (Read, 5),
+];
+
+// It is refused before a fill has begun and after. The refusals of a begin stand in their order: a bad count comes before a fill that
+// has begun only where none has. Of two readings of the world's own piece the second has moved when the first is committed. The fill
+// puts the row's pair, and only then may the index become public.
+static FILL: [Row; 23] = [
+    (Commit(Err(NotWanted)), 0),
+    (Act::Lease(FIRST), 1),
+    (Insert(FIRST, (7, 5)), 2),
+    (Enter("i"), 3),
+    (Go(2, WriteOnly, 20, Ok(3)), 4),
+    (Begin(2, 0, Err(BeginFault::BadCount)), 4),
+    (Begin(2, 65, Err(BeginFault::BadCount)), 4),
+    (Begin(2, 1, Ok(())), 5),
+    (Begin(2, 65, Err(BeginFault::Begun)), 5),
+    (Commit(Err(WrongElement)), 5),
+    (
+        Go(2, Public, 30, Err(PublishFault::Unfinished { element: 2 })),
+        5,
+    ),
+    (Stand(Some((Fill, 1, false))), 5),
+    (Read, 5),
+    (Swap, 5),
+    (Read, 5),
+    (Commit(Ok(())), 6),
+    (Swap, 6),
+    (Commit(Err(Moved)), 6),
+    (Stand(Some((Fill, 1, true))), 6),
+    (Go(2, Public, 30, Ok(4)), 7),
+    (Stand(None), 7),
+    (Begin(2, 1, Err(BeginFault::NotWanted)), 7),
+    (Check(1), 7),
+];
+
+#[test]
+fn under_refusal_fills(rt: HostRuntime) {
+    are_right(&rt, rt.alloc(), &OTHER, &FILL);
+}
+
+// A lease, and 22 rows of even keys, whose 44 pairs are one page.
+fn fills_a_page(alloc: Global, world: &mut World, kept: &mut Kept) -> bool {
+    if !is_right(alloc, world, kept, &Act::Lease(FIRST)) {
+        return false;
+    }
+    for row in 0..22i64 {
+        if !is_right(alloc, world, kept, &Insert(FIRST, (row.wrapping_mul(2), 5))) {
+            return false;
+        }
+    }
+    true
+}
+
+// The row of an odd key comes between them.
+static CUT: [Row; 2] = [(Insert(FIRST, (21, 5)), 24), (Check(23), 24)];
+
+fn is_page_cut<R: Print>(rt: &R, alloc: Global) -> bool {
+    let mut kept = nothing();
+    match opened(alloc) {
+        Ok(mut world) => {
+            fills_a_page(alloc, &mut world, &mut kept)
+                && mark(rt)
+                && walked(alloc, &mut world, &mut kept, &CUT) == CUT.len()
+        }
+        Err(_) => false,
+    }
+}
+
+#[test]
+fn under_refusal_a_page_is_cut(rt: HostRuntime) {
+    assert!(rt; is_page_cut(&rt, rt.alloc()));
+}
