@@ -1,0 +1,12 @@
+pub mod Onward
+pub mod Ready
+pub mod Searching
+pub mod Accepted
+pub mod Falling
+pub mod Counting
+pub mod Few
+pub mod Way
+pub mod Ended
+pub mod Carried
+pub mod Rising
+pub mod Taking

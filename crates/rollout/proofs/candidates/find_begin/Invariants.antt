@@ -1,0 +1,8 @@
+use Rattle.std.proofs.Common.{take}
+use Rattle.world.specs.State.{facts_of}
+use Rattle.rollout.specs.Due.{MayBegin}
+use Rattle.rollout.proofs.Searching.{NoneIn}
+use Rattle.rollout.proofs.candidates.find_begin.Given as goal
+
+abbrev pub invariant-loop-element : goal.invariant-loop-element
+invariant-loop-element l = NoneIn (MayBegin (facts_of l.world) l.now) (take l.element-index l.element-items)

@@ -1,0 +1,19 @@
+use Rattle.std.proofs.Common.{◌≤◌, ◌<◌}
+use Rattle.lease.specs.Timeline.{max_moment}
+use Rattle.world.specs.Calls.{counted}
+use Rattle.world.specs.State.{facts_of}
+use Rattle.rollout.specs.Complete.{IsTooLate}
+use Rattle.rollout.specs.Left.{all_left}
+use Rattle.rollout.proofs.Carried.{IsCarried}
+use Rattle.rollout.proofs.completion.complete.Given as goal
+
+abbrev pub invariant-acts : goal.invariant-acts
+invariant-acts l = record {
+  carried : IsCarried l.fn.world l.world;
+  past : (facts_of l.world).moment ≤ l.now;
+  since : counted l.fn.world l.fn.moment ≤ l.now;
+  late : max_moment < l.now → IsTooLate l.fn.world l.fn.moment l.world;
+}
+
+abbrev pub decreases-acts : goal.decreases-acts
+decreases-acts l = all_left (facts_of l.world) l.now

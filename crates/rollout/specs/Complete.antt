@@ -1,0 +1,41 @@
+-- What `complete` answers, and the state that it leaves.
+use Rattle.std.specs.Prelude.{◌≡◌, ℕ, ◌+◌, ◌*◌, ◌<◌, ◌≤◌, ◌⊎◌, Result, Ok, Err}
+use Rattle.lease.specs.Timeline.{earliest, max_moment, newest as newest_number}
+use Rattle.replay.specs.Replay.{Facts}
+use Rattle.world.specs.Calls.{counted}
+use Rattle.world.specs.Publishing.{max_versions}
+use Rattle.world.specs.State.{State, facts_of}
+use Rattle.rollout.specs.declared.advanced.AdvanceFault.{AdvanceFault}
+use Rattle.rollout.specs.declared.advanced.AdvanceFault.TheVariants as advance_fault
+use Rattle.rollout.specs.Advance.{AreCounts, IsStepDue}
+use Rattle.rollout.specs.Due.{IsUnderWay}
+use Rattle.rollout.specs.Few.{acts_in, changes_under_way}
+use Rattle.rollout.specs.Left.{AreCompleted, IsOnTheWay}
+
+-- a change is under way, and no version may be published before a moment above 2^62
+abbrev pub WaitsTooLong : State → Type 0
+WaitsTooLong new = (max_moment < earliest (facts_of new).line) × ((number : ℕ) × IsUnderWay (facts_of new) number)
+
+-- the moment was above 2^62 from the start, and nothing has changed; or what is left has to wait for such a moment
+abbrev pub IsTooLate : State → ℕ → State → Type 0
+IsTooLate old moment new = ((max_moment < counted old moment) × (new ≡ old)) ⊎ WaitsTooLong new
+
+abbrev pub CompleteAnswer : State → ℕ → ℕ → ℕ → Result ℕ AdvanceFault → State → Type 0
+CompleteAnswer old moment pieces limit (Ok now) new =
+    AreCounts pieces limit × AreCompleted (facts_of old) (facts_of new) × (counted old moment ≤ now) × ((facts_of new).moment ≤ now) × (now ≤ max_moment)
+CompleteAnswer old moment pieces limit (Err advance_fault.BadCount) new = (¬ (AreCounts pieces limit)) × (new ≡ old)
+CompleteAnswer old moment pieces limit (Err advance_fault.MomentTooLarge) new = AreCounts pieces limit × IsTooLate old moment new
+CompleteAnswer old moment pieces limit (Err advance_fault.VersionsSpent) new = AreCounts pieces limit × ((now : ℕ) × IsStepDue new now) × (max_versions ≤ newest_number (facts_of new).line)
+CompleteAnswer old moment pieces limit (Err advance_fault.Memory) new = AreCounts pieces limit
+
+-- refused or not, each element is where it was or further on its way, the rows are as before, and the log has at most three begins and
+-- publications more for each element that was under way
+pub record CompleteStep (old : State) (moment pieces limit : ℕ) (result : Result ℕ AdvanceFault) (new : State) : Type 0 where
+  pub way : IsOnTheWay (facts_of old) (facts_of new)
+  pub rows : (facts_of new).rows ≡ (facts_of old).rows
+  pub few : acts_in new.log ≤ acts_in old.log + 3 * changes_under_way (facts_of old)
+  pub answer : CompleteAnswer old moment pieces limit result new
+
+-- what a refused call left, a later call completes
+abbrev pub CallsGoOn : Type 0
+CallsGoOn = (old middle new : Facts) → IsOnTheWay old middle → AreCompleted middle new → AreCompleted old new

@@ -1,0 +1,6 @@
+pub mod StatePath
+pub mod Due
+pub mod Left
+pub mod Advance
+pub mod Few
+pub mod Complete

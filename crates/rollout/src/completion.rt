@@ -1,0 +1,55 @@
+//! All changes that are under way, brought to their end.
+ghost use Rattle.rollout.specs.Complete.{CompleteStep};
+
+use crate::act::{Act, due};
+use crate::advanced::AdvanceFault;
+use crate::counts::are_counts;
+use crate::due_calls::{begin, publish};
+use crate::piece::work_all;
+use lease::MAX_MOMENT;
+use std::alloc::Global;
+use world::World;
+
+/// Brings every change that is under way to its end, and returns the effective moment of its end: then each element that was being
+/// added is public, and each that was being dropped is gone. If nothing can be done before a moment, it goes on at that moment.
+///
+/// It always comes to an end. It takes at most three begins and publications for each element that is under way, whatever it returns.
+///
+/// - `moment`: the effective moment is the greater of it and the moment of the last entry.
+/// - `pieces`: in how many pieces a fill or a clear begins, 1 to 64.
+/// - `limit`: how many items of a piece are worked at a time, 1 to 1,000.
+///
+/// Refused, in this order, by the names of `AdvanceFault`: bad counts, which change nothing; then a moment above 2^62, no version left,
+/// or out of memory, at the act that needs it. What was done before that act stays: the rows are as before, and each element is where
+/// it was or further on its way, so a second call goes on.
+pub fn complete(
+    alloc: Global,
+    world: &mut World,
+    moment: u64,
+    pieces: u32,
+    limit: u32,
+) -> Result<u64, AdvanceFault>
+    ensures step { CompleteStep world.old moment pieces limit result world.new }
+{
+    if !are_counts(pieces, limit) {
+        return Err(AdvanceFault::BadCount);
+    }
+    let mut now = moment.max(world.moment());
+    'acts: loop {
+        world.agrees();
+        if now > MAX_MOMENT {
+            return Err(AdvanceFault::MomentTooLarge);
+        }
+        match due(alloc, world, now)? {
+            Act::Begin { element } => {
+                begin(alloc, world, now, element, pieces)?;
+            }
+            Act::Publish { step } => {
+                publish(alloc, world, now, &step)?;
+            }
+            Act::Work { element } => work_all(alloc, world, element, now, limit)?,
+            Act::Wait { until } => now = until,
+            Act::Nothing => return Ok(now),
+        }
+    }
+}

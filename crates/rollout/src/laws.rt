@@ -1,0 +1,32 @@
+//! What is known of acts that are due, stated for the proofs above.
+ghost use Rattle.rollout.specs.Advance.{AreAccepted, AdvancesLower};
+ghost use Rattle.rollout.specs.Complete.{CallsGoOn};
+ghost use Rattle.rollout.specs.Few.{AreFewLeft};
+ghost use Rattle.rollout.specs.Left.{PiecesTakeItems};
+
+/// The world refuses no act that is due, except when out of memory or of versions.
+pub fn due_is_accepted()
+    ensures { AreAccepted }
+{}
+
+/// Each advance lowers what is left: a step lowers the edges of all elements, a begin the reorganisations that have not begun, a piece
+/// the rest of one piece. A begin and a publication lower the acts that are left too, of which each element under way has at most
+/// three. As long as edges are left, an advance does not report that all is finished.
+pub fn advances_lower()
+    ensures { AdvancesLower }
+{}
+
+/// At most three begins and publications are left for each element that is under way.
+pub fn few_acts_are_left()
+    ensures { AreFewLeft }
+{}
+
+/// A call of `complete` that is refused and a later one that is not, together, complete all changes that were under way at first.
+pub fn calls_go_on()
+    ensures { CallsGoOn }
+{}
+
+/// A read takes exactly `limit` of the items that are left of a piece, or reaches the piece's end: so items measure how far it is.
+pub fn pieces_take_items()
+    ensures { PiecesTakeItems }
+{}

@@ -1,0 +1,26 @@
+//! Carries every schema change that is under way to its end, one act after another, from the state of the world alone. No plan is
+//! kept: any operator may take the next act, and one operator finishes what another began.
+//!
+//! `due` says what may be done now, `advance` does it, and `complete` goes on until no change is under way.
+//!
+//! The states that an element goes through, and the wait of a lease length between two versions, are those of F1 ("Online,
+//! Asynchronous Schema Change in F1", Rae et al., PVLDB 6(11), 2013).
+#![tactic(auto)]
+
+mod act;
+mod advanced;
+mod candidates;
+mod completion;
+mod counts;
+mod due_calls;
+mod laws;
+mod piece;
+mod state_path;
+
+pub use act::{Act, due};
+pub use advanced::{AdvanceFault, Advanced, advance};
+pub use completion::complete;
+pub use laws::{
+    advances_lower, calls_go_on, due_is_accepted, few_acts_are_left, pieces_take_items,
+};
+pub use state_path::next_state;

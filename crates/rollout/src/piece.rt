@@ -1,0 +1,91 @@
+//! The next piece of a fill or a clear.
+ghost use Rattle.std.specs.Prelude.{◌≡◌, ℕ, ◌≤◌, IfOk, OnErr, OnOk};
+ghost use Rattle.lease.specs.Timeline.{max_moment};
+ghost use Rattle.world.specs.Calls.{counted};
+ghost use Rattle.world.specs.State.{facts_of};
+ghost use Rattle.piece_work.specs.Steps.{HasPieces};
+ghost use Rattle.piece_work.specs.Working.{HasEnded, Turns, WasRead};
+ghost use Rattle.rollout.specs.Due.{IsOpen};
+ghost use Rattle.rollout.specs.Advance.{IsLimit, WorksPiece};
+
+use piece_work::work_off;
+use reorganise::{PieceView, ViewFault, prepare_piece};
+use std::alloc::{AllocError, Global};
+use world::{PieceDone, ReadFault, World};
+
+/// How many pieces an open reorganisation has.
+fn piece_count(world: &World, element: u32) -> u32
+    requires { IsOpen (facts_of world.now) element }
+    ensures { HasPieces world.now element result }
+{
+    world.agrees();
+    match world.progress(element) {
+        Some((_, pieces, _)) => pieces as u32,
+        None => unreachable!(),
+    }
+}
+
+/// The next items of the first piece that has not ended: there is one.
+fn next_view(
+    alloc: Global,
+    world: &World,
+    element: u32,
+    limit: u32,
+) -> Result<PieceView, AllocError>
+    requires open { IsOpen (facts_of world.now) element }
+    requires limit { IsLimit limit }
+    ensures { IfOk result (λ view. (piece : ℕ) × WasRead world.now element limit piece view) }
+{
+    world.agrees();
+    let pieces = piece_count(world, element);
+    let mut piece = 0u32;
+    while piece < pieces {
+        match world.read_piece(alloc, element, piece, limit) {
+            Ok(view) => return Ok(view),
+            Err(ReadFault::View(ViewFault::Spent)) => piece += 1,
+            Err(_) => return Err(AllocError),
+        }
+    }
+    unreachable!()
+}
+
+/// Works the next items of an open reorganisation.
+pub(crate) fn work_piece(
+    alloc: Global,
+    world: &mut World,
+    element: u32,
+    moment: u64,
+    limit: u32,
+) -> Result<PieceDone, AllocError>
+    requires open { IsOpen (facts_of world.old) element }
+    requires limit { IsLimit limit }
+    requires moment { counted world.old moment ≤ max_moment }
+    ensures done { IfOk result (λ done. WorksPiece world.old element moment limit done world.new) }
+    ensures same { OnErr result (world.new ≡ world.old) }
+{
+    let view = next_view(alloc, world, element, limit)?;
+    let Ok(prepared) = prepare_piece(alloc, view) else {
+        return Err(AllocError);
+    };
+    match world.commit_piece(alloc, moment, prepared) {
+        Ok(done) => Ok(done),
+        Err(_) => Err(AllocError),
+    }
+}
+
+/// Works an open reorganisation to its end. If it is refused, the pieces that were worked before stay so.
+pub(crate) fn work_all(
+    alloc: Global,
+    world: &mut World,
+    element: u32,
+    moment: u64,
+    limit: u32,
+) -> Result<(), AllocError>
+    ensures turns { (commits : ℕ) × Turns commits world.old element moment limit world.new }
+    ensures ended { OnOk result (HasEnded world.new element) }
+{
+    match work_off(alloc, world, element, moment, limit) {
+        Ok(_) => Ok(()),
+        Err(_) => Err(AllocError),
+    }
+}
