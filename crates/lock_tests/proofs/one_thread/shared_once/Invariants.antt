@@ -1,8 +1,0 @@
-use Rattle.std.specs.Prelude.{length}
-use Rattle.lock_tests.proofs.one_thread.shared_once.Given as goal
-
-abbrev pub ghosts-shared-L-Ledger : goal.ghosts-shared-L-Ledger
-ghosts-shared-L-Ledger g a = record { name = a.blank.name; parts = a.blank.parts }
-
-abbrev pub ghosts-shared-L-Room : goal.ghosts-shared-L-Room
-ghosts-shared-L-Room g a = record { handles = a.blank.parts; opening = a.world.opening; since = length a.world.log }

@@ -1,8 +1,0 @@
-use Rattle.std.specs.Prelude.{length}
-use Rattle.lock_tests.proofs.one_thread.unshared_once.Given as goal
-
-abbrev pub ghosts-unshared-L-Ledger : goal.ghosts-unshared-L-Ledger
-ghosts-unshared-L-Ledger a = record { name = a.blank.name; parts = a.blank.parts }
-
-abbrev pub ghosts-unshared-L-Room : goal.ghosts-unshared-L-Room
-ghosts-unshared-L-Room a = record { handles = a.blank.parts; opening = a.world.opening; since = length a.world.log }

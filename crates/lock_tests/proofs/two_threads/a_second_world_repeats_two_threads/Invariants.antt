@@ -1,8 +1,0 @@
-use Rattle.std.specs.Prelude.{length}
-use Rattle.lock_tests.proofs.two_threads.a_second_world_repeats_two_threads.Given as goal
-
-abbrev pub ghosts-two_at_once-L-Ledger : goal.ghosts-two_at_once-L-Ledger
-ghosts-two_at_once-L-Ledger g a = record { name = a.blank.name; parts = a.blank.parts }
-
-abbrev pub ghosts-two_at_once-L-Room : goal.ghosts-two_at_once-L-Room
-ghosts-two_at_once-L-Room g a = record { handles = a.blank.parts; opening = a.world.opening; since = length a.world.log }
