@@ -17,6 +17,11 @@ const FIRST: Lease = Lease {
     until: 10,
 };
 
+/// Prints the line from which on the step for refusals counts allocations.
+pub(crate) fn mark<R: Print>(rt: &R) -> bool {
+    rt.println("from here on").is_ok()
+}
+
 fn named(alloc: Global, name: &str) -> Result<Text, AllocError> {
     Ok(Text::new(String::from_str(alloc, name)?))
 }

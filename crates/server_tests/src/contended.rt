@@ -50,33 +50,32 @@ fn is_given_up<L: Room>(done: &Reorganised<L>, tries: u32) -> Option<bool> {
     let [receipts] = done.receipts.as_slice() else {
         return None;
     };
-    match done.ends.as_slice() {
-        [(0, PieceEnd::Finished)] if receipts.len() == 1 => Some(false),
-        [(0, PieceEnd::Busy { tries: told })] if *told == tries && receipts.len() == 0 => Some(
-            true,
-        ),
+    let [(_, end)] = done.ends.as_slice() else {
+        return None;
+    };
+    match end {
+        PieceEnd::Finished if receipts.len() == 1 => Some(false),
+        PieceEnd::Busy { tries: failed } if *failed == tries && receipts.len() == 0 => Some(true),
         _ => None,
     }
 }
 
-// One handle updates the row, once for each request, while the other works the piece off.
-fn at_once<L: Room + Send + Sync, R: Threads + Wait + Sync>(
+// One handle updates the row, once for each request, while the other works on the piece.
+fn at_once<'a, L: Room + Send + Sync, R: Threads + Wait + Sync>(
     rt: &R,
     alloc: Global,
     shared: &Shared<L>,
-    writer: Vec<Handle<L>>,
-    worker: Vec<Handle<L>>,
+    handles: (Vec<Handle<L>>, Vec<Handle<L>>),
     requests: &[Request],
     tries: u32,
+    first: &AfterFirst,
+    gate: &Waiting<'a>,
 ) -> Option<(Vec<Handle<L>>, bool)> {
-    let first = AfterFirst {
-        answered: AtomicU64::new(0),
-    };
-    let gate = Waiting { first: &first };
+    let (writer, worker) = handles;
     let (served, worked) = join(
         rt,
-        || serve(rt, alloc, shared, writer, requests, 1_000, &first),
-        || reorganise_all(rt, alloc, shared, worker, 30, 2, 1_000, tries, &gate),
+        move || serve(rt, alloc, shared, writer, requests, 1_000, first),
+        move || reorganise_all(rt, alloc, shared, worker, 30, 2, 1_000, tries, gate),
     );
     let Served { mut handles, .. } = served.ok()?;
     let done = worked.ok()?;
@@ -103,7 +102,12 @@ fn contended<L: Room + Send + Sync, R: Threads + Wait + Sync>(
 {
     let (shared, mut writer) = Shared::<L>::new(alloc, blank, world, 2).ok()?;
     let worker = vec![in alloc; writer.pop()?].ok()?;
-    let (handles, is_busy) = at_once(rt, alloc, &shared, writer, worker, requests, tries)?;
+    let first = AfterFirst {
+        answered: AtomicU64::new(0),
+    };
+    let gate = Waiting { first: &first };
+    let handles = (writer, worker);
+    let (handles, is_busy) = at_once(rt, alloc, &shared, handles, requests, tries, &first, &gate)?;
     Some((shared.close(handles).ok()?, is_busy))
 }
 
@@ -111,7 +115,7 @@ fn contended<L: Room + Send + Sync, R: Threads + Wait + Sync>(
 fn round<R: Threads + Wait + Sync>(
     rt: &R,
     alloc: Global,
-    rows: i64,
+    rows: u32,
     updates: i64,
     tries: u32,
 ) -> Option<bool> {
@@ -119,7 +123,7 @@ fn round<R: Threads + Wait + Sync>(
     for value in 0..updates {
         requests.push(update(alloc, 0, value).ok()?).ok()?;
     }
-    let world = filling(alloc, rows, 1)?;
+    let world = filling(alloc, i64::from(rows), 1)?;
     let (world, is_busy) = contended::<Brand, R>(
         rt,
         alloc,
@@ -130,7 +134,7 @@ fn round<R: Threads + Wait + Sync>(
     )?;
     let (_, pieces, ended) = world.progress(2)?;
     let found = world.check(alloc).ok()?;
-    if pieces == 1 && ended != is_busy && found.rows == rows as u64 && found.extra == 0 {
+    if pieces == 1 && ended != is_busy && found.rows == u64::from(rows) && found.extra == 0 {
         Some(is_busy)
     } else {
         None
