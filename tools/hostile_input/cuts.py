@@ -1,4 +1,5 @@
 """Scripts that are cut short."""
+import glob
 import os
 
 from program import ROOT, run, short
@@ -61,8 +62,6 @@ def cut_fault(front, ended, replies, rest, reader):
 
 
 def cut_cases():
-    for folder in ("scripts", "examples"):
-        for name in sorted(os.listdir(os.path.join(ROOT, folder))):
-            if name.endswith(".script"):
-                path = f"{folder}/{name[:-len('.script')]}"
-                yield f"{path} cut short", cut_short, (os.path.join(ROOT, path),)
+    for name in sorted(glob.glob("scripts/*/*.script", root_dir=ROOT)) + sorted(glob.glob("examples/*.script", root_dir=ROOT)):
+        path = name.removesuffix(".script")
+        yield f"{path} cut short", cut_short, (os.path.join(ROOT, path),)
