@@ -6,7 +6,7 @@ use crate::fixtures::{
 use Asked::{Between, Equal, Key};
 use Plain::{Int, Null, Text};
 use QueryFault::WrongType;
-use Stand::{Indexed, Required, Scanned};
+use Stand::{Holed, Indexed, Required, Scanned};
 use byte_map::{Bytes, KeyMap};
 use keycode::Value;
 use listed::Listed;
@@ -85,6 +85,20 @@ const INDEXED: Pairs<'static> = &[
     (I_9_4, EMPTY),
 ];
 
+/// The same without the index's pair of row (3), as no calls leave it: only a query that goes by the index misses that row.
+const HOLED: Pairs<'static> = &[
+    (ROW_1, EMPTY),
+    (A_1, FIVE),
+    (ROW_2, EMPTY),
+    (ROW_3, EMPTY),
+    (A_3, FIVE),
+    (ROW_4, EMPTY),
+    (A_4, NINE),
+    (I_5_1, EMPTY),
+    (I_NULL_2, EMPTY),
+    (I_9_4, EMPTY),
+];
+
 /// The rows (1) with r = 6, (2) with r = 5, (3) without a value of its own, whose pair has the default 5, and (4) with r = 9.
 const WITH_R: Pairs<'static> = &[
     (ROW_1, EMPTY),
@@ -102,6 +116,8 @@ const WITH_R: Pairs<'static> = &[
 enum Stand {
     /// The index is public and has its pairs.
     Indexed,
+    /// The index is public and lacks a pair.
+    Holed,
     /// The index is write-only and has none.
     Scanned,
     /// The required column `r` is public.
@@ -111,6 +127,7 @@ enum Stand {
 fn pairs(stand: Stand) -> Pairs<'static> {
     match stand {
         Indexed => INDEXED,
+        Holed => HOLED,
         Scanned => ROWS,
         Required => WITH_R,
     }
@@ -118,7 +135,7 @@ fn pairs(stand: Stand) -> Pairs<'static> {
 
 fn schema(alloc: Global, stand: Stand) -> Result<Schema, AllocError> {
     match stand {
-        Indexed => stepped(alloc, 2, &[]),
+        Indexed | Holed => stepped(alloc, 2, &[]),
         Scanned => stepped(alloc, 2, &[WriteOnly]),
         Required => stepped(alloc, 3, &[WriteOnly, Public]),
     }
@@ -146,7 +163,7 @@ fn are_rows(rows: &[Row], named: u32, wanted: &[(i64, Option<i64>)]) -> bool {
     rows.len() == wanted.len()
 }
 
-/// The path of a query of one column, where it finds these rows.
+/// The path of a query of one column, if it finds these rows.
 fn found(
     alloc: Global,
     schema: &Schema,
@@ -176,7 +193,7 @@ fn answered_once(
     found(alloc, &schema, &store, (&query, column), wanted)
 }
 
-/// The same, asked once more where memory was short.
+/// The same, asked once more if memory was short.
 fn answered(
     alloc: Global,
     stand: Stand,
@@ -191,13 +208,27 @@ fn answered(
 }
 
 /// What is asked of the column 1 of table 1, the path and the rows.
-static FOUND: [(&str, Stand, &[Asked], Path, &[(i64, Option<i64>)]); 6] = [
+static FOUND: [(&str, Stand, &[Asked], Path, &[(i64, Option<i64>)]); 8] = [
     (
         "a value",
         Indexed,
         &[Equal(1, Int(5))],
         Path::Index(2),
         &[(1, Some(5)), (3, Some(5))],
+    ),
+    (
+        "by the index indeed",
+        Holed,
+        &[Equal(1, Int(5))],
+        Path::Index(2),
+        &[(1, Some(5))],
+    ),
+    (
+        "not by the index if there is no condition",
+        Holed,
+        &[],
+        Path::Scan,
+        &[(1, Some(5)), (2, None), (3, Some(5)), (4, Some(9))],
     ),
     (
         "no value",
