@@ -12,37 +12,45 @@ use std::sync::Wait;
 use std::sync::atomic::{AtomicU64, Ordering};
 use std::sync::ledger::Blank;
 use std::thread::{Threads, join};
-use tasks::Gate;
+use tasks::{FreeGate, Gate};
 use world::World;
 
-// Lets every request start, and the piece once the first request is answered.
+// Whether the row was updated once, and whether the piece has its end. The piece starts after the first update.
 #[derive(Drop)]
-struct AfterFirst {
-    answered: AtomicU64,
+struct Contest {
+    updated: AtomicU64,
+    ended: AtomicU64,
 }
 
-impl Gate for AfterFirst {
+impl Gate for Contest {
     fn may_start(&self, _number: usize, _turn: u64) -> bool {
-        true
+        self.updated.load(Ordering::SeqCst) != 0
     }
 
     fn answered(&self, _number: usize) {
-        self.answered.store(1, Ordering::SeqCst);
+        self.ended.store(1, Ordering::SeqCst);
     }
 }
 
-// The same gate, as the piece sees it.
-#[derive(Drop)]
-struct Waiting<'a> {
-    first: &'a AfterFirst,
-}
-
-impl<'a> Gate for Waiting<'a> {
-    fn may_start(&self, _number: usize, _turn: u64) -> bool {
-        self.first.answered.load(Ordering::SeqCst) != 0
+// Updates the row, once for each request, until the piece has its end.
+fn updated<L: Room + Send + Sync, R: Threads + Wait + Sync>(
+    rt: &R,
+    alloc: Global,
+    shared: &Shared<L>,
+    writer: Vec<Handle<L>>,
+    requests: &[Request],
+    contest: &Contest,
+) -> Option<Vec<Handle<L>>> {
+    let mut writer = writer;
+    for one in requests.chunks(1) {
+        if contest.ended.load(Ordering::SeqCst) != 0 {
+            return Some(writer);
+        }
+        let Served { handles, .. } = serve(rt, alloc, shared, writer, one, 1_000, &FreeGate).ok()?;
+        writer = handles;
+        contest.updated.store(1, Ordering::SeqCst);
     }
-
-    fn answered(&self, _number: usize) {}
+    Some(writer)
 }
 
 // Whether the piece was given up, or finished; None for any other end, or if the receipts are not those of its commits.
@@ -60,25 +68,24 @@ fn is_given_up<L: Room>(done: &Reorganised<L>, tries: u32) -> Option<bool> {
     }
 }
 
-// One handle updates the row, once for each request, while the other works on the piece.
-fn at_once<'a, L: Room + Send + Sync, R: Threads + Wait + Sync>(
+// One handle updates the row, while the other works on the piece.
+fn at_once<L: Room + Send + Sync, R: Threads + Wait + Sync>(
     rt: &R,
     alloc: Global,
     shared: &Shared<L>,
     handles: (Vec<Handle<L>>, Vec<Handle<L>>),
     requests: &[Request],
     tries: u32,
-    first: &AfterFirst,
-    gate: &Waiting<'a>,
+    contest: &Contest,
 ) -> Option<(Vec<Handle<L>>, bool)> {
     let (writer, worker) = handles;
-    let (served, worked) = join(
+    let (writer, done) = join(
         rt,
-        move || serve(rt, alloc, shared, writer, requests, 1_000, first),
-        move || reorganise_all(rt, alloc, shared, worker, 30, 2, 1_000, tries, gate),
+        move || updated(rt, alloc, shared, writer, requests, contest),
+        move || reorganise_all(rt, alloc, shared, worker, 30, 2, 1_000, tries, contest),
     );
-    let Served { mut handles, .. } = served.ok()?;
-    let done = worked.ok()?;
+    let mut handles = writer?;
+    let done = done.ok()?;
     let is_busy = is_given_up(&done, tries)?;
     let Reorganised {
         handles: mut last,
@@ -102,12 +109,12 @@ fn contended<L: Room + Send + Sync, R: Threads + Wait + Sync>(
 {
     let (shared, mut writer) = Shared::<L>::new(alloc, blank, world, 2).ok()?;
     let worker = vec![in alloc; writer.pop()?].ok()?;
-    let first = AfterFirst {
-        answered: AtomicU64::new(0),
+    let contest = Contest {
+        updated: AtomicU64::new(0),
+        ended: AtomicU64::new(0),
     };
-    let gate = Waiting { first: &first };
     let handles = (writer, worker);
-    let (handles, is_busy) = at_once(rt, alloc, &shared, handles, requests, tries, &first, &gate)?;
+    let (handles, is_busy) = at_once(rt, alloc, &shared, handles, requests, tries, &contest)?;
     Some((shared.close(handles).ok()?, is_busy))
 }
 
@@ -149,13 +156,13 @@ fn a_piece_is_not_given_up_early(rt: HostRuntime) {
     }
 }
 
-// With updates all the time each try fails, but for those between which the writer was not scheduled: then it is tried anew.
+// With updates all the time each try fails, unless it runs while the writer does not: then all is tried anew.
 #[test]
 fn a_piece_that_fails_in_each_try_is_given_up(rt: HostRuntime) {
     let mut is_busy = false;
-    for _round in 0..20 {
+    for _round in 0..60 {
         if !is_busy {
-            let Some(busy) = round(&rt, rt.alloc(), 200, 1_000, 2) else {
+            let Some(busy) = round(&rt, rt.alloc(), 1_000, 20_000, 2) else {
                 panic!(rt; "another end");
             };
             is_busy = busy;
