@@ -13,7 +13,7 @@ use Rattle.element_state.specs.Operations.{cells_of, fill_pair}
 use Rattle.element_state.specs.Sources.{source_in}
 use Rattle.audit.specs.declared.wanted.Made.{Made}
 use Rattle.audit.specs.Audit.{given, lacks, numbered}
-use Rattle.audit.specs.Made.{definition_of, definition_in, given_by, IsMade, AreMade}
+use Rattle.audit.specs.inner.Made.{definition_of, definition_in, given_by, IsMade, AreMade}
 
 module _ {X Y : Type 0} (f : X → Y) where
   count_each : (p : Y → Bool) (xs : List X) → count_by p (each f xs) ≡ count_by (λ x. p (f x)) xs

@@ -1,4 +1,4 @@
--- In a store of byte strings the `exists` pair of a row is just where the audit looks for it.
+-- In a store of byte strings the `exists` pair of a row is exactly when the audit looks for it.
 use Rattle.std.proofs.Common.{◌≡◌, ℕ, zero, suc, ◌<◌, ◌^◌, true, List, [], ◌∷◌, Option, Some, None, Result, Ok, Err, is_some, refl, sym, ap, ◌∙◌, arith, true≢false}
 use Rattle.std.specs.FinMap as map
 use Rattle.std.specs.List.{AllByRecursion}
@@ -17,16 +17,16 @@ use Rattle.byte_map.proofs.Order.{same_itself}
 use Rattle.row_map.specs.declared.key.KeyOf.{KeyOf}
 use Rattle.row_map.specs.declared.key.KeyOf.TheVariants.{Exists, Column, Index}
 use Rattle.row_map.specs.Keys.{IsKey, key_code, row_code}
-use Rattle.row_map.specs.Reading.{key_at}
+use Rattle.row_map.specs.ReadKey.{key_at}
 use Rattle.row_map.specs.Rows.{Bytes, RowKey, Cells, Pairs, IsStorableRow}
 use Rattle.row_map.proofs.Cells.{only_is}
 use Rattle.row_map.proofs.KeyLaws.{key_takes}
 use Rattle.row_map.proofs.KeyOrder.{row_keys}
 use Rattle.schema_version.specs.Version.{Version}
-use Rattle.element_state.specs.Apart.{none_some}
-use Rattle.element_state.specs.Clears.{both_true, left_true, right_true}
-use Rattle.audit.specs.Spelled.{found, key_read, is_exists, is_row}
-use Rattle.audit.specs.Meaning.{HasExistsPair, HasCell, IsSpelled, AreByteStrings}
+use Rattle.element_state.specs.lemmas.Apart.{none_some}
+use Rattle.element_state.specs.lemmas.Clears.{both_true, left_true, right_true}
+use Rattle.audit.specs.Encoded.{found, key_read, is_exists, is_row}
+use Rattle.audit.specs.Meaning.{HasExistsPair, HasCell, IsEncoded, AreByteStrings}
 
 bytes_of : (bytes : Bytes) → AllByRecursion (λ b. b < 2 ^ 8) bytes → IsBytes bytes
 bytes_of [] all i = omega arith
@@ -91,11 +91,11 @@ module _ (pairs : Pairs) (strings : AreByteStrings pairs) where
         names = named.is ∙ ap (λ (t : ℕ). Some (Exists t named.primary)) (sym same.0) ∙ ap (λ (p : List Value). Some (Exists table p)) (sym same.1);
       }
 
-  -- a row that is spelled is one that keys can name and pairs can hold
-  pub spelled_storable : (version : Version) (row : RowKey) (cells : Cells) → IsSpelled version pairs row cells → IsStorableRow row cells
-  spelled_storable version row cells spelled =
-      let form = key_form spelled.exists.key spelled.exists.value spelled.exists.there (Exists row.0 row.1) spelled.exists.names in
-      record { table = form.0.0; primary = form.0.1; values = λ column value is. storable column value ((spelled.values column value).0 is) }
+  -- a row that is encoded is one that keys can name and pairs can hold
+  pub encoded_storable : (version : Version) (row : RowKey) (cells : Cells) → IsEncoded version pairs row cells → IsStorableRow row cells
+  encoded_storable version row cells encoded =
+      let form = key_form encoded.exists.key encoded.exists.value encoded.exists.there (Exists row.0 row.1) encoded.exists.names in
+      record { table = form.0.0; primary = form.0.1; values = λ column value is. storable column value ((encoded.values column value).0 is) }
     where
       storable : (column : ℕ) (value : Value) → HasCell version pairs row column value → IsStorable value
       storable column value has =

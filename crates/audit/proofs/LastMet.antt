@@ -13,15 +13,15 @@ use Rattle.keycode.proofs.Orders.{values_cmp-IsAntisymmetric, bytes_cmp_total, b
 use Rattle.row_map.specs.declared.key.KeyOf.{KeyOf}
 use Rattle.row_map.specs.declared.key.KeyOf.TheVariants.{Exists, Column, Index}
 use Rattle.row_map.specs.Keys.{IsKey, key_code, row_code}
-use Rattle.row_map.specs.Reading.{key_at}
+use Rattle.row_map.specs.ReadKey.{key_at}
 use Rattle.row_map.specs.Rows.{Bytes, Pairs}
 use Rattle.row_map.proofs.Entries.{each_entry}
 use Rattle.row_map.proofs.KeyLaws.{key_takes, key_again}
-use Rattle.element_state.specs.Clears.{both_true, left_true, right_true}
+use Rattle.element_state.specs.lemmas.Clears.{both_true, left_true, right_true}
 use Rattle.audit.specs.declared.met.MetRow.{MetRow}
 use Rattle.audit.specs.Audit.{Pair}
-use Rattle.audit.specs.Spelled.{found, key_read, is_exists, is_row}
-use Rattle.audit.specs.Met.{IsThere, after, is_named}
+use Rattle.audit.specs.Encoded.{found, key_read, is_exists, is_row}
+use Rattle.audit.specs.inner.Met.{IsThere, after, is_named}
 use Rattle.audit.proofs.Exists.{found_says, Named, named_is, same_row}
 
 -- each is a pair of the store
@@ -86,7 +86,7 @@ pub no_row : (pairs : Pairs) (table : ℕ) (primary : List Value) → table < 2 
 no_row pairs table primary below values fits number =
     ap (λ (b : Bool). b && is_some (map.get pairs (row_code table primary 0))) (unread table primary below values fits number (is_exists (key_read (row_code table primary 0))) refl)
 
--- ---- values behind the first ones
+-- ---- values after the first ones
 
 pub values_behind : (n : ℕ) (vs : List Value) → AreValues vs → AreValues (drop n vs)
 values_behind zero vs all = all

@@ -1,4 +1,5 @@
--- Nothing is missing where each public index and required column has its pair of each row that the pairs spell.
+-- Nothing is missing where each public index and required column has its pair of each row that the
+-- pairs encode.
 use Rattle.std.proofs.Common.{◌≡◌, ℕ, ◌==◌, ◌&&◌, not, Bool, true, false, List, [], ◌++◌, Option, Some, None, refl, sym, ap, subst, ◌∙◌, eqb-true, eq-eqb, true≢false}
 use Rattle.schema_version.specs.declared.element.ElementState.TheVariants.{Public}
 use Rattle.std.specs.Prelude.{bytes_eq, sum_by, count_by, unwrap_or}
@@ -22,15 +23,15 @@ use Rattle.schema_version.specs.declared.element.Kind.TheVariants.{Index, Option
 use Rattle.schema_version.specs.declared.element.ElementDef.{ElementDef}
 use Rattle.schema_version.specs.Sound.{IsSoundVersion}
 use Rattle.schema_version.specs.Version.{Version, element_at, live, is_public}
-use Rattle.element_state.specs.Clears.{both_true, left_true, right_true}
+use Rattle.element_state.specs.lemmas.Clears.{both_true, left_true, right_true}
 use Rattle.element_state.specs.Index.{index_pair}
 use Rattle.element_state.specs.Kinds.{kind_meaning}
 use Rattle.element_state.specs.Operations.{cells_of, fill_pair}
 use Rattle.element_state.specs.Sources.{source_in}
 use Rattle.audit.specs.Audit.{given, differs, is_absent, lacks, missing_by, missing_beside}
-use Rattle.audit.specs.Meaning.{HasExistsPair, IsSpelled, with_stand_ins, HasIndexPairs, HasRequiredPairs, NothingIsMissingWhen}
-use Rattle.audit.specs.Spelled.{key_read, row_at}
-use Rattle.audit.proofs.RowsRead.{public_is, read_cells, read_is_spelled, same_value, same_indexed}
+use Rattle.audit.specs.Meaning.{HasExistsPair, IsEncoded, with_default_values, HasIndexPairs, HasRequiredPairs, NothingIsMissingWhen}
+use Rattle.audit.specs.Encoded.{key_read, row_at}
+use Rattle.audit.proofs.RowsRead.{public_is, read_cells, read_is_encoded, same_value, same_indexed}
 use Rattle.audit.proofs.Zero.{sum_zero, zero_sum, count_zero, zero_count, all_values, values_all, all_found}
 
 same_where_not : (b : Bool) → not b ≡ false → b ≡ true
@@ -56,7 +57,7 @@ module _ (version : Version) (pairs : Pairs) (sound : IsSoundVersion version) wh
 
   -- the pair that an index gives a row
   pub given_by_index : (element : ElementDef) (columns : List ℕ) → element.kind ≡ Index columns → (primary : List Value)
-      → given version element (row_at version pairs element.table primary) ≡ Some (index_pair element.number (with_stand_ins version columns) (element.table, primary) (cells_of (row_at version pairs element.table primary)), [])
+      → given version element (row_at version pairs element.table primary) ≡ Some (index_pair element.number (with_default_values version columns) (element.table, primary) (cells_of (row_at version pairs element.table primary)), [])
   given_by_index element columns kind primary = given_by element (Index columns) kind primary
 
   -- an optional column gives it none
@@ -68,18 +69,18 @@ module _ (version : Version) (pairs : Pairs) (sound : IsSoundVersion version) wh
       → given version element (row_at version pairs element.table primary) ≡ Some (row_code element.table primary element.number, code_or fallback (cells_of (row_at version pairs element.table primary)) element.number)
   given_by_required element type fallback kind primary = given_by element (Required type fallback) kind primary
 
-  -- the index's key of a row, as the audit reads it and as it is spelled
-  pub same_pair_key : (number : ℕ) (element : ElementDef) (columns : List ℕ) → element_at version number ≡ Some element → (primary : List Value) (cells : Cells) → IsSpelled version pairs (element.table, primary) cells
-      → index_pair element.number (with_stand_ins version columns) (element.table, primary) (cells_of (row_at version pairs element.table primary)) ≡ index_pair number (with_stand_ins version columns) (element.table, primary) cells
-  same_pair_key number element columns at primary cells spelled =
-      ap (λ (n : ℕ). index_pair n (with_stand_ins version columns) (element.table, primary) (cells_of (row_at version pairs element.table primary))) (sound.elements number element at).own
-      ∙ ap (λ (vs : List Value). index_code number (vs ++ primary)) (same_indexed version pairs element.table primary sound (with_stand_ins version columns) cells spelled)
+  -- the index's key of a row, as the audit reads it and as it is encoded
+  pub same_pair_key : (number : ℕ) (element : ElementDef) (columns : List ℕ) → element_at version number ≡ Some element → (primary : List Value) (cells : Cells) → IsEncoded version pairs (element.table, primary) cells
+      → index_pair element.number (with_default_values version columns) (element.table, primary) (cells_of (row_at version pairs element.table primary)) ≡ index_pair number (with_default_values version columns) (element.table, primary) cells
+  same_pair_key number element columns at primary cells encoded =
+      ap (λ (n : ℕ). index_pair n (with_default_values version columns) (element.table, primary) (cells_of (row_at version pairs element.table primary))) (sound.elements number element at).own
+      ∙ ap (λ (vs : List Value). index_code number (vs ++ primary)) (same_indexed version pairs element.table primary sound (with_default_values version columns) cells encoded)
 
   -- and what a required column's pair of it holds
-  same_pair_value : (number : ℕ) (table : ℕ) (primary : List Value) (cells : Cells) (fallback : Value) → IsSpelled version pairs (table, primary) cells → code_or fallback (read_cells version pairs table primary sound) number ≡ code_or fallback cells number
-  same_pair_value number table primary cells fallback spelled =
+  same_pair_value : (number : ℕ) (table : ℕ) (primary : List Value) (cells : Cells) (fallback : Value) → IsEncoded version pairs (table, primary) cells → code_or fallback (read_cells version pairs table primary sound) number ≡ code_or fallback cells number
+  same_pair_value number table primary cells fallback encoded =
       ap (λ (o : Option Value). code (unwrap_or o fallback))
-      (same_value version pairs table primary sound number cells spelled (map.get cells number) (map.get (read_cells version pairs table primary sound) number) refl refl)
+      (same_value version pairs table primary sound number cells encoded (map.get cells number) (map.get (read_cells version pairs table primary sound) number) refl refl)
 
   -- ---- where nothing is missing, the pairs are there
 
@@ -102,18 +103,18 @@ module _ (version : Version) (pairs : Pairs) (sound : IsSoundVersion version) wh
         sym (ap (λ (b : Bool). b && is_absent pairs (given version element row)) own) ∙ none_lacks element.table primary number element none exists at
 
     has_index_pairs : HasIndexPairs version pairs
-    has_index_pairs number element columns at kind public primary cells spelled =
-        sym (ap (map.get pairs) (same_pair_key number element columns at primary cells spelled))
-        ∙ found_there _ [] (sym (ap (is_absent pairs) (given_by_index element columns kind primary)) ∙ not_absent number element at public primary spelled.exists)
+    has_index_pairs number element columns at kind public primary cells encoded =
+        sym (ap (map.get pairs) (same_pair_key number element columns at primary cells encoded))
+        ∙ found_there _ [] (sym (ap (is_absent pairs) (given_by_index element columns kind primary)) ∙ not_absent number element at public primary encoded.exists)
 
     has_required_pairs : HasRequiredPairs version pairs
-    has_required_pairs number element type fallback at kind public primary cells spelled =
+    has_required_pairs number element type fallback at kind public primary cells encoded =
         let read = read_cells version pairs element.table primary sound in
         let own : element.number ≡ number = (sound.elements number element at).own in
         sym (ap (λ (n : ℕ). map.get pairs (row_code element.table primary n)) own)
-        ∙ found_there _ (code_or fallback read element.number) (sym (ap (is_absent pairs) (given_by_required element type fallback kind primary)) ∙ not_absent number element at public primary spelled.exists)
+        ∙ found_there _ (code_or fallback read element.number) (sym (ap (is_absent pairs) (given_by_required element type fallback kind primary)) ∙ not_absent number element at public primary encoded.exists)
         ∙ ap (λ (n : ℕ). Some (code_or fallback read n)) own
-        ∙ ap Some (same_pair_value number element.table primary cells fallback spelled)
+        ∙ ap Some (same_pair_value number element.table primary cells fallback encoded)
 
   -- ---- where the pairs are there, nothing is missing
 
@@ -124,17 +125,17 @@ module _ (version : Version) (pairs : Pairs) (sound : IsSoundVersion version) wh
       where
         by : (k : Kind) → element.kind ≡ k → is_absent pairs (given version element (row_at version pairs element.table primary)) ≡ false
         by (Index columns) kind =
-            let spelled = read_is_spelled version pairs element.table primary sound exists in
+            let encoded = read_is_encoded version pairs element.table primary sound exists in
             ap (is_absent pairs) (given_by_index element columns kind primary)
-            ∙ ap (λ (x : Bytes). differs (map.get pairs x) []) (same_pair_key number element columns at primary (read_cells version pairs element.table primary sound) spelled)
-            ∙ there_found _ [] (has.0 number element columns at kind (public_is element.state public) primary (read_cells version pairs element.table primary sound) spelled)
+            ∙ ap (λ (x : Bytes). differs (map.get pairs x) []) (same_pair_key number element columns at primary (read_cells version pairs element.table primary sound) encoded)
+            ∙ there_found _ [] (has.0 number element columns at kind (public_is element.state public) primary (read_cells version pairs element.table primary sound) encoded)
         by (Optional type) kind = ap (is_absent pairs) (given_by_optional element type kind primary)
         by (Required type fallback) kind =
             let read = read_cells version pairs element.table primary sound in
-            let spelled = read_is_spelled version pairs element.table primary sound exists in
+            let encoded = read_is_encoded version pairs element.table primary sound exists in
             ap (is_absent pairs) (given_by_required element type fallback kind primary)
             ∙ ap (λ (n : ℕ). differs (map.get pairs (row_code element.table primary n)) (code_or fallback read n)) (sound.elements number element at).own
-            ∙ there_found _ (code_or fallback read number) (has.1 number element type fallback at kind (public_is element.state public) primary read spelled)
+            ∙ there_found _ (code_or fallback read number) (has.1 number element type fallback at kind (public_is element.state public) primary read encoded)
 
     not_lacking : (table : ℕ) (primary : List Value) → HasExistsPair pairs (table, primary) → (number : ℕ) (element : ElementDef) → element_at version number ≡ Some element → lacks version pairs table (row_at version pairs table primary) element ≡ false
     not_lacking table primary exists number element at =

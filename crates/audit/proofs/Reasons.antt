@@ -1,4 +1,4 @@
--- Nothing is extra where each pair belongs to a row that the pairs spell.
+-- Nothing is extra where each pair belongs to a row that the pairs encode.
 use Rattle.std.proofs.Common.{◌≡◌, ℕ, ◌-◌, ◌<◌, ◌≤◌, ◌^◌, ◌==◌, ◌&&◌, not, Bool, true, false, cond, List, [], ◌++◌, length, drop, Option, Some, None, refl, sym, ap, subst, ◌∙◌, eqb-true, eq-eqb, arith, true≢false}
 use Rattle.std.specs.Prelude.{bytes_eq, count_by, slice_get}
 use Rattle.std.specs.FinMap as map
@@ -22,20 +22,20 @@ use Rattle.schema_version.specs.declared.element.Kind.TheVariants.{Index, Option
 use Rattle.schema_version.specs.declared.element.ElementDef.{ElementDef}
 use Rattle.schema_version.specs.Moves.{IsFairKind}
 use Rattle.schema_version.specs.Sound.{IsSoundVersion}
-use Rattle.schema_version.specs.Version.{Version, Table, table_at, element_at, live, listed, is_column, type_of_kind, IsLiveColumn}
+use Rattle.schema_version.specs.Version.{Version, Table, table_at, element_at, live, indexed_columns, is_column, type_of_kind, IsLiveColumn}
 use Rattle.schema_version.proofs.Live.{IsLeast, first_is_least, none_passes, element_at-lookup}
-use Rattle.element_state.specs.Apart.{none_some}
-use Rattle.element_state.specs.Clears.{both_true, left_true, right_true}
+use Rattle.element_state.specs.lemmas.Apart.{none_some}
+use Rattle.element_state.specs.lemmas.Clears.{both_true, left_true, right_true}
 use Rattle.element_state.specs.Index.{indexed, index_pair, IsLawfulIndex}
-use Rattle.element_state.specs.IndexLaws.{index_is_key, indexed_length}
-use Rattle.element_state.specs.Sources.{stand_in_at}
+use Rattle.element_state.specs.lemmas.IndexLaws.{index_is_key, indexed_length}
+use Rattle.element_state.specs.Sources.{default_value_at}
 use Rattle.element_state.proofs.Sources.{lawful_source}
 use Rattle.audit.specs.Audit.{Pair, given, numbered, is_column_of_row, is_same_pair, is_given, is_index_pair, reason_by, has_reason}
-use Rattle.audit.specs.Spelled.{found, key_read, is_row, row_at}
-use Rattle.audit.specs.Meaning.{HasExistsPair, IsSpelled, AreByteStrings, with_stand_ins, Belongs, EachPairBelongs, NothingIsExtraWhen}
+use Rattle.audit.specs.Encoded.{found, key_read, is_row, row_at}
+use Rattle.audit.specs.Meaning.{HasExistsPair, IsEncoded, AreByteStrings, with_default_values, Belongs, EachPairBelongs, NothingIsExtraWhen}
 use Rattle.audit.specs.Meaning.Belongs.{ExistsPair, ColumnPair, IndexPair}
-use Rattle.audit.proofs.RowsRead.{read_cells, read_is_spelled}
-use Rattle.audit.proofs.Exists.{key_form, row_from, row_says, spelled_storable}
+use Rattle.audit.proofs.RowsRead.{read_cells, read_is_encoded}
+use Rattle.audit.proofs.Exists.{key_form, row_from, row_says, encoded_storable}
 use Rattle.audit.proofs.Present.{given_by_index, given_by_optional, given_by_required, code_or, same_pair_key}
 use Rattle.audit.proofs.LastMet.{values_behind}
 use Rattle.audit.proofs.Zero.{count_zero, zero_count, all_found}
@@ -95,7 +95,7 @@ module _ (version : Version) (sound : IsSoundVersion version) (pairs : Pairs) (s
       let within : element.table ≤ length version.tables = table_within version element.table placed.0 placed.1 in
       omega (arith, within, sound.few_tables)
 
-  lawful_index : (number : ℕ) (element : ElementDef) (columns : List ℕ) → element_at version number ≡ Some element → element.kind ≡ Index columns → IsLawfulIndex number (with_stand_ins version columns)
+  lawful_index : (number : ℕ) (element : ElementDef) (columns : List ℕ) → element_at version number ≡ Some element → element.kind ≡ Index columns → IsLawfulIndex number (with_default_values version columns)
   lawful_index number element columns at kind =
       let e = sound.elements number element at in
       lawful_source version (λ n d is. (sound.elements n d is).fair) number e.first (omega (arith, e.given, sound.few_elements)) (Index columns) (subst IsFairKind kind e.fair)
@@ -136,21 +136,21 @@ module _ (version : Version) (sound : IsSoundVersion version) (pairs : Pairs) (s
           let read : key_read own ≡ Some (Column element.table primary element.number) = ap found (key_again (Column element.table primary element.number) (column_key number element at primary exists)) in
           absurd (true≢false (sym (ap is_index_key names) ∙ ap (λ (y : Bytes). is_index_key (key_read y)) (sym ((bytes_eq-Decides own x).0 (left_true (bytes_eq own x) (bytes_eq held w) same))) ∙ ap is_index_key read))
       at_kind element at primary exists (Index columns) kind is =
-          let spelled = read_is_spelled version pairs element.table primary sound exists in
-          let own : Bytes = index_pair element.number (with_stand_ins version columns) (element.table, primary) (read_cells version pairs element.table primary sound) in
+          let encoded = read_is_encoded version pairs element.table primary sound exists in
+          let own : Bytes = index_pair element.number (with_default_values version columns) (element.table, primary) (read_cells version pairs element.table primary sound) in
           let same : (bytes_eq own x && bytes_eq [] w) ≡ true = ap (λ (o : Option Pair). is_same_pair o (x, w)) (sym (given_by_index version pairs sound element columns kind primary)) ∙ is in
-          IndexPair number element columns at kind primary (read_cells version pairs element.table primary sound) spelled
-          (sym ((bytes_eq-Decides own x).0 (left_true (bytes_eq own x) (bytes_eq [] w) same)) ∙ same_pair_key version pairs sound number element columns at primary (read_cells version pairs element.table primary sound) spelled)
+          IndexPair number element columns at kind primary (read_cells version pairs element.table primary sound) encoded
+          (sym ((bytes_eq-Decides own x).0 (left_true (bytes_eq own x) (bytes_eq [] w) same)) ∙ same_pair_key version pairs sound number element columns at primary (read_cells version pairs element.table primary sound) encoded)
           (sym ((bytes_eq-Decides [] w).0 (right_true (bytes_eq own x) (bytes_eq [] w) same)))
 
       by : (o : Option ElementDef) → element_at version number ≡ o → is_index_pair version pairs values (x, w) o ≡ true → Belongs version pairs x w
       by None at is = absurd (true≢false (sym is))
       by (Some element) at is =
-          let primary : List Value = drop (length (listed element.kind)) values in
+          let primary : List Value = drop (length (indexed_columns element.kind)) values in
           let row = is_row pairs element.table primary in
           let same = is_same_pair (given version element (row_at version pairs element.table primary)) (x, w) in
           at_kind element at primary
-          (row_says pairs strings element.table primary (table_below number element at) (values_behind (length (listed element.kind)) values are) (left_true row same is))
+          (row_says pairs strings element.table primary (table_below number element at) (values_behind (length (indexed_columns element.kind)) values are) (left_true row same is))
           element.kind refl (right_true row same is)
 
   reason_says : (x w : Bytes) → map.get pairs x ≡ Some w → has_reason version pairs (x, w) ≡ true → Belongs version pairs x w
@@ -173,34 +173,34 @@ module _ (version : Version) (sound : IsSoundVersion version) (pairs : Pairs) (s
       (both_true (column.0.table == table) (is_column column.0.kind) (eq-eqb column.0.table table column.3) (column_typed column.0.kind column.1 column.4))
       (row_from pairs strings table primary exists)
 
-  index_from : (number : ℕ) (element : ElementDef) (columns : List ℕ) → element_at version number ≡ Some element → element.kind ≡ Index columns → (primary : List Value) (cells : Cells) → IsSpelled version pairs (element.table, primary) cells
-      → is_given version pairs (indexed (with_stand_ins version columns) cells ++ primary) (index_pair number (with_stand_ins version columns) (element.table, primary) cells, []) element ≡ true
-  index_from number element columns at kind primary cells spelled =
-      let x : Bytes = index_pair number (with_stand_ins version columns) (element.table, primary) cells in
+  index_from : (number : ℕ) (element : ElementDef) (columns : List ℕ) → element_at version number ≡ Some element → element.kind ≡ Index columns → (primary : List Value) (cells : Cells) → IsEncoded version pairs (element.table, primary) cells
+      → is_given version pairs (indexed (with_default_values version columns) cells ++ primary) (index_pair number (with_default_values version columns) (element.table, primary) cells, []) element ≡ true
+  index_from number element columns at kind primary cells encoded =
+      let x : Bytes = index_pair number (with_default_values version columns) (element.table, primary) cells in
       ap (λ (p : List Value). is_row pairs element.table p && is_same_pair (given version element (row_at version pairs element.table p)) (x, [])) behind
       ∙ both_true (is_row pairs element.table primary) (is_same_pair (given version element (row_at version pairs element.table primary)) (x, []))
-      (row_from pairs strings element.table primary spelled.exists)
+      (row_from pairs strings element.table primary encoded.exists)
       (ap (λ (o : Option Pair). is_same_pair o (x, [])) (given_by_index version pairs sound element columns kind primary)
-      ∙ ap (λ (y : Bytes). bytes_eq y x && bytes_eq [] []) (same_pair_key version pairs sound number element columns at primary cells spelled)
+      ∙ ap (λ (y : Bytes). bytes_eq y x && bytes_eq [] []) (same_pair_key version pairs sound number element columns at primary cells encoded)
       ∙ both_true (bytes_eq x x) (bytes_eq [] []) (same_bytes x) (same_bytes []))
     where
-      behind : drop (length (listed element.kind)) (indexed (with_stand_ins version columns) cells ++ primary) ≡ primary
+      behind : drop (length (indexed_columns element.kind)) (indexed (with_default_values version columns) cells ++ primary) ≡ primary
       behind =
-          ap (λ (k : Kind). drop (length (listed k)) (indexed (with_stand_ins version columns) cells ++ primary)) kind
-          ∙ drop_at (indexed (with_stand_ins version columns) cells) primary (length columns) (indexed_length (with_stand_ins version columns) cells ∙ length-map columns (λ (column : ℕ). (column, stand_in_at version column)))
+          ap (λ (k : Kind). drop (length (indexed_columns k)) (indexed (with_default_values version columns) cells ++ primary)) kind
+          ∙ drop_at (indexed (with_default_values version columns) cells) primary (length columns) (indexed_length (with_default_values version columns) cells ∙ length-map columns (λ (column : ℕ). (column, default_value_at version column)))
 
   reason_from : (x w : Bytes) → Belongs version pairs x w → has_reason version pairs (x, w) ≡ true
   reason_from x w (ExistsPair row names) = ap (reason_by version pairs (x, w)) names
   reason_from x w (ColumnPair row column names live exists) = ap (reason_by version pairs (x, w)) names ∙ column_from row.0 row.1 column live exists
-  reason_from x w (IndexPair number element columns at kind primary cells spelled key_is empty) =
-      let values : List Value = indexed (with_stand_ins version columns) cells ++ primary in
-      let form : IsKey (IndexKey number values) = index_is_key number (with_stand_ins version columns) (lawful_index number element columns at kind) (element.table, primary) cells (spelled_storable pairs strings version (element.table, primary) cells spelled) in
+  reason_from x w (IndexPair number element columns at kind primary cells encoded key_is empty) =
+      let values : List Value = indexed (with_default_values version columns) cells ++ primary in
+      let form : IsKey (IndexKey number values) = index_is_key number (with_default_values version columns) (lawful_index number element columns at kind) (element.table, primary) cells (encoded_storable pairs strings version (element.table, primary) cells encoded) in
       let names : key_read x ≡ Some (IndexKey number values) = ap key_read key_is ∙ ap found (key_again (IndexKey number values) form) in
       ap (reason_by version pairs (x, w)) names
       ∙ ap (is_index_pair version pairs values (x, w)) (numbered_is number ∙ at)
       ∙ ap (λ (y : Bytes). is_given version pairs values (y, w) element) key_is
-      ∙ ap (λ (v : Bytes). is_given version pairs values (index_pair number (with_stand_ins version columns) (element.table, primary) cells, v) element) empty
-      ∙ index_from number element columns at kind primary cells spelled
+      ∙ ap (λ (v : Bytes). is_given version pairs values (index_pair number (with_default_values version columns) (element.table, primary) cells, v) element) empty
+      ∙ index_from number element columns at kind primary cells encoded
 
   -- ---- all pairs
 

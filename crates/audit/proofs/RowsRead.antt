@@ -1,4 +1,4 @@
--- The cells of the row that an audit reads are the values that the row's pairs spell.
+-- The cells of the row that an audit reads are the values that the row's pairs encode.
 use Rattle.std.proofs.Common.{◌≡◌, ℕ, ◌==◌, ◌&&◌, Bool, true, false, cond, List, [], ◌∷◌, Option, Some, None, option_map, refl, sym, ap, ◌∙◌, eqb-true, eq-eqb}
 use Rattle.std.specs.Prelude.{unwrap_or, ◌↔◌}
 use Rattle.std.specs.Cmp.{nat_cmp_total, Equal-is}
@@ -19,12 +19,12 @@ use Rattle.schema_version.specs.declared.element.ElementState.TheVariants.{Absen
 use Rattle.schema_version.specs.declared.element.ElementDef.{ElementDef}
 use Rattle.schema_version.specs.Sound.{IsSoundVersion}
 use Rattle.schema_version.specs.Version.{Version, element_at, is_public, type_of_kind}
-use Rattle.element_state.specs.Apart.{none_some}
-use Rattle.element_state.specs.Clears.{left_true, right_true}
+use Rattle.element_state.specs.lemmas.Apart.{none_some}
+use Rattle.element_state.specs.lemmas.Clears.{left_true, right_true}
 use Rattle.element_state.specs.Index.{indexed, value_in}
 use Rattle.element_state.specs.Operations.{cells_of}
-use Rattle.audit.specs.Spelled.{spelled, public_type, cell_by, stored_cell, row_at}
-use Rattle.audit.specs.Meaning.{HasExistsPair, HasCell, IsSpelled}
+use Rattle.audit.specs.Encoded.{encoded, public_type, cell_by, stored_cell, row_at}
+use Rattle.audit.specs.Meaning.{HasExistsPair, HasCell, IsEncoded}
 
 -- ---- one column
 
@@ -59,10 +59,10 @@ typed_from table element type home kind public =
 -- ---- the cells
 
 module _ (version : Version) (pairs : Pairs) (table : ℕ) (primary : List Value) where
-  -- the value that a pair spells, by the type that its column has
+  -- the value that a pair encodes, by the type that its column has
   abbrev value_by : ℕ → Option ColumnType → Option Value
   value_by number None = None
-  value_by number (Some type) = spelled type (map.get pairs (row_code table primary number))
+  value_by number (Some type) = encoded type (map.get pairs (row_code table primary number))
 
   abbrev type_here : Option ElementDef → Option ColumnType
   type_here None = None
@@ -74,7 +74,7 @@ module _ (version : Version) (pairs : Pairs) (table : ℕ) (primary : List Value
   value_says : (n : ℕ) (v : Value) → value_of n ≡ Some v → HasCell version pairs (table, primary) n v
   value_says n v is = at_element (element_at version n) refl is
     where
-      at_bytes : (element : ElementDef) (type : ColumnType) → element_at version n ≡ Some element → IsTyped table element type → (o : Option Bytes) → map.get pairs (row_code table primary n) ≡ o → spelled type o ≡ Some v → HasCell version pairs (table, primary) n v
+      at_bytes : (element : ElementDef) (type : ColumnType) → element_at version n ≡ Some element → IsTyped table element type → (o : Option Bytes) → map.get pairs (row_code table primary n) ≡ o → encoded type o ≡ Some v → HasCell version pairs (table, primary) n v
       at_bytes element type known typed None there e = absurd (none_some v e)
       at_bytes element type known typed (Some bytes) there e =
           let s = typed_reads type bytes v e in
@@ -92,7 +92,7 @@ module _ (version : Version) (pairs : Pairs) (table : ℕ) (primary : List Value
   value_from n v has =
       ap (λ (o : Option ElementDef). value_by n (type_here o)) has.known
       ∙ ap (value_by n) (typed_from table has.element has.type has.home has.kind has.public)
-      ∙ ap (spelled has.type) has.there
+      ∙ ap (encoded has.type) has.there
       ∙ value_typed has.type has.bytes v has.reads has.fits
 
   -- each element under its number
@@ -160,23 +160,23 @@ module _ (version : Version) (pairs : Pairs) (table : ℕ) (primary : List Value
     got : (n : ℕ) → map.get read_cells n ≡ find nat_cmp n (stored (map.entries version.elements))
     got n = map.get-from_entries nat_cmp_total (row_at version pairs table primary).cells n
 
-    cells_spelled : (n : ℕ) (v : Value) → (map.get read_cells n ≡ Some v) ↔ HasCell version pairs (table, primary) n v
-    cells_spelled n v = (
+    cells_encoded : (n : ℕ) (v : Value) → (map.get read_cells n ≡ Some v) ↔ HasCell version pairs (table, primary) n v
+    cells_encoded n v = (
       λ is. value_says n v (stored_says n v (map.entries version.elements) all_own (sym (got n) ∙ is)),
       λ has. got n ∙ stored_from n v has.element (map.entries version.elements) all_own (sym (map.get-entries version.elements n) ∙ has.known) (value_from n v has),
     )
 
-    -- the row that an audit reads is spelled
-    pub read_is_spelled : HasExistsPair pairs (table, primary) → IsSpelled version pairs (table, primary) read_cells
-    read_is_spelled exists = record { exists = exists; values = cells_spelled }
+    -- the row that an audit reads is encoded
+    pub read_is_encoded : HasExistsPair pairs (table, primary) → IsEncoded version pairs (table, primary) read_cells
+    read_is_encoded exists = record { exists = exists; values = cells_encoded }
 
-    -- and a row that is spelled has its values
-    pub same_value : (n : ℕ) (cells : Cells) → IsSpelled version pairs (table, primary) cells → (o p : Option Value) → map.get cells n ≡ o → map.get read_cells n ≡ p → p ≡ o
+    -- and a row that is encoded has its values
+    pub same_value : (n : ℕ) (cells : Cells) → IsEncoded version pairs (table, primary) cells → (o p : Option Value) → map.get cells n ≡ o → map.get read_cells n ≡ p → p ≡ o
     same_value n cells is None None e f = refl
-    same_value n cells is None (Some v) e f = absurd (none_some v (sym e ∙ (is.values n v).1 ((cells_spelled n v).0 f)))
-    same_value n cells is (Some v) p e f = sym f ∙ (cells_spelled n v).1 ((is.values n v).0 e)
+    same_value n cells is None (Some v) e f = absurd (none_some v (sym e ∙ (is.values n v).1 ((cells_encoded n v).0 f)))
+    same_value n cells is (Some v) p e f = sym f ∙ (cells_encoded n v).1 ((is.values n v).0 e)
 
-    pub same_indexed : (columns : List (ℕ × Value)) (cells : Cells) → IsSpelled version pairs (table, primary) cells → indexed columns read_cells ≡ indexed columns cells
+    pub same_indexed : (columns : List (ℕ × Value)) (cells : Cells) → IsEncoded version pairs (table, primary) cells → indexed columns read_cells ≡ indexed columns cells
     same_indexed [] cells is = refl
     same_indexed (c ∷ columns) cells is =
         ap (λ (o : Option Value). unwrap_or o c.1 ∷ indexed columns read_cells) (same_value c.0 cells is (map.get cells c.0) (map.get read_cells c.0) refl refl)

@@ -1,3 +1,4 @@
+-- Cited by the contracts of audit.
 -- What an audit of a store counts, by a version and the pairs alone. Each pair is judged by itself.
 use Rattle.std.specs.Prelude.{◌≡◌, ℕ, ◌+◌, ◌==◌, Bool, true, false, ◌&&◌, not, cond, List, [], ◌∷◌, length, drop, Option, Some, None, count_by, sum_by, bytes_eq}
 use Rattle.std.specs.List.{find}
@@ -8,12 +9,12 @@ use Rattle.row_map.specs.declared.key.KeyOf.TheVariants.{Exists, Column, Index}
 use Rattle.row_map.specs.declared.shape.Row.{Row}
 use Rattle.row_map.specs.Rows.{Bytes, Pairs}
 use Rattle.schema_version.specs.declared.element.ElementDef.{ElementDef}
-use Rattle.schema_version.specs.Version.{Version, live, is_public, is_column, listed}
+use Rattle.schema_version.specs.Version.{Version, live, is_public, is_column, indexed_columns}
 use Rattle.element_state.specs.Kinds.{kind_meaning}
 use Rattle.element_state.specs.Operations.{cells_of, fill_pair}
 use Rattle.element_state.specs.Sources.{source_in}
 use Rattle.audit.specs.declared.report.CheckReport.{CheckReport}
-use Rattle.audit.specs.Spelled.{key_read, is_exists, is_row, row_at}
+use Rattle.audit.specs.Encoded.{key_read, is_exists, is_row, row_at}
 
 abbrev pub Pair : Type 0
 Pair = Bytes × Bytes
@@ -56,10 +57,11 @@ abbrev pub is_same_pair : Option Pair → Pair → Bool
 is_same_pair None pair = false
 is_same_pair (Some own) pair = bytes_eq own.0 pair.0 && bytes_eq own.1 pair.1
 
--- whether a row of its table gives the index this pair: the row whose primary key stands behind the indexed values
+-- whether a row of its table gives the index this pair: the row whose primary key stands after the
+-- indexed values
 abbrev pub is_given : Version → Pairs → List Value → Pair → ElementDef → Bool
 is_given version pairs values pair element =
-    let primary : List Value = drop (length (listed element.kind)) values in
+    let primary : List Value = drop (length (indexed_columns element.kind)) values in
     is_row pairs element.table primary && is_same_pair (given version element (row_at version pairs element.table primary)) pair
 
 abbrev pub is_index_pair : Version → Pairs → List Value → Pair → Option ElementDef → Bool

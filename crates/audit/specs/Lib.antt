@@ -1,5 +1,4 @@
-pub mod Spelled
-pub mod Met
+pub mod Encoded
 pub mod Audit
-pub mod Made
 pub mod Meaning
+pub mod inner

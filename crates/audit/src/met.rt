@@ -1,15 +1,16 @@
 //! The row that the walk over a store's pairs met last.
 ghost use Rattle.std.specs.Prelude.{◌≡◌, IfOk};
 ghost use Rattle.keycode.specs.Valid.{AreShort, AreValues};
-ghost use Rattle.audit.specs.Met.{IsThere, after, is_named};
-ghost use Rattle.audit.specs.Spelled.{is_row as is_row_of};
+ghost use Rattle.audit.specs.inner.Met.{IsThere, after, is_named};
+ghost use Rattle.audit.specs.Encoded.{is_row as is_row_of};
 
-use crate::spelled::is_row;
+use crate::encoded_rows::is_row;
 use keycode::{Value, Values, compare};
 use row_map::{KeyOf, Near, PairView};
 use std::alloc::{AllocError, Global};
 
-/// A row whose `exists` pair was met. The pairs of its columns come behind that pair, and needn't look it up.
+/// A row whose `exists` pair was met. The pairs of its columns come after that pair, and needn't
+/// look it up.
 #[derive(Drop)]
 pub(crate) struct MetRow {
     /// The number of the table.

@@ -1,16 +1,16 @@
-//! Why a pair stands in a store.
+//! Why a pair is in a store.
 ghost use Rattle.std.specs.Prelude.{◌≡◌, ◌==◌, IfOk, IfSome, option_map, length, drop};
 ghost use Rattle.std.specs.List.{find};
 ghost use Rattle.std.specs.Option.{option_copied};
-ghost use Rattle.schema_version.specs.Version.{live, is_column as is_column_of, listed as listed_of};
+ghost use Rattle.schema_version.specs.Version.{live, is_column as is_column_of, indexed_columns as listed_of};
 ghost use Rattle.keycode.specs.Valid.{AreShort, AreValues};
 ghost use Rattle.row_map.specs.Keys.{IsKey};
-ghost use Rattle.audit.specs.Met.{IsThere};
-ghost use Rattle.audit.specs.Made.{definition_of, definition_in, IsMade, AreMade};
+ghost use Rattle.audit.specs.inner.Met.{IsThere};
+ghost use Rattle.audit.specs.inner.Made.{definition_of, definition_in, IsMade, AreMade};
 ghost use Rattle.audit.specs.Audit.{is_column_of_row, is_same_pair, is_given as is_given_of, is_index_pair as is_index_pair_of, has_reason as has_reason_of, reason_by};
 
+use crate::encoded_rows::{is_row, row_at};
 use crate::met::{MetRow, is_there};
-use crate::spelled::{is_row, row_at};
 use crate::wanted::{Made, given};
 use byte_map::Bytes;
 use keycode::Value;
@@ -19,7 +19,7 @@ use schema_version::{ElementDef, Schema};
 use std::alloc::{AllocError, Global};
 
 // The live element of this number.
-fn numbered<'a, 'b>(elements: &'b [Made<'a>], number: u32) -> Option<&'b Made<'a>>
+fn find_element<'a, 'b>(elements: &'b [Made<'a>], number: u32) -> Option<&'b Made<'a>>
     ensures { option_copied result ≡ find (λ made. (definition_of made).number == number) elements.now }
 {
     elements
@@ -31,10 +31,10 @@ fn numbered<'a, 'b>(elements: &'b [Made<'a>], number: u32) -> Option<&'b Made<'a
 fn width(element: &ElementDef) -> usize
     ensures { result ≡ length (listed_of element.now.kind) }
 {
-    element.kind.listed().len()
+    element.kind.indexed_columns().len()
 }
 
-// The values behind the first ones.
+// The values after the first ones.
 fn behind(values: &[Value], first: usize) -> &[Value]
     ensures { result.now ≡ drop first values.now }
 {
@@ -55,7 +55,8 @@ fn is_same(own: Option<&(Bytes, Bytes)>, pair: (&[u8], &[u8])) -> bool
     }
 }
 
-// Whether a row gives the index this pair: the row whose primary key stands behind the indexed values.
+// Whether a row gives the index this pair: the row whose primary key stands after the indexed
+// values.
 fn is_given<V: PairView>(
     alloc: Global,
     schema: &Schema,
@@ -155,11 +156,11 @@ pub(crate) fn has_reason<V: PairView>(
                 element,
             },
         ) => {
-            let found = numbered(elements, *element);
+            let found = find_element(elements, *element);
             is_column(alloc, view, near, last, *table, key.as_slice(), found)
         }
         Some(KeyOf::Index { element, values }) => {
-            let found = numbered(elements, *element);
+            let found = find_element(elements, *element);
             is_index(alloc, schema, view, near, found, values.as_slice(), pair)
         }
     }

@@ -15,7 +15,8 @@ pub struct CheckReport {
     pub extra: u64,
 }
 
-// One count and another. A count of 2^64 pairs, which no memory holds, is answered as want of memory.
+// One count and another. A count of 2^64 pairs, which no memory holds, is answered as out of
+// memory.
 fn sum(a: u64, b: u64) -> Result<u64, AllocError>
     ensures { IfOk result (λ sum. sum ≡ a + b) }
 {

@@ -1,7 +1,7 @@
 //! The pairs that indexes and required columns give rows.
 ghost use Rattle.std.specs.Prelude.{◌≡◌, IfOk, option_map, count_by};
 ghost use Rattle.audit.specs.Audit.{is_absent as is_absent_of, lacks as lacks_of};
-ghost use Rattle.audit.specs.Made.{definition_of, given_by, IsMade, AreMade};
+ghost use Rattle.audit.specs.inner.Made.{definition_of, given_by, IsMade, AreMade};
 ghost use Rattle.schema_version.specs.Version.{live};
 
 use byte_map::Bytes;
@@ -89,7 +89,7 @@ fn lacks<V: PairView>(
 }
 
 // How many pairs of the row the public indexes and required columns lack.
-pub(crate) fn lacking<V: PairView>(
+pub(crate) fn count_lacking<V: PairView>(
     alloc: Global,
     schema: &Schema,
     view: &V,

@@ -1,3 +1,4 @@
+-- Cited by the contracts of Bytes.
 -- The bytes of a shared string, wherever they lie.
 use Rattle.std.specs.Prelude.{ℕ, List, take}
 use Rattle.std.specs.Arc.{arc_slice_items}

@@ -11,13 +11,13 @@ use Rattle.schema_version.specs.declared.element.Way.TheVariants.{Adding, Droppi
 use Rattle.schema_version.specs.declared.element.Kind.{Kind}
 use Rattle.schema_version.specs.declared.element.ElementDef.{ElementDef}
 use Rattle.schema_version.specs.declared.step.Move.{Move}
-use Rattle.schema_version.specs.Version.{Version, element_at, state_of, state_or_absent, is_public, listed, type_of_kind}
+use Rattle.schema_version.specs.Version.{Version, element_at, state_of, state_or_absent, is_public, indexed_columns, type_of_kind}
 use Rattle.std.specs.Option.{unwrap_or}
 use Rattle.schema_version.specs.Edges.{edge, edge_by, is_filled}
 use Rattle.schema_version.proofs.Decides.{column_depends}
 use Rattle.schema_version.specs.Moves.{turned_back, after_step, moves_element, is_unready, IsIndexOn, IsLeastIndexOn}
 use Rattle.schema_version.specs.Steps.{IsOrdered, in_state_or_none}
-use Rattle.change_plan.proofs.Steps.{Becomes, Stays, Comes, Goes, Turns, Midway, AreReady, ready_go, after_allowed, not_both}
+use Rattle.change_plan.proofs.StepEffects.{Becomes, Stays, Comes, Goes, Turns, Midway, AreReady, ready_go, after_allowed, not_both}
 use Rattle.change_plan.specs.declared.least_plan.PlanStep.{PlanStep}
 use Rattle.change_plan.specs.Plans.{after_plan, AreAllowed}
 
@@ -203,16 +203,16 @@ live_if_public None e = absurd (true≢false e)
 live_if_public (Some element) e = (element, refl)
 
 -- a column that stands ready isn't moved
-stays_if_ready : (old : Version) (step : List Move) (now : Version) → IsOrdered old → Midway old step step now → (kind : Kind) → AreReady old step kind → (column : ℕ) → Contains (listed kind) column → element_at now column ≡ element_at old column
+stays_if_ready : (old : Version) (step : List Move) (now : Version) → IsOrdered old → Midway old step step now → (kind : Kind) → AreReady old step kind → (column : ℕ) → Contains (indexed_columns kind) column → element_at now column ≡ element_at old column
 stays_if_ready old step now numbered mid kind ready column lists =
-    let test : is_unready old step column ≡ false = All-contains (λ x. is_unready old step x ≡ false) (listed kind) column (All-from_recursion _ (listed kind) ready) lists in
+    let test : is_unready old step column ≡ false = All-contains (λ x. is_unready old step x ≡ false) (indexed_columns kind) column (All-from_recursion _ (indexed_columns kind) ready) lists in
     let parts : (not (is_public (state_of old column)) ≡ false) × (moves_element step column ≡ false) = or_false _ _ test in
     let there : (element : ElementDef) × (element_at old column ≡ Some element) = live_if_public (element_at old column) parts.0 in
     mid.same column (numbered.below column there.0 there.1) parts.1
 
 -- if the index is live, it lists the column
 abbrev pub ListsIfLive : ℕ → ℕ → Version → Type 0
-ListsIfLive index column version = (element : ElementDef) → element_at version index ≡ Some element → Contains (listed element.kind) column
+ListsIfLive index column version = (element : ElementDef) → element_at version index ≡ Some element → Contains (indexed_columns element.kind) column
 
 -- both heights together
 abbrev pub heights : ℕ → ℕ → Version → ℕ
@@ -228,7 +228,7 @@ heights_step old step now index column numbered mid lists_old lists_now = pick (
     of_column : height (element_at now column) ≤ height (element_at old column) + 1
     of_column = height_rises old step _ column _ (mid.becomes column)
 
-    ready : (kind : Kind) → AreReady old step kind → Contains (listed kind) column → heights index column now ≤ heights index column old + 1
+    ready : (kind : Kind) → AreReady old step kind → Contains (indexed_columns kind) column → heights index column now ≤ heights index column old + 1
     ready kind are lists =
         let same : height (element_at now column) ≡ height (element_at old column) = ap height (stays_if_ready old step now numbered mid kind are column lists) in
         let a = of_index in
@@ -243,13 +243,13 @@ heights_step old step now index column numbered mid lists_old lists_now = pick (
     pick (Turns earlier later split may after) = level (ap height after ∙ sym (ap height may.there))
     pick (Goes earlier later to split may after) = ready may.element.kind (ready_go old step index may.element.kind may.free) (lists_old may.element may.there)
 
-pub two_added : (plan : List PlanStep) (old : Version) → IsOrdered old → AreAllowed old plan → (index column : ℕ) (element : ElementDef) → element_at (after_plan old plan) index ≡ Some element → Contains (listed element.kind) column
+pub two_added : (plan : List PlanStep) (old : Version) → IsOrdered old → AreAllowed old plan → (index column : ℕ) (element : ElementDef) → element_at (after_plan old plan) index ≡ Some element → Contains (indexed_columns element.kind) column
     → heights index column (after_plan old plan) ≤ heights index column old + length plan
 two_added [] old numbered allowed index column element at lists = omega arith
 two_added (first ∷ rest) old numbered allowed index column element at lists =
     let mid : Midway old first.step first.step (after_step old first.step) = after_allowed old first.step numbered allowed.0 in
-    let lists_old : ListsIfLive index column old = λ now is. subst (λ kind. Contains (listed kind) column) (still_in_the_end (first ∷ rest) old numbered allowed index now element is at).2 lists in
-    let lists_mid : ListsIfLive index column (after_step old first.step) = λ now is. subst (λ kind. Contains (listed kind) column) (still_in_the_end rest (after_step old first.step) mid.numbered allowed.2 index now element is at).2 lists in
+    let lists_old : ListsIfLive index column old = λ now is. subst (λ kind. Contains (indexed_columns kind) column) (still_in_the_end (first ∷ rest) old numbered allowed index now element is at).2 lists in
+    let lists_mid : ListsIfLive index column (after_step old first.step) = λ now is. subst (λ kind. Contains (indexed_columns kind) column) (still_in_the_end rest (after_step old first.step) mid.numbered allowed.2 index now element is at).2 lists in
     let near : heights index column (after_step old first.step) ≤ heights index column old + 1 = heights_step old first.step _ index column numbered mid lists_old lists_mid in
     let far : heights index column (after_plan (after_step old first.step) rest) ≤ heights index column (after_step old first.step) + length rest = two_added rest (after_step old first.step) mid.numbered allowed.2 index column element at lists in
     omega arith
@@ -263,7 +263,7 @@ none_below version column none (suc most) number below is =
     none number (is, λ other on. elim (cases_lt other number) [ inl less ↦ absurd (none_below version column none most other (omega (arith, less)) on) | inr le ↦ le ])
 
 -- no step moves a column that a live index lists
-column_stays : (old : Version) (step : List Move) (now : Version) → Midway old step step now → (index column : ℕ) (i c : ElementDef) (type : _) → element_at old index ≡ Some i → Contains (listed i.kind) column → element_at old column ≡ Some c → type_of_kind c.kind ≡ Some type → c.state ≡ Public → element_at now column ≡ Some c
+column_stays : (old : Version) (step : List Move) (now : Version) → Midway old step step now → (index column : ℕ) (i c : ElementDef) (type : _) → element_at old index ≡ Some i → Contains (indexed_columns i.kind) column → element_at old column ≡ Some c → type_of_kind c.kind ≡ Some type → c.state ≡ Public → element_at now column ≡ Some c
 column_stays old step now mid index column i c type at_index lists at_column kind state = pick (mid.becomes column)
   where
     pick : Becomes old step step now.next column (element_at now column) → element_at now column ≡ Some c
@@ -279,8 +279,8 @@ column_stays old step now mid index column i c type at_index lists at_column kin
         let of_kind : type_of_kind may.element.kind ≡ Some type = ap (λ (e : ElementDef). type_of_kind e.kind) is ∙ kind in
         absurd (none_below old column (λ on least. may.free on (column_depends old step column may.element.kind type on of_kind least)) (suc index) index (omega arith) (i, at_index, lists))
 
--- the column is dropped behind the index
-pub two_dropped : (plan : List PlanStep) (old : Version) → IsOrdered old → AreAllowed old plan → (index column : ℕ) (i c : ElementDef) (type : _) → element_at old index ≡ Some i → Contains (listed i.kind) column → element_at old column ≡ Some c → type_of_kind c.kind ≡ Some type → c.state ≡ Public
+-- the column is dropped after the index
+pub two_dropped : (plan : List PlanStep) (old : Version) → IsOrdered old → AreAllowed old plan → (index column : ℕ) (i c : ElementDef) (type : _) → element_at old index ≡ Some i → Contains (indexed_columns i.kind) column → element_at old column ≡ Some c → type_of_kind c.kind ≡ Some type → c.state ≡ Public
     → element_at (after_plan old plan) index ≡ None → element_at (after_plan old plan) column ≡ None → distance (Some i) + distance (Some c) ≤ length plan
 two_dropped [] old numbered allowed index column i c type at_index lists at_column kind state no_index no_column = absurd (not_both i (element_at old index) at_index no_index)
 two_dropped (first ∷ rest) old numbered allowed index column i c type at_index lists at_column kind state no_index no_column =
@@ -298,7 +298,7 @@ two_dropped (first ∷ rest) old numbered allowed index column i c type at_index
     near = subst (λ o. distance o ≤ distance (element_at (after_step old first.step) index) + 1) at_index (distance_falls old first.step _ index _ (mid.becomes index))
 
     pick : (o : Option ElementDef) → element_at (after_step old first.step) index ≡ o
-        → ((j : ElementDef) → element_at (after_step old first.step) index ≡ Some j → Contains (listed j.kind) column → distance (Some j) + distance (Some c) ≤ length rest) → distance (Some i) + distance (Some c) ≤ suc (length rest)
+        → ((j : ElementDef) → element_at (after_step old first.step) index ≡ Some j → Contains (indexed_columns j.kind) column → distance (Some j) + distance (Some c) ≤ length rest) → distance (Some i) + distance (Some c) ≤ suc (length rest)
     pick None at again =
         let gone : distance (element_at (after_step old first.step) index) ≡ 0 = ap distance at in
         let column_then : distance (element_at (after_step old first.step) column) ≡ distance (Some c) = ap distance stays in
@@ -309,6 +309,6 @@ two_dropped (first ∷ rest) old numbered allowed index column i c type at_index
     pick (Some j) at again =
         let same : distance (element_at (after_step old first.step) index) ≡ distance (Some j) = ap distance at in
         let still = still_in_the_end (first ∷ []) old numbered (allowed.0, allowed.1, tt) index i j at_index at in
-        let far : distance (Some j) + distance (Some c) ≤ length rest = again j at (subst (λ k. Contains (listed k) column) (sym still.2) lists) in
+        let far : distance (Some j) + distance (Some c) ≤ length rest = again j at (subst (λ k. Contains (indexed_columns k) column) (sym still.2) lists) in
         let n = near in
         omega arith

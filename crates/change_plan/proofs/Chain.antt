@@ -1,11 +1,11 @@
 -- The lowest fault that holds, by tests.
 use Rattle.std.proofs.Common.{◌≡◌, ◌<◌, Bool, true, false, Ok, Err, refl, arith}
 use Rattle.std.specs.Bool.{Decides}
-use Rattle.listed.specs.Refusal.{IsFirst}
+use Rattle.collections.specs.Refusal.{IsFirst}
 use Rattle.change_plan.specs.declared.fault.PlanFault.{PlanFault}
 use Rattle.change_plan.specs.declared.fault.PlanFault.TheVariants.{Unknown, NameTaken, StillIndexed, InChange, Limit, Memory}
 use Rattle.change_plan.specs.Refusals.{rank}
-use Rattle.change_plan.specs.Deciding.{Answer, first_fault}
+use Rattle.change_plan.specs.inner.Checks.{Answer, first_fault}
 
 -- the tests decide the conditions of the faults
 pub record AreTests (C : PlanFault → Type 0) (u t i m o : Bool) : Type 0 where

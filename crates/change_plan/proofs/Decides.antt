@@ -13,11 +13,11 @@ use Rattle.schema_version.specs.declared.element.Kind.{Kind}
 use Rattle.schema_version.specs.declared.element.Kind.TheVariants.{Index, Optional, Required}
 use Rattle.schema_version.specs.Names as names
 use Rattle.schema_version.specs.Names.{is_name, is_name_list, max_listed, max_elements}
-use Rattle.schema_version.specs.Version.{Version, Table, table_at, live, is_index, is_public, listed, IsKeyName, count_live}
+use Rattle.schema_version.specs.Version.{Version, Table, table_at, live, is_index, is_public, indexed_columns, IsKeyName, count_live}
 use Rattle.schema_version.specs.Moves.{IsFairKind, is_distinct, max_like}
 use Rattle.schema_version.specs.Defaults.{is_value}
 use Rattle.row_map.specs.Shape.{has_type}
-use Rattle.schema_version.specs.Deciding.{has_key_column, is_fair_kind}
+use Rattle.schema_version.specs.Checks.{has_key_column, is_fair_kind}
 use Rattle.schema_version.proofs.Lists.{any_says, any_from, some_same}
 use Rattle.schema_version.proofs.Live.{live_has, live_from}
 use Rattle.schema_version.proofs.Decides.{word, at_most, itself, value_is}
@@ -25,7 +25,7 @@ use Rattle.change_plan.specs.declared.change.Change.{Change}
 use Rattle.change_plan.specs.declared.change.Change.TheVariants.{AddIndex, DropIndex, AddColumn, DropColumn, Abandon}
 use Rattle.change_plan.specs.Batches.{named, named_index, named_column, named_entering, adds, adds_column, drops, drops_index, drops_column, lists}
 use Rattle.change_plan.specs.Refusals.{IsInChange, IsTaken, IsStillListed, AddsIndexOn, IsListed, adds_like, is_addition, IsOver, IsColumnList, ChangeFault}
-use Rattle.change_plan.specs.Deciding.{lacks_column, is_taken, is_in_change, still_lists, adds_index_on, is_listed, is_over, change_check}
+use Rattle.change_plan.specs.inner.Checks.{lacks_column, is_taken, is_in_change, still_lists, adds_index_on, is_listed, is_over, change_check}
 use Rattle.change_plan.proofs.Chain.{Says, chain_says}
 
 never : Decides false ⊥
@@ -102,10 +102,10 @@ over old all table index =
 
 -- ---- indexes on a column
 
-listing : (column : ℕ) (index : ElementDef) → Decides (lists column index) (Contains (listed index.kind) column)
+listing : (column : ℕ) (index : ElementDef) → Decides (lists column index) (Contains (indexed_columns index.kind) column)
 listing column index = (
-  λ p. (let r = any_says (λ other. other == column) (listed index.kind) p in subst (Contains (listed index.kind)) ((Decides-eqb r.0 column).0 r.2) r.1),
-  λ there. any_from (λ other. other == column) (listed index.kind) column there ((Decides-eqb column column).1 refl),
+  λ p. (let r = any_says (λ other. other == column) (indexed_columns index.kind) p in subst (Contains (indexed_columns index.kind)) ((Decides-eqb r.0 column).0 r.2) r.1),
+  λ there. any_from (λ other. other == column) (indexed_columns index.kind) column there ((Decides-eqb column column).1 refl),
 )
 
 still : (old : Version) (all : List Change) (column : ElementDef) → Decides (list_any (still_lists all column.number) (live old)) (IsStillListed old all column)
@@ -113,7 +113,7 @@ still old all column =
     Decides-like (list_any (still_lists all column.number) (live old))
     (λ (index, has, (there, kept)). (let at = live_from old index has in (at.0, index, at.1, there, kept)))
     (λ (number, index, at, there, kept). (index, live_has old number index at, (there, kept)))
-    (any (still_lists all column.number) (λ index. Contains (listed index.kind) column.number × (list_any (drops_index index.table index.name) all ≡ false)) (live old)
+    (any (still_lists all column.number) (λ index. Contains (indexed_columns index.kind) column.number × (list_any (drops_index index.table index.name) all ≡ false)) (live old)
     (λ index. Decides-and (lists column.number index) (not (list_any (drops_index index.table index.name) all)) (listing column.number index) (is_false (list_any (drops_index index.table index.name) all))))
 
 adds_on : (table : ℕ) (name : List ℕ) (change : Change) → Decides (adds_index_on table name change) (AddsIndexOn table name change)

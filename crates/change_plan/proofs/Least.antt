@@ -12,27 +12,27 @@ use Rattle.std.proofs.lemmas.Bool.Decides.{Decides-eqb}
 use Rattle.schema_version.specs.declared.element.ElementState.TheVariants.{Public}
 use Rattle.schema_version.specs.declared.element.Kind.{Kind}
 use Rattle.schema_version.specs.declared.element.ElementDef.{ElementDef}
-use Rattle.schema_version.specs.Version.{Version, element_at, listed, type_of_kind}
+use Rattle.schema_version.specs.Version.{Version, element_at, indexed_columns, type_of_kind}
 use Rattle.schema_version.specs.Sound.{IsSoundVersion}
 use Rattle.schema_version.specs.Steps.{IsOrdered}
-use Rattle.change_plan.proofs.Steps.{not_both}
+use Rattle.change_plan.proofs.StepEffects.{not_both}
 use Rattle.change_plan.specs.declared.change.Change.{Change}
 use Rattle.change_plan.specs.declared.change.Change.TheVariants.{AddIndex, AddColumn}
 use Rattle.change_plan.specs.declared.fault.PlanFault.{PlanFault}
 use Rattle.change_plan.specs.declared.fault.PlanFault.TheVariants.{NameTaken}
 use Rattle.change_plan.specs.declared.least_plan.PlanStep.{PlanStep}
 use Rattle.change_plan.specs.Plans.{after_plan, AreAllowed, IsTarget, IsLawful, Adds, IsAddition, IsColumnNamed}
-use Rattle.change_plan.specs.Batches.{named, leaving, is_same_name, adds, adds_column, lists}
+use Rattle.change_plan.specs.Batches.{named, dropped_element, is_same_name, adds, adds_column, lists}
 use Rattle.change_plan.specs.Refusals.{ChangeFault, IsPlannable}
-use Rattle.change_plan.specs.declared.trip.Course.TheVariants.{PlainIn, FilledIn}
-use Rattle.change_plan.specs.declared.trip.Trip.{Trip}
-use Rattle.change_plan.specs.Schedule.{steps, course_in, course_out, steps_to, steps_until, wait_in, duration, longest, steps_from, steps_on, wait_out, out_trip, trip_out, trip_of, trips_from, trips, schedule}
+use Rattle.change_plan.specs.declared.schedule.StatePath.TheVariants.{PlainIn, FilledIn}
+use Rattle.change_plan.specs.declared.schedule.Schedule.{Schedule}
+use Rattle.change_plan.specs.Schedule.{steps, state_path_in, state_path_out, steps_to, steps_until, wait_in, duration, longest, steps_from, steps_on, wait_out, out_schedule, schedule_out, schedule_of, schedules_from, schedules, planned_steps}
 use Rattle.change_plan.proofs.Bounds.{height, height_by, height_in, distance, height_over, distance_over, two_dropped, two_added, still_in_the_end}
 use Rattle.change_plan.proofs.Leaving.{none_if_not_some, Departs, departs}
 use Rattle.change_plan.proofs.Named.{not_named, any_element, same_name, same_name_is, contains_middle, split_at, contains_none, contains_cases, contains_first, contains_later, ordered}
 
 -- an element that comes takes a step for each edge
-height_steps : (kind : Kind) → height_in kind Public ≡ steps (course_in kind)
+height_steps : (kind : Kind) → height_in kind Public ≡ steps (state_path_in kind)
 height_steps kind = by (is_filled kind)
   where
     by : (filled : Bool) → height_by filled Public ≡ steps (if filled then FilledIn else PlainIn)
@@ -53,24 +53,24 @@ pub adds_column_is : (table : ℕ) (name : List ℕ) (change : Change) → adds_
 adds_column_is table name (AddColumn other own kind) e = let same = same_name table name other own e in (kind, ap (λ t. AddColumn t own kind) (sym same.0) ∙ ap (λ n. AddColumn table n kind) (sym same.1))
 adds_column_is table name change e = absurd (true≢false (sym e))
 
-lists_is : (column : ℕ) (index : ElementDef) → lists column index ≡ true → Contains (listed index.kind) column
+lists_is : (column : ℕ) (index : ElementDef) → lists column index ≡ true → Contains (indexed_columns index.kind) column
 lists_is column index e =
-    let found = any_element (λ other. other == column) (listed index.kind) e in
-    subst (Contains (listed index.kind)) ((Decides-eqb found.0 column).0 found.2) found.1
+    let found = any_element (λ other. other == column) (indexed_columns index.kind) e in
+    subst (Contains (indexed_columns index.kind)) ((Decides-eqb found.0 column).0 found.2) found.1
 
 -- an element that waits does so for an index that lists it
 data Waits (old : Version) (number : ℕ) (changes : List Change) : Type 0 where
   AtOnce : wait_out old number changes ≡ 0 → Waits old number changes
-  For : (change : Change) (index : ElementDef) → Contains changes change → leaving old change ≡ Some index → Contains (listed index.kind) number → wait_out old number changes ≡ steps (course_out index.kind index.state) → Waits old number changes
+  For : (change : Change) (index : ElementDef) → Contains changes change → dropped_element old change ≡ Some index → Contains (indexed_columns index.kind) number → wait_out old number changes ≡ steps (state_path_out index.kind index.state) → Waits old number changes
 
-steps_of : (old : Version) (number : ℕ) (change : Change) → (steps_on number (leaving old change) ≡ 0) ⊎ ((index : ElementDef) × (leaving old change ≡ Some index) × Contains (listed index.kind) number × (steps_on number (leaving old change) ≡ steps (course_out index.kind index.state)))
-steps_of old number change = pick (leaving old change) refl
+steps_of : (old : Version) (number : ℕ) (change : Change) → (steps_on number (dropped_element old change) ≡ 0) ⊎ ((index : ElementDef) × (dropped_element old change ≡ Some index) × Contains (indexed_columns index.kind) number × (steps_on number (dropped_element old change) ≡ steps (state_path_out index.kind index.state)))
+steps_of old number change = pick (dropped_element old change) refl
   where
-    by : (index : ElementDef) → leaving old change ≡ Some index → (b : Bool) → lists number index ≡ b → (steps_on number (leaving old change) ≡ 0) ⊎ ((index : ElementDef) × (leaving old change ≡ Some index) × Contains (listed index.kind) number × (steps_on number (leaving old change) ≡ steps (course_out index.kind index.state)))
-    by index is true t = inr (index, is, lists_is number index t, ap (steps_on number) is ∙ ap (λ b. if b then steps (course_out index.kind index.state) else 0) t)
-    by index is false t = inl (ap (steps_on number) is ∙ ap (λ b. if b then steps (course_out index.kind index.state) else 0) t)
+    by : (index : ElementDef) → dropped_element old change ≡ Some index → (b : Bool) → lists number index ≡ b → (steps_on number (dropped_element old change) ≡ 0) ⊎ ((index : ElementDef) × (dropped_element old change ≡ Some index) × Contains (indexed_columns index.kind) number × (steps_on number (dropped_element old change) ≡ steps (state_path_out index.kind index.state)))
+    by index is true t = inr (index, is, lists_is number index t, ap (steps_on number) is ∙ ap (λ b. if b then steps (state_path_out index.kind index.state) else 0) t)
+    by index is false t = inl (ap (steps_on number) is ∙ ap (λ b. if b then steps (state_path_out index.kind index.state) else 0) t)
 
-    pick : (o : Option ElementDef) → leaving old change ≡ o → (steps_on number (leaving old change) ≡ 0) ⊎ ((index : ElementDef) × (leaving old change ≡ Some index) × Contains (listed index.kind) number × (steps_on number (leaving old change) ≡ steps (course_out index.kind index.state)))
+    pick : (o : Option ElementDef) → dropped_element old change ≡ o → (steps_on number (dropped_element old change) ≡ 0) ⊎ ((index : ElementDef) × (dropped_element old change ≡ Some index) × Contains (indexed_columns index.kind) number × (steps_on number (dropped_element old change) ≡ steps (state_path_out index.kind index.state)))
     pick None is = inl (ap (steps_on number) is)
     pick (Some index) is = by index is (lists number index) refl
 
@@ -78,11 +78,11 @@ waits_for : (old : Version) (number : ℕ) (changes : List Change) → Waits old
 waits_for old number [] = AtOnce refl
 waits_for old number (change ∷ changes) = pick (waits_for old number changes) (steps_of old number change)
   where
-    pick : Waits old number changes → (steps_on number (leaving old change) ≡ 0) ⊎ ((index : ElementDef) × (leaving old change ≡ Some index) × Contains (listed index.kind) number × (steps_on number (leaving old change) ≡ steps (course_out index.kind index.state))) → Waits old number (change ∷ changes)
+    pick : Waits old number changes → (steps_on number (dropped_element old change) ≡ 0) ⊎ ((index : ElementDef) × (dropped_element old change ≡ Some index) × Contains (indexed_columns index.kind) number × (steps_on number (dropped_element old change) ≡ steps (state_path_out index.kind index.state))) → Waits old number (change ∷ changes)
     pick (AtOnce none) (inl none_on) = AtOnce (omega arith)
     pick (AtOnce none) (inr (index, is, on, long)) = For change index (contains_first change changes) is on (omega (arith, long))
     pick (For other index has is on long) (inl none_on) = For other index (contains_later change changes other has) is on (omega arith)
-    pick (For other index has is on long) (inr (first, is_first, on_first, long_first)) = elim (cases_lt (steps_on number (leaving old change)) (wait_out old number changes)) [
+    pick (For other index has is on long) (inr (first, is_first, on_first, long_first)) = elim (cases_lt (steps_on number (dropped_element old change)) (wait_out old number changes)) [
       | inl less ↦ For other index (contains_later change changes other has) is on (omega (arith, less))
       | inr more ↦ For change first (contains_first change changes) is_first on_first (omega (arith, more, long_first))
     ]
@@ -90,25 +90,25 @@ waits_for old number (change ∷ changes) = pick (waits_for old number changes) 
 -- an index that waits does so for a column that the batch adds
 data WaitsIn (all : List Change) (table : ℕ) (columns : List (List ℕ)) : Type 0 where
   NoWait : wait_in all table columns ≡ 0 → WaitsIn all table columns
-  Until : (name : List ℕ) (kind : Kind) → Contains columns name → Contains all (AddColumn table name kind) → wait_in all table columns ≡ steps (course_in kind) → WaitsIn all table columns
+  Until : (name : List ℕ) (kind : Kind) → Contains columns name → Contains all (AddColumn table name kind) → wait_in all table columns ≡ steps (state_path_in kind) → WaitsIn all table columns
 
-steps_to_is : (table : ℕ) (name : List ℕ) (change : Change) → (steps_to table name change ≡ 0) ⊎ ((kind : Kind) × (change ≡ AddColumn table name kind) × (steps_to table name change ≡ steps (course_in kind)))
+steps_to_is : (table : ℕ) (name : List ℕ) (change : Change) → (steps_to table name change ≡ 0) ⊎ ((kind : Kind) × (change ≡ AddColumn table name kind) × (steps_to table name change ≡ steps (state_path_in kind)))
 steps_to_is table name (AddColumn other own kind) = pick (is_same_name table name other own) refl
   where
-    pick : (b : Bool) → is_same_name table name other own ≡ b → (steps_to table name (AddColumn other own kind) ≡ 0) ⊎ ((k : Kind) × (AddColumn other own kind ≡ AddColumn table name k) × (steps_to table name (AddColumn other own kind) ≡ steps (course_in k)))
+    pick : (b : Bool) → is_same_name table name other own ≡ b → (steps_to table name (AddColumn other own kind) ≡ 0) ⊎ ((k : Kind) × (AddColumn other own kind ≡ AddColumn table name k) × (steps_to table name (AddColumn other own kind) ≡ steps (state_path_in k)))
     pick true is =
         let same = same_name table name other own is in
-        inr (kind, ap (λ t. AddColumn t own kind) (sym same.0) ∙ ap (λ n. AddColumn table n kind) (sym same.1), ap (λ b. if b then steps (course_in kind) else 0) is)
-    pick false is = inl (ap (λ b. if b then steps (course_in kind) else 0) is)
+        inr (kind, ap (λ t. AddColumn t own kind) (sym same.0) ∙ ap (λ n. AddColumn table n kind) (sym same.1), ap (λ b. if b then steps (state_path_in kind) else 0) is)
+    pick false is = inl (ap (λ b. if b then steps (state_path_in kind) else 0) is)
 steps_to_is table name change = inl refl
 
-until_is : (table : ℕ) (name : List ℕ) (changes : List Change) → (steps_until table name changes ≡ 0) ⊎ ((kind : Kind) × Contains changes (AddColumn table name kind) × (steps_until table name changes ≡ steps (course_in kind)))
+until_is : (table : ℕ) (name : List ℕ) (changes : List Change) → (steps_until table name changes ≡ 0) ⊎ ((kind : Kind) × Contains changes (AddColumn table name kind) × (steps_until table name changes ≡ steps (state_path_in kind)))
 until_is table name [] = inl refl
 until_is table name (x ∷ xs) = pick (until_is table name xs) (steps_to_is table name x)
   where
-    pick : (steps_until table name xs ≡ 0) ⊎ ((kind : Kind) × Contains xs (AddColumn table name kind) × (steps_until table name xs ≡ steps (course_in kind)))
-        → (steps_to table name x ≡ 0) ⊎ ((kind : Kind) × (x ≡ AddColumn table name kind) × (steps_to table name x ≡ steps (course_in kind)))
-        → (steps_until table name (x ∷ xs) ≡ 0) ⊎ ((kind : Kind) × Contains (x ∷ xs) (AddColumn table name kind) × (steps_until table name (x ∷ xs) ≡ steps (course_in kind)))
+    pick : (steps_until table name xs ≡ 0) ⊎ ((kind : Kind) × Contains xs (AddColumn table name kind) × (steps_until table name xs ≡ steps (state_path_in kind)))
+        → (steps_to table name x ≡ 0) ⊎ ((kind : Kind) × (x ≡ AddColumn table name kind) × (steps_to table name x ≡ steps (state_path_in kind)))
+        → (steps_until table name (x ∷ xs) ≡ 0) ⊎ ((kind : Kind) × Contains (x ∷ xs) (AddColumn table name kind) × (steps_until table name (x ∷ xs) ≡ steps (state_path_in kind)))
     pick (inl none) (inl no_first) = inl (omega (arith, none, no_first))
     pick (inl none) (inr (kind, is, long)) = inr (kind, subst (Contains (x ∷ xs)) is (contains_first x xs), omega (arith, none, long))
     pick (inr (kind, has, long)) (inl no_first) = inr (kind, contains_later x xs _ has, omega (arith, long, no_first))
@@ -121,7 +121,7 @@ waits_in : (all : List Change) (table : ℕ) (columns : List (List ℕ)) → Wai
 waits_in all table [] = NoWait refl
 waits_in all table (name ∷ names) = pick (waits_in all table names) (until_is table name all)
   where
-    pick : WaitsIn all table names → (steps_until table name all ≡ 0) ⊎ ((kind : Kind) × Contains all (AddColumn table name kind) × (steps_until table name all ≡ steps (course_in kind))) → WaitsIn all table (name ∷ names)
+    pick : WaitsIn all table names → (steps_until table name all ≡ 0) ⊎ ((kind : Kind) × Contains all (AddColumn table name kind) × (steps_until table name all ≡ steps (state_path_in kind))) → WaitsIn all table (name ∷ names)
     pick (NoWait none) (inl no_first) = NoWait (omega (arith, none, no_first))
     pick (NoWait none) (inr (kind, has, long)) = Until name kind (contains_first name names) has (omega (arith, none, long))
     pick (Until own kind among has long) (inl no_first) = Until own kind (contains_later name names own among) has (omega (arith, long, no_first))
@@ -152,10 +152,10 @@ module _ (old : Version) (sound : IsSoundVersion old) (numbered : IsOrdered old)
       let end : height (element_at (after_plan old other) number) ≡ height_in e.kind Public = ap height after ∙ ap (height_in e.kind) is_public in
       omega arith
 
-  column_added : (table : ℕ) (name : List ℕ) (kind : Kind) → Contains all (AddColumn table name kind) → steps (course_in kind) ≤ length other
+  column_added : (table : ℕ) (name : List ℕ) (kind : Kind) → Contains all (AddColumn table name kind) → steps (state_path_in kind) ≤ length other
   column_added table name kind has =
       let a = addition (AddColumn table name kind) has tt in
-      let tall : height_in a.1.kind Public ≡ steps (course_in kind) = ap (λ k. height_in k Public) a.5.2 ∙ height_steps kind in
+      let tall : height_in a.1.kind Public ≡ steps (state_path_in kind) = ap (λ k. height_in k Public) a.5.2 ∙ height_steps kind in
       let bound : height_in a.1.kind Public ≤ length other = comes a.0 a.1 a.2 a.3 a.4 in
       omega arith
 
@@ -202,7 +202,7 @@ module _ (old : Version) (sound : IsSoundVersion old) (numbered : IsOrdered old)
   kind_of_added table name kind has e type is_table is_name is_type change among adds_it = absurd adds_it
 
   -- a column of this name has come, and is public
-  new_column : (table : ℕ) (name : List ℕ) (kind : Kind) → Contains all (AddColumn table name kind) → (number : ℕ) → IsColumnNamed (after_plan old other) table name number → (element_at old number ≡ None) × (height (element_at (after_plan old other) number) ≡ steps (course_in kind))
+  new_column : (table : ℕ) (name : List ℕ) (kind : Kind) → Contains all (AddColumn table name kind) → (number : ℕ) → IsColumnNamed (after_plan old other) table name number → (element_at old number ≡ None) × (height (element_at (after_plan old other) number) ≡ steps (state_path_in kind))
   new_column table name kind has number column =
       let before : element_at old number ≡ None = pick (element_at old number) refl in
       let came = target.only number column.0 before column.2 in
@@ -225,24 +225,24 @@ module _ (old : Version) (sound : IsSoundVersion old) (numbered : IsOrdered old)
       let beside = zip_element (IsColumnNamed (after_plan old other) table) columns a.5.0 a.5.4 own among in
       let column = new_column table own kind has_column beside.0 beside.2 in
       let near : height (element_at (after_plan old other) a.0) + height (element_at (after_plan old other) beside.0) ≤ (height (element_at old a.0) + height (element_at old beside.0)) + length other =
-      two_added other old numbered allowed a.0 beside.0 a.1 a.3 (subst (λ k. Contains (listed k) beside.0) (sym a.5.3) beside.1) in
+      two_added other old numbered allowed a.0 beside.0 a.1 a.3 (subst (λ k. Contains (indexed_columns k) beside.0) (sym a.5.3) beside.1) in
       let index_start : height (element_at old a.0) ≡ 0 = ap height a.2 in
       let column_start : height (element_at old beside.0) ≡ 0 = ap height column.0 in
       let index_end : height (element_at (after_plan old other) a.0) ≡ 3 = ap height a.3 ∙ ap (height_in a.1.kind) a.4 ∙ ap (λ k. height_in k Public) a.5.3 in
-      let column_end : height (element_at (after_plan old other) beside.0) ≡ steps (course_in kind) = column.1 in
+      let column_end : height (element_at (after_plan old other) beside.0) ≡ steps (state_path_in kind) = column.1 in
       omega (arith, near, index_start, column_start, index_end, column_end, long)
 
   -- one that has gone took a step for each move
-  goes : (change : Change) → Contains all change → (e : ElementDef) → leaving old change ≡ Some e → steps (course_out e.kind e.state) ≤ length other
+  goes : (change : Change) → Contains all change → (e : ElementDef) → dropped_element old change ≡ Some e → steps (state_path_out e.kind e.state) ≤ length other
   goes change has e is =
       let d = departs old sound all plannable change has e is in
       let gone : element_at (after_plan old other) e.number ≡ None = target.dropped e.number e change d.there has d.taken in
       let one : distance (element_at old e.number) ≤ distance (element_at (after_plan old other) e.number) + length other = distance_over other old numbered allowed e.number in
-      let start : distance (element_at old e.number) ≡ steps (course_out e.kind e.state) = ap distance d.there ∙ sym d.moves in
+      let start : distance (element_at old e.number) ≡ steps (state_path_out e.kind e.state) = ap distance d.there ∙ sym d.moves in
       let end : distance (element_at (after_plan old other) e.number) ≡ 0 = ap distance gone in
       omega arith
 
-  leaves : (change : Change) → Contains all change → (e : ElementDef) → leaving old change ≡ Some e → duration (out_trip old all e) ≤ length other
+  leaves : (change : Change) → Contains all change → (e : ElementDef) → dropped_element old change ≡ Some e → duration (out_schedule old all e) ≤ length other
   leaves change has e is = pick (waits_for old e.number all)
     where
       d : Departs old change e
@@ -251,7 +251,7 @@ module _ (old : Version) (sound : IsSoundVersion old) (numbered : IsOrdered old)
       gone : element_at (after_plan old other) e.number ≡ None
       gone = target.dropped e.number e change d.there has d.taken
 
-      pick : Waits old e.number all → wait_out old e.number all + steps (course_out e.kind e.state) ≤ length other
+      pick : Waits old e.number all → wait_out old e.number all + steps (state_path_out e.kind e.state) ≤ length other
       pick (AtOnce none) = omega (arith, goes change has e is)
       pick (For dropper index has_dropper is_index on long) =
           let i = departs old sound all plannable dropper has_dropper index is_index in
@@ -259,41 +259,41 @@ module _ (old : Version) (sound : IsSoundVersion old) (numbered : IsOrdered old)
           let same : e ≡ c.0 = let two : Some e ≡ Some c.0 = sym d.there ∙ c.2 in cc in
           let index_gone : element_at (after_plan old other) index.number ≡ None = target.dropped index.number index dropper i.there has_dropper i.taken in
           let both : distance (Some index) + distance (Some e) ≤ length other = two_dropped other old numbered allowed index.number e.number index e c.1 i.there on d.there (ap (λ (x : ElementDef). type_of_kind x.kind) same ∙ c.4) (ap (λ (x : ElementDef). x.state) same ∙ c.5) index_gone gone in
-          let one : steps (course_out index.kind index.state) ≡ distance (Some index) = i.moves in
-          let two : steps (course_out e.kind e.state) ≡ distance (Some e) = d.moves in
+          let one : steps (state_path_out index.kind index.state) ≡ distance (Some index) = i.moves in
+          let two : steps (state_path_out e.kind e.state) ≡ distance (Some e) = d.moves in
           omega arith
 
-  -- ---- the longest trip
+  -- ---- the longest schedule
 
-  trip_out_short : (o : Option ElementDef) → ((e : ElementDef) → o ≡ Some e → duration (out_trip old all e) ≤ length other) → longest (trip_out old all o) ≤ length other
-  trip_out_short None h = omega arith
-  trip_out_short (Some e) h = max-le {b = 0} (h e refl) (omega arith)
+  schedule_out_short : (o : Option ElementDef) → ((e : ElementDef) → o ≡ Some e → duration (out_schedule old all e) ≤ length other) → longest (schedule_out old all o) ≤ length other
+  schedule_out_short None h = omega arith
+  schedule_out_short (Some e) h = max-le {b = 0} (h e refl) (omega arith)
 
-  trip_short : (change : Change) → Contains all change → (earlier : List Change) → longest (trip_of old all earlier change) ≤ length other
-  trip_short (AddIndex table name columns) has earlier = max-le {b = 0} (late_index_added table name columns has (waits_in all table columns)) (omega arith)
-  trip_short (AddColumn table name kind) has earlier = max-le {b = 0} (let bound = column_added table name kind has in omega (arith, bound)) (omega arith)
-  trip_short change has earlier = trip_out_short (leaving old change) (leaves change has)
+  schedule_short : (change : Change) → Contains all change → (earlier : List Change) → longest (schedule_of old all earlier change) ≤ length other
+  schedule_short (AddIndex table name columns) has earlier = max-le {b = 0} (late_index_added table name columns has (waits_in all table columns)) (omega arith)
+  schedule_short (AddColumn table name kind) has earlier = max-le {b = 0} (let bound = column_added table name kind has in omega (arith, bound)) (omega arith)
+  schedule_short change has earlier = schedule_out_short (dropped_element old change) (leaves change has)
 
-  longest_append : (xs ys : List Trip) → longest xs ≤ length other → longest ys ≤ length other → longest (xs ++ ys) ≤ length other
+  longest_append : (xs ys : List Schedule) → longest xs ≤ length other → longest ys ≤ length other → longest (xs ++ ys) ≤ length other
   longest_append [] ys one two = two
   longest_append (x ∷ xs) ys one two =
       let head : duration x ≤ length other = omega (arith, le-max_left (duration x) (longest xs)) in
       let tail : longest xs ≤ length other = omega (arith, le-max_right (duration x) (longest xs)) in
       max-le head (longest_append xs ys tail two)
 
-  trips_short : (changes : List Change) → ((change : Change) → Contains changes change → Contains all change) → (earlier : List Change) → longest (trips_from old all earlier changes) ≤ length other
-  trips_short [] among earlier = omega arith
-  trips_short (change ∷ changes) among earlier =
-      longest_append (trip_of old all earlier change) _ (trip_short change (among change (contains_first change changes)) earlier)
-      (trips_short changes (λ c has. among c (contains_later change changes c has)) _)
+  schedules_short : (changes : List Change) → ((change : Change) → Contains changes change → Contains all change) → (earlier : List Change) → longest (schedules_from old all earlier changes) ≤ length other
+  schedules_short [] among earlier = omega arith
+  schedules_short (change ∷ changes) among earlier =
+      longest_append (schedule_of old all earlier change) _ (schedule_short change (among change (contains_first change changes)) earlier)
+      (schedules_short changes (λ c has. among c (contains_later change changes c has)) _)
 
 -- a plan of so many steps
-steps_length : (trips : List Trip) (time count : ℕ) → length (steps_from trips time count) ≡ count
-steps_length trips time zero = refl
-steps_length trips time (suc count) = ap suc (steps_length trips (suc time) count)
+steps_length : (schedules : List Schedule) (time count : ℕ) → length (steps_from schedules time count) ≡ count
+steps_length schedules time zero = refl
+steps_length schedules time (suc count) = ap suc (steps_length schedules (suc time) count)
 
 -- no lawful plan has fewer steps than the schedule
-pub schedule_short : (old : Version) → IsSoundVersion old → (changes : List Change) → IsPlannable old changes → (other : List PlanStep) → IsLawful old changes other → length (schedule old changes) ≤ length other
-schedule_short old sound changes plannable other lawful =
-    subst (λ n. n ≤ length other) (sym (steps_length (trips old changes) 0 (longest (trips old changes))))
-    (trips_short old sound (ordered sound) changes plannable other lawful.allowed lawful.target changes (λ c has. has) [])
+pub planned_short : (old : Version) → IsSoundVersion old → (changes : List Change) → IsPlannable old changes → (other : List PlanStep) → IsLawful old changes other → length (planned_steps old changes) ≤ length other
+planned_short old sound changes plannable other lawful =
+    subst (λ n. n ≤ length other) (sym (steps_length (schedules old changes) 0 (longest (schedules old changes))))
+    (schedules_short old sound (ordered sound) changes plannable other lawful.allowed lawful.target changes (λ c has. has) [])

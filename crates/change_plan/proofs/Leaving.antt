@@ -12,20 +12,20 @@ use Rattle.schema_version.specs.Version.{Version, element_at, is_index, is_colum
 use Rattle.schema_version.specs.Edges.{has_state, is_filled}
 use Rattle.schema_version.specs.Sound.{IsSoundVersion}
 use Rattle.schema_version.specs.Steps.{IsOrdered}
-use Rattle.change_plan.proofs.Steps.{not_both}
+use Rattle.change_plan.proofs.StepEffects.{not_both}
 use Rattle.change_plan.specs.declared.change.Change.{Change}
 use Rattle.change_plan.specs.declared.change.Change.TheVariants.{AddIndex, DropIndex, AddColumn, DropColumn, Abandon}
 use Rattle.change_plan.specs.declared.fault.PlanFault.{PlanFault}
 use Rattle.change_plan.specs.declared.fault.PlanFault.TheVariants.{Unknown, InChange}
-use Rattle.change_plan.specs.declared.trip.Course.{Course}
-use Rattle.change_plan.specs.declared.trip.Course.TheVariants.{FilledOut, PlainOut, DeleteOnlyBack, WriteOnlyBack}
+use Rattle.change_plan.specs.declared.schedule.StatePath.{StatePath}
+use Rattle.change_plan.specs.declared.schedule.StatePath.TheVariants.{FilledOut, PlainOut, DeleteOnlyBack, WriteOnlyBack}
 use Rattle.change_plan.specs.Plans.{Drops}
-use Rattle.change_plan.specs.Batches.{named, named_index, named_column, named_entering, is_adding, is_entering, if_entering, only_if, leaving, drops}
+use Rattle.change_plan.specs.Batches.{named, named_index, named_column, named_entering, is_adding, is_entering, if_entering, only_if, dropped_element, drops}
 use Rattle.change_plan.specs.Refusals.{ChangeFault, IsPlannable, IsInChange}
-use Rattle.change_plan.specs.Schedule.{steps, course_out, fresh_of}
+use Rattle.change_plan.specs.Schedule.{steps, state_path_out, fresh_of}
 use Rattle.change_plan.proofs.Named.{named_there, split_at, ordered, same_name_is, and_true}
 use Rattle.change_plan.proofs.Bounds.{distance, moves_by, moves_out}
-use Rattle.change_plan.proofs.Trips.{At, is_in, suits, departure, element_of, here}
+use Rattle.change_plan.proofs.Schedules.{At, is_in, suits, departure, element_of, here}
 
 -- ---- what the refusals leave
 
@@ -136,10 +136,10 @@ entering_there v numbered table name e found =
 
 pub record Departs (old : Version) (change : Change) (e : ElementDef) : Type 0 where
   pub there : element_at old e.number ≡ Some e
-  pub stands : here e.number (fresh_of e) (departure (course_out e.kind e.state)) ≡ Some e
-  pub out : is_in (course_out e.kind e.state) ≡ false
-  pub fits : suits (course_out e.kind e.state) e.kind ≡ true
-  pub moves : steps (course_out e.kind e.state) ≡ distance (Some e)
+  pub stands : here e.number (fresh_of e) (departure (state_path_out e.kind e.state)) ≡ Some e
+  pub out : is_in (state_path_out e.kind e.state) ≡ false
+  pub fits : suits (state_path_out e.kind e.state) e.kind ≡ true
+  pub moves : steps (state_path_out e.kind e.state) ≡ distance (Some e)
   pub taken : Drops e change
   pub is_named : drops e.table e.name change ≡ true
 
@@ -154,16 +154,16 @@ module _ (old : Version) (sound : IsSoundVersion old) (all : List Change) (plann
   public_departs : (change : Change) (e : ElementDef) → element_at old e.number ≡ Some e → e.state ≡ Public → Drops e change → drops e.table e.name change ≡ true → Departs old change e
   public_departs change e there state taken is_named = record {
     there = there;
-    stands = ap (λ c. here e.number (fresh_of e) (departure c)) course ∙ ap (here e.number (fresh_of e)) (from_public (is_filled e.kind)).0 ∙ at_stop e Public Adding state ((sound.elements e.number e there).way state);
-    out = ap is_in course ∙ (from_public (is_filled e.kind)).1;
-    fits = ap (λ c. suits c e.kind) course ∙ suits_out e.kind (is_filled e.kind) refl;
-    moves = ap steps course ∙ steps_out (is_filled e.kind) e.way ∙ sym (ap (λ s. moves_out e.kind s e.way) state);
+    stands = ap (λ c. here e.number (fresh_of e) (departure c)) state_path ∙ ap (here e.number (fresh_of e)) (from_public (is_filled e.kind)).0 ∙ at_stop e Public Adding state ((sound.elements e.number e there).way state);
+    out = ap is_in state_path ∙ (from_public (is_filled e.kind)).1;
+    fits = ap (λ c. suits c e.kind) state_path ∙ suits_out e.kind (is_filled e.kind) refl;
+    moves = ap steps state_path ∙ steps_out (is_filled e.kind) e.way ∙ sym (ap (λ s. moves_out e.kind s e.way) state);
     taken = taken;
     is_named = is_named;
   }
     where
-      course : course_out e.kind e.state ≡ (if is_filled e.kind then FilledOut else PlainOut)
-      course = ap (course_out e.kind) state
+      state_path : state_path_out e.kind e.state ≡ (if is_filled e.kind then FilledOut else PlainOut)
+      state_path = ap (state_path_out e.kind) state
 
   index_departs : (table : ℕ) (name : List ℕ) → Contains all (DropIndex table name) → (e : ElementDef) → named_index old table name ≡ Some e → Departs old (DropIndex table name) e
   index_departs table name has e found =
@@ -185,21 +185,21 @@ module _ (old : Version) (sound : IsSoundVersion old) (all : List Change) (plann
       there : (element_at old e.number ≡ Some e) × (e.table ≡ table) × (e.name ≡ name) × (e.way ≡ Adding) × (e.state ≢ Public)
       there = entering_there old (ordered sound) table name e found
 
-      goes : (state : ElementState) (course : Course) → e.state ≡ state → course_out e.kind e.state ≡ course → departure course ≡ At state Adding → is_in course ≡ false → suits course e.kind ≡ true → steps course ≡ moves_out e.kind state Adding → Departs old (Abandon table name) e
-      goes state course is course_is start out fits moves = record {
+      goes : (state : ElementState) (state_path : StatePath) → e.state ≡ state → state_path_out e.kind e.state ≡ state_path → departure state_path ≡ At state Adding → is_in state_path ≡ false → suits state_path e.kind ≡ true → steps state_path ≡ moves_out e.kind state Adding → Departs old (Abandon table name) e
+      goes state state_path is state_path_is start out fits moves = record {
         there = there.0;
-        stands = ap (λ c. here e.number (fresh_of e) (departure c)) course_is ∙ ap (here e.number (fresh_of e)) start ∙ at_stop e state Adding is there.3;
-        out = ap is_in course_is ∙ out;
-        fits = ap (λ c. suits c e.kind) course_is ∙ fits;
-        moves = ap steps course_is ∙ moves ∙ sym (ap (λ s. moves_out e.kind s e.way) is ∙ ap (moves_out e.kind state) there.3);
+        stands = ap (λ c. here e.number (fresh_of e) (departure c)) state_path_is ∙ ap (here e.number (fresh_of e)) start ∙ at_stop e state Adding is there.3;
+        out = ap is_in state_path_is ∙ out;
+        fits = ap (λ c. suits c e.kind) state_path_is ∙ fits;
+        moves = ap steps state_path_is ∙ moves ∙ sym (ap (λ s. moves_out e.kind s e.way) is ∙ ap (moves_out e.kind state) there.3);
         taken = (there.1, there.2);
         is_named = same_name_is e.table table e.name name there.1 there.2;
       }
 
       pick : (state : ElementState) → e.state ≡ state → Departs old (Abandon table name) e
       pick Absent is = absurd ((sound.elements e.number e there.0).live is)
-      pick DeleteOnly is = goes DeleteOnly DeleteOnlyBack is (ap (course_out e.kind) is) refl refl refl refl
-      pick WriteOnly is = goes WriteOnly WriteOnlyBack is (ap (course_out e.kind) is) refl refl (ap (has_state e.kind) (sym is) ∙ (sound.elements e.number e there.0).possible) refl
+      pick DeleteOnly is = goes DeleteOnly DeleteOnlyBack is (ap (state_path_out e.kind) is) refl refl refl refl
+      pick WriteOnly is = goes WriteOnly WriteOnlyBack is (ap (state_path_out e.kind) is) refl refl (ap (has_state e.kind) (sym is) ∙ (sound.elements e.number e there.0).possible) refl
       pick Public is = absurd (there.4 is)
 
   -- what the batch abandons by its name
@@ -212,7 +212,7 @@ module _ (old : Version) (sound : IsSoundVersion old) (all : List Change) (plann
           let same : Some f ≡ Some e = sym (if_entering_there (named old table name) f is).0 ∙ found in
           is ∙ same
 
-  pub departs : (change : Change) → Contains all change → (e : ElementDef) → leaving old change ≡ Some e → Departs old change e
+  pub departs : (change : Change) → Contains all change → (e : ElementDef) → dropped_element old change ≡ Some e → Departs old change e
   departs (AddIndex table name columns) has e is = absurd (not_both e None is refl)
   departs (DropIndex table name) has e is = index_departs table name has e is
   departs (AddColumn table name kind) has e is = absurd (not_both e None is refl)

@@ -11,7 +11,7 @@ use Rattle.schema_version.specs.Sound.{IsSoundVersion}
 use Rattle.schema_version.specs.Steps.{IsOrdered}
 use Rattle.schema_version.proofs.Live.{live_has, live_from}
 use Rattle.schema_version.proofs.Lists.{some_same}
-use Rattle.change_plan.proofs.Steps.{not_both}
+use Rattle.change_plan.proofs.StepEffects.{not_both}
 use Rattle.change_plan.specs.Batches.{named, is_same_name}
 
 -- ---- elements of lists
@@ -34,7 +34,7 @@ contains_cases x xs y h = elim (Contains-append_cases (x ∷ []) xs y h) [
 pub contains_middle : {X : Type 0} (before after : List X) (x : X) → Contains (before ++ x ∷ after) x
 contains_middle before after x = Contains-append_right before (x ∷ after) x (contains_first x after)
 
--- a list has an element between what stands before and behind it
+-- a list has an element between what stands before and after it
 pub split_at : {X : Type 0} (xs : List X) (x : X) → Contains xs x → (before after : List X) × (xs ≡ before ++ x ∷ after)
 split_at [] x h = absurd (contains_none x h)
 split_at (y ∷ ys) x h = elim (contains_cases y ys x h) [

@@ -13,16 +13,16 @@ use Rattle.change_plan.specs.declared.change.Change.{Change}
 use Rattle.change_plan.specs.declared.change.Change.TheVariants.{AddIndex, AddColumn}
 use Rattle.change_plan.specs.declared.fault.PlanFault.TheVariants.{Limit}
 use Rattle.change_plan.specs.Plans.{IsLeast}
-use Rattle.change_plan.specs.Batches.{leaving}
+use Rattle.change_plan.specs.Batches.{dropped_element}
 use Rattle.change_plan.specs.Refusals.{IsPlannable, adds_like, is_addition, IsOver}
-use Rattle.change_plan.specs.declared.trip.Trip.{Trip}
-use Rattle.change_plan.specs.Schedule.{move_of, out_trip, trip_out, index_trip, column_trip, trip_of, trips, schedule, enters_at, enters_before, number_of, column_number}
-use Rattle.change_plan.proofs.Trips.{is_in, appears, no_entry, entries}
-use Rattle.change_plan.proofs.Numbers.{count_first, count_split, count_two, count_within, each_next, each_addition, none_before}
+use Rattle.change_plan.specs.declared.schedule.Schedule.{Schedule}
+use Rattle.change_plan.specs.Schedule.{move_of, out_schedule, schedule_out, index_schedule, column_schedule, schedule_of, schedules, planned_steps, enters_at, enters_before, number_of, column_number}
+use Rattle.change_plan.proofs.Schedules.{is_in, appears, no_entry, entries}
+use Rattle.change_plan.proofs.EntryNumbers.{count_first, count_split, count_two, count_within, each_next, each_addition, none_before}
 use Rattle.change_plan.proofs.Leaving.{column_if, clear}
 use Rattle.change_plan.proofs.Lawful.{HasRoom, entered_like}
 use Rattle.change_plan.proofs.Batch.{From, NewIndex, NewColumn, Leaves, comes_in, out_of, Placed, placed, counts, alone, Role, Enters, Goes, role}
-use Rattle.change_plan.proofs.Fitting.{column_kind, Place, has_change}
+use Rattle.change_plan.proofs.Fits.{column_kind, Place, has_change}
 use Rattle.change_plan.proofs.Target.{least_with_room}
 
 of_index : (index : Bool) (columns : List ℕ) → is_like index (Index columns) ≡ index
@@ -80,27 +80,27 @@ module _ (old : Version) (all : List Change) (table : ℕ) (index : Bool) where
           both true false = omega arith
           both false b = omega arith
 
-  out_none : (time : ℕ) (o : Option ElementDef) → count_by (is_entry_like table index) (flat_map (move_of time) (trip_out old all o)) ≡ 0
+  out_none : (time : ℕ) (o : Option ElementDef) → count_by (is_entry_like table index) (flat_map (move_of time) (schedule_out old all o)) ≡ 0
   out_none time None = refl
-  out_none time (Some e) = ap (count_by (is_entry_like table index)) (alone time (out_trip old all e)) ∙ (no_entry time (out_trip old all e) (out_of e.kind e.state)).1 table index
+  out_none time (Some e) = ap (count_by (is_entry_like table index)) (alone time (out_schedule old all e)) ∙ (no_entry time (out_schedule old all e) (out_of e.kind e.state)).1 table index
 
-  one_like : (time : ℕ) (trip : Trip) → is_in trip.course ≡ true → (on : Bool) → ((trip.fresh.table == table) && is_like index trip.fresh.kind) ≡ on → count_by (is_entry_like table index) (flat_map (move_of time) (trip ∷ [])) ≡ cond ((trip.wait == time) && on) 1 0
-  one_like time trip new on is = ap (count_by (is_entry_like table index)) (alone time trip) ∙ entries (is_entry_like table index) (λ n to. refl) (λ n. refl) time trip new on is
+  one_like : (time : ℕ) (schedule : Schedule) → is_in schedule.state_path ≡ true → (on : Bool) → ((schedule.fresh.table == table) && is_like index schedule.fresh.kind) ≡ on → count_by (is_entry_like table index) (flat_map (move_of time) (schedule ∷ [])) ≡ cond ((schedule.wait == time) && on) 1 0
+  one_like time schedule new on is = ap (count_by (is_entry_like table index)) (alone time schedule) ∙ entries (is_entry_like table index) (λ n to. refl) (λ n. refl) time schedule new on is
 
-  like_entries : (time : ℕ) (earlier : List Change) (change : Change) → count_by (is_entry_like table index) (flat_map (move_of time) (trip_of old all earlier change)) ≡ cond (like_at time change) 1 0
+  like_entries : (time : ℕ) (earlier : List Change) (change : Change) → count_by (is_entry_like table index) (flat_map (move_of time) (schedule_of old all earlier change)) ≡ cond (like_at time change) 1 0
   like_entries time earlier (AddIndex own name columns) =
-      one_like time (index_trip old all earlier own name columns) refl ((own == table) && index) (ap (λ b. (own == table) && b) (of_index index (each (column_number old all own) columns)))
-  like_entries time earlier (AddColumn own name kind) = one_like time (column_trip (number_of old.next all earlier 0) own name kind) (comes_in kind) ((own == table) && is_like index kind) refl
-  like_entries time earlier change = out_none time (leaving old change)
+      one_like time (index_schedule old all earlier own name columns) refl ((own == table) && index) (ap (λ b. (own == table) && b) (of_index index (each (column_number old all own) columns)))
+  like_entries time earlier (AddColumn own name kind) = one_like time (column_schedule (number_of old.next all earlier 0) own name kind) (comes_in kind) ((own == table) && is_like index kind) refl
+  like_entries time earlier change = out_none time (dropped_element old change)
 
-  entered_is : (time : ℕ) → entered_like (trips old all) table index time ≡ count_by (like_before time) all
+  entered_is : (time : ℕ) → entered_like (schedules old all) table index time ≡ count_by (like_before time) all
   entered_is zero = sym (none_like all)
   entered_is (suc time) = omega (arith, entered_is time, next_like time all, counts old all time (is_entry_like table index) (like_at time) (like_entries time) [] all)
 
   -- fewer have entered than the batch adds, before one of them enters
-  fewer_entered : (done : List Trip) (trip : Trip) (time : ℕ) → (p : Placed old all [] all done trip) → enters_at all time p.change ≡ true → adds_like table index p.change ≡ true
-      → entered_like (trips old all) table index time + count_by (is_entry_like table index) (flat_map (move_of time) done) < count_by (adds_like table index) all
-  fewer_entered done trip time p at like =
+  fewer_entered : (done : List Schedule) (schedule : Schedule) (time : ℕ) → (p : Placed old all [] all done schedule) → enters_at all time p.change ≡ true → adds_like table index p.change ≡ true
+      → entered_like (schedules old all) table index time + count_by (is_entry_like table index) (flat_map (move_of time) done) < count_by (adds_like table index) all
+  fewer_entered done schedule time p at like =
       let entered : count_by (is_entry_like table index) (flat_map (move_of time) done) ≡ count_by (like_at time) p.before =
       ap (λ d. count_by (is_entry_like table index) (flat_map (move_of time) d)) p.done_is ∙ counts old all time (is_entry_like table index) (like_at time) (like_entries time) [] p.before in
       let one : ◌≡◌ {A = ℕ} (cond (like_at time p.change) 1 0) 1 = ap (λ b. cond b 1 0) (ap (λ b. b && adds_like table index p.change) at ∙ like) in
@@ -110,23 +110,23 @@ same_table : (table : ℕ) → (table == table) ≡ true
 same_table table = (Decides-eqb table table).1 refl
 
 module _ (old : Version) (sound : IsSoundVersion old) (all : List Change) (plannable : IsPlannable old all) where
-  pub has_room : HasRoom old (trips old all)
-  has_room time now at done rest trip split act = pick p.from_change
+  pub has_room : HasRoom old (schedules old all)
+  has_room time now at done rest schedule split transition = pick p.from_change
     where
-      first : (time ≡ trip.wait) × (is_in trip.course ≡ true)
-      first = appears trip time act
+      first : (time ≡ schedule.wait) × (is_in schedule.state_path ≡ true)
+      first = appears schedule time transition
 
-      p : Placed old all [] all done trip
-      p = placed old all [] all done rest trip split
+      p : Placed old all [] all done schedule
+      p = placed old all [] all done rest schedule split
 
-      place : Place old sound all plannable trip
+      place : Place old sound all plannable schedule
       place = record { done = done; rest = rest; split = split; place = p }
 
-      fits : (table : ℕ) (index : Bool) → trip.fresh.table ≡ table → is_index trip.fresh.kind ≡ index
-          → entered_like (trips old all) table index time + count_by (is_entry_like table index) (flat_map (move_of time) done) < count_by (adds_like table index) all
-          → ¬ (IsOver old all table index) → count_like now (flat_map (move_of time) done) trip.fresh.table (is_index trip.fresh.kind) < max_like (is_index trip.fresh.kind)
+      fits : (table : ℕ) (index : Bool) → schedule.fresh.table ≡ table → is_index schedule.fresh.kind ≡ index
+          → entered_like (schedules old all) table index time + count_by (is_entry_like table index) (flat_map (move_of time) done) < count_by (adds_like table index) all
+          → ¬ (IsOver old all table index) → count_like now (flat_map (move_of time) done) schedule.fresh.table (is_index schedule.fresh.kind) < max_like (is_index schedule.fresh.kind)
       fits table index is_table is_kind fewer not_over =
-          subst (λ t. count_like now (flat_map (move_of time) done) t (is_index trip.fresh.kind) < max_like (is_index trip.fresh.kind)) (sym is_table)
+          subst (λ t. count_like now (flat_map (move_of time) done) t (is_index schedule.fresh.kind) < max_like (is_index schedule.fresh.kind)) (sym is_table)
           (subst (λ i. count_like now (flat_map (move_of time) done) table i < max_like i) (sym is_kind)
           (elim (cases_lt (max_like index) (count_live old table index + count_by (adds_like table index) all)) [
             | inl over ↦ absurd (not_over (inl over))
@@ -134,26 +134,26 @@ module _ (old : Version) (sound : IsSoundVersion old) (all : List Change) (plann
           ]))
 
       -- it enters now
-      enters_now : Role old all p.before p.change trip → enters_at all time p.change ≡ true
+      enters_now : Role old all p.before p.change schedule → enters_at all time p.change ≡ true
       enters_now (Enters at is) = subst (λ t. enters_at all t p.change ≡ true) (sym first.0) at
       enters_now (Goes e found is out) = absurd (true≢false (sym first.1 ∙ out))
 
       now_is : enters_at all time p.change ≡ true
-      now_is = enters_now (role old all p.before p.change trip p.from_change)
+      now_is = enters_now (role old all p.before p.change schedule p.from_change)
 
-      pick : From old all p.before p.change trip → count_like now (flat_map (move_of time) done) trip.fresh.table (is_index trip.fresh.kind) < max_like (is_index trip.fresh.kind)
+      pick : From old all p.before p.change schedule → count_like now (flat_map (move_of time) done) schedule.fresh.table (is_index schedule.fresh.kind) < max_like (is_index schedule.fresh.kind)
       pick (NewIndex table name columns change is) =
-          fits table true (ap (λ (t : Trip). t.fresh.table) is) (ap (λ (t : Trip). is_index t.fresh.kind) is)
-          (fewer_entered old all table true done trip time p now_is (ap (adds_like table true) change ∙ ap (λ b. b && true) (same_table table)))
-          (λ over. clear old sound all plannable (AddIndex table name columns) (subst (Contains all) change (has_change old sound all plannable trip place)) Limit (λ earlier. inr (inr over)))
+          fits table true (ap (λ (t : Schedule). t.fresh.table) is) (ap (λ (t : Schedule). is_index t.fresh.kind) is)
+          (fewer_entered old all table true done schedule time p now_is (ap (adds_like table true) change ∙ ap (λ b. b && true) (same_table table)))
+          (λ over. clear old sound all plannable (AddIndex table name columns) (subst (Contains all) change (has_change old sound all plannable schedule place)) Limit (λ earlier. inr (inr over)))
       pick (NewColumn table name kind change is) =
-          let has : Contains all (AddColumn table name kind) = subst (Contains all) change (has_change old sound all plannable trip place) in
+          let has : Contains all (AddColumn table name kind) = subst (Contains all) change (has_change old sound all plannable schedule place) in
           let no_index : is_index kind ≡ false = column_kind old sound all plannable table name kind has in
-          fits table false (ap (λ (t : Trip). t.fresh.table) is) (ap (λ (t : Trip). is_index t.fresh.kind) is ∙ no_index)
-          (fewer_entered old all table false done trip time p now_is (ap (adds_like table false) change ∙ ap (λ b. b && is_column kind) (same_table table) ∙ column_if kind no_index))
+          fits table false (ap (λ (t : Schedule). t.fresh.table) is) (ap (λ (t : Schedule). is_index t.fresh.kind) is ∙ no_index)
+          (fewer_entered old all table false done schedule time p now_is (ap (adds_like table false) change ∙ ap (λ b. b && is_column kind) (same_table table) ∙ column_if kind no_index))
           (λ over. clear old sound all plannable (AddColumn table name kind) has Limit (λ earlier. inr (inr over)))
-      pick (Leaves e found is) = absurd (true≢false (sym first.1 ∙ ap (λ (t : Trip). is_in t.course) is ∙ out_of e.kind e.state))
+      pick (Leaves e found is) = absurd (true≢false (sym first.1 ∙ ap (λ (t : Schedule). is_in t.state_path) is ∙ out_of e.kind e.state))
 
 -- the schedule of a batch that can be planned is lawful, and least
-pub schedule_least : (old : Version) → IsSoundVersion old → (changes : List Change) → IsPlannable old changes → IsLeast old changes (schedule old changes)
-schedule_least old sound changes plannable = least_with_room old sound changes plannable (has_room old sound changes plannable)
+pub planned_least : (old : Version) → IsSoundVersion old → (changes : List Change) → IsPlannable old changes → IsLeast old changes (planned_steps old changes)
+planned_least old sound changes plannable = least_with_room old sound changes plannable (has_room old sound changes plannable)

@@ -1,3 +1,4 @@
+-- Cited by the definitions of Checks, Refusals, Schedule.
 -- What a batch of changes adds and takes out, by tables and names.
 use Rattle.std.specs.Prelude.{ℕ, List, Bool, true, false, ◌&&◌, ◌==◌, not, Option, Some, None, is_some, if◌then◌else◌, bytes_eq}
 use Rattle.std.specs.List.{list_any, find}
@@ -5,7 +6,7 @@ use Rattle.schema_version.specs.declared.element.Way.{Way}
 use Rattle.schema_version.specs.declared.element.Way.TheVariants.{Adding, Dropping}
 use Rattle.schema_version.specs.declared.element.Kind.{Kind}
 use Rattle.schema_version.specs.declared.element.ElementDef.{ElementDef}
-use Rattle.schema_version.specs.Version.{Version, live, is_index, is_column, is_public, is_named, listed}
+use Rattle.schema_version.specs.Version.{Version, live, is_index, is_column, is_public, is_named, indexed_columns}
 use Rattle.change_plan.specs.declared.change.Change.{Change}
 use Rattle.change_plan.specs.declared.change.Change.TheVariants.{AddIndex, DropIndex, AddColumn, DropColumn, Abandon}
 
@@ -39,11 +40,11 @@ abbrev pub named_entering : Version → ℕ → List ℕ → Option ElementDef
 named_entering version table name = if_entering (named version table name)
 
 -- the live element that a change takes out
-abbrev pub leaving : Version → Change → Option ElementDef
-leaving version (DropIndex table name) = named_index version table name
-leaving version (DropColumn table name) = named_column version table name
-leaving version (Abandon table name) = named_entering version table name
-leaving version change = None
+abbrev pub dropped_element : Version → Change → Option ElementDef
+dropped_element version (DropIndex table name) = named_index version table name
+dropped_element version (DropColumn table name) = named_column version table name
+dropped_element version (Abandon table name) = named_entering version table name
+dropped_element version change = None
 
 abbrev pub is_same_name : ℕ → List ℕ → ℕ → List ℕ → Bool
 is_same_name table name other own = (table == other) && bytes_eq name own
@@ -91,4 +92,4 @@ drops_column version table name change = false
 
 -- whether the element is one that lists this column
 abbrev pub lists : ℕ → ElementDef → Bool
-lists column element = list_any (λ other. other == column) (listed element.kind)
+lists column element = list_any (λ other. other == column) (indexed_columns element.kind)

@@ -1,3 +1,4 @@
+-- Cited by the contracts of plan, script_replies::steps_text.
 -- Plans that bring a batch of changes about, and the least of them.
 use Rattle.std.specs.Prelude.{◌≡◌, ℕ, ◌≤◌, List, [], ◌∷◌, length, Option, Some, None, flat_map, Contains, IsPermutation}
 use Rattle.std.specs.List.{AllZip, AllByRecursion}
@@ -10,7 +11,7 @@ use Rattle.schema_version.specs.declared.element.Work.TheVariants as work
 use Rattle.schema_version.specs.declared.step.Move.{Move}
 use Rattle.schema_version.specs.declared.step.Move.TheVariants.{Enter, Go, Turn}
 use Rattle.schema_version.specs.Version.{Version, element_at, type_of_kind}
-use Rattle.schema_version.specs.Edges.{needed}
+use Rattle.schema_version.specs.Edges.{needed_work}
 use Rattle.schema_version.specs.Moves.{IsAllowed, after_step}
 use Rattle.change_plan.specs.declared.change.Change.{Change}
 use Rattle.change_plan.specs.declared.change.Change.TheVariants.{AddIndex, DropIndex, AddColumn, DropColumn, Abandon}
@@ -26,7 +27,7 @@ reorgs number (Some work.Clear) = Clear number ∷ []
 
 abbrev pub work_of : Option ElementDef → ElementState → List Reorg
 work_of None to = []
-work_of (Some element) to = reorgs element.number (needed element.kind to)
+work_of (Some element) to = reorgs element.number (needed_work element.kind to)
 
 -- the fill or the clear that must end before a move
 abbrev pub work_before : Version → Move → List Reorg
@@ -43,7 +44,7 @@ after_plan version (first ∷ rest) = after_plan (after_step version first.step)
 abbrev pub IsWorkBefore : Version → List Move → List Reorg → Type 0
 IsWorkBefore version moves before = IsPermutation (flat_map (work_before version) moves) before
 
--- each step is allowed behind those before it, and just the work that it needs stands before it
+-- each step is allowed after those before it, and just the work that it needs stands before it
 abbrev pub AreAllowed : Version → List PlanStep → Type 0
 AreAllowed version [] = Unit {0}
 AreAllowed version (first ∷ rest) = IsAllowed version first.step × IsWorkBefore version first.step first.before × AreAllowed (after_step version first.step) rest

@@ -1,10 +1,11 @@
+-- Cited by the contracts of plan.
 -- Why a batch of changes can't be planned.
 use Rattle.std.specs.Prelude.{◌≡◌, ◌≢◌, ℕ, ◌+◌, ◌≤◌, List, ◌∷◌, ◌++◌, length, count_by, Bool, true, false, ◌&&◌, ◌==◌, Option, Some, None, IsTrue, IsNone, IsSome, Contains, ◌⊎◌, ◌<◌}
 use Rattle.std.specs.List.{list_any}
-use Rattle.listed.specs.Refusal.{IsFirst}
+use Rattle.collections.specs.Refusal.{IsFirst}
 use Rattle.schema_version.specs.declared.element.ElementState.TheVariants.{Public}
 use Rattle.schema_version.specs.declared.element.ElementDef.{ElementDef}
-use Rattle.schema_version.specs.Version.{Version, table_at, element_at, is_index, is_like, listed, IsKeyName, count_live}
+use Rattle.schema_version.specs.Version.{Version, table_at, element_at, is_index, is_like, indexed_columns, IsKeyName, count_live}
 use Rattle.schema_version.specs.Names as names
 use Rattle.schema_version.specs.Names.{IsName, max_listed, max_elements}
 use Rattle.schema_version.specs.Moves.{IsFairKind, max_like}
@@ -37,7 +38,7 @@ IsTaken old earlier table name =
 -- a live index lists the column, and the batch doesn't drop it
 abbrev pub IsStillListed : Version → List Change → ElementDef → Type 0
 IsStillListed old all column =
-    (number : ℕ) × (index : ElementDef) × (element_at old number ≡ Some index) × Contains (listed index.kind) column.number × (list_any (drops_index index.table index.name) all ≡ false)
+    (number : ℕ) × (index : ElementDef) × (element_at old number ≡ Some index) × Contains (indexed_columns index.kind) column.number × (list_any (drops_index index.table index.name) all ≡ false)
 
 -- an index that the batch adds lists the column of this name
 abbrev pub AddsIndexOn : ℕ → List ℕ → Change → Type 0
@@ -67,7 +68,7 @@ IsOver old all table index =
 abbrev pub IsColumnList : List (List ℕ) → Type 0
 IsColumnList columns = (1 ≤ length columns) × (length columns ≤ max_listed) × IsTrue (names.is_distinct columns)
 
--- why this change, behind these earlier ones of the batch, can't be planned
+-- why this change, after these earlier ones of the batch, can't be planned
 abbrev pub ChangeFault : Version → List Change → List Change → Change → PlanFault → Type 0
 ChangeFault old all earlier (AddIndex table name columns) Unknown =
     IsNone (table_at old table)

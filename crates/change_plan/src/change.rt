@@ -1,6 +1,6 @@
 //! The changes that a batch asks for.
+use collections::List;
 use keycode::Text;
-use listed::Listed;
 use schema_version::Kind;
 
 /// One change of a schema, by names. A batch of them is planned as one: an index may be added over columns that the batch adds, and a
@@ -11,7 +11,7 @@ pub enum Change {
     AddIndex {
         table: u32,
         name: Text,
-        columns: Listed<Text>,
+        columns: List<Text>,
     },
     /// The table's index of this name goes.
     DropIndex {

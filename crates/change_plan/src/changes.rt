@@ -3,12 +3,12 @@ ghost use Rattle.std.specs.Prelude.{◌≡◌, ◌&&◌, ◌==◌, bytes_eq};
 ghost use Rattle.std.specs.List.{list_any};
 ghost use Rattle.change_plan.specs.Batches.{place_of, is_of as is_of_of, adds_column as adds_column_of, adds as adds_of, drops as drops_of, drops_index as drops_index_of, drops_column as drops_column_of};
 ghost use Rattle.change_plan.specs.Refusals.{adds_like as adds_like_of, is_addition as is_addition_of};
-ghost use Rattle.change_plan.specs.Deciding.{adds_index_on as adds_index_on_of};
+ghost use Rattle.change_plan.specs.inner.Checks.{adds_index_on as adds_index_on_of};
 ghost use Rattle.change_plan.specs.Schedule.{steps_to as steps_to_of, steps_until as steps_until_of, wait_in as wait_in_of, enters_at as enters_at_of, enters_before as enters_before_of};
 
 use crate::change::Change;
-use crate::finding::named_column;
-use crate::trip::{course_in, steps};
+use crate::find::named_column;
+use crate::schedule::{state_path_in, steps};
 use keycode::Text;
 use schema_version::Schema;
 
@@ -179,7 +179,7 @@ fn steps_to(change: &Change, table: u32, name: &Text) -> u32
     ensures { result ≡ steps_to_of table name.now change.now }
 {
     match change {
-        Change::AddColumn { kind, .. } if is_of(change, table, name) => steps(course_in(kind)),
+        Change::AddColumn { kind, .. } if is_of(change, table, name) => steps(state_path_in(kind)),
         _ => 0,
     }
 }

@@ -5,7 +5,8 @@ ghost use Rattle.change_plan.specs.declared.fault.PlanFault.TheVariants.{Memory}
 use std::alloc::{AllocError, AllocFailed};
 use thiserror::Error;
 
-/// Why a batch can't be planned. Its first faulty change decides, by the lowest of its faults in this order; Memory comes behind all.
+/// Why a batch can't be planned. Its first faulty change decides, by the lowest of its faults in
+/// this order; Memory comes after all.
 #[derive(Clone, Copy, Debug, PartialEq, Eq, Error)]
 pub enum PlanFault {
     /// No such table, column or index, one that an earlier change drops or abandons already, a new column whose kind is an index, or

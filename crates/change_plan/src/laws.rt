@@ -1,7 +1,7 @@
 //! What plans keep, stated for the proofs above.
-ghost use Rattle.change_plan.specs.Laws.{SchedulesAreLeast};
+ghost use Rattle.change_plan.specs.Laws.{PlansAreLeast};
 
-/// Where no fault holds of a batch, its schedule is lawful, and no lawful plan has fewer steps.
-pub fn schedules_are_least()
-    ensures { SchedulesAreLeast }
+/// If no fault holds of a batch, its planned steps is lawful, and no lawful plan has fewer steps.
+pub fn plans_are_least()
+    ensures { PlansAreLeast }
 {}

@@ -1,5 +1,5 @@
 //! Plans: steps, each with the reorganisations that have to end before it.
-use listed::Listed;
+use collections::List;
 use schema_version::Step;
 
 /// What a reorganisation does to the pairs of one element.
@@ -17,7 +17,7 @@ pub enum Reorg {
 #[derive(Clone, PartialEq, Eq, Drop)]
 pub struct PlanStep {
     /// The reorganisations that must end before the step is published, in the order of its moves.
-    pub before: Listed<Reorg>,
+    pub before: List<Reorg>,
     /// The moves, in the order of the changes.
     pub step: Step,
 }
@@ -26,5 +26,5 @@ pub struct PlanStep {
 #[derive(Clone, PartialEq, Eq, Drop)]
 pub struct LeastPlan {
     /// The steps in order; none for a batch with no changes.
-    pub steps: Listed<PlanStep>,
+    pub steps: List<PlanStep>,
 }

@@ -3,18 +3,18 @@
 
 mod change;
 mod changes;
+mod check;
 mod fault;
-mod finding;
+mod find;
 mod laws;
 mod least_plan;
-mod numbering;
-mod planning;
-mod refusing;
-mod stepping;
-mod trip;
+mod numbers;
+mod planner;
+mod schedule;
+mod steps;
 
 pub use change::Change;
 pub use fault::PlanFault;
-pub use laws::schedules_are_least;
+pub use laws::plans_are_least;
 pub use least_plan::{LeastPlan, PlanStep, Reorg};
-pub use planning::plan;
+pub use planner::plan;

@@ -1,3 +1,4 @@
+-- Cited by the contracts of Opened, Claims::finish, TableRule, Play and 3 more.
 -- Numbers that seats draw from one word.
 use Rattle.std.specs.Prelude.{◌≡◌, ℕ, ◌+◌, ◌-◌, ◌<◌, ◌≤◌, List, [], ◌∷◌, ◌++◌, length, slice_index, ◌==◌, nat_lt, if◌then◌else◌, Bool}
 use mathlib.Core.Option.{some}
@@ -15,7 +16,7 @@ one_if x y = if y == x then 1 else 0
 abbrev pub one_if_true : Bool → ℕ
 one_if_true b = if b then 1 else 0
 
--- how often x stands in the list
+-- how often x is in the list
 abbrev pub times : ℕ → List ℕ → ℕ
 times x [] = 0
 times x (y ∷ ys) = one_if x y + times x ys

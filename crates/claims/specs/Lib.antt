@@ -1,4 +1,4 @@
 pub mod Draws
 pub mod Seats
 pub mod Counts
-pub mod United
+pub mod inner

@@ -3,7 +3,7 @@ ghost use Rattle.std.specs.Prelude.{vec_len, vec_capacity, ◌≡◌, ◌-◌, �
 ghost use Rattle.claims.specs.Draws.{hand, late, times, once_below};
 ghost use Rattle.claims.specs.Seats.{Claimed, AreIdle, all_drawn, any_done};
 ghost use Rattle.claims.specs.Counts.{IsCount, IsRefused};
-ghost use Rattle.claims.specs.United.{IsUnited};
+ghost use Rattle.claims.specs.inner.JoinedSeats.{IsUnited};
 ghost use Rattle.claims.specs.declared.fault.ClaimFault.TheVariants as claim_fault;
 
 use crate::fault::ClaimFault;
@@ -37,8 +37,8 @@ pub struct Opened {
 impl Opened {
     /// A counter for the numbers below `total`, which `seats` claimants are to draw.
     ///
-    /// Refused in this order: `BadCount` where there are more than 1,000,000 numbers, or where the number of seats is not from 1 to
-    /// 64; `Memory`.
+    /// Refused in this order: `BadCount` if there are more than 1,000,000 numbers, or where the
+    /// number of seats is not from 1 to 64; `Memory`.
     pub fn new(alloc: Global, total: usize, seats: usize) -> Result<Opened, ClaimFault>
         ensures ok { IfOk result (λ o. (o.total ≡ total) × (o.seats ≡ seats) × IsCount total seats) }
         ensures refused { IfErr result (λ fault. IsRefused total seats fault) }
@@ -158,7 +158,7 @@ impl<T: Drawing> Claims<T> {
 
     // One seat that stands for all that are handed in.
     #[tactic(auto, using(crate::proofs::Totals::all_drawn_push, crate::proofs::Totals::any_done_push, crate::proofs::Totals::times_append, crate::proofs::Totals::late_append))]
-    fn united(&self, seats: Vec<ClaimSeat<T>>) -> Option<Seat<(), Hand>>
+    fn join_seats(&self, seats: Vec<ClaimSeat<T>>) -> Option<Seat<(), Hand>>
         ensures { MatchOption result (seats.items ≡ []) (λ s. IsUnited T.total T.table seats.items s) }
     {
         let mut seats = seats;
@@ -187,7 +187,7 @@ impl<T: Drawing> Claims<T> {
         ensures past { any_done seats.items ≡ true → T.total < result }
         ensures most { result ≤ T.total + T.seats }
     {
-        match self.united(seats) {
+        match self.join_seats(seats) {
             Some(all) => self.end_with(all),
             None => self.end(),
         }

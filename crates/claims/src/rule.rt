@@ -1,5 +1,6 @@
-//! The rule of the counter, one word of an atomic table: all seats together have drawn the numbers below the word, each once.
-//! It has four kinds of step: a seat draws, splits off a seat, is joined with a seat, and reads the word behind the last join.
+//! The rule of the counter, one word of an atomic table: all seats together have drawn the numbers
+//! below the word, each once. It has four kinds of step: a seat draws, splits off a seat, is joined
+//! with a seat, and reads the word after the last join.
 ghost use Rattle.std.specs.Prelude.{◌+◌, ◌++◌, []};
 ghost use Rattle.claims.specs.Draws.{hand, Drawn, Draws};
 

@@ -1,12 +1,13 @@
+-- Cited by the contracts of options.
 -- What a command line may choose.
 use Rattle.std.specs.Prelude.{ℕ, List, [], ◌∷◌, Bool, false, IsTrue, String, string_bytes, codes}
 use Rattle.std.specs.Str.{bytes_eq}
 use Rattle.std.specs.declared.alloc.Global.{Global}
-use Rattle.command_line.specs.declared.choosing.Chosen.{Chosen}
-use Rattle.command_line.specs.declared.choosing.Chosen.TheVariants.{Run, Load}
+use Rattle.command_line.specs.declared.choice.Chosen.{Chosen}
+use Rattle.command_line.specs.declared.choice.Chosen.TheVariants.{Run, Load}
 use Rattle.command_line.specs.LoadSize.{IsLoadSize}
 
--- whether the word behind the program's own name is this one
+-- whether the word after the program's own name is this one
 abbrev pub is_named : List (String Global) → List ℕ → Bool
 is_named (program ∷ word ∷ rest) name = bytes_eq (string_bytes word) name
 is_named (program ∷ []) name = false

@@ -1,3 +1,4 @@
+-- Cited by the contracts of load::run_load.
 -- How large a load may be.
 use Rattle.std.specs.Prelude.{◌≤◌}
 use Rattle.command_line.specs.declared.load_size.LoadSize.{LoadSize}

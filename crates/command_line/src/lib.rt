@@ -1,11 +1,11 @@
 //! The command line of the program: what its words choose, the help, and the exit status after words that are refused.
 #![tactic(auto)]
 
-mod choosing;
+mod choice;
 mod help;
 mod load_size;
 mod number;
 
-pub use choosing::{Chosen, options, status_of};
+pub use choice::{Chosen, options, status_of};
 pub use help::NOT_UTF8;
 pub use load_size::{LoadSize, MAX_LIMIT, MAX_PIECES, MAX_ROWS, MAX_SERVERS, MAX_WORKERS};

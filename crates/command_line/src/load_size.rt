@@ -15,7 +15,7 @@ pub const MAX_WORKERS: u32 = 16;
 /// The most rows that are filled at a time.
 pub const MAX_LIMIT: u32 = 1_000;
 
-/// The size of a load. Its numbers are in their ranges just where `IsLoadSize` says so.
+/// The size of a load. Its numbers are in their ranges exactly when `IsLoadSize` says so.
 #[derive(Clone, Copy, PartialEq, Eq)]
 pub struct LoadSize {
     /// How many threads insert rows, 1 to 16.

@@ -3,7 +3,8 @@
 use command_line::{Chosen, LoadSize, options};
 use std::alloc::{AllocError, Global};
 
-// Lines behind the program's name, and the size of load that each chooses: servers, rows, pieces, workers, limit.
+// Lines after the program's name, and the size of load that each chooses: servers, rows, pieces,
+// workers, limit.
 const LOADS: [(&str, [u32; 5]); 18] = [
     ("load", [4, 1_000, 6, 3, 50]),
     ("load --rows 5", [4, 5, 6, 3, 50]),

@@ -8,10 +8,10 @@ use Rattle.schema_version.specs.declared.element.ElementState.{ElementState}
 use Rattle.schema_version.specs.declared.element.ElementState.TheVariants.{Absent, DeleteOnly, WriteOnly, Public}
 use Rattle.element_state.specs.Elements.{Change, rows_after, ChangesPublicOnly, IsStorableChange, owner, owner_named, Meaning, Subset, Empty, Demand}
 use Rattle.element_state.specs.Laws.{pairs_after, Operates, Laws, Joined}
-use Rattle.element_state.specs.Effects.{both_storable, storable_after}
+use Rattle.element_state.specs.lemmas.Effects.{both_storable, storable_after}
 use Rattle.element_state.specs.Schemas.{Entry, Schema, state_of, Kinds, AreLawful, version_writes}
 use Rattle.element_state.proofs.Schemas.{at_own, at_none}
-use Rattle.element_state.specs.Apart.{none_some, some_one}
+use Rattle.element_state.specs.lemmas.Apart.{none_some, some_one}
 use Rattle.element_state.specs.Core.{Core, Meets, JoinedAt, Runs, Invariant, committed}
 
 same_subset : (m : Meaning) (P Q : Pairs) (R : Rows) → ((x : Bytes) → owner x ≡ Some m.number → get Q x ≡ get P x) → Subset m P R → Subset m Q R

@@ -10,14 +10,14 @@ use Rattle.schema_version.specs.declared.element.ElementState.{ElementState}
 use Rattle.schema_version.specs.declared.element.ElementState.TheVariants.{Absent, Public}
 use Rattle.element_state.specs.Elements.{Change, rows_after, Fits, ChangesPublicOnly, cell, HasForm, owner_named}
 use Rattle.element_state.specs.Laws.{pairs_after, Operates, Laws}
-use Rattle.element_state.specs.Effects.{row_here, row_apart, key_one, none_where, both_storable, storable_after}
+use Rattle.element_state.specs.lemmas.Effects.{row_here, row_apart, key_one, none_where, both_storable, storable_after}
 use Rattle.element_state.specs.Schemas.{Entry, Schema, state_of, Kinds, AreLawful, version_writes}
 use Rattle.element_state.proofs.Schemas.{at_own, formed_writes}
 use Rattle.schema_version.specs.declared.element.Work.{Work}
 use Rattle.schema_version.specs.declared.element.Work.TheVariants.{Fill, Clear}
-use Rattle.element_state.specs.Core.{Span, Progress, Core, NoCell, JoinedAt, Runs, Passed, MayRun, Reached, NeverPublic, Invariant, committed}
+use Rattle.element_state.specs.Core.{PassedSpan, CoreProgress, Core, NoCell, JoinedAt, Runs, Passed, MayRun, Reached, NeverPublic, Invariant, committed}
 use Rattle.element_state.proofs.Core.{used_lawful, meets_after}
-use Rattle.element_state.specs.Apart.{not_none, hidden_not_public, none_some, some_one}
+use Rattle.element_state.specs.lemmas.Apart.{not_none, hidden_not_public, none_some, some_one}
 
 absent_not_public : Absent ≢ Public
 absent_not_public = hidden_not_public Absent tt
@@ -39,7 +39,7 @@ module _ {K : Type 0} (ks : Kinds K) where
   never_public next n (Some e) h = h.1
 
   -- what a reorganisation has passed stays done
-  passed_after : (w : Core K) (s : Schema K) (c : Change) (n : ℕ) (k : K) (work : Work) (spans : List Span) → AreLawful ks s → ks.lawful n k → AreStorable w.rows → Runs ks s w.rows c
+  passed_after : (w : Core K) (s : Schema K) (c : Change) (n : ℕ) (k : K) (work : Work) (spans : List PassedSpan) → AreLawful ks s → ks.lawful n k → AreStorable w.rows → Runs ks s w.rows c
       → ((e : Entry K) → get s n ≡ Some e → e.kind ≡ k) → (work ≡ Fill → IsTrue ((ks.meaning n k).filled)) → MayRun ks work k (state_of (get s n))
       → Passed ks n k work spans w.pairs w.rows → Passed ks n k work spans (written_all w.pairs (version_writes ks s c)) (rows_after w.rows c)
   passed_after w s c n k Fill spans lawful kind held runs of_kind filled may done = λ l at r v there val.
@@ -58,7 +58,7 @@ module _ {K : Type 0} (ks : Kinds K) where
   kinds_agree n None f j e is = absurd (none_some e is)
   kinds_agree n (Some d) f j e is = ap (λ (t : Entry K). t.kind) (some_one e d (sym is)) ∙ j.0
 
-  reached_after : (w : Core K) (s : Schema K) (c : Change) → (s ≡ w.before) ⊎ (s ≡ w.newest) → Runs ks s w.rows c → Invariant ks w → (n : ℕ) (p : Progress) → get w.progress n ≡ Some p
+  reached_after : (w : Core K) (s : Schema K) (c : Change) → (s ≡ w.before) ⊎ (s ≡ w.newest) → Runs ks s w.rows c → Invariant ks w → (n : ℕ) (p : CoreProgress) → get w.progress n ≡ Some p
       → Reached ks n p w.before w.newest (written_all w.pairs (version_writes ks s c)) (rows_after w.rows c)
   reached_after w s c used runs i n p at =
       let r : Reached ks n p w.before w.newest w.pairs w.rows = i.reached n p at in

@@ -10,11 +10,11 @@ use Rattle.row_map.proofs.Entries.{each_entry}
 use Rattle.schema_version.specs.declared.element.ElementState.TheVariants.{WriteOnly}
 use Rattle.element_state.specs.Elements.{Meaning, Subset, CoveredAt}
 use Rattle.element_state.specs.Laws.{Laws}
-use Rattle.element_state.specs.Effects.{none_where}
-use Rattle.element_state.specs.Apart.{not_none}
+use Rattle.element_state.specs.lemmas.Effects.{none_where}
+use Rattle.element_state.specs.lemmas.Apart.{not_none}
 use Rattle.element_state.specs.Exists.{row_key}
 use Rattle.element_state.specs.Items.{Between, row_items, ClearRange, ClearFacts, clear_writes, FillCovers, ClearLeavesNone}
-use Rattle.element_state.specs.Clears.{both_true, test_between, entry_kept, facts_kept}
+use Rattle.element_state.specs.lemmas.Clears.{both_true, test_between, entry_kept, facts_kept}
 use Rattle.element_state.proofs.Pieces.{AreRows, fill_puts-filled, fill_demand, fill_reaches, clear_gone, clear_shrinks}
 use Rattle.element_state.proofs.Reaches.{rows_there}
 

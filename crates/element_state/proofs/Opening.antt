@@ -10,7 +10,7 @@ use Rattle.schema_version.specs.declared.element.ElementState.TheVariants.{Absen
 use Rattle.element_state.specs.Elements.{Meaning, Subset, Demand}
 use Rattle.element_state.specs.Schemas.{Entry, Schema, state_of, Kinds, AreLawful}
 use Rattle.element_state.specs.Core.{Meets, JoinedAt, NeverPublic, Invariant}
-use Rattle.element_state.specs.Apart.{hidden_not_public, not_none}
+use Rattle.element_state.specs.lemmas.Apart.{hidden_not_public, not_none}
 use Rattle.element_state.specs.Opening.{opened}
 
 nothing_there : {A B : Type 0} (v : A) (o : Option A) → o ≡ None → o ≡ Some v → B

@@ -11,17 +11,17 @@ use Rattle.schema_version.specs.declared.element.ElementState.{ElementState}
 use Rattle.schema_version.specs.declared.element.ElementState.TheVariants.{Absent, DeleteOnly, WriteOnly, Public}
 use Rattle.element_state.specs.Elements.{owner, AreFormed, HasForm, IsKeyOfElement, form_named, owner_named, Meaning, CoveredAt, Demand}
 use Rattle.element_state.specs.Laws.{Grows, IsLive, Laws}
-use Rattle.element_state.specs.Effects.{none_where, pair_here}
+use Rattle.element_state.specs.lemmas.Effects.{none_where, pair_here}
 use Rattle.element_state.specs.Exists.{row_key}
-use Rattle.element_state.specs.IndexLaws.{removed}
+use Rattle.element_state.specs.lemmas.IndexLaws.{removed}
 use Rattle.element_state.specs.Items.{IsIn, AmongEntries, clear_writes, put_pair, fill_puts}
 use Rattle.element_state.specs.Schemas.{Entry, state_of, Kinds}
 use Rattle.schema_version.specs.declared.element.Work.{Work}
 use Rattle.schema_version.specs.declared.element.Work.TheVariants.{Fill, Clear}
-use Rattle.element_state.specs.Core.{Span, InSpans, Core, Meets, JoinedAt, Passed, Reached, Invariant}
+use Rattle.element_state.specs.Core.{PassedSpan, InPassedSpans, Core, Meets, JoinedAt, Passed, Reached, Invariant}
 use Rattle.element_state.proofs.Core.{same_demand}
 use Rattle.element_state.proofs.Whole.{number_one}
-use Rattle.element_state.specs.Apart.{not_none, none_some, some_one}
+use Rattle.element_state.specs.lemmas.Apart.{not_none, none_some, some_one}
 use Rattle.element_state.specs.Pieces.{moved}
 
 -- the pair of a row, if it has one
@@ -138,12 +138,12 @@ module _ {K : Type 0} (ks : Kinds K) where
   same_meets n None lawful P Q R held e d = λ x own. e x own ∙ d x own
   same_meets n (Some f) lawful P Q R held e d = same_demand (ks.meaning n f.kind) (ks.laws n f.kind (lawful f refl)) f.state P Q R held (λ x own. e x (own ∙ ap Some (ks.numbered n f.kind))) d
 
-  same_passed : (n : ℕ) (k : K) → ks.lawful n k → (work : Work) (spans : List Span) (P Q : Pairs) (R : Rows) → AreStorable R → ((x : Bytes) → owner x ≡ Some n → get Q x ≡ get P x) → Passed ks n k work spans P R → Passed ks n k work spans Q R
+  same_passed : (n : ℕ) (k : K) → ks.lawful n k → (work : Work) (spans : List PassedSpan) (P Q : Pairs) (R : Rows) → AreStorable R → ((x : Bytes) → owner x ≡ Some n → get Q x ≡ get P x) → Passed ks n k work spans P R → Passed ks n k work spans Q R
   same_passed n k kind Fill spans P Q R held e d = λ j at r v there val. e ((ks.meaning n k).pair_key j r) (owner_named (ks.meaning n k).number ((ks.meaning n k).pair_key j r) ((ks.laws n k kind).owned j r (held j r there)) ∙ ap Some (ks.numbered n k)) ∙ d j at r v there val
   same_passed n k kind Clear spans P Q R held e d = λ x own at. e x own ∙ d x own at
 
   -- a piece touches the pairs of n alone
-  pub piece_kept : (w : Core K) (n : ℕ) (work : Work) (old spans : List Span) (Q : Pairs) → Invariant ks w
+  pub piece_kept : (w : Core K) (n : ℕ) (work : Work) (old spans : List PassedSpan) (Q : Pairs) → Invariant ks w
       → (begun : get w.progress n ≡ Some (record { work = work; spans = old }))
       → AreFormed Q
       → ((j : ℕ) → j ≢ n → (x : Bytes) → owner x ≡ Some j → get Q x ≡ get w.pairs x)
@@ -202,11 +202,11 @@ module _ {K : Type 0} (ks : Kinds K) where
       (fill_demand (ks.meaning n e.kind) (ks.laws n e.kind (lawful e refl)) R held e.state items P (live e.state grows) rows d)
 
   -- a piece of a fill: its rows are those between the old cursor and the new one
-  pub fill_kept : (w : Core K) (n : ℕ) (f : Entry K) (old spans : List Span) (items : List (RowKey × Cells)) → Invariant ks w
+  pub fill_kept : (w : Core K) (n : ℕ) (f : Entry K) (old spans : List PassedSpan) (items : List (RowKey × Cells)) → Invariant ks w
       → get w.newest n ≡ Some f
       → get w.progress n ≡ Some (record { work = Fill; spans = old })
       → AreRows w.rows items
-      → ((j : RowKey) (r : Cells) → get w.rows j ≡ Some r → HasPair (ks.meaning n f.kind) j r → InSpans spans (row_key j) → InSpans old (row_key j) ⊎ AmongEntries j items)
+      → ((j : RowKey) (r : Cells) → get w.rows j ≡ Some r → HasPair (ks.meaning n f.kind) j r → InPassedSpans spans (row_key j) → InPassedSpans old (row_key j) ⊎ AmongEntries j items)
       → Invariant ks (moved ks w n (record { work = Fill; spans = spans }) (written_all w.pairs (fill_writes (ks.meaning n f.kind) items)))
   fill_kept w n f old spans items i is begun rows reach =
       let m = ks.meaning n f.kind in
@@ -231,10 +231,10 @@ module _ {K : Type 0} (ks : Kinds K) where
   clear_meets n (Some e) xs P R shrinks d = clear_demand (ks.meaning n e.kind) e.state xs P R shrinks d
 
   -- a piece of a clear: it names each pair of n between the old cursor and the new one
-  pub clear_kept : (w : Core K) (n : ℕ) (old spans : List Span) (xs : List Bytes) → Invariant ks w
+  pub clear_kept : (w : Core K) (n : ℕ) (old spans : List PassedSpan) (xs : List Bytes) → Invariant ks w
       → get w.progress n ≡ Some (record { work = Clear; spans = old })
       → ((x : Bytes) → IsIn x xs → IsKeyOfElement n x)
-      → ((x v : Bytes) → owner x ≡ Some n → get w.pairs x ≡ Some v → InSpans spans x → InSpans old x ⊎ IsIn x xs)
+      → ((x v : Bytes) → owner x ≡ Some n → get w.pairs x ≡ Some v → InPassedSpans spans x → InPassedSpans old x ⊎ IsIn x xs)
       → Invariant ks (moved ks w n (record { work = Clear; spans = spans }) (written_all w.pairs (clear_writes xs)))
   clear_kept w n old spans xs i begun owned reach =
       let r = i.reached n _ begun in

@@ -14,21 +14,21 @@ use Rattle.element_state.specs.Elements.{IsKeyOfElement, Subset}
 use Rattle.element_state.specs.Laws.{Laws}
 use Rattle.element_state.specs.Exists.{row_key}
 use Rattle.element_state.specs.Items.{fill_puts, Between, clear_writes, ClearRange, IsBound, ClearFacts}
-use Rattle.element_state.specs.Clears.{entry_kept, facts_kept, both_true, test_between}
+use Rattle.element_state.specs.lemmas.Clears.{entry_kept, facts_kept, both_true, test_between}
 use Rattle.element_state.specs.Schemas.{Entry, Kinds}
 use Rattle.schema_version.specs.declared.element.Work.TheVariants.{Fill, Clear}
-use Rattle.element_state.specs.Core.{Reached, Span, InSpans, Core, Invariant}
+use Rattle.element_state.specs.Core.{Reached, PassedSpan, InPassedSpans, Core, Invariant}
 use Rattle.element_state.specs.Pieces.{moved}
 use Rattle.element_state.proofs.Pieces.{AreRows, fill_puts-filled, fill_writes, fill_kept, clear_kept}
-use Rattle.element_state.specs.Publishing.{FillEnded, ClearEnded}
-use Rattle.element_state.proofs.Publishing.{subset_meets}
+use Rattle.element_state.specs.Publish.{FillEnded, ClearEnded}
+use Rattle.element_state.proofs.Publications.{subset_meets}
 use Rattle.element_state.specs.Ended.{Piece, passed_spans, AreJoined, HaveEnded}
 use Rattle.element_state.proofs.Ended.{less_or_not, all_passed}
-use Rattle.element_state.specs.Apart.{below_next, some_one}
+use Rattle.element_state.specs.lemmas.Apart.{below_next, some_one}
 use Rattle.element_state.specs.Reaches.{with_cursor, cursor_at, fill_items}
 
 -- what has been passed since
-passed_since : (place : ℕ) (to : Bytes) (spans : List Span) (x : Bytes) → InSpans (with_cursor place to spans) x → InSpans spans x ⊎ Between (cursor_at place spans) to x
+passed_since : (place : ℕ) (to : Bytes) (spans : List PassedSpan) (x : Bytes) → InPassedSpans (with_cursor place to spans) x → InPassedSpans spans x ⊎ Between (cursor_at place spans) to x
 passed_since place to [] x at = absurd at
 passed_since zero to (s ∷ ss) x at = elim at [
   | inl here ↦ elim (less_or_not (bytes_cmp x s.cursor)) [ inl below ↦ inl (inl (here.0, below)) | inr above ↦ inr (above, here.1) ]
@@ -46,7 +46,7 @@ rows_there R (e ∷ es) P h = (h.0.0, rows_there R es P h.1)
 
 module _ {K : Type 0} (ks : Kinds K) where
   -- a piece of a fill puts the pair of each row from the old cursor to below the new one
-  pub fill_piece_kept : (w : Core K) (n : ℕ) (f : Entry K) (old : List Span) (place : ℕ) (to : Bytes) → Invariant ks w → get w.newest n ≡ Some f → get w.progress n ≡ Some (record { work = Fill; spans = old })
+  pub fill_piece_kept : (w : Core K) (n : ℕ) (f : Entry K) (old : List PassedSpan) (place : ℕ) (to : Bytes) → Invariant ks w → get w.newest n ≡ Some f → get w.progress n ≡ Some (record { work = Fill; spans = old })
       → Invariant ks (moved ks w n (record { work = Fill; spans = with_cursor place to old }) (written_all w.pairs (fill_writes (ks.meaning n f.kind) (fill_items ks (ks.meaning n f.kind) w.rows (cursor_at place old) to))))
   fill_piece_kept w n f old place to i is begun =
       let m = ks.meaning n f.kind in
@@ -62,7 +62,7 @@ module _ {K : Type 0} (ks : Kinds K) where
       ])
 
   -- the same in what `fill_of` gives for each row
-  pub fill_puts_kept : (w : Core K) (n : ℕ) (f : Entry K) (old : List Span) (place : ℕ) (to : Bytes) → Invariant ks w → get w.newest n ≡ Some f → get w.progress n ≡ Some (record { work = Fill; spans = old })
+  pub fill_puts_kept : (w : Core K) (n : ℕ) (f : Entry K) (old : List PassedSpan) (place : ℕ) (to : Bytes) → Invariant ks w → get w.newest n ≡ Some f → get w.progress n ≡ Some (record { work = Fill; spans = old })
       → Invariant ks (moved ks w n (record { work = Fill; spans = with_cursor place to old }) (written_all w.pairs (fill_puts (ks.meaning n f.kind) (fill_items ks (ks.meaning n f.kind) w.rows (cursor_at place old) to))))
   fill_puts_kept w n f old place to i is begun =
       let m = ks.meaning n f.kind in
@@ -73,7 +73,7 @@ module _ {K : Type 0} (ks : Kinds K) where
       (fill_piece_kept w n f old place to i is begun)
 
   -- a piece of a clear takes each item from the old cursor to below the new one away
-  pub clear_piece_kept : (w : Core K) (n : ℕ) (f : Entry K) (old : List Span) (place : ℕ) (to : Bytes) (range : ClearRange) → ClearFacts (ks.meaning n f.kind) range → Invariant ks w
+  pub clear_piece_kept : (w : Core K) (n : ℕ) (f : Entry K) (old : List PassedSpan) (place : ℕ) (to : Bytes) (range : ClearRange) → ClearFacts (ks.meaning n f.kind) range → Invariant ks w
       → get w.newest n ≡ Some f → get w.progress n ≡ Some (record { work = Clear; spans = old }) → IsBound range.bounds (cursor_at place old) → IsBound range.bounds to
       → Invariant ks (moved ks w n (record { work = Clear; spans = with_cursor place to old }) (written_all w.pairs (clear_writes (range.items w.rows w.pairs (cursor_at place old) to))))
   clear_piece_kept w n f old place to range facts i is begun from_bound to_bound =

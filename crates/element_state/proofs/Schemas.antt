@@ -11,7 +11,7 @@ use Rattle.row_map.specs.Writes.{written_all, AllKeys}
 use Rattle.byte_map.proofs.Written.{written_all-append, written_all-outside, written_all-local, same_or_apart, tied, apart, AllKeys-map, AllKeys-append}
 use Rattle.element_state.specs.Elements.{Change, IsStorableChange, owner, HasForm, IsKeyOfElement, form_named, owner_named}
 use Rattle.element_state.specs.Laws.{pairs_after}
-use Rattle.element_state.specs.Apart.{none_some, some_one}
+use Rattle.element_state.specs.lemmas.Apart.{none_some, some_one}
 use Rattle.element_state.specs.Schemas.{Entry, Schema, state_of, Kinds, writes_of, AreLawful, version_writes}
 
 both_less : (r : Ordering) (b : Bool) → T (is_lt r && b) → (is_eq r ≡ false) × T b

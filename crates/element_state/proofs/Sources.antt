@@ -9,14 +9,14 @@ use Rattle.schema_version.specs.declared.element.Kind.{Kind}
 use Rattle.schema_version.specs.declared.element.Kind.TheVariants.{Index, Optional, Required}
 use Rattle.schema_version.specs.declared.element.ElementDef.{ElementDef}
 use Rattle.schema_version.specs.Names.{max_elements}
-use Rattle.schema_version.specs.Version.{Version, element_at, fallback_of}
+use Rattle.schema_version.specs.Version.{Version, element_at, default_value_of}
 use Rattle.schema_version.specs.Moves.{IsFairKind}
-use Rattle.element_state.specs.Sources.{source_in, stand_in_at, fallback_or_null}
+use Rattle.element_state.specs.Sources.{source_in, default_value_at, default_or_null}
 use Rattle.element_state.specs.Kinds.{IsLawfulKind}
-use Rattle.element_state.proofs.Seen.{short_typed}
+use Rattle.element_state.proofs.Visible.{short_typed}
 
 -- keys and pairs can hold what stands for a missing value
-fallback_storable : (k : Kind) → IsFairKind k → IsStorable (fallback_of k)
+fallback_storable : (k : Kind) → IsFairKind k → IsStorable (default_value_of k)
 fallback_storable (Index columns) fair = (tt, tt)
 fallback_storable (Optional type) fair = (tt, tt)
 fallback_storable (Required type fallback) fair = (fair.1, (short_typed type fallback fair.0).0)
@@ -25,10 +25,10 @@ fallback_storable (Required type fallback) fair = (fair.1, (short_typed type fal
 abbrev pub AreFair : Version → Type 0
 AreFair version = (n : ℕ) (element : ElementDef) → element_at version n ≡ Some element → IsFairKind element.kind
 
-pub stand_in_storable : (version : Version) → AreFair version → (c : ℕ) → IsStorable (stand_in_at version c)
-stand_in_storable version fair c = by (element_at version c) refl
+pub default_value_storable : (version : Version) → AreFair version → (c : ℕ) → IsStorable (default_value_at version c)
+default_value_storable version fair c = by (element_at version c) refl
   where
-    by : (o : Option ElementDef) → element_at version c ≡ o → IsStorable (fallback_or_null o)
+    by : (o : Option ElementDef) → element_at version c ≡ o → IsStorable (default_or_null o)
     by None is = (tt, tt)
     by (Some element) is = fallback_storable element.kind (fair c element is)
 
@@ -44,9 +44,9 @@ pub lawful_source : (version : Version) → AreFair version → (n : ℕ) → 1 
 lawful_source version fair n least most (Index columns) kind =
     record {
       number = omega (arith, most);
-      some_columns = subst (λ l. 1 ≤ l) (sym (length_listed (stand_in_at version) columns)) kind.0;
-      few_columns = subst (λ l. l ≤ 4) (sym (length_listed (stand_in_at version) columns)) kind.1;
-      stand_ins = all_storable (stand_in_at version) (stand_in_storable version fair) columns;
+      some_columns = subst (λ l. 1 ≤ l) (sym (length_listed (default_value_at version) columns)) kind.0;
+      few_columns = subst (λ l. l ≤ 4) (sym (length_listed (default_value_at version) columns)) kind.1;
+      default_values = all_storable (default_value_at version) (default_value_storable version fair) columns;
     }
 lawful_source version fair n least most (Optional type) kind = record { above = omega (arith, least); below = omega (arith, most) }
 lawful_source version fair n least most (Required type fallback) kind = record { above = omega (arith, least); below = omega (arith, most) }

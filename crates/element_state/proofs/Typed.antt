@@ -8,11 +8,11 @@ use Rattle.row_map.specs.Rows.{RowKey, Cells, Rows}
 use Rattle.schema_version.specs.declared.element.ElementState.{ElementState}
 use Rattle.schema_version.specs.declared.element.ElementState.TheVariants.{Absent, DeleteOnly, WriteOnly, Public}
 use Rattle.element_state.specs.Elements.{Change, rows_after, cell}
-use Rattle.element_state.specs.Effects.{row_here, row_apart, key_one}
+use Rattle.element_state.specs.lemmas.Effects.{row_here, row_apart, key_one}
 use Rattle.element_state.specs.Schemas.{Entry, Schema, state_of, Kinds}
-use Rattle.element_state.specs.Core.{Core, JoinedAt, Runs, NeverPublic, Progress, Invariant}
-use Rattle.element_state.specs.Publishing.{Steps}
-use Rattle.element_state.specs.Apart.{hidden_not_public, none_some, some_one}
+use Rattle.element_state.specs.Core.{Core, JoinedAt, Runs, NeverPublic, CoreProgress, Invariant}
+use Rattle.element_state.specs.Publish.{Steps}
+use Rattle.element_state.specs.lemmas.Apart.{hidden_not_public, none_some, some_one}
 
 no_value : {A B : Type 0} (v : A) → None ≡ Some v → B
 no_value v e = absurd (none_some v e)
@@ -53,8 +53,8 @@ module _ {K : Type 0} (ks : Kinds K) (of_kind : K → Value → Type 0) where
       not_absent e = absurd (hidden_not_public Absent tt e)
 
       shown : c.new ≡ Some r → (o : Option (Entry K)) → get s n ≡ o → state_of o ≡ Public → of_kind e.kind v
-      shown new None seen public = not_absent public
-      shown new (Some d) seen public = subst (λ y. of_kind y v) (same n d e seen at) (gives n d r v seen public new is)
+      shown new None visible public = not_absent public
+      shown new (Some d) visible public = subst (λ y. of_kind y v) (same n d e visible at) (gives n d r v visible public new is)
 
   joined_kinds : (n : ℕ) (o u : Option (Entry K)) → JoinedAt ks n o u → (d e : Entry K) → o ≡ Some d → u ≡ Some e → d.kind ≡ e.kind
   joined_kinds n None u j d e p q = no_value d p
@@ -82,12 +82,12 @@ module _ {K : Type 0} (ks : Kinds K) (of_kind : K → Value → Type 0) where
   abbrev pub EntersFresh : Core K → Schema K → Type 0
   EntersFresh w s = (n : ℕ) (e : Entry K) → get s n ≡ Some e → get w.newest n ≡ None → w.next ≤ n
 
-  pub publish_typed : (w : Core K) (s : Schema K) (next : ℕ) (progress : FinMap nat_cmp Progress) → Steps ks w s next progress → EntersFresh w s → Invariant ks w → AreTyped w.newest w.rows → AreTyped s w.rows
+  pub publish_typed : (w : Core K) (s : Schema K) (next : ℕ) (progress : FinMap nat_cmp CoreProgress) → Steps ks w s next progress → EntersFresh w s → Invariant ks w → AreTyped w.newest w.rows → AreTyped s w.rows
   publish_typed w s next progress st fresh i typed n e k r v at row is = was (get w.newest n) refl
     where
       no_cell : get r n ≡ None → of_kind e.kind v
       no_cell none = no_value v (sym none ∙ is)
 
       was : (o : Option (Entry K)) → get w.newest n ≡ o → of_kind e.kind v
-      was None seen = no_cell ((i.bare n (subst (λ o. NeverPublic ks w.next n o) (sym seen) (fresh n e at seen))).0 k r row)
-      was (Some d) seen = subst (λ y. of_kind y v) (joined_kinds n (get w.newest n) (get s n) (st.joined n) d e seen at) (typed n d k r v seen row is)
+      was None visible = no_cell ((i.bare n (subst (λ o. NeverPublic ks w.next n o) (sym visible) (fresh n e at visible))).0 k r row)
+      was (Some d) visible = subst (λ y. of_kind y v) (joined_kinds n (get w.newest n) (get s n) (st.joined n) d e visible at) (typed n d k r v visible row is)

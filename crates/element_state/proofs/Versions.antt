@@ -12,11 +12,11 @@ use Rattle.element_state.specs.Sources.{Source}
 use Rattle.schema_version.specs.declared.element.ElementDef.{ElementDef}
 use Rattle.schema_version.specs.Version.{Version}
 use Rattle.element_state.specs.Elements.{IsFromScratch, Exact, owner, owner_named}
-use Rattle.element_state.specs.Effects.{none_where}
+use Rattle.element_state.specs.lemmas.Effects.{none_where}
 use Rattle.element_state.specs.Exists.{exists_meaning, row_key}
-use Rattle.element_state.specs.ExistsLaws.{one_key}
-use Rattle.element_state.specs.Core.{IsConsistent, Meets}
-use Rattle.element_state.specs.Apart.{not_none}
+use Rattle.element_state.specs.lemmas.ExistsLaws.{one_key}
+use Rattle.element_state.specs.Core.{MeetsAll, Meets}
+use Rattle.element_state.specs.lemmas.Apart.{not_none}
 use Rattle.element_state.specs.Versions.{meaning_of, the_kinds, entry_of, row_entry, schema_of, Of}
 
 -- only rows of its table have an element's pairs
@@ -38,16 +38,16 @@ get-schema_of version n =
 
 -- ---- what consistency says of the rows
 
-pub exists_exact : (version : Version) (P : Pairs) (R : Rows) → IsConsistent the_kinds (schema_of version) P R → Exact exists_meaning P R
+pub exists_exact : (version : Version) (P : Pairs) (R : Rows) → MeetsAll the_kinds (schema_of version) P R → Exact exists_meaning P R
 exists_exact version P R all = subst (λ o. Meets the_kinds 0 o P R) (get-schema_of version 0) (all 0)
 
--- a row is there exactly where its `exists` pair is, which has no value
-pub row_there : (version : Version) (P : Pairs) (R : Rows) → IsConsistent the_kinds (schema_of version) P R → (k : RowKey) (r : Cells) → get R k ≡ Some r → get P (row_key k) ≡ Some []
+-- a row is there exactly when its `exists` pair is, which has no value
+pub row_there : (version : Version) (P : Pairs) (R : Rows) → MeetsAll the_kinds (schema_of version) P R → (k : RowKey) (r : Cells) → get R k ≡ Some r → get P (row_key k) ≡ Some []
 row_there version P R all k r at = (exists_exact version P R all).covered k r [] at refl
 
-pub row_missing : (version : Version) (P : Pairs) (R : Rows) → AreStorable R → IsConsistent the_kinds (schema_of version) P R → (k : RowKey) → IsKey (Exists k.0 k.1) → get R k ≡ None → get P (row_key k) ≡ None
+pub row_missing : (version : Version) (P : Pairs) (R : Rows) → AreStorable R → MeetsAll the_kinds (schema_of version) P R → (k : RowKey) → IsKey (Exists k.0 k.1) → get R k ≡ None → get P (row_key k) ≡ None
 row_missing version P R held all k form none = none_where (get P (row_key k)) (λ v is.
-    let own : owner (row_key k) ≡ Some 0 = owner_named 0 (row_key k) (record { key = Exists k.0 k.1; form = form; spelled = refl; names = refl }) in
+    let own : owner (row_key k) ≡ Some 0 = owner_named 0 (row_key k) (record { key = Exists k.0 k.1; form = form; encoded = refl; names = refl }) in
     let s : IsFromScratch exists_meaning R (row_key k) v = (exists_exact version P R all).subset (row_key k) v own is in
     let same : s.key ≡ k = one_key s.key k (held s.key s.cells s.there).table (held s.key s.cells s.there).primary form s.key_is in
     not_none s.cells (get R k) (ap (get R) (sym same) ∙ s.there) none)

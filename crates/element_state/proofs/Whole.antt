@@ -10,15 +10,15 @@ use Rattle.element_state.specs.Exists.{row_key}
 use Rattle.element_state.specs.Schemas.{Entry, Schema, state_of, Kinds, version_writes}
 use Rattle.schema_version.specs.declared.element.Work.{Work}
 use Rattle.schema_version.specs.declared.element.Work.TheVariants.{Fill, Clear}
-use Rattle.element_state.specs.Core.{InSpans, Core, Passed, MayRun, Reached, Invariant, committed}
+use Rattle.element_state.specs.Core.{InPassedSpans, Core, Passed, MayRun, Reached, Invariant, committed}
 use Rattle.element_state.proofs.Events.{commit_kept}
-use Rattle.element_state.specs.Apart.{some_one}
+use Rattle.element_state.specs.lemmas.Apart.{some_one}
 use Rattle.element_state.specs.Whole.{fresh_spans, RunsAll, rows_after_all, all_writes, committed_all}
 
 pub number_one : (x y : ℕ) → (x ≡ y) ⊎ (x ≢ y)
 number_one x y = same_or_apart nat_cmp_total nat_cmp-IsAntisymmetric x y
 
-pub nothing_passed : (lows : List Bytes) (x : Bytes) → InSpans (fresh_spans lows) x → ⊥
+pub nothing_passed : (lows : List Bytes) (x : Bytes) → InPassedSpans (fresh_spans lows) x → ⊥
 nothing_passed [] x h = h
 nothing_passed (l ∷ ls) x h = elim h [ inl s ↦ s.0 s.1 | inr t ↦ nothing_passed ls x t ]
 

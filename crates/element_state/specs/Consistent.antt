@@ -1,3 +1,4 @@
+-- Cited by the contracts of row_query::answer.
 -- When a store agrees with a schema version and with rows.
 use Rattle.std.specs.Prelude.{◌≡◌, ◌≢◌, ℕ, ◌≤◌, List, Option, Some, None, IsTrue}
 use Rattle.std.specs.List.{AllByRecursion}

@@ -1,3 +1,4 @@
+-- Cited by the definitions of Ended, Kept, Opening, Pieces and 5 more.
 -- What the core keeps from event to event, whatever the kinds of element.
 use Rattle.std.specs.Prelude.{◌≡◌, ◌≢◌, ◌⊎◌, ℕ, ◌≤◌, true, IsTrue, List, [], ◌∷◌, Option, Some, None}
 use Rattle.std.specs.FinMap.{FinMap, get}
@@ -16,30 +17,30 @@ use Rattle.element_state.specs.Exists.{row_key}
 use Rattle.element_state.specs.Schemas.{Entry, Schema, state_of, Kinds, AreLawful, version_writes}
 
 -- what a reorganisation has passed: from its lower bound to below its cursor
-pub record Span : Type 0 where
+pub record PassedSpan : Type 0 where
   pub low : Bytes
   pub cursor : Bytes
 
 -- a key that the reorganisation has passed in one piece
-abbrev pub InSpan : Span → Bytes → Type 0
-InSpan s x = (bytes_cmp x s.low ≢ Less) × (bytes_cmp x s.cursor ≡ Less)
+abbrev pub InPassedSpan : PassedSpan → Bytes → Type 0
+InPassedSpan s x = (bytes_cmp x s.low ≢ Less) × (bytes_cmp x s.cursor ≡ Less)
 
 -- a key that it has passed in any of its pieces
-abbrev pub InSpans : List Span → Bytes → Type 0
-InSpans [] x = ⊥
-InSpans (s ∷ ss) x = InSpan s x ⊎ InSpans ss x
+abbrev pub InPassedSpans : List PassedSpan → Bytes → Type 0
+InPassedSpans [] x = ⊥
+InPassedSpans (s ∷ ss) x = InPassedSpan s x ⊎ InPassedSpans ss x
 
 -- a begun reorganisation: its work, and what each piece has passed
-pub record Progress : Type 0 where
+pub record CoreProgress : Type 0 where
   pub work : Work
-  pub spans : List Span
+  pub spans : List PassedSpan
 
 -- what a store under two usable versions is: the version before the newest, the newest, the next free element number, the begun reorganisations, the pairs, and the rows that they stand for
 pub record Core (K : Type 0) : Type 0 where
   pub before : Schema K
   pub newest : Schema K
   pub next : ℕ
-  pub progress : FinMap nat_cmp Progress
+  pub progress : FinMap nat_cmp CoreProgress
   pub pairs : Pairs
   pub rows : Rows
 
@@ -54,8 +55,8 @@ module _ {K : Type 0} (ks : Kinds K) where
   Meets n (Some e) P R = Demand (ks.meaning n e.kind) e.state P R
 
   -- every element number meets its demand
-  abbrev pub IsConsistent : Schema K → Pairs → Rows → Type 0
-  IsConsistent s P R = (n : ℕ) → Meets n (get s n) P R
+  abbrev pub MeetsAll : Schema K → Pairs → Rows → Type 0
+  MeetsAll s P R = (n : ℕ) → Meets n (get s n) P R
 
   -- one kind, and equal states or states that an edge joins
   abbrev pub JoinedAt : ℕ → Option (Entry K) → Option (Entry K) → Type 0
@@ -71,9 +72,9 @@ module _ {K : Type 0} (ks : Kinds K) where
     pub public_only : (n : ℕ) → ChangesPublicOnly n (state_of (get s n)) c
 
   -- what a reorganisation has passed is done
-  abbrev pub Passed : ℕ → K → Work → List Span → Pairs → Rows → Type 0
-  Passed n k Fill spans P R = (l : RowKey) → InSpans spans (row_key l) → CoveredAt (ks.meaning n k) P R l
-  Passed n k Clear spans P R = (x : Bytes) → owner x ≡ Some n → InSpans spans x → get P x ≡ None
+  abbrev pub Passed : ℕ → K → Work → List PassedSpan → Pairs → Rows → Type 0
+  Passed n k Fill spans P R = (l : RowKey) → InPassedSpans spans (row_key l) → CoveredAt (ks.meaning n k) P R l
+  Passed n k Clear spans P R = (x : Bytes) → owner x ≡ Some n → InPassedSpans spans x → get P x ≡ None
 
   -- the states in which it may run, in every usable version
   abbrev pub MayRun : Work → K → ElementState → Type 0
@@ -81,7 +82,7 @@ module _ {K : Type 0} (ks : Kinds K) where
   MayRun Clear k q = ¬ (Grows q)
 
   -- a begun reorganisation of n: its element is in the newest version, it may run in both, and what it has passed is done
-  pub record Reached (n : ℕ) (p : Progress) (before newest : Schema K) (P : Pairs) (R : Rows) : Type 0 where
+  pub record Reached (n : ℕ) (p : CoreProgress) (before newest : Schema K) (P : Pairs) (R : Rows) : Type 0 where
     pub kind : K
     pub entry : Entry K
     pub entry_is : get newest n ≡ Some entry
@@ -105,10 +106,10 @@ module _ {K : Type 0} (ks : Kinds K) where
     pub lawful_newest : AreLawful ks w.newest
     -- the states in the usable versions
     pub joined : (n : ℕ) → JoinedAt n (get w.before n) (get w.newest n)
-    pub before : IsConsistent w.before w.pairs w.rows
-    pub newest : IsConsistent w.newest w.pairs w.rows
+    pub before : MeetsAll w.before w.pairs w.rows
+    pub newest : MeetsAll w.newest w.pairs w.rows
     -- what the reorganisations have passed
-    pub reached : (n : ℕ) (p : Progress) → get w.progress n ≡ Some p → Reached n p w.before w.newest w.pairs w.rows
+    pub reached : (n : ℕ) (p : CoreProgress) → get w.progress n ≡ Some p → Reached n p w.before w.newest w.pairs w.rows
     -- a column that was never public has no cell
     pub bare : (n : ℕ) → NeverPublic w.next n (get w.newest n) → NoCell n w.rows × (state_of (get w.before n) ≢ Public)
 

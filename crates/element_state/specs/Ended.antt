@@ -1,7 +1,8 @@
+-- Cited by the definitions of reorganise/Laws.
 -- Pieces that join one another and have all ended have passed the whole range.
 use Rattle.std.specs.Prelude.{◌≡◌, List, [], ◌∷◌}
 use Rattle.row_map.specs.Rows.{Bytes}
-use Rattle.element_state.specs.Core.{Span}
+use Rattle.element_state.specs.Core.{PassedSpan}
 
 -- one piece of a reorganisation: from its lower to below its upper bound, and how far it has come
 pub record Piece : Type 0 where
@@ -10,7 +11,7 @@ pub record Piece : Type 0 where
   pub cursor : Bytes
 
 -- what the pieces have passed
-abbrev pub passed_spans : List Piece → List Span
+abbrev pub passed_spans : List Piece → List PassedSpan
 passed_spans [] = []
 passed_spans (p ∷ ps) = record { low = p.low; cursor = p.cursor } ∷ passed_spans ps
 

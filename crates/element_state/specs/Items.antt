@@ -1,3 +1,4 @@
+-- Cited by the contracts of Element, fill_covers, clear_leaves_none.
 -- What a fill and a clear go through between two cursors.
 use Rattle.std.specs.Prelude.{IsTrue, Option, ◌≡◌, ◌≢◌, ℕ, ◌+◌, ◌<◌, ◌^◌, Bool, ◌&&◌, List, [], ◌∷◌, ◌++◌, Some, None, filter, ◌⊎◌}
 use Rattle.std.specs.FinMap.{get, entries}

@@ -1,3 +1,4 @@
+-- Cited by the definitions of Kept.
 -- An empty core holds what the core keeps.
 use Rattle.std.specs.Prelude.{ℕ}
 use Rattle.std.specs.FinMap.{empty}

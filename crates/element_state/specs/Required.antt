@@ -1,3 +1,4 @@
+-- Cited by the definitions of Kinds, RequiredLaws, reorganise/Laws.
 -- A required column: each row has a value in it, its own or the default.
 use Rattle.std.specs.Prelude.{ℕ, Bool, true, List, [], ◌∷◌, Option, Some, None, cond, unwrap_or}
 use Rattle.std.specs.FinMap.{get}
@@ -45,7 +46,7 @@ required_writes n fallback DeleteOnly c = column_deletes n c.key c.old c.new
 required_writes n fallback WriteOnly c = required_hidden n fallback c.key c.old c.new
 required_writes n fallback Public c = required_public n fallback c.key c.old c.new
 
--- its writes depend on the row's value alone, and only where it is public
+-- its writes depend on the row's value alone, and only if it is public
 abbrev pub required_sees : ℕ → Value → ElementState → Cells → List Value
 required_sees n fallback Public r = required_value n fallback r ∷ []
 required_sees n fallback _ r = []

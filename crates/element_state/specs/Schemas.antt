@@ -1,3 +1,4 @@
+-- Cited by the definitions of Core, Kept, Opening, Pieces and 6 more.
 -- What a version's elements write together, whatever their kinds.
 use Rattle.std.specs.Prelude.{◌≡◌, ℕ, Bool, List, [], ◌∷◌, ◌++◌, Option, Some, None}
 use Rattle.std.specs.FinMap.{FinMap, get, entries}

@@ -1,3 +1,4 @@
+-- Cited by the contracts of AnyElement::of, AnyElement::alone.
 -- What the pairs of an element are built from: its kind, in which an index knows what stands for a value that a row lacks in its columns.
 use Rattle.std.specs.Prelude.{ℕ, List, Option, Some, None}
 use mathlib.Core.List.{map as each}
@@ -7,7 +8,7 @@ use Rattle.row_map.specs.declared.shape.ColumnType.{ColumnType}
 use Rattle.schema_version.specs.declared.element.Kind.{Kind}
 use Rattle.schema_version.specs.declared.element.Kind.TheVariants.{Index, Optional, Required}
 use Rattle.schema_version.specs.declared.element.ElementDef.{ElementDef}
-use Rattle.schema_version.specs.Version.{Version, element_at, fallback_of, listed}
+use Rattle.schema_version.specs.Version.{Version, element_at, default_value_of, indexed_columns}
 
 -- an index's columns, each with what stands for a missing value; a column's type, and of a required one its default
 pub data Source : Type 0 where
@@ -23,19 +24,19 @@ source_with columns (Required type fallback) = RequiredIn type fallback
 
 -- with what stands for a missing value in each listed column
 abbrev pub source_by : (ℕ → Value) → Kind → Source
-source_by stand_in kind = source_with (each (λ c. (c, stand_in c)) (listed kind)) kind
+source_by default_value kind = source_with (each (λ c. (c, default_value c)) (indexed_columns kind)) kind
 
-abbrev pub fallback_or_null : Option ElementDef → Value
-fallback_or_null None = Null
-fallback_or_null (Some element) = fallback_of element.kind
+abbrev pub default_or_null : Option ElementDef → Value
+default_or_null None = Null
+default_or_null (Some element) = default_value_of element.kind
 
 -- what stands in a version for a value that a row lacks in a column: the default of a required one, else Null
-abbrev pub stand_in_at : Version → ℕ → Value
-stand_in_at version column = fallback_or_null (element_at version column)
+abbrev pub default_value_at : Version → ℕ → Value
+default_value_at version column = default_or_null (element_at version column)
 
 -- what the pairs of an element of this kind are built from in a version
 abbrev pub source_in : Version → Kind → Source
-source_in version kind = source_by (stand_in_at version) kind
+source_in version kind = source_by (default_value_at version) kind
 
 -- and where no default is asked for, since each row has its values
 abbrev pub source_alone : Kind → Source

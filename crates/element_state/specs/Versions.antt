@@ -1,3 +1,4 @@
+-- Cited by the definitions of Kept, reorganise/Laws, replay/Kept, row_write/Prepare and 1 more.
 -- The schema versions as the core sees them: the `exists` pairs are those of element 0, which is public in every version.
 use Rattle.std.specs.Prelude.{◌≡◌, ℕ, Bool, true, false, ◌∷◌, refl}
 use mathlib.Core.List.{map as each}
@@ -13,7 +14,7 @@ use Rattle.element_state.specs.Elements.{Meaning}
 use Rattle.element_state.specs.Laws.{Laws}
 use Rattle.element_state.specs.Tables.{within}
 use Rattle.element_state.specs.Exists.{exists_meaning}
-use Rattle.element_state.specs.ExistsLaws.{exists_laws}
+use Rattle.element_state.specs.lemmas.ExistsLaws.{exists_laws}
 use Rattle.element_state.specs.Kinds.{kind_meaning, IsLawfulKind, kind_laws, kind_numbered}
 use Rattle.element_state.specs.Items.{HasRange}
 use Rattle.element_state.specs.Schemas.{Entry, Schema, Kinds}

@@ -1,13 +1,14 @@
+-- Cited by the definitions of Kept, reorganise/Laws.
 -- Whole transactions, and the begin of a reorganisation.
 use Rattle.std.specs.Prelude.{List, [], ◌∷◌, ◌++◌}
 use Rattle.row_map.specs.Rows.{Bytes, Rows}
 use Rattle.row_map.specs.Writes.{Writes, written_all}
 use Rattle.element_state.specs.Elements.{Change, rows_after}
 use Rattle.element_state.specs.Schemas.{Schema, Kinds, version_writes}
-use Rattle.element_state.specs.Core.{Span, Core, Runs}
+use Rattle.element_state.specs.Core.{PassedSpan, Core, Runs}
 
 -- cursors that stand at their lower bounds
-abbrev pub fresh_spans : List Bytes → List Span
+abbrev pub fresh_spans : List Bytes → List PassedSpan
 fresh_spans [] = []
 fresh_spans (x ∷ xs) = record { low = x; cursor = x } ∷ fresh_spans xs
 

@@ -2,7 +2,7 @@
 ghost use Rattle.std.specs.Prelude.{◌≡◌, IfOk};
 ghost use mathlib.Core.List.{map as each};
 ghost use Rattle.keycode.specs.declared.value.Value.TheVariants.{Null};
-ghost use Rattle.element_state.specs.Sources.{source_with, source_in, source_alone, stand_in_at};
+ghost use Rattle.element_state.specs.Sources.{source_with, source_in, source_alone, default_value_at};
 ghost use Rattle.element_state.specs.Kinds.{kind_meaning, table_of_any, meaning_of_any, IsLawfulElement, laws_of_any, clear_of_any, clears_of_any};
 
 use crate::column::OptionalColumn;
@@ -10,8 +10,8 @@ use crate::element::Element;
 use crate::index::IndexElement;
 use crate::required::RequiredColumn;
 use byte_map::Bytes;
+use collections::List;
 use keycode::Value;
-use listed::Listed;
 use row_map::{Batch, Row};
 use schema_version::{ElementDef, ElementState, Kind, Schema};
 use std::alloc::{AllocError, Global};
@@ -28,8 +28,8 @@ pub enum AnyElement {
 }
 
 // What stands in a version for a value that a row lacks in a column.
-fn stand_in(schema: &Schema, column: u32) -> Result<Value, AllocError>
-    ensures { IfOk result (λ value. value ≡ stand_in_at schema.now column) }
+fn default_value(schema: &Schema, column: u32) -> Result<Value, AllocError>
+    ensures { IfOk result (λ value. value ≡ default_value_at schema.now column) }
 {
     match schema.element(column) {
         Some(element) => match &element.kind {
@@ -40,25 +40,25 @@ fn stand_in(schema: &Schema, column: u32) -> Result<Value, AllocError>
     }
 }
 
-fn with_stand_in(schema: &Schema, column: u32) -> Result<(u32, Value), AllocError>
-    ensures { IfOk result (λ listed. listed ≡ (column, stand_in_at schema.now column)) }
+fn with_default_value(schema: &Schema, column: u32) -> Result<(u32, Value), AllocError>
+    ensures { IfOk result (λ list. list ≡ (column, default_value_at schema.now column)) }
 {
-    Ok((column, stand_in(schema, column)?))
+    Ok((column, default_value(schema, column)?))
 }
 
 // Columns with what stands for a missing value in a version.
-fn with_stand_ins(
+fn with_default_values(
     alloc: Global,
     schema: &Schema,
     columns: &[u32],
-) -> Result<Listed<(u32, Value)>, AllocError>
-    ensures { IfOk result (λ listed. listed ≡ each (λ c. (c, stand_in_at schema.now c)) columns.now) }
+) -> Result<List<(u32, Value)>, AllocError>
+    ensures { IfOk result (λ list. list ≡ each (λ c. (c, default_value_at schema.now c)) columns.now) }
 {
-    let mut listed = Vec::new(alloc);
+    let mut list = Vec::new(alloc);
     for column in columns {
-        listed.push(with_stand_in(schema, *column)?)?;
+        list.push(with_default_value(schema, *column)?)?;
     }
-    Ok(Listed::new(listed))
+    Ok(List::new(list))
 }
 
 fn with_null(column: u32) -> (u32, Value)
@@ -68,22 +68,19 @@ fn with_null(column: u32) -> (u32, Value)
 }
 
 // Columns of which each row has a value, or Null stands for it.
-fn with_nulls(alloc: Global, columns: &[u32]) -> Result<Listed<(u32, Value)>, AllocError>
-    ensures { IfOk result (λ listed. listed ≡ each (λ c. (c, Null)) columns.now) }
+fn with_nulls(alloc: Global, columns: &[u32]) -> Result<List<(u32, Value)>, AllocError>
+    ensures { IfOk result (λ list. list ≡ each (λ c. (c, Null)) columns.now) }
 {
-    let mut listed = Vec::new(alloc);
+    let mut list = Vec::new(alloc);
     for column in columns {
-        listed.push(with_null(*column))?;
+        list.push(with_null(*column))?;
     }
-    Ok(Listed::new(listed))
+    Ok(List::new(list))
 }
 
 impl AnyElement {
     // The element, if these are the columns that it lists.
-    fn with(
-        definition: &ElementDef,
-        columns: Listed<(u32, Value)>,
-    ) -> Result<AnyElement, AllocError>
+    fn with(definition: &ElementDef, columns: List<(u32, Value)>) -> Result<AnyElement, AllocError>
         ensures table { IfOk result (λ e. table_of_any e ≡ definition.now.table) }
         ensures meaning { IfOk result (λ e. meaning_of_any e ≡ kind_meaning definition.now.number (source_with columns definition.now.kind)) }
     {
@@ -107,7 +104,8 @@ impl AnyElement {
     /// The element that a version defines: of its table, its number and its kind. For a value that a row lacks in a column that an index
     /// lists stands the column's default in that version, or Null.
     ///
-    /// `alloc` is where the list of an index's columns is made. Want of memory is the only refusal.
+    /// `alloc` is where the list of an index's columns is made. Running out of memory is the only
+    /// refusal.
     pub fn of(
         alloc: Global,
         schema: &Schema,
@@ -116,19 +114,20 @@ impl AnyElement {
         ensures table { IfOk result (λ e. table_of_any e ≡ definition.now.table) }
         ensures meaning { IfOk result (λ e. meaning_of_any e ≡ kind_meaning definition.now.number (source_in schema.now definition.now.kind)) }
     {
-        let columns = with_stand_ins(alloc, schema, definition.kind.listed())?;
+        let columns = with_default_values(alloc, schema, definition.kind.indexed_columns())?;
         AnyElement::with(definition, columns)
     }
 
     /// The element of a definition by itself, for rows that have a value in each required column: in any other column that an index lists,
     /// Null stands for a value that a row lacks.
     ///
-    /// `alloc` is where the list of an index's columns is made. Want of memory is the only refusal.
+    /// `alloc` is where the list of an index's columns is made. Running out of memory is the only
+    /// refusal.
     pub fn alone(alloc: Global, definition: &ElementDef) -> Result<AnyElement, AllocError>
         ensures table { IfOk result (λ e. table_of_any e ≡ definition.now.table) }
         ensures meaning { IfOk result (λ e. meaning_of_any e ≡ kind_meaning definition.now.number (source_alone definition.now.kind)) }
     {
-        let columns = with_nulls(alloc, definition.kind.listed())?;
+        let columns = with_nulls(alloc, definition.kind.indexed_columns())?;
         AnyElement::with(definition, columns)
     }
 }

@@ -1,6 +1,6 @@
 //! What an optional column writes in each state.
 ghost use Rattle.element_state.specs.Column.{column_clear, IsLawfulColumn};
-ghost use Rattle.element_state.specs.ColumnLaws.{column_clears, column_laws};
+ghost use Rattle.element_state.specs.lemmas.ColumnLaws.{column_clears, column_laws};
 ghost use Rattle.element_state.specs.Kinds.{meaning_of_column};
 
 use crate::cells::{cell, is_same};

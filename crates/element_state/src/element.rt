@@ -40,8 +40,8 @@ pub trait Element {
 
     /// Notes in `batch` what the insert of `row` writes for this element where its state is `state`.
     ///
-    /// `row` is the whole new row, of this element's table. `alloc` is where the keys and values are made. Want of memory is the
-    /// only refusal, and leaves the batch unchanged.
+    /// `row` is the whole new row, of this element's table. `alloc` is where the keys and values
+    /// are made. Running out of memory is the only refusal, and leaves the batch unchanged.
     fn on_insert(
         &self,
         alloc: Global,
@@ -54,8 +54,9 @@ pub trait Element {
 
     /// Notes in `batch` what the update of a row from `old` to `new` writes for this element where its state is `state`.
     ///
-    /// Both are whole rows of this element's table, with the same primary key. Want of memory is the only refusal, and leaves the
-    /// batch unchanged, also where one write of two was made.
+    /// Both are whole rows of this element's table, with the same primary key. Running out of
+    /// memory is the only refusal, and leaves the batch unchanged, also where one write of two was
+    /// made.
     fn on_update(
         &self,
         alloc: Global,
@@ -71,7 +72,8 @@ pub trait Element {
     /// Notes in `batch` what the delete of `row` writes for this element where its state is `state`. A removal of a pair that is
     /// not there is noted too.
     ///
-    /// `row` is the whole old row, of this element's table. Want of memory is the only refusal, and leaves the batch unchanged.
+    /// `row` is the whole old row, of this element's table. Running out of memory is the only
+    /// refusal, and leaves the batch unchanged.
     fn on_delete(
         &self,
         alloc: Global,
@@ -82,8 +84,8 @@ pub trait Element {
         ensures ok { OnOk result (batch.new ≡ noted batch.old ((meaning self.now).writes state (deleted (table self.now) row.now))) }
         ensures err { OnErr result (batch.new ≡ batch.old) };
 
-    /// The key and value of the pair that a fill puts for `row`, a row of this element's table; none for a kind that no fill
-    /// serves. Want of memory is the only refusal.
+    /// The key and value of the pair that a fill puts for `row`, a row of this element's table;
+    /// none for a kind that no fill serves. Running out of memory is the only refusal.
     fn fill_of(&self, alloc: Global, row: &Row) -> Result<Option<(Bytes, Bytes)>, AllocError>
         ensures { IfOk result (λ pair. pair ≡ fill_pair (meaning self.now) (table self.now, row.now.key) (cells_of row.now)) };
 

@@ -3,15 +3,15 @@ ghost use Rattle.std.specs.Prelude.{◌≡◌, OnOk, OnErr, IfOk, Some, None, []
 ghost use Rattle.row_map.specs.Writes.{noted};
 ghost use Rattle.row_map.specs.Keys.{index_code};
 ghost use Rattle.element_state.specs.Index.{index_clear, indexed, index_pair, index_by, IsLawfulIndex};
-ghost use Rattle.element_state.specs.IndexLaws.{index_clears, index_laws};
+ghost use Rattle.element_state.specs.lemmas.IndexLaws.{index_clears, index_laws};
 ghost use Rattle.element_state.specs.Operations.{cells_of};
 ghost use Rattle.element_state.specs.Kinds.{meaning_of_index};
 
-use crate::cells::{copied, lent};
+use crate::cells::{copy_value, value_or_default};
 use crate::element::Element;
 use byte_map::Bytes;
+use collections::List;
 use keycode::{Value, Values};
-use listed::Listed;
 use row_map::{Batch, Row, index_key};
 use schema_version::ElementState;
 use std::alloc::{AllocError, Global};
@@ -27,7 +27,7 @@ pub struct IndexElement {
     pub number: u32,
     /// The element numbers of its 1 to 4 columns, in the order in which they sort, each with what stands for a value that a row lacks
     /// in it: Null, or the default of a required column.
-    pub columns: Listed<(u32, Value)>,
+    pub columns: List<(u32, Value)>,
 }
 
 /// A row's values in some columns, or what stands for those that it lacks.
@@ -36,9 +36,9 @@ fn indexed_values(alloc: Global, columns: &[(u32, Value)], row: &Row) -> Result<
 {
     let mut values = Vec::new(alloc);
     for column in columns {
-        values.push(copied(row, column)?)?;
+        values.push(copy_value(row, column)?)?;
     }
-    Ok(Listed::new(values))
+    Ok(List::new(values))
 }
 
 impl IndexElement {
@@ -48,7 +48,7 @@ impl IndexElement {
     {
         if let [column] = self.columns.as_slice() {
             // The one value of most indexes needs no copy.
-            let value = from_ref(lent(row, column));
+            let value = from_ref(value_or_default(row, column));
             return index_key(alloc, self.number, value, row.key.as_slice());
         }
         let values = indexed_values(alloc, self.columns.as_slice(), row)?;

@@ -9,8 +9,8 @@ use keycode::{Value, Values, encode_int, push_value};
 use row_map::{Batch, column_key};
 use std::alloc::{AllocError, Global};
 
-/// The code of a value, as the value of a pair. Want of memory is the only refusal.
-pub(crate) fn encoded(alloc: Global, value: &Value) -> Result<Bytes, AllocError>
+/// The code of a value, as the value of a pair. Running out of memory is the only refusal.
+pub(crate) fn encode_value(alloc: Global, value: &Value) -> Result<Bytes, AllocError>
     ensures { IfOk result (λ bytes. bytes ≡ code value.now) }
 {
     if let Value::Int(n) = value {
@@ -21,8 +21,8 @@ pub(crate) fn encoded(alloc: Global, value: &Value) -> Result<Bytes, AllocError>
     Bytes::new(out)
 }
 
-/// Notes that the pair of the row of a key gets a value, in the column `number` of `table`. Want of memory is the only refusal, and leaves
-/// the batch unchanged.
+/// Notes that the pair of the row of a key gets a value, in the column `number` of `table`. Running
+/// out of memory is the only refusal, and leaves the batch unchanged.
 pub(crate) fn put(
     alloc: Global,
     table: u32,
@@ -35,12 +35,12 @@ pub(crate) fn put(
     ensures err { OnErr result (batch.new ≡ batch.old) }
 {
     let at = column_key(alloc, table, key.as_slice(), number)?;
-    let bytes = encoded(alloc, value)?;
+    let bytes = encode_value(alloc, value)?;
     batch.put(at, bytes)
 }
 
-/// Notes that the pair of the row of a key goes, in the column `number` of `table`. Want of memory is the only refusal, and leaves the batch
-/// unchanged.
+/// Notes that the pair of the row of a key goes, in the column `number` of `table`. Running out of
+/// memory is the only refusal, and leaves the batch unchanged.
 pub(crate) fn remove(
     alloc: Global,
     table: u32,

@@ -4,11 +4,11 @@ ghost use Rattle.element_state.specs.Column.{column_clear, IsLawfulColumn};
 ghost use Rattle.element_state.specs.Kinds.{meaning_of_required};
 ghost use Rattle.element_state.specs.Operations.{cells_of};
 ghost use Rattle.element_state.specs.Required.{required_value};
-ghost use Rattle.element_state.specs.RequiredLaws.{required_clears, required_laws};
+ghost use Rattle.element_state.specs.lemmas.RequiredLaws.{required_clears, required_laws};
 
 use crate::cells::cell;
 use crate::element::Element;
-use crate::pair::{encoded, put, remove};
+use crate::pair::{encode_value, put, remove};
 use byte_map::Bytes;
 use keycode::Value;
 use row_map::{Batch, Row, column_key};
@@ -124,6 +124,6 @@ impl Element for RequiredColumn {
 
     fn fill_of(&self, alloc: Global, row: &Row) -> Result<Option<(Bytes, Bytes)>, AllocError> {
         let key = column_key(alloc, self.table, row.key.as_slice(), self.number)?;
-        Ok(Some((key, encoded(alloc, self.value(row))?)))
+        Ok(Some((key, encode_value(alloc, self.value(row))?)))
     }
 }

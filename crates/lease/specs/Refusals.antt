@@ -1,3 +1,4 @@
+-- Cited by the contracts of Timeline::grant, Timeline::standing.
 -- When a lease is refused.
 use Rattle.std.specs.Prelude.{◌≡◌, ℕ, ◌<◌, ◌≤◌}
 use Rattle.lease.specs.declared.lease.Lease.{Lease}

@@ -1,3 +1,4 @@
+-- Cited by the contracts of usable_when, two_usable_versions, Timeline, Timeline::new and 11 more.
 -- When versions were published, and which leases hold.
 use Rattle.std.specs.Prelude.{◌≡◌, ℕ, ◌+◌, ◌^◌, ◌<◌, ◌≤◌, List, [], ◌∷◌, length, ◌⊎◌}
 use Rattle.std.specs.List.{All}

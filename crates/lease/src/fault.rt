@@ -30,7 +30,8 @@ impl<T: Drop> From<AllocFailed<T>> for TimelineFault {
     }
 }
 
-/// Why a lease is not granted, or does not serve at a moment. Of several reasons the first in this order is told.
+/// Why a lease is not granted, or does not serve at a moment. Of several reasons the first in this
+/// order is reported.
 #[derive(Clone, Copy, Debug, PartialEq, Eq, Error)]
 pub enum LeaseFault {
     #[error("the moment is above 2^62")]

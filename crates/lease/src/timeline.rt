@@ -1,6 +1,6 @@
 //! When each version was published, and which leases that allows.
 ghost use Rattle.std.specs.Prelude.{◌≡◌, ◌+◌, ◌≤◌, ◌<◌, ◌↔◌, IsTrue, IsOk, IfOk, IfErr, OnOk, OnErr, Ok, Err};
-ghost use Rattle.listed.specs.Refusal.{IsFirst};
+ghost use Rattle.collections.specs.Refusal.{IsFirst};
 ghost use Rattle.lease.specs.Timeline.{IsValid, IsLength, IsHonest, IsUsable, WasNewest, opened, after_publication, newest, last_publication, earliest, granted_at, max_moment};
 ghost use Rattle.lease.specs.Refusals.{rank, Condition, Serves};
 ghost use Rattle.lease.specs.declared.fault.LeaseFault.TheVariants.{MomentTooLarge};
@@ -41,8 +41,8 @@ impl Model for Timeline {
 impl Timeline {
     /// A timeline on which version 1 was published at moment 0.
     ///
-    /// `length` is for how long a lease is granted, in the unit of the moments. Refused with `BadLength` where it is
-    /// not from 1 to 2^32, and else for want of memory alone.
+    /// `length` is for how long a lease is granted, in the unit of the moments. Refused with
+    /// `BadLength` if it is not from 1 to 2^32, and else when out of memory alone.
     pub fn new(alloc: Global, length: u64) -> Result<Timeline, TimelineFault>
         ensures opened { IfOk result (λ line. line ≡ opened length) }
         ensures bad_length { (result ≡ Err TimelineFault.BadLength) ↔ (¬ (IsLength length)) }
@@ -109,8 +109,9 @@ impl Timeline {
 
     /// Whether a lease serves at `moment`, which is not below the last publication.
     ///
-    /// Refused in this order: `MomentTooLarge` where the moment is above 2^62; `BadLease` where no lease such as this
-    /// one could have been granted up to the moment; `LeaseEnded` where the moment is not below the lease's end.
+    /// Refused in this order: `MomentTooLarge` if the moment is above 2^62; `BadLease` if no lease
+    /// such as this one could have been granted up to the moment; `LeaseEnded` if the moment is not
+    /// below the lease's end.
     pub fn standing(&self, lease: &Lease, moment: u64) -> Result<(), LeaseFault>
         requires { last_publication self.now ≤ moment }
         ensures serves { IsOk result ↔ Serves self.now lease.now moment }
@@ -141,8 +142,8 @@ impl Timeline {
         version == newest || (version > 0 && version == newest - 1 && moment < self.earliest())
     }
 
-    /// Whether a version may be published at `moment`. Refused where the newest one has not stood for the lease
-    /// length then.
+    /// Whether a version may be published at `moment`. Refused if the newest one has not stood for
+    /// the lease length then.
     pub fn may_publish(&self, moment: u64) -> Result<(), TooEarly>
         ensures ok { IsOk result ↔ (earliest self.now ≤ moment) }
         ensures too_early { IfErr result (λ early. early.earliest ≡ earliest self.now) }
@@ -154,8 +155,8 @@ impl Timeline {
         Ok(())
     }
 
-    /// Publishes a version at `moment`, which is at most 2^62 and at which one may be published, and gives its
-    /// number. Refused for want of memory alone, and then the timeline is unchanged.
+    /// Publishes a version at `moment`, which is at most 2^62 and at which one may be published,
+    /// and gives its number. Refused only when out of memory, and then the timeline is unchanged.
     pub fn publish(&mut self, moment: u64) -> Result<u64, AllocError>
         requires in_turn { earliest self.old ≤ moment }
         requires moment { moment ≤ max_moment }

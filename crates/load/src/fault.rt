@@ -4,7 +4,7 @@ use std::alloc::{AllocError, AllocFailed};
 /// Why a load, or a step of it, came to no end.
 #[derive(Clone, Copy, PartialEq, Eq)]
 pub(crate) enum LoadFault {
-    /// Want of memory, of any call or outcome.
+    /// Out of memory, of any call or outcome.
     Memory,
     /// A call was refused for another reason.
     Refused,

@@ -1,10 +1,10 @@
 //! A load: servers insert rows on threads of their own while an index is added to their table, step by step.
 #![tactic(auto)]
 
-mod adding;
+mod add_index;
 mod fault;
+mod load_run;
 mod report;
-mod running;
 mod table;
 
-pub use running::run_load;
+pub use load_run::run_load;

@@ -1,8 +1,8 @@
 //! The table of a load, its rows, and the steps of its index.
 
 use crate::fault::LoadFault;
+use collections::List;
 use keycode::{Text, Value};
-use listed::Listed;
 use row_map::ColumnType;
 use row_write::{RowOp, RowOps};
 use schema_version::{ElementState, Kind, Move, NewElement, Step, TableDef};
@@ -25,19 +25,19 @@ const LENGTH: u64 = 10;
 /// How many values the column has.
 const VALUES: u32 = 7;
 
-fn named(alloc: Global, name: &str) -> Result<Text, AllocError> {
+fn text_of(alloc: Global, name: &str) -> Result<Text, AllocError> {
     Ok(Text::new(String::from_str(alloc, name)?))
 }
 
 // table t (id int key, a int)
 fn config(alloc: Global) -> Result<Config, AllocError> {
     let table = TableDef {
-        name: named(alloc, "t")?,
-        key: Listed::new(vec![in alloc; (named(alloc, "id")?, ColumnType::Int)]?),
-        columns: Listed::new(vec![in alloc; (named(alloc, "a")?, ColumnType::Int)]?),
-        indexes: Listed::new(Vec::new(alloc)),
+        name: text_of(alloc, "t")?,
+        key: List::new(vec![in alloc; (text_of(alloc, "id")?, ColumnType::Int)]?),
+        columns: List::new(vec![in alloc; (text_of(alloc, "a")?, ColumnType::Int)]?),
+        indexes: List::new(Vec::new(alloc)),
     };
-    let tables = Listed::new(vec![in alloc; table]?);
+    let tables = List::new(vec![in alloc; table]?);
     Ok(Config {
         length: LENGTH,
         tables,
@@ -45,7 +45,7 @@ fn config(alloc: Global) -> Result<Config, AllocError> {
 }
 
 /// A world with the table and no rows.
-pub(crate) fn opened(alloc: Global) -> Result<World, LoadFault> {
+pub(crate) fn open_world(alloc: Global) -> Result<World, LoadFault> {
     match World::open(alloc, &config(alloc)?) {
         Ok(world) => Ok(world),
         Err(OpenFault::Memory) => Err(LoadFault::Memory),
@@ -57,10 +57,10 @@ pub(crate) fn opened(alloc: Global) -> Result<World, LoadFault> {
 fn insert(alloc: Global, row: u32) -> Result<RowOps, AllocError> {
     let insert = RowOp::Insert {
         table: TABLE,
-        key: Listed::new(vec![in alloc; Value::Int(i64::from(row))]?),
-        cells: Listed::new(vec![in alloc; (COLUMN, Value::Int(i64::from(row % VALUES)))]?),
+        key: List::new(vec![in alloc; Value::Int(i64::from(row))]?),
+        cells: List::new(vec![in alloc; (COLUMN, Value::Int(i64::from(row % VALUES)))]?),
     };
-    Ok(Listed::new(vec![in alloc; insert]?))
+    Ok(List::new(vec![in alloc; insert]?))
 }
 
 /// An insert at moment 0 for each row.
@@ -76,18 +76,18 @@ pub(crate) fn inserts(alloc: Global, rows: u32) -> Result<Vec<Request>, AllocErr
 }
 
 /// The step by which the index i on (a) enters.
-pub(crate) fn entering(alloc: Global) -> Result<Step, AllocError> {
+pub(crate) fn index_step(alloc: Global) -> Result<Step, AllocError> {
     let fresh = NewElement {
         table: TABLE,
-        name: named(alloc, "i")?,
-        kind: Kind::Index(Listed::new(vec![in alloc; COLUMN]?)),
+        name: text_of(alloc, "i")?,
+        kind: Kind::Index(List::new(vec![in alloc; COLUMN]?)),
     };
     let to = ElementState::DeleteOnly;
-    Ok(Listed::new(vec![in alloc; Move::Enter { fresh, to }]?))
+    Ok(List::new(vec![in alloc; Move::Enter { fresh, to }]?))
 }
 
 /// The step that takes the index into this state.
-pub(crate) fn going(alloc: Global, to: ElementState) -> Result<Step, AllocError> {
+pub(crate) fn state_step(alloc: Global, to: ElementState) -> Result<Step, AllocError> {
     let element = INDEX;
-    Ok(Listed::new(vec![in alloc; Move::Go { element, to }]?))
+    Ok(List::new(vec![in alloc; Move::Go { element, to }]?))
 }

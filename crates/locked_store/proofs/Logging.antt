@@ -3,20 +3,20 @@ use Rattle.std.proofs.Common.{◌≡◌, ℕ, ◌+◌, ◌-◌, ◌<◌, ◌≤�
 use Rattle.std.specs.Prelude.{slice_get, None}
 use Rattle.lease.specs.declared.lease.Lease.{Lease}
 use Rattle.row_write.specs.Made.{PreparedTxn}
-use Rattle.reorganise.specs.declared.reading.Reading.{Reading}
+use Rattle.reorganise.specs.declared.read.Reading.{Reading}
 use Rattle.replay.specs.declared.entry.Entry.{Entry}
 use Rattle.replay.specs.declared.entry.What.{What}
 use Rattle.replay.specs.Replay.{Opening}
 use Rattle.world.specs.declared.committed.Committed.{Committed}
 use Rattle.world.specs.declared.committed.Committed.TheVariants as committed
-use Rattle.world.specs.declared.committing.CommitFault.{CommitFault}
+use Rattle.world.specs.declared.commit.CommitFault.{CommitFault}
 use Rattle.world.specs.declared.entry.Grant.{Grant}
 use Rattle.world.specs.declared.entry.PieceDone.{PieceDone}
 use Rattle.world.specs.declared.entry.Receipt.{Receipt}
-use Rattle.world.specs.declared.leasing.GrantFault.{GrantFault}
-use Rattle.world.specs.declared.pieces.PieceFault.{PieceFault}
+use Rattle.world.specs.declared.grant.GrantFault.{GrantFault}
+use Rattle.world.specs.declared.piece.PieceFault.{PieceFault}
 use Rattle.world.specs.Calls.{Appends, LeaseStep, CommitStep}
-use Rattle.world.specs.Piecework.{PieceStep}
+use Rattle.world.specs.Piece.{PieceStep}
 use Rattle.world.specs.State.{State, effect}
 use Rattle.locked_store.specs.declared.fault.SharedFault.{SharedFault}
 use Rattle.locked_store.specs.declared.fault.SharedFault.TheVariants as shared

@@ -1,3 +1,4 @@
+-- Cited by the contracts of Locked, Shared::close.
 -- The states that a world behind the lock may have.
 use Rattle.std.specs.Prelude.{◌≡◌, ℕ, ◌≤◌, length}
 use Rattle.lease.specs.Timeline.{IsValid, last_publication}

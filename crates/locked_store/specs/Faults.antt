@@ -1,3 +1,4 @@
+-- Cited by the contracts of reconcile.
 -- What reconcile answers.
 use Rattle.std.specs.Prelude.{◌≡◌, ◌≢◌, ℕ, ◌-◌, ◌<◌, ◌≤◌, ◌⊎◌, List, length, slice_get, Some}
 use Rattle.replay.specs.declared.entry.Entry.{Entry}
@@ -17,7 +18,8 @@ FineBelow log rs n = (i : ℕ) (r : Receipt) → i < n → slice_get rs i ≡ So
 abbrev pub FirstAt : List Entry → List Receipt → (ℕ → Receipt → Type 0) → Type 0
 FirstAt log rs fault = (i : ℕ) × (r : Receipt) × (slice_get rs i ≡ Some r) × FineBelow log rs i × fault i r
 
--- all receipts are marked in one place, which the first one makes: want of memory comes only where that one has no fault
+-- all receipts are marked in one place, which the first one makes: out of memory comes only if that
+-- one has no fault
 abbrev pub Faulty : List Entry → List Receipt → ReceiptFault → Type 0
 Faulty log rs (NoPlace place) = FirstAt log rs (λ i r. (r.place ≡ place) × ((place ≡ 0) ⊎ (length log < place)))
 Faulty log rs (OtherEntry place) = FirstAt log rs (λ i r. (r.place ≡ place) × (0 < place) × (place ≤ length log) × (slice_get log (place - 1) ≢ Some r.entry))

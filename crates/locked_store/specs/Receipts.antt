@@ -1,3 +1,4 @@
+-- Cited by the contracts of reconcile, receipts_are_the_log.
 -- Receipts against a log.
 use Rattle.std.specs.Prelude.{◌≡◌, ◌≢◌, ℕ, ◌+◌, ◌-◌, ◌<◌, ◌≤◌, List, length, Some, slice_get}
 use Rattle.replay.specs.declared.entry.Entry.{Entry}
@@ -17,7 +18,7 @@ EachStands log rs = (i : ℕ) (r : Receipt) → slice_get rs i ≡ Some r → St
 abbrev pub EachOnce : List Receipt → Type 0
 EachOnce rs = (i j : ℕ) (r q : Receipt) → j < i → slice_get rs i ≡ Some r → slice_get rs j ≡ Some q → q.place ≢ r.place
 
--- each receipt stands in the log, and no place comes twice
+-- each receipt is in the log, and no place comes twice
 pub record Agree (log : List Entry) (rs : List Receipt) : Type 0 where
   pub stands : EachStands log rs
   pub once : EachOnce rs

@@ -1,3 +1,4 @@
+-- Cited by the contracts of Shared::new.
 -- How many handles a shared world has, and when it is not shared.
 use Rattle.std.specs.Prelude.{◌≡◌, ℕ, ◌<◌, ◌≤◌, ◌⊎◌}
 use Rattle.locked_store.specs.declared.fault.ShareFault.{ShareFault}
@@ -6,7 +7,7 @@ use Rattle.locked_store.specs.declared.fault.ShareFault.TheVariants as share_fau
 abbrev pub IsCount : ℕ → Type 0
 IsCount count = (0 < count) × (count ≤ 64)
 
--- a bad number, and only that, is refused as one: want of memory comes after it
+-- a bad number, and only that, is refused as one: out of memory comes after it
 abbrev pub IsRefused : ℕ → ShareFault → Type 0
 IsRefused count share_fault.BadCount = (count ≡ 0) ⊎ (64 < count)
 IsRefused count share_fault.Memory = IsCount count

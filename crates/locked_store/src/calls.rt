@@ -1,22 +1,22 @@
-//! The calls through the lock. Each answers what the world answers in one critical section, and is refused before it with
-//! `WentBack` where the log is shorter than the handle's front. The front then stays; else it is the length of the log
-//! after the call, also where the world refuses.
+//! The calls through the lock. Each answers what the world answers in one critical section, and is
+//! refused before it with `WentBack` if the log is shorter than the handle's front. The front then
+//! stays; else it is the length of the log after the call, also where the world refuses.
 ghost use Rattle.std.specs.Prelude.{◌≡◌, IfOk};
-ghost use Rattle.locked_store.specs.Answers.{Answers, AnswersBack, Finds, told, told_back, no_place, grant_place, commit_place, publish_place, receipt_place, piece_place};
-ghost use Rattle.world.specs.Beginning.{BeginStep};
+ghost use Rattle.locked_store.specs.Answers.{Answers, AnswersBack, Finds, reported, to_fault, no_place, grant_place, commit_place, publish_place, receipt_place, piece_place};
+ghost use Rattle.world.specs.BeginReorg.{BeginStep};
 ghost use Rattle.world.specs.Calls.{LeaseStep, CommitStep, IsReadView, IsCheck};
-ghost use Rattle.world.specs.Piecework.{PieceStep, ReadStep, standing_at, piece_standing_at};
-ghost use Rattle.world.specs.Publishing.{PublishStep};
-ghost use Rattle.world.specs.Querying.{QueryStep};
-ghost use Rattle.world.specs.Snapshots.{SnapshotStep};
+ghost use Rattle.world.specs.Piece.{PieceStep, ReadStep, standing_at, piece_standing_at};
+ghost use Rattle.world.specs.Publish.{PublishStep};
+ghost use Rattle.world.specs.Query.{QueryStep};
+ghost use Rattle.world.specs.Snapshot.{SnapshotStep};
 ghost use Rattle.world.specs.State.{facts_of, recent};
 
 use crate::fault::{SharedFault, WentBack};
 use crate::handle::Handle;
-use crate::room::Room;
 use crate::shared::Shared;
+use crate::shared_ledger::SharedLedger;
+use collections::{ArcValue, List};
 use lease::Lease;
-use listed::{Counted, Listed};
 use reorganise::{PieceView, PreparedPiece, Work};
 use row_map::{ReadSet, ReadView, Row};
 use row_query::Query;
@@ -31,7 +31,7 @@ use world::{
 
 // What the world answered.
 fn through<T, E>(answer: Result<T, E>) -> Result<T, SharedFault<E>>
-    ensures { result ≡ told answer }
+    ensures { result ≡ reported answer }
 {
     match answer {
         Ok(value) => Ok(value),
@@ -41,7 +41,7 @@ fn through<T, E>(answer: Result<T, E>) -> Result<T, SharedFault<E>>
 
 // What the world answered, with what it gives back.
 fn through_back<T, E, P>(answer: Result<T, (E, P)>) -> Result<T, (SharedFault<E>, P)>
-    ensures { result ≡ told_back answer }
+    ensures { result ≡ to_fault answer }
 {
     match answer {
         Ok(value) => Ok(value),
@@ -49,11 +49,11 @@ fn through_back<T, E, P>(answer: Result<T, (E, P)>) -> Result<T, (SharedFault<E>
     }
 }
 
-impl<L: Room> Shared<L> {
+impl<L: SharedLedger> Shared<L> {
     /// Grants a lease on the newest version, as `World::lease` does.
     ///
-    /// Refused in this order: `WentBack` where the log is shorter than the handle's front; `World` with what `World::lease`
-    /// refuses.
+    /// Refused in this order: `WentBack` if the log is shorter than the handle's front; `World`
+    /// with what `World::lease` refuses.
     #[tactic(auto, using(crate::proofs::Through::answers))]
     pub fn lease(
         &self,
@@ -72,14 +72,15 @@ impl<L: Room> Shared<L> {
     /// The schema of the newest version or of the one before, by its number, as `World::schema` gives it; None for any other
     /// number. It is an owner of its own, so that it outlives the critical section.
     ///
-    /// Refused in this order: `WentBack` where the log is shorter than the handle's front; `World` for want of memory.
+    /// Refused in this order: `WentBack` if the log is shorter than the handle's front; `World`
+    /// when out of memory.
     #[tactic(auto, using(crate::proofs::Through::answers))]
     pub fn schema(
         &self,
         rt: &impl Wait,
         me: &mut Handle<L>,
         version: u64,
-    ) -> Result<Option<Counted<Schema>>, SharedFault<AllocError>>
+    ) -> Result<Option<ArcValue<Schema>>, SharedFault<AllocError>>
         ensures { Answers L.opening me.old result me.new (λ c r d. IfOk r (λ s. s ≡ recent (facts_of c) version) × (d ≡ c)) no_place }
     {
         let locked = self.locked.lock(rt);
@@ -89,8 +90,8 @@ impl<L: Room> Shared<L> {
 
     /// The pairs of these keys, as `World::read` gives them.
     ///
-    /// Refused in this order: `WentBack` where the log is shorter than the handle's front; `World` with what `World::read`
-    /// refuses.
+    /// Refused in this order: `WentBack` if the log is shorter than the handle's front; `World`
+    /// with what `World::read` refuses.
     #[tactic(auto, using(crate::proofs::Through::answers))]
     pub fn read(
         &self,
@@ -108,8 +109,8 @@ impl<L: Room> Shared<L> {
 
     /// Commits a prepared transaction, as `World::commit` does.
     ///
-    /// Refused in this order: `WentBack` where the log is shorter than the handle's front; `World` with what `World::commit`
-    /// refuses. What was prepared comes back with each refusal.
+    /// Refused in this order: `WentBack` if the log is shorter than the handle's front; `World`
+    /// with what `World::commit` refuses. What was prepared comes back with each refusal.
     #[tactic(auto, using(crate::proofs::Through::answers_back))]
     pub fn commit(
         &self,
@@ -130,8 +131,8 @@ impl<L: Room> Shared<L> {
 
     /// The rows that a query asks for, as `World::query` gives them.
     ///
-    /// Refused in this order: `WentBack` where the log is shorter than the handle's front; `World` with what `World::query`
-    /// refuses.
+    /// Refused in this order: `WentBack` if the log is shorter than the handle's front; `World`
+    /// with what `World::query` refuses.
     #[tactic(auto, using(crate::proofs::Through::answers))]
     pub fn query(
         &self,
@@ -141,7 +142,7 @@ impl<L: Room> Shared<L> {
         moment: u64,
         lease: &Lease,
         query: &Query,
-    ) -> Result<Listed<Row>, SharedFault<QueryRefusal>>
+    ) -> Result<List<Row>, SharedFault<QueryRefusal>>
         ensures { Answers L.opening me.old result me.new (λ c r d. QueryStep c moment lease.now query.now r × (d ≡ c)) no_place }
     {
         let locked = self.locked.lock(rt);
@@ -152,8 +153,8 @@ impl<L: Room> Shared<L> {
     /// A snapshot of what is committed, as `World::snapshot` gives it. It is an owner of its own: it outlives the critical
     /// section, and its queries take no lock.
     ///
-    /// Refused in this order: `WentBack` where the log is shorter than the handle's front; `World` with what
-    /// `World::snapshot` refuses.
+    /// Refused in this order: `WentBack` if the log is shorter than the handle's front; `World`
+    /// with what `World::snapshot` refuses.
     #[tactic(auto, using(crate::proofs::Through::answers))]
     pub fn snapshot(
         &self,
@@ -171,8 +172,8 @@ impl<L: Room> Shared<L> {
 
     /// Publishes the version that a step gives, as `World::publish` does.
     ///
-    /// Refused in this order: `WentBack` where the log is shorter than the handle's front; `World` with what `World::publish`
-    /// refuses.
+    /// Refused in this order: `WentBack` if the log is shorter than the handle's front; `World`
+    /// with what `World::publish` refuses.
     #[tactic(auto, using(crate::proofs::Through::answers))]
     pub fn publish(
         &self,
@@ -191,8 +192,8 @@ impl<L: Room> Shared<L> {
 
     /// Begins a reorganisation, as `World::begin_reorg` does.
     ///
-    /// Refused in this order: `WentBack` where the log is shorter than the handle's front; `World` with what `World::begin_reorg`
-    /// refuses.
+    /// Refused in this order: `WentBack` if the log is shorter than the handle's front; `World`
+    /// with what `World::begin_reorg` refuses.
     #[tactic(auto, using(crate::proofs::Through::answers))]
     pub fn begin_reorg(
         &self,
@@ -245,8 +246,8 @@ impl<L: Room> Shared<L> {
 
     /// Reads the next items of a piece, as `World::read_piece` does.
     ///
-    /// Refused in this order: `WentBack` where the log is shorter than the handle's front; `World` with what `World::read_piece`
-    /// refuses.
+    /// Refused in this order: `WentBack` if the log is shorter than the handle's front; `World`
+    /// with what `World::read_piece` refuses.
     #[tactic(auto, using(crate::proofs::Through::answers))]
     pub fn read_piece(
         &self,
@@ -266,8 +267,8 @@ impl<L: Room> Shared<L> {
 
     /// Commits a prepared piece, as `World::commit_piece` does.
     ///
-    /// Refused in this order: `WentBack` where the log is shorter than the handle's front; `World` with what `World::commit_piece`
-    /// refuses. What was prepared comes back with each refusal.
+    /// Refused in this order: `WentBack` if the log is shorter than the handle's front; `World`
+    /// with what `World::commit_piece` refuses. What was prepared comes back with each refusal.
     #[tactic(auto, using(crate::proofs::Through::answers_back))]
     pub fn commit_piece(
         &self,
@@ -288,8 +289,8 @@ impl<L: Room> Shared<L> {
 
     /// Audits the pairs by the newest version, as `World::check` does.
     ///
-    /// Refused in this order: `WentBack` where the log is shorter than the handle's front; `World` with what `World::check`
-    /// refuses.
+    /// Refused in this order: `WentBack` if the log is shorter than the handle's front; `World`
+    /// with what `World::check` refuses.
     #[tactic(auto, using(crate::proofs::Through::answers))]
     pub fn check(
         &self,

@@ -9,7 +9,7 @@ pub struct WentBack {
     pub seen: u64,
 }
 
-/// Why a call through the lock was refused. Of several reasons the first in this order is told.
+/// Why a call through the lock was refused. Of several reasons the first in this order is reported.
 #[derive(Drop)]
 pub enum SharedFault<E> {
     /// The log is shorter than the handle's front.
@@ -32,13 +32,13 @@ impl<E> From<WentBack> for SharedFault<E> {
     }
 }
 
-/// Why a world was not shared. Of several reasons the first in this order is told.
+/// Why a world was not shared. Of several reasons the first in this order is reported.
 #[derive(Clone, Copy, Debug, PartialEq, Eq, Error)]
 pub enum ShareFault {
     /// The number of handles is not from 1 to 64.
     #[error("the number of handles is not from 1 to 64")]
     BadCount,
-    /// Want of memory.
+    /// Out of memory.
     #[error("out of memory")]
     Memory,
 }
@@ -74,7 +74,7 @@ pub enum ReceiptFault {
         /// The receipt's place.
         place: u64,
     },
-    /// Want of memory.
+    /// Out of memory.
     #[error("out of memory")]
     Memory,
 }

@@ -2,20 +2,20 @@
 ghost use Rattle.std.specs.Prelude.{◌≡◌, ◌<◌, length};
 ghost use Rattle.locked_store.specs.Known.{IsLeastFront};
 
-use crate::room::Room;
+use crate::shared_ledger::SharedLedger;
 use std::marker::Model;
 use std::sync::ledger::Share;
 
 /// A right to call a shared world. It has a number, its share of the count of entries, and a front: the length of the log
 /// as it last saw it.
 #[derive(Drop)]
-pub struct Handle<L: Room> {
+pub struct Handle<L: SharedLedger> {
     pub(crate) id: u64,
     pub(crate) front: u64,
     pub(crate) share: Share<L>,
 }
 
-impl<L: Room> Model for Handle<L> {
+impl<L: SharedLedger> Model for Handle<L> {
     ghost use Rattle.std.specs.Prelude.{◌≡◌};
     ghost use Rattle.locked_store.specs.Known.{Known};
 
@@ -26,7 +26,7 @@ impl<L: Room> Model for Handle<L> {
     ghost invariant = { λ h. h.share.parts ≡ 1 };
 }
 
-impl<L: Room> Handle<L> {
+impl<L: SharedLedger> Handle<L> {
     /// The length of the log as it last saw it.
     pub fn front(&self) -> u64
         ensures { result ≡ self.now.front }
@@ -36,7 +36,7 @@ impl<L: Room> Handle<L> {
 }
 
 /// The least front of these handles: the length of the log that all of them have seen.
-pub fn least_front<L: Room>(handles: &[Handle<L>]) -> u64
+pub fn least_front<L: SharedLedger>(handles: &[Handle<L>]) -> u64
     requires { 0 < length handles.now }
     ensures { IsLeastFront handles.now result }
 {

@@ -2,19 +2,19 @@
 ghost use Rattle.std.specs.Prelude.{◌≡◌, ◌<◌, ◌≤◌, length, IfOk, IfErr, OnOk, option_map};
 ghost use Rattle.locked_store.specs.Answers.{Takes, Found, no_place, grant_place, commit_place, publish_place, receipt_place, piece_place};
 ghost use Rattle.locked_store.specs.Cores.{IsCore, WasLength};
-ghost use Rattle.world.specs.Beginning.{BeginStep};
+ghost use Rattle.world.specs.BeginReorg.{BeginStep};
 ghost use Rattle.world.specs.Calls.{LeaseStep, CommitStep, IsReadView, IsCheck};
-ghost use Rattle.world.specs.Piecework.{PieceStep, ReadStep, standing_at, piece_standing_at};
-ghost use Rattle.world.specs.Publishing.{PublishStep};
-ghost use Rattle.world.specs.Querying.{QueryStep};
-ghost use Rattle.world.specs.Snapshots.{SnapshotStep};
+ghost use Rattle.world.specs.Piece.{PieceStep, ReadStep, standing_at, piece_standing_at};
+ghost use Rattle.world.specs.Publish.{PublishStep};
+ghost use Rattle.world.specs.Query.{QueryStep};
+ghost use Rattle.world.specs.Snapshot.{SnapshotStep};
 ghost use Rattle.world.specs.State.{facts_of, recent};
 
 use crate::fault::WentBack;
 use crate::handle::Handle;
-use crate::room::Room;
+use crate::shared_ledger::SharedLedger;
+use collections::{ArcValue, List};
 use lease::Lease;
-use listed::{Counted, Listed};
 use reorganise::{PieceView, PreparedPiece, Work};
 use row_map::{ReadSet, ReadView, Row};
 use row_query::Query;
@@ -33,13 +33,13 @@ use world::{
 /// Whenever the lock is free, the pairs are the replay of the log and agree with the rows for every version that a lease may
 /// still use, and the handles' shares add up to the entries that were added.
 #[derive(Drop)]
-pub(crate) struct Locked<L: Room> {
+pub(crate) struct Locked<L: SharedLedger> {
     pub(crate) world: World,
     pub(crate) added: u64,
     pub(crate) book: Book<L>,
 }
 
-impl<L: Room> Model for Locked<L> {
+impl<L: SharedLedger> Model for Locked<L> {
     ghost use Rattle.std.specs.Prelude.{◌≡◌, ◌+◌, length};
     ghost use Rattle.world.specs.State.{State};
     ghost use Rattle.world.specs.Code.{state_code};
@@ -62,7 +62,7 @@ pub(crate) fn log_len(world: &World) -> u64
 }
 
 // An owner more of a schema.
-fn same(schema: Option<&Counted<Schema>>) -> Result<Option<Counted<Schema>>, AllocError>
+fn same(schema: Option<&ArcValue<Schema>>) -> Result<Option<ArcValue<Schema>>, AllocError>
     ensures { IfOk result (λ s. s ≡ option_map (λ r. r.now) schema.entry) }
 {
     match schema {
@@ -71,7 +71,7 @@ fn same(schema: Option<&Counted<Schema>>) -> Result<Option<Counted<Schema>>, All
     }
 }
 
-impl<L: Room> Locked<L> {
+impl<L: SharedLedger> Locked<L> {
     // Refuses if the log is shorter than the handle's front.
     pub(crate) fn check_front(&self, me: &Handle<L>) -> Result<(), WentBack>
         ensures ok { OnOk result (me.now.front ≤ length self.now.log) }
@@ -85,7 +85,7 @@ impl<L: Room> Locked<L> {
     }
 
     // Tells that the world is a core of the opening.
-    fn is_core(&self)
+    fn lemma_is_core(&self)
         ensures { IsCore L.opening self.now }
     {
         let _world = &self.world;
@@ -98,7 +98,7 @@ impl<L: Room> Locked<L> {
         ensures same { (me.new.id ≡ me.old.id) × (me.new.count ≡ me.old.count) }
     {
         me.front = log_len(&self.world);
-        self.is_core();
+        self.lemma_is_core();
     }
 
     pub(crate) fn lease(
@@ -110,7 +110,7 @@ impl<L: Room> Locked<L> {
         requires { me.old.front ≤ length self.old.log }
         ensures { Takes L.opening me.old self.old result self.new me.new (λ c r d. LeaseStep c moment r d) grant_place }
     {
-        self.is_core();
+        self.lemma_is_core();
         let Locked { world, added, book } = self;
         let result = world.lease(alloc, moment);
         let len = log_len(world);
@@ -119,7 +119,7 @@ impl<L: Room> Locked<L> {
             *added += 1;
         }
         me.front = len;
-        world.agrees();
+        world.lemma_agrees();
         result
     }
 
@@ -127,7 +127,7 @@ impl<L: Room> Locked<L> {
         &self,
         me: &mut Handle<L>,
         version: u64,
-    ) -> Result<Option<Counted<Schema>>, AllocError>
+    ) -> Result<Option<ArcValue<Schema>>, AllocError>
         requires { me.old.front ≤ length self.now.log }
         ensures { Takes L.opening me.old self.now result self.now me.new (λ c r d. IfOk r (λ s. s ≡ recent (facts_of c) version) × (d ≡ c)) no_place }
     {
@@ -158,7 +158,7 @@ impl<L: Room> Locked<L> {
         requires { me.old.front ≤ length self.old.log }
         ensures { Takes L.opening me.old self.old result self.new me.new (λ c r d. CommitStep c moment prepared r d) commit_place }
     {
-        self.is_core();
+        self.lemma_is_core();
         let Locked { world, added, book } = self;
         let result = world.commit(alloc, moment, prepared);
         let len = log_len(world);
@@ -167,7 +167,7 @@ impl<L: Room> Locked<L> {
             *added += 1;
         }
         me.front = len;
-        world.agrees();
+        world.lemma_agrees();
         result
     }
 
@@ -178,7 +178,7 @@ impl<L: Room> Locked<L> {
         moment: u64,
         lease: &Lease,
         query: &Query,
-    ) -> Result<Listed<Row>, QueryRefusal>
+    ) -> Result<List<Row>, QueryRefusal>
         requires { me.old.front ≤ length self.now.log }
         ensures { Takes L.opening me.old self.now result self.now me.new (λ c r d. QueryStep c moment lease.now query.now r × (d ≡ c)) no_place }
     {
@@ -209,7 +209,7 @@ impl<L: Room> Locked<L> {
         requires { me.old.front ≤ length self.old.log }
         ensures { Takes L.opening me.old self.old result self.new me.new (λ c r d. PublishStep c moment step.now r d) publish_place }
     {
-        self.is_core();
+        self.lemma_is_core();
         let Locked { world, added, book } = self;
         let result = world.publish(alloc, moment, step);
         let len = log_len(world);
@@ -218,7 +218,7 @@ impl<L: Room> Locked<L> {
             *added += 1;
         }
         me.front = len;
-        world.agrees();
+        world.lemma_agrees();
         result
     }
 
@@ -233,7 +233,7 @@ impl<L: Room> Locked<L> {
         requires { me.old.front ≤ length self.old.log }
         ensures { Takes L.opening me.old self.old result self.new me.new (λ c r d. BeginStep c moment element pieces r d) receipt_place }
     {
-        self.is_core();
+        self.lemma_is_core();
         let Locked { world, added, book } = self;
         let result = world.begin_reorg(alloc, moment, element, pieces);
         let len = log_len(world);
@@ -242,7 +242,7 @@ impl<L: Room> Locked<L> {
             *added += 1;
         }
         me.front = len;
-        world.agrees();
+        world.lemma_agrees();
         result
     }
 
@@ -292,7 +292,7 @@ impl<L: Room> Locked<L> {
         requires { me.old.front ≤ length self.old.log }
         ensures { Takes L.opening me.old self.old result self.new me.new (λ c r d. PieceStep c moment prepared r d) piece_place }
     {
-        self.is_core();
+        self.lemma_is_core();
         let Locked { world, added, book } = self;
         let result = world.commit_piece(alloc, moment, prepared);
         let len = log_len(world);
@@ -301,7 +301,7 @@ impl<L: Room> Locked<L> {
             *added += 1;
         }
         me.front = len;
-        world.agrees();
+        world.lemma_agrees();
         result
     }
 

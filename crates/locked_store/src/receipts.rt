@@ -18,8 +18,9 @@ fn fresh(alloc: Global, count: usize) -> Result<Vec<bool>, AllocError>
     Ok(seen)
 }
 
-// What is told where there is no memory for marks: the first receipt's fault, and want of memory only where it has none.
-fn unmarked(log: &[Entry], receipts: &[Receipt]) -> ReceiptFault
+// What is reported where there is no memory for marks: the first receipt's fault, and out of memory
+// only if it has none.
+fn first_unmarked(log: &[Entry], receipts: &[Receipt]) -> ReceiptFault
     ensures { Faulty log.now receipts.now result }
 {
     let Some(receipt) = receipts.first() else {
@@ -36,12 +37,12 @@ fn unmarked(log: &[Entry], receipts: &[Receipt]) -> ReceiptFault
 }
 
 // The same as `reconcile`, of a log.
-fn tested(alloc: Global, log: &[Entry], receipts: &[Receipt]) -> Result<(), ReceiptFault>
+fn check_receipts(alloc: Global, log: &[Entry], receipts: &[Receipt]) -> Result<(), ReceiptFault>
     ensures ok { OnOk result (Agree log.now receipts.now) }
     ensures faults { IfErr result (λ e. Faulty log.now receipts.now e) }
 {
     let Ok(mut seen) = fresh(alloc, log.len()) else {
-        return Err(unmarked(log, receipts));
+        return Err(first_unmarked(log, receipts));
     };
     for receipt in receipts {
         let place = receipt.place;
@@ -62,13 +63,14 @@ fn tested(alloc: Global, log: &[Entry], receipts: &[Receipt]) -> Result<(), Rece
 
 /// Tests receipts, in order, against the log: each receipt's entry stands at its place, and no place comes twice.
 ///
-/// The first faulty receipt is refused, in this order: `NoPlace` where the log has no such place; `OtherEntry` where
-/// another entry stands there; `Twice` where an earlier receipt has the place; `Memory`, once the first receipt has no fault.
+/// The first faulty receipt is refused, in this order: `NoPlace` if the log has no such place;
+/// `OtherEntry` if another entry stands there; `Twice` if an earlier receipt has the place;
+/// `Memory`, once the first receipt has no fault.
 pub fn reconcile(alloc: Global, world: &World, receipts: &[Receipt]) -> Result<(), ReceiptFault>
     ensures ok { OnOk result (Agree world.now.log receipts.now) }
     ensures faults { IfErr result (λ e. Faulty world.now.log receipts.now e) }
 {
-    tested(alloc, world.log(), receipts)
+    check_receipts(alloc, world.log(), receipts)
 }
 
 /// Tells what receipts are that agree with a log, are as many as its entries after the first so many, and all come after

@@ -7,7 +7,7 @@ ghost use Rattle.locked_store.specs.Sharing.{IsCount, IsRefused};
 use crate::fault::{Missing, ShareFault};
 use crate::handle::Handle;
 use crate::locked::{Locked, log_len};
-use crate::room::Room;
+use crate::shared_ledger::SharedLedger;
 use std::alloc::Global;
 use std::sync::Mutex;
 use std::sync::ledger::{Blank, Share};
@@ -18,17 +18,18 @@ const MAX_HANDLES: u64 = 64;
 
 /// A world that threads share by one lock. Each call is one critical section, and in it one call of the world.
 #[derive(Drop)]
-pub struct Shared<L: Room> {
+pub struct Shared<L: SharedLedger> {
     handles: u64,
     pub(crate) locked: Mutex<Locked<L>>,
     ghost handles_is: { handles ≡ L.handles },
     ghost some: { 0 < handles },
 }
 
-impl<L: Room> Shared<L> {
+impl<L: SharedLedger> Shared<L> {
     /// Shares a world among `count` handles, numbered from 0.
     ///
-    /// Refused in this order, and then the world comes back: `BadCount` where the number is not from 1 to 64; `Memory`.
+    /// Refused in this order, and then the world comes back: `BadCount` if the number is not from 1
+    /// to 64; `Memory`.
     pub fn new(
         alloc: Global,
         blank: Blank,
@@ -58,7 +59,7 @@ impl<L: Room> Shared<L> {
                 share,
             });
         }
-        world.agrees();
+        world.lemma_agrees();
         let locked = Locked {
             world,
             added: 0,
@@ -73,8 +74,8 @@ impl<L: Room> Shared<L> {
 
     /// Takes the world back once all handles are handed in. Their shares then add up to the entries since it was shared.
     ///
-    /// Refused with `Missing` where handles are short, with how many were handed in and how many there are; the handles
-    /// and the lock then come back.
+    /// Refused with `Missing` if handles are short, with how many were handed in and how many there
+    /// are; the handles and the lock then come back.
     pub fn close(
         self,
         handles: Vec<Handle<L>>,
@@ -97,17 +98,17 @@ impl<L: Room> Shared<L> {
             added: _,
             mut book,
         } = inner;
-        let Some(mut all) = merged(handles) else {
+        let Some(mut all) = merge_shares(handles) else {
             unreachable!()
         };
         book.audit(&mut all);
-        world.agrees();
+        world.lemma_agrees();
         Ok(world)
     }
 }
 
 // All shares of the handles as one.
-fn merged<L: Room>(mut handles: Vec<Handle<L>>) -> Option<Share<L>>
+fn merge_shares<L: SharedLedger>(mut handles: Vec<Handle<L>>) -> Option<Share<L>>
     ensures { MatchOption result (handles.items ≡ []) (λ s. (s.parts ≡ vec_len handles) × (s.parts ≤ L.parts) × (s.amount ≡ total_count handles.items)) }
 {
     let Handle {

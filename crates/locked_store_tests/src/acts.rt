@@ -1,9 +1,9 @@
 //! Calls through a handle, each with the answer that it has to give.
 
-use crate::desk::{Desk, Told, committed, judged, prepared};
 use crate::fixtures::{FIRST, are, delete, entering, going, insert, whole_table};
+use crate::handle_port::{HandlePort, Reported, committed, judged, prepared};
 use crate::pieces::{begins, stands, works};
-use locked_store::{Room, SharedFault};
+use locked_store::{SharedFault, SharedLedger};
 use reorganise::{PreparedPiece, Work};
 use row_query::QueryFault;
 use row_write::{Prepared, RowOps};
@@ -39,104 +39,111 @@ pub(crate) enum Act {
     Piece,
     /// How the fill stands.
     Stand(Option<(Work, usize, bool)>),
-    /// The state of the index in a version, none where the version is not told.
+    /// The state of the index in a version, none if the version is not told.
     State(u64, Option<ElementState>),
 }
 
-fn leases<L: Room, R: Wait>(desk: &mut Desk<L, R>) -> Told {
-    match desk.shared.lease(desk.rt, desk.alloc, &mut desk.me, 0) {
+fn leases<L: SharedLedger, R: Wait>(port: &mut HandlePort<L, R>) -> Reported {
+    match port.shared.lease(port.rt, port.alloc, &mut port.me, 0) {
         Ok(grant) => judged(grant.lease == FIRST),
-        Err(SharedFault::World(GrantFault::Memory)) => Told::Short,
-        Err(_) => Told::Wrong,
+        Err(SharedFault::World(GrantFault::Memory)) => Reported::Short,
+        Err(_) => Reported::Wrong,
     }
 }
 
 // What came back is committed, else what is prepared anew.
-fn commits<L: Room, R: Wait>(
-    desk: &mut Desk<L, R>,
+fn commits<L: SharedLedger, R: Wait>(
+    port: &mut HandlePort<L, R>,
     back: &mut Option<Prepared>,
     ops: Result<RowOps, AllocError>,
-) -> Told {
+) -> Reported {
     let work = match back.take() {
         Some(work) => work,
-        None => match prepared(desk, ops) {
+        None => match prepared(port, ops) {
             Ok(work) => work,
-            Err(told) => return told,
+            Err(reported) => return reported,
         },
     };
-    match committed(desk, back, work) {
-        Ok(_) => Told::Right,
-        Err(told) => told,
+    match committed(port, back, work) {
+        Ok(_) => Reported::Right,
+        Err(reported) => reported,
     }
 }
 
-fn finds<L: Room, R: Wait>(desk: &mut Desk<L, R>, wanted: Rows) -> Told {
-    let Ok(query) = whole_table(desk.alloc) else {
-        return Told::Short;
+fn finds<L: SharedLedger, R: Wait>(port: &mut HandlePort<L, R>, wanted: Rows) -> Reported {
+    let Ok(query) = whole_table(port.alloc) else {
+        return Reported::Short;
     };
-    match desk
+    match port
         .shared
-        .query(desk.rt, desk.alloc, &mut desk.me, 0, &FIRST, &query)
+        .query(port.rt, port.alloc, &mut port.me, 0, &FIRST, &query)
     {
         Ok(rows) => judged(are(rows.as_slice(), wanted)),
-        Err(SharedFault::World(QueryRefusal::Query(QueryFault::Memory))) => Told::Short,
-        Err(_) => Told::Wrong,
+        Err(SharedFault::World(QueryRefusal::Query(QueryFault::Memory))) => Reported::Short,
+        Err(_) => Reported::Wrong,
     }
 }
 
-fn keeps<L: Room, R: Wait>(desk: &mut Desk<L, R>, kept: &mut Option<Snapshot>) -> Told {
-    match desk.shared.snapshot(desk.rt, &mut desk.me, 0, &FIRST) {
+fn keeps<L: SharedLedger, R: Wait>(
+    port: &mut HandlePort<L, R>,
+    kept: &mut Option<Snapshot>,
+) -> Reported {
+    match port.shared.snapshot(port.rt, &mut port.me, 0, &FIRST) {
         Ok(snapshot) => {
             *kept = Some(snapshot);
-            Told::Right
+            Reported::Right
         }
-        Err(SharedFault::World(SnapshotFault::Memory)) => Told::Short,
-        Err(_) => Told::Wrong,
+        Err(SharedFault::World(SnapshotFault::Memory)) => Reported::Short,
+        Err(_) => Reported::Wrong,
     }
 }
 
-fn looks<L: Room, R: Wait>(desk: &Desk<L, R>, kept: &Option<Snapshot>, wanted: Rows) -> Told {
+fn looks<L: SharedLedger, R: Wait>(
+    port: &HandlePort<L, R>,
+    kept: &Option<Snapshot>,
+    wanted: Rows,
+) -> Reported {
     let Some(snapshot) = kept else {
-        return Told::Wrong;
+        return Reported::Wrong;
     };
-    let Ok(query) = whole_table(desk.alloc) else {
-        return Told::Short;
+    let Ok(query) = whole_table(port.alloc) else {
+        return Reported::Short;
     };
-    match snapshot.query(desk.alloc, &query) {
+    match snapshot.query(port.alloc, &query) {
         Ok(rows) => judged(are(rows.as_slice(), wanted)),
-        Err(QueryFault::Memory) => Told::Short,
-        Err(_) => Told::Wrong,
+        Err(QueryFault::Memory) => Reported::Short,
+        Err(_) => Reported::Wrong,
     }
 }
 
-fn publishes<L: Room, R: Wait>(
-    desk: &mut Desk<L, R>,
+fn publishes<L: SharedLedger, R: Wait>(
+    port: &mut HandlePort<L, R>,
     moment: u64,
     step: Result<Step, AllocError>,
-) -> Told {
+) -> Reported {
     let Ok(step) = step else {
-        return Told::Short;
+        return Reported::Short;
     };
-    match desk
+    match port
         .shared
-        .publish(desk.rt, desk.alloc, &mut desk.me, moment, &step)
+        .publish(port.rt, port.alloc, &mut port.me, moment, &step)
     {
-        Ok(_) => Told::Right,
-        Err(SharedFault::World(PublishFault::Memory)) => Told::Short,
-        Err(_) => Told::Wrong,
+        Ok(_) => Reported::Right,
+        Err(SharedFault::World(PublishFault::Memory)) => Reported::Short,
+        Err(_) => Reported::Wrong,
     }
 }
 
-fn states<L: Room, R: Wait>(
-    desk: &mut Desk<L, R>,
+fn states<L: SharedLedger, R: Wait>(
+    port: &mut HandlePort<L, R>,
     version: u64,
     wanted: Option<ElementState>,
-) -> Told {
-    match desk.shared.schema(desk.rt, &mut desk.me, version) {
+) -> Reported {
+    match port.shared.schema(port.rt, &mut port.me, version) {
         Ok(Some(schema)) => judged(Some(schema.get().state(2)) == wanted),
         Ok(None) => judged(wanted.is_none()),
-        Err(SharedFault::World(AllocError)) => Told::Short,
-        Err(_) => Told::Wrong,
+        Err(SharedFault::World(AllocError)) => Reported::Short,
+        Err(_) => Reported::Wrong,
     }
 }
 
@@ -149,20 +156,24 @@ pub(crate) struct Kept {
 }
 
 /// What comes of an act.
-pub(crate) fn acted<L: Room, R: Wait>(desk: &mut Desk<L, R>, kept: &mut Kept, act: &Act) -> Told {
-    let alloc = desk.alloc;
+pub(crate) fn acted<L: SharedLedger, R: Wait>(
+    port: &mut HandlePort<L, R>,
+    kept: &mut Kept,
+    act: &Act,
+) -> Reported {
+    let alloc = port.alloc;
     match act {
-        Act::Lease => leases(desk),
-        Act::Insert(id, value) => commits(desk, &mut kept.work, insert(alloc, *id, *value)),
-        Act::Delete(id) => commits(desk, &mut kept.work, delete(alloc, *id)),
-        Act::Find(rows) => finds(desk, *rows),
-        Act::Keep => keeps(desk, &mut kept.snapshot),
-        Act::Look(rows) => looks(desk, &kept.snapshot, *rows),
-        Act::Enter => publishes(desk, 10, entering(alloc)),
-        Act::Go(to, moment) => publishes(desk, *moment, going(alloc, *to)),
-        Act::Begin => begins(desk),
-        Act::Piece => works(desk, &mut kept.piece),
-        Act::Stand(progress) => stands(desk, *progress),
-        Act::State(version, state) => states(desk, *version, *state),
+        Act::Lease => leases(port),
+        Act::Insert(id, value) => commits(port, &mut kept.work, insert(alloc, *id, *value)),
+        Act::Delete(id) => commits(port, &mut kept.work, delete(alloc, *id)),
+        Act::Find(rows) => finds(port, *rows),
+        Act::Keep => keeps(port, &mut kept.snapshot),
+        Act::Look(rows) => looks(port, &kept.snapshot, *rows),
+        Act::Enter => publishes(port, 10, entering(alloc)),
+        Act::Go(to, moment) => publishes(port, *moment, going(alloc, *to)),
+        Act::Begin => begins(port),
+        Act::Piece => works(port, &mut kept.piece),
+        Act::Stand(progress) => stands(port, *progress),
+        Act::State(version, state) => states(port, *version, *state),
     }
 }

@@ -1,8 +1,8 @@
 //! The worked table, its operations, the query of all of it, and the index that enters.
 
+use collections::List;
 use keycode::{Text, Value};
 use lease::Lease;
-use listed::Listed;
 use row_map::{ColumnType, Row};
 use row_query::Query;
 use row_write::{RowOp, RowOps};
@@ -27,8 +27,8 @@ fn named(alloc: Global, name: &str) -> Result<Text, AllocError> {
 }
 
 // NAME int
-fn column(alloc: Global, name: &str) -> Result<Listed<(Text, ColumnType)>, AllocError> {
-    Ok(Listed::new(vec![in alloc; (named(alloc, name)?, ColumnType::Int)]?))
+fn column(alloc: Global, name: &str) -> Result<List<(Text, ColumnType)>, AllocError> {
+    Ok(List::new(vec![in alloc; (named(alloc, name)?, ColumnType::Int)]?))
 }
 
 // table t (id int key, a int)
@@ -37,12 +37,12 @@ fn table(alloc: Global) -> Result<TableDef, AllocError> {
         name: named(alloc, "t")?,
         key: column(alloc, "id")?,
         columns: column(alloc, "a")?,
-        indexes: Listed::new(Vec::new(alloc)),
+        indexes: List::new(Vec::new(alloc)),
     })
 }
 
 fn config(alloc: Global) -> Result<Config, AllocError> {
-    let tables = Listed::new(vec![in alloc; table(alloc)?]?);
+    let tables = List::new(vec![in alloc; table(alloc)?]?);
     Ok(Config { length: 10, tables })
 }
 
@@ -55,37 +55,37 @@ pub(crate) fn opened(alloc: Global) -> Result<World, OpenFault> {
 pub(crate) fn insert(alloc: Global, id: i64, value: i64) -> Result<RowOps, AllocError> {
     let insert = RowOp::Insert {
         table: 1,
-        key: Listed::new(vec![in alloc; Value::Int(id)]?),
-        cells: Listed::new(vec![in alloc; (1, Value::Int(value))]?),
+        key: List::new(vec![in alloc; Value::Int(id)]?),
+        cells: List::new(vec![in alloc; (1, Value::Int(value))]?),
     };
-    Ok(Listed::new(vec![in alloc; insert]?))
+    Ok(List::new(vec![in alloc; insert]?))
 }
 
 /// update t (ID) set a = VALUE
 pub(crate) fn update(alloc: Global, id: i64, value: i64) -> Result<RowOps, AllocError> {
     let update = RowOp::Update {
         table: 1,
-        key: Listed::new(vec![in alloc; Value::Int(id)]?),
-        cells: Listed::new(vec![in alloc; (1, Value::Int(value))]?),
+        key: List::new(vec![in alloc; Value::Int(id)]?),
+        cells: List::new(vec![in alloc; (1, Value::Int(value))]?),
     };
-    Ok(Listed::new(vec![in alloc; update]?))
+    Ok(List::new(vec![in alloc; update]?))
 }
 
 /// delete t (ID)
 pub(crate) fn delete(alloc: Global, id: i64) -> Result<RowOps, AllocError> {
     let delete = RowOp::Delete {
         table: 1,
-        key: Listed::new(vec![in alloc; Value::Int(id)]?),
+        key: List::new(vec![in alloc; Value::Int(id)]?),
     };
-    Ok(Listed::new(vec![in alloc; delete]?))
+    Ok(List::new(vec![in alloc; delete]?))
 }
 
 /// select a from t
 pub(crate) fn whole_table(alloc: Global) -> Result<Query, AllocError> {
     Ok(Query {
         table: 1,
-        columns: Listed::new(vec![in alloc; 1]?),
-        conditions: Listed::new(Vec::new(alloc)),
+        columns: List::new(vec![in alloc; 1]?),
+        conditions: List::new(Vec::new(alloc)),
     })
 }
 
@@ -94,15 +94,15 @@ pub(crate) fn entering(alloc: Global) -> Result<Step, AllocError> {
     let fresh = NewElement {
         table: 1,
         name: named(alloc, "i")?,
-        kind: Kind::Index(Listed::new(vec![in alloc; 1u32]?)),
+        kind: Kind::Index(List::new(vec![in alloc; 1u32]?)),
     };
     let to = ElementState::DeleteOnly;
-    Ok(Listed::new(vec![in alloc; Move::Enter { fresh, to }]?))
+    Ok(List::new(vec![in alloc; Move::Enter { fresh, to }]?))
 }
 
 /// move t.i to STATE
 pub(crate) fn going(alloc: Global, to: ElementState) -> Result<Step, AllocError> {
-    Ok(Listed::new(vec![in alloc; Move::Go { element: 2, to }]?))
+    Ok(List::new(vec![in alloc; Move::Go { element: 2, to }]?))
 }
 
 // Whether the row has this key and this value of a.

@@ -2,10 +2,10 @@
 //! that, and commits; after a conflict it reads again. No increment is lost.
 ghost use Rattle.std.specs.Prelude.{◌≡◌, length};
 
-use crate::desk::{Desk, committed, prepared};
 use crate::fixtures::{FIRST, are, insert, opened, update, whole_table};
+use crate::handle_port::{HandlePort, committed, prepared};
 use keycode::Value;
-use locked_store::{Handle, Room, Shared, SharedFault};
+use locked_store::{Handle, Shared, SharedFault, SharedLedger};
 use row_map::{ColumnType, ReadView, column_key, read_typed_value};
 use row_write::{prepare, reads_of};
 use std::alloc::Global;
@@ -30,15 +30,15 @@ fn value_of(alloc: Global, view: &ReadView) -> Option<i64> {
 
 // One try: whether it is committed, and not in conflict. What is read depends on the table and the key alone, so the keys are asked for with
 // a value that is not known yet.
-fn is_incremented<L: Room, R: Wait>(desk: &mut Desk<L, R>) -> Option<bool> {
-    let alloc = desk.alloc;
-    let schema = desk.shared.schema(desk.rt, &mut desk.me, 1).ok()??;
+fn is_incremented<L: SharedLedger, R: Wait>(port: &mut HandlePort<L, R>) -> Option<bool> {
+    let alloc = port.alloc;
+    let schema = port.shared.schema(port.rt, &mut port.me, 1).ok()??;
     let unknown = update(alloc, 1, 0).ok()?;
     let keys = reads_of(alloc, schema.get(), unknown.as_slice()).ok()?;
-    let view = desk.shared.read(desk.rt, alloc, &mut desk.me, &keys).ok()?;
+    let view = port.shared.read(port.rt, alloc, &mut port.me, &keys).ok()?;
     let next = value_of(alloc, &view)?.checked_add(1)?;
     let work = prepare(alloc, schema, FIRST, update(alloc, 1, next).ok()?, view).ok()?;
-    match desk.shared.commit(desk.rt, alloc, &mut desk.me, 0, work) {
+    match port.shared.commit(port.rt, alloc, &mut port.me, 0, work) {
         Ok(Committed::Done(_)) => Some(true),
         Err((SharedFault::World(CommitFault::Conflict { key: _ }), _)) => Some(false),
         _ => None,
@@ -46,10 +46,10 @@ fn is_incremented<L: Room, R: Wait>(desk: &mut Desk<L, R>) -> Option<bool> {
 }
 
 // All increments of one handle. Each conflict is with one of the other's, so there are at most twice as many tries.
-fn increments<L: Room, R: Wait>(desk: &mut Desk<L, R>) -> Option<i64> {
+fn increments<L: SharedLedger, R: Wait>(port: &mut HandlePort<L, R>) -> Option<i64> {
     let mut done = 0i64;
     for _try in 0..2 * TIMES {
-        if done < TIMES && is_incremented(desk)? {
+        if done < TIMES && is_incremented(port)? {
             done = done.checked_add(1)?;
         }
     }
@@ -57,54 +57,54 @@ fn increments<L: Room, R: Wait>(desk: &mut Desk<L, R>) -> Option<i64> {
 }
 
 // The same through a handle that is handed in, and comes back.
-fn worked<L: Room, R: Wait>(
+fn worked<L: SharedLedger, R: Wait>(
     rt: &R,
     alloc: Global,
     shared: &Shared<L>,
     me: Handle<L>,
 ) -> (Handle<L>, Option<i64>) {
-    let mut desk = Desk {
+    let mut port = HandlePort {
         rt,
         alloc,
         shared,
         me,
     };
-    let done = increments(&mut desk);
-    let Desk {
+    let done = increments(&mut port);
+    let HandlePort {
         rt: _,
         alloc: _,
         shared: _,
         me,
-    } = desk;
+    } = port;
     (me, done)
 }
 
 // The row of the counter, with 0.
-fn begun<L: Room, R: Wait>(
+fn begun<L: SharedLedger, R: Wait>(
     rt: &R,
     alloc: Global,
     shared: &Shared<L>,
     me: Handle<L>,
 ) -> Option<Handle<L>> {
-    let mut desk = Desk {
+    let mut port = HandlePort {
         rt,
         alloc,
         shared,
         me,
     };
-    let work = prepared(&mut desk, insert(alloc, 1, 0)).ok()?;
-    committed(&mut desk, &mut None, work).ok()?;
-    let Desk {
+    let work = prepared(&mut port, insert(alloc, 1, 0)).ok()?;
+    committed(&mut port, &mut None, work).ok()?;
+    let HandlePort {
         rt: _,
         alloc: _,
         shared: _,
         me,
-    } = desk;
+    } = port;
     Some(me)
 }
 
 // Both handles at once: how often each incremented, and the world.
-fn both_at_once<L: Room + Send + Sync, R: Threads + Wait + Sync>(
+fn both_at_once<L: SharedLedger + Send + Sync, R: Threads + Wait + Sync>(
     rt: &R,
     alloc: Global,
     blank: Blank,

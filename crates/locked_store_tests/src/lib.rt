@@ -4,9 +4,9 @@
 #[cfg(test)]
 mod acts;
 #[cfg(test)]
-mod desk;
-#[cfg(test)]
 mod fixtures;
+#[cfg(test)]
+mod handle_port;
 #[cfg(test)]
 mod increments;
 #[cfg(test)]

@@ -3,10 +3,12 @@
 ghost use Rattle.std.specs.Prelude.{◌≡◌, length};
 
 use crate::acts::{Act, Kept, acted};
-use crate::desk::{Desk, Told};
 use crate::fixtures::{mark, opened};
+use crate::handle_port::{HandlePort, Reported};
 use Act::{Begin, Delete, Enter, Find, Go, Insert, Keep, Lease, Look, Piece, Stand, State};
-use locked_store::{Handle, ReceiptFault, Room, ShareFault, Shared, SharedFault, reconcile};
+use locked_store::{
+    Handle, ReceiptFault, ShareFault, Shared, SharedFault, SharedLedger, reconcile,
+};
 use reorganise::Work::Fill;
 use schema_version::ElementState::{Absent, Public, WriteOnly};
 use std::alloc::{AllocError, Global};
@@ -48,43 +50,43 @@ static ACTS: [(Act, Seen); 25] = [
 ];
 
 // How the world stands, where no pair is missing and none too much.
-fn seen_once<L: Room, R: Wait>(desk: &mut Desk<L, R>) -> Result<Seen, Told> {
-    match desk.shared.check(desk.rt, desk.alloc, &mut desk.me) {
-        Ok(found) if (found.missing, found.extra) == (0, 0) => Ok((desk.me.front(), found.rows)),
-        Err(SharedFault::World(AllocError)) => Err(Told::Short),
-        _ => Err(Told::Wrong),
+fn seen_once<L: SharedLedger, R: Wait>(port: &mut HandlePort<L, R>) -> Result<Seen, Reported> {
+    match port.shared.check(port.rt, port.alloc, &mut port.me) {
+        Ok(found) if (found.missing, found.extra) == (0, 0) => Ok((port.me.front(), found.rows)),
+        Err(SharedFault::World(AllocError)) => Err(Reported::Short),
+        _ => Err(Reported::Wrong),
     }
 }
 
 // The same, asked once more where memory was short.
-fn seen<L: Room, R: Wait>(desk: &mut Desk<L, R>) -> Option<Seen> {
-    match seen_once(desk) {
-        Err(Told::Short) => seen_once(desk).ok(),
-        told => told.ok(),
+fn seen<L: SharedLedger, R: Wait>(port: &mut HandlePort<L, R>) -> Option<Seen> {
+    match seen_once(port) {
+        Err(Reported::Short) => seen_once(port).ok(),
+        reported => reported.ok(),
     }
 }
 
-// Whether an act is answered as it has to be, and the world then stands so. Where memory was short it stands as before, and the act
-// is asked once more.
-fn is_right<L: Room, R: Wait>(
-    desk: &mut Desk<L, R>,
+// Whether an act is answered as it has to be, and the world then stands so. If memory was short it
+// stands as before, and the act is asked once more.
+fn is_right<L: SharedLedger, R: Wait>(
+    port: &mut HandlePort<L, R>,
     kept: &mut Kept,
     act: &Act,
     before: Seen,
     after: Seen,
 ) -> bool {
-    let told = match acted(desk, kept, act) {
-        Told::Short if seen(desk) == Some(before) => acted(desk, kept, act),
-        told => told,
+    let reported = match acted(port, kept, act) {
+        Reported::Short if seen(port) == Some(before) => acted(port, kept, act),
+        reported => reported,
     };
-    matches!(told, Told::Right) && seen(desk) == Some(after)
+    matches!(reported, Reported::Right) && seen(port) == Some(after)
 }
 
 // How many of the acts are answered as they have to be, up to the first that is not.
-fn walked<L: Room, R: Wait>(desk: &mut Desk<L, R>, kept: &mut Kept) -> usize {
+fn walked<L: SharedLedger, R: Wait>(port: &mut HandlePort<L, R>, kept: &mut Kept) -> usize {
     let mut before = (0, 0);
     for (place, (act, after)) in ACTS.iter().enumerate() {
-        if !is_right(desk, kept, act, before, *after) {
+        if !is_right(port, kept, act, before, *after) {
             return place;
         }
         before = *after;
@@ -93,13 +95,13 @@ fn walked<L: Room, R: Wait>(desk: &mut Desk<L, R>, kept: &mut Kept) -> usize {
 }
 
 // The same through a handle that is handed in, and comes back.
-fn handled<L: Room, R: Wait>(
+fn handled<L: SharedLedger, R: Wait>(
     rt: &R,
     alloc: Global,
     shared: &Shared<L>,
     me: Handle<L>,
 ) -> (Handle<L>, usize) {
-    let mut desk = Desk {
+    let mut port = HandlePort {
         rt,
         alloc,
         shared,
@@ -110,18 +112,18 @@ fn handled<L: Room, R: Wait>(
         work: None,
         piece: None,
     };
-    let right = walked(&mut desk, &mut kept);
-    let Desk {
+    let right = walked(&mut port, &mut kept);
+    let HandlePort {
         rt: _,
         alloc: _,
         shared: _,
         me,
-    } = desk;
+    } = port;
     (me, right)
 }
 
-// How many are, and the world behind them.
-fn closed<L: Room, R: Wait>(
+// How many are, and the world after them.
+fn closed<L: SharedLedger, R: Wait>(
     rt: &R,
     alloc: Global,
     shared: Shared<L>,
@@ -135,7 +137,7 @@ fn closed<L: Room, R: Wait>(
 }
 
 // The world comes back as an error where there was no memory to share it.
-fn shared<L: Room, R: Wait>(
+fn shared<L: SharedLedger, R: Wait>(
     rt: &R,
     alloc: Global,
     blank: Blank,
@@ -162,13 +164,13 @@ fn shared_once<R: Wait>(
 
 fn shared_twice<R: Wait>(rt: &R, alloc: Global, world: World) -> Option<(World, usize)> {
     match shared_once(rt, alloc, world) {
-        Ok(told) => told,
+        Ok(reported) => reported,
         Err(world) => shared_once(rt, alloc, world).ok()?,
     }
 }
 
 // The world that comes back where there may not be so many handles.
-fn unshared<L: Room>(alloc: Global, blank: Blank, world: World, count: u64) -> Option<World>
+fn unshared<L: SharedLedger>(alloc: Global, blank: Blank, world: World, count: u64) -> Option<World>
     requires name { blank.name ≡ L.name }
     requires parts { blank.parts ≡ L.parts }
     requires picked { (L.handles ≡ count) × (L.handles ≡ L.parts) × (L.opening ≡ world.opening) × (L.since ≡ length world.log) }
@@ -199,8 +201,8 @@ fn receipt_of(log: &[Entry], row: (u64, usize, u64)) -> Option<Receipt> {
     Some(Receipt { place, entry })
 }
 
-// What is told of two receipts.
-fn told(
+// What is reported of two receipts.
+fn reported(
     alloc: Global,
     world: &World,
     rows: [(u64, usize, u64); 2],
@@ -212,13 +214,13 @@ fn told(
     ];
     match reconcile(alloc, world, &receipts) {
         Err(ReceiptFault::Memory) => Some(reconcile(alloc, world, &receipts)),
-        told => Some(told),
+        reported => Some(reported),
     }
 }
 
-// Two receipts, each by its place, the index of its entry and how much later that is, and what is told of them. The log has the
-// lease at place 1 and the insert at place 2.
-fn is_each_told(alloc: Global, world: &World) -> bool {
+// Two receipts, each by its place, the index of its entry and how much later that is, and what is
+// reported of them. The log has the lease at place 1 and the insert at place 2.
+fn is_each_reported(alloc: Global, world: &World) -> bool {
     let rows = [
         ([(2, 1, 0), (1, 0, 0)], Ok(())),
         (
@@ -243,7 +245,7 @@ fn is_each_told(alloc: Global, world: &World) -> bool {
         ),
     ];
     for (receipts, answer) in rows {
-        if told(alloc, world, receipts) != Some(answer) {
+        if reported(alloc, world, receipts) != Some(answer) {
             return false;
         }
     }
@@ -264,5 +266,5 @@ fn under_refusal_calls_through_the_lock(rt: HostRuntime) {
         panic!(rt; "it was not shared");
     };
     assert!(rt; right == ACTS.len(), "act {right}");
-    assert!(rt; is_each_told(alloc, &world));
+    assert!(rt; is_each_reported(alloc, &world));
 }

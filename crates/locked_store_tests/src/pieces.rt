@@ -1,29 +1,29 @@
 //! The fill of the index through a handle.
 
-use crate::desk::{Desk, Told, judged};
-use locked_store::{Room, SharedFault};
+use crate::handle_port::{HandlePort, Reported, judged};
+use locked_store::{SharedFault, SharedLedger};
 use reorganise::{PieceView, PreparedPiece, ViewFault, Work, prepare_piece};
 use std::sync::Wait;
 use world::{BeginFault, PieceFault, ReadFault};
 
 /// It begins at 30, in one piece.
-pub(crate) fn begins<L: Room, R: Wait>(desk: &mut Desk<L, R>) -> Told {
-    match desk
+pub(crate) fn begins<L: SharedLedger, R: Wait>(port: &mut HandlePort<L, R>) -> Reported {
+    match port
         .shared
-        .begin_reorg(desk.rt, desk.alloc, &mut desk.me, 30, 2, 1)
+        .begin_reorg(port.rt, port.alloc, &mut port.me, 30, 2, 1)
     {
-        Ok(_) => Told::Right,
-        Err(SharedFault::World(BeginFault::Memory)) => Told::Short,
-        Err(_) => Told::Wrong,
+        Ok(_) => Reported::Right,
+        Err(SharedFault::World(BeginFault::Memory)) => Reported::Short,
+        Err(_) => Reported::Wrong,
     }
 }
 
 /// How it stands.
-pub(crate) fn stands<L: Room, R: Wait>(
-    desk: &mut Desk<L, R>,
+pub(crate) fn stands<L: SharedLedger, R: Wait>(
+    port: &mut HandlePort<L, R>,
     progress: Option<(Work, usize, bool)>,
-) -> Told {
-    judged(desk.shared.progress(desk.rt, &mut desk.me, 2) == Ok(progress))
+) -> Reported {
+    judged(port.shared.progress(port.rt, &mut port.me, 2) == Ok(progress))
 }
 
 // The one piece goes from the front of table 1 to that of table 2, and has the row's two pairs.
@@ -33,59 +33,61 @@ fn is_whole(view: &PieceView) -> bool {
 }
 
 // The first ten items of the piece.
-fn read<L: Room, R: Wait>(desk: &mut Desk<L, R>) -> Result<PieceView, Told> {
-    match desk
+fn read<L: SharedLedger, R: Wait>(port: &mut HandlePort<L, R>) -> Result<PieceView, Reported> {
+    match port
         .shared
-        .read_piece(desk.rt, desk.alloc, &mut desk.me, 2, 0, 10)
+        .read_piece(port.rt, port.alloc, &mut port.me, 2, 0, 10)
     {
         Ok(view) => Ok(view),
-        Err(SharedFault::World(ReadFault::View(ViewFault::Memory))) => Err(Told::Short),
-        Err(_) => Err(Told::Wrong),
+        Err(SharedFault::World(ReadFault::View(ViewFault::Memory))) => Err(Reported::Short),
+        Err(_) => Err(Reported::Wrong),
     }
 }
 
 // What is prepared of them.
-fn prepared<L: Room, R: Wait>(desk: &mut Desk<L, R>) -> Result<PreparedPiece, Told> {
-    let view = read(desk)?;
+fn prepared<L: SharedLedger, R: Wait>(
+    port: &mut HandlePort<L, R>,
+) -> Result<PreparedPiece, Reported> {
+    let view = read(port)?;
     if !is_whole(&view) {
-        return Err(Told::Wrong);
+        return Err(Reported::Wrong);
     }
-    match prepare_piece(desk.alloc, view) {
+    match prepare_piece(port.alloc, view) {
         Ok(piece) => Ok(piece),
-        Err(_) => Err(Told::Short),
+        Err(_) => Err(Reported::Short),
     }
 }
 
 // The piece ends with what is prepared of it, which comes back where memory was short.
-fn ends<L: Room, R: Wait>(
-    desk: &mut Desk<L, R>,
+fn ends<L: SharedLedger, R: Wait>(
+    port: &mut HandlePort<L, R>,
     back: &mut Option<PreparedPiece>,
     piece: PreparedPiece,
-) -> Told {
-    match desk
+) -> Reported {
+    match port
         .shared
-        .commit_piece(desk.rt, desk.alloc, &mut desk.me, 30, piece)
+        .commit_piece(port.rt, port.alloc, &mut port.me, 30, piece)
     {
         Ok(done) => judged(done.ended),
         Err((SharedFault::World(PieceFault::Memory), piece)) => {
             *back = Some(piece);
-            Told::Short
+            Reported::Short
         }
-        Err(_) => Told::Wrong,
+        Err(_) => Reported::Wrong,
     }
 }
 
 /// Its piece is committed: what came back, else what is read and prepared anew.
-pub(crate) fn works<L: Room, R: Wait>(
-    desk: &mut Desk<L, R>,
+pub(crate) fn works<L: SharedLedger, R: Wait>(
+    port: &mut HandlePort<L, R>,
     back: &mut Option<PreparedPiece>,
-) -> Told {
+) -> Reported {
     let piece = match back.take() {
         Some(piece) => piece,
-        None => match prepared(desk) {
+        None => match prepared(port) {
             Ok(piece) => piece,
-            Err(told) => return told,
+            Err(reported) => return reported,
         },
     };
-    ends(desk, back, piece)
+    ends(port, back, piece)
 }

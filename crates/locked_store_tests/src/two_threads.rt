@@ -1,10 +1,10 @@
 //! Two threads over one world, which keep snapshots of it; a second world then repeats its log.
 ghost use Rattle.std.specs.Prelude.{◌≡◌, length};
 
-use crate::desk::{Desk, committed, prepared};
 use crate::fixtures::{FIRST, insert, opened, whole_table};
+use crate::handle_port::{HandlePort, committed, prepared};
 use lease::Lease;
-use locked_store::{Handle, Missing, ReceiptFault, Room, Shared, reconcile};
+use locked_store::{Handle, Missing, ReceiptFault, Shared, SharedLedger, reconcile};
 use row_write::{Prepared, RowOps, prepare, reads_of};
 use std::alloc::Global;
 use std::marker::Brand;
@@ -28,34 +28,34 @@ struct Found {
 }
 
 // The receipt of an insert.
-fn receipt_of<L: Room, R: Wait>(desk: &mut Desk<L, R>, id: i64) -> Option<Receipt> {
-    let ops = insert(desk.alloc, id, 7);
-    let work = prepared(desk, ops).ok()?;
-    committed(desk, &mut None, work).ok()
+fn receipt_of<L: SharedLedger, R: Wait>(port: &mut HandlePort<L, R>, id: i64) -> Option<Receipt> {
+    let ops = insert(port.alloc, id, 7);
+    let work = prepared(port, ops).ok()?;
+    committed(port, &mut None, work).ok()
 }
 
 // A snapshot of what there is now.
-fn look<L: Room, R: Wait>(desk: &mut Desk<L, R>) -> Option<Seen> {
-    let snapshot = desk.shared.snapshot(desk.rt, &mut desk.me, 0, &FIRST).ok()?;
-    let front = desk.me.front();
+fn look<L: SharedLedger, R: Wait>(port: &mut HandlePort<L, R>) -> Option<Seen> {
+    let snapshot = port.shared.snapshot(port.rt, &mut port.me, 0, &FIRST).ok()?;
+    let front = port.me.front();
     Some(Seen { front, snapshot })
 }
 
 // One insert, and a snapshot of what there then is.
-fn insert_and_look<L: Room, R: Wait>(
-    desk: &mut Desk<L, R>,
+fn insert_and_look<L: SharedLedger, R: Wait>(
+    port: &mut HandlePort<L, R>,
     found: &mut Found,
     id: i64,
 ) -> Option<()> {
-    found.receipts.push(receipt_of(desk, id)?).ok()?;
-    found.seen.push(look(desk)?).ok()
+    found.receipts.push(receipt_of(port, id)?).ok()?;
+    found.seen.push(look(port)?).ok()
 }
 
 // The receipt of a lease.
-fn lease_of<L: Room, R: Wait>(desk: &mut Desk<L, R>) -> Option<Receipt> {
-    let grant = desk
+fn lease_of<L: SharedLedger, R: Wait>(port: &mut HandlePort<L, R>) -> Option<Receipt> {
+    let grant = port
         .shared
-        .lease(desk.rt, desk.alloc, &mut desk.me, 0)
+        .lease(port.rt, port.alloc, &mut port.me, 0)
         .ok()?;
     let Grant {
         lease: _,
@@ -66,20 +66,24 @@ fn lease_of<L: Room, R: Wait>(desk: &mut Desk<L, R>) -> Option<Receipt> {
 }
 
 // A lease, and a hundred inserts from this key on.
-fn inserts<L: Room, R: Wait>(desk: &mut Desk<L, R>, from: i64, to: i64) -> Option<Found> {
+fn inserts<L: SharedLedger, R: Wait>(
+    port: &mut HandlePort<L, R>,
+    from: i64,
+    to: i64,
+) -> Option<Found> {
     let mut found = Found {
-        receipts: Vec::new(desk.alloc),
-        seen: Vec::new(desk.alloc),
+        receipts: Vec::new(port.alloc),
+        seen: Vec::new(port.alloc),
     };
-    found.receipts.push(lease_of(desk)?).ok()?;
+    found.receipts.push(lease_of(port)?).ok()?;
     for id in from..to {
-        insert_and_look(desk, &mut found, id)?;
+        insert_and_look(port, &mut found, id)?;
     }
     Some(found)
 }
 
 // The same through a handle that is handed in, and comes back.
-fn worked<L: Room, R: Wait>(
+fn worked<L: SharedLedger, R: Wait>(
     rt: &R,
     alloc: Global,
     shared: &Shared<L>,
@@ -87,23 +91,23 @@ fn worked<L: Room, R: Wait>(
     from: i64,
     to: i64,
 ) -> (Handle<L>, Option<Found>) {
-    let mut desk = Desk {
+    let mut port = HandlePort {
         rt,
         alloc,
         shared,
         me,
     };
-    let found = inserts(&mut desk, from, to);
-    let Desk {
+    let found = inserts(&mut port, from, to);
+    let HandlePort {
         rt: _,
         alloc: _,
         shared: _,
         me,
-    } = desk;
+    } = port;
     (me, found)
 }
 
-// Puts what the other found behind what this one did.
+// Puts what the other found after what this one did.
 fn unite(found: &mut Found, other: &mut Found) -> bool {
     found.receipts.append(&mut other.receipts).is_ok() && found.seen.append(&mut other.seen).is_ok()
 }
@@ -120,7 +124,11 @@ fn both(first: Option<Found>, second: Option<Found>) -> Option<Found> {
 }
 
 // The world comes back only with both handles.
-fn closed<L: Room>(shared: Shared<L>, handles: Vec<Handle<L>>, last: Handle<L>) -> Option<World> {
+fn closed<L: SharedLedger>(
+    shared: Shared<L>,
+    handles: Vec<Handle<L>>,
+    last: Handle<L>,
+) -> Option<World> {
     let Err((missing, shared, mut handles)) = shared.close(handles) else {
         return None;
     };
@@ -132,7 +140,7 @@ fn closed<L: Room>(shared: Shared<L>, handles: Vec<Handle<L>>, last: Handle<L>) 
 }
 
 // What two threads find at once, through a handle each.
-fn at_once<L: Room + Send + Sync, R: Threads + Wait + Sync>(
+fn at_once<L: SharedLedger + Send + Sync, R: Threads + Wait + Sync>(
     rt: &R,
     alloc: Global,
     shared: &Shared<L>,
@@ -147,7 +155,7 @@ fn at_once<L: Room + Send + Sync, R: Threads + Wait + Sync>(
     (first, second, both(a, b))
 }
 
-fn two_at_once<L: Room + Send + Sync, R: Threads + Wait + Sync>(
+fn two_at_once<L: SharedLedger + Send + Sync, R: Threads + Wait + Sync>(
     rt: &R,
     alloc: Global,
     blank: Blank,
@@ -255,7 +263,7 @@ fn fault_of(
     fault
 }
 
-// One receipt given twice, one of another entry, and one of no place of the log are told apart.
+// One receipt given twice, one of another entry, and one of no place of the log are distinguished.
 fn are_faults_found(alloc: Global, world: &World, receipts: &mut Vec<Receipt>) -> Option<bool> {
     let place = receipts.get(7)?.place;
     let past = place.checked_add(202)?;

@@ -1,2 +1,2 @@
-pub mod Moving
-pub mod Turning
+pub mod Moves
+pub mod Rounds

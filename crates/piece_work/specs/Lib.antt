@@ -1,2 +1,2 @@
-pub mod Working
-pub mod Steps
+pub mod WorkOff
+pub mod inner

@@ -5,7 +5,7 @@
 #![tactic(auto)]
 
 mod fault;
-mod working;
+mod piece_loop;
 
 pub use fault::WorkFault;
-pub use working::work_off;
+pub use piece_loop::work_off;

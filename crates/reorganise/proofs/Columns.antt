@@ -8,7 +8,7 @@ use Rattle.schema_version.specs.declared.element.ElementState.TheVariants.{Absen
 use Rattle.schema_version.specs.declared.element.Kind.{Kind}
 use Rattle.schema_version.specs.declared.element.Kind.TheVariants.{Index, Optional, Required}
 use Rattle.schema_version.specs.Sound.{IsSoundElement, IsSoundVersion}
-use Rattle.schema_version.specs.Version.{Version, element_at, listed, IsPublicColumn}
+use Rattle.schema_version.specs.Version.{Version, element_at, indexed_columns, IsPublicColumn}
 use Rattle.schema_version.specs.Moves.{IsFairKind}
 use Rattle.element_state.specs.Column.{IsLawfulColumn}
 use Rattle.element_state.specs.Consistent.{DemandOf}
@@ -17,8 +17,8 @@ use Rattle.element_state.specs.Elements.{Meaning, Subset, Demand}
 use Rattle.element_state.specs.Kinds.{kind_meaning}
 use Rattle.element_state.specs.Sources.{source_in}
 use Rattle.element_state.specs.Tables.{within}
-use Rattle.element_state.proofs.Seen.{short_typed}
-use Rattle.element_state.proofs.Sources.{stand_in_storable}
+use Rattle.element_state.proofs.Visible.{short_typed}
+use Rattle.element_state.proofs.Sources.{default_value_storable}
 use Rattle.reorganise.specs.Laws.{HasColumn, HasColumnsOf, ColumnsAgree}
 
 -- a live element has only pairs that the rows give it
@@ -42,14 +42,14 @@ module _ (version : Version) (element : ElementDef) (P : Pairs) (R : Rows) (soun
     lawful = lawful_at c public.0 public.2;
     public = public;
     demand = demands c (sound.elements c public.0 public.2).first;
-    stand_in = stand_in_storable version (λ n e at. (sound.elements n e at).fair) c;
+    default_value = default_value_storable version (λ n e at. (sound.elements n e at).fair) c;
   }
 
   columns_have : (cs : List ℕ) → ((c : ℕ) → Contains cs c → IsPublicColumn version element.table c) → AllByRecursion (HasColumn version element.table P R) cs
   columns_have [] f = tt
   columns_have (c ∷ cs) f = (column_has c (f c (zero, omega arith, refl)), columns_have cs (λ d has. f d (suc has.0, omega (arith, has.1), has.2)))
 
-  by_kind : (k : Kind) → element.kind ≡ k → ((c : ℕ) → Contains (listed k) c → IsPublicColumn version element.table c) → IsFairKind k → Demand (within element.table (kind_meaning element.number (source_in version k))) element.state P R → HasColumnsOf version element P R k
+  by_kind : (k : Kind) → element.kind ≡ k → ((c : ℕ) → Contains (indexed_columns k) c → IsPublicColumn version element.table c) → IsFairKind k → Demand (within element.table (kind_meaning element.number (source_in version k))) element.state P R → HasColumnsOf version element P R k
   by_kind (Index columns) is listed_public fair demand = columns_have columns listed_public
   by_kind (Optional type) is listed_public fair demand = tt
   by_kind (Required type fallback) is listed_public fair demand = record {

@@ -11,10 +11,10 @@ use Rattle.byte_map.proofs.Entries.{find_none, below_from}
 use Rattle.keycode.specs.Order.{bytes_cmp}
 use Rattle.row_map.specs.Rows.{Bytes, Pairs}
 use Rattle.row_map.specs.Ranges.{is_within}
-use Rattle.row_map.specs.Walk.{stretch, after}
+use Rattle.row_map.specs.Walk.{key_range, after}
 use Rattle.row_map.proofs.Walks.{below_after}
 use Rattle.byte_map.specs.Walk.{IsNext}
-use Rattle.row_map.proofs.Stretches.{find_stretch, stretch_sorted, stretch_past, stretch_next}
+use Rattle.row_map.proofs.KeyRanges.{find_key_range, key_range_sorted, key_range_past, key_range_next}
 use Rattle.reorganise.specs.Pieces.{part}
 use Rattle.reorganise.proofs.Items.{Pair, Begins}
 
@@ -86,22 +86,22 @@ parts_within a b x p q = ap (λ t. t && is_lt (bytes_cmp x b)) (from_is a x ∙ 
 
 pub less_le_less : (a b c : Bytes) → bytes_cmp a b ≡ Less → le b c ≡ true → bytes_cmp a c ≡ Less
 less_le_less a b c p q =
-    less_of (bytes_cmp a c) (lt_is a c ∙ ap not (back (le c a) refl))
+    less_of (bytes_cmp a c) (lt_is a c ∙ ap not (end (le c a) refl))
   where
-    back : (t : Bool) → le c a ≡ t → le c a ≡ false
-    back true e = absurd (true≢false (sym (le_trans b c a q e) ∙ not_true (le b a) (sym (lt_is a b) ∙ ap is_lt p)))
-    back false e = e
+    end : (t : Bool) → le c a ≡ t → le c a ≡ false
+    end true e = absurd (true≢false (sym (le_trans b c a q e) ∙ not_true (le b a) (sym (lt_is a b) ∙ ap is_lt p)))
+    end false e = e
 
 -- the first key above a key
 pub le_after : (k : Bytes) → le k (after k) ≡ true
 le_after k = less_le k (after k) (less_of (bytes_cmp k (after k)) (below_after k k ∙ le_itself k))
 
 pub after_le : (k high : Bytes) → bytes_cmp k high ≡ Less → le (after k) high ≡ true
-after_le k high e = back (le (after k) high) (sym (lt_is high (after k)) ∙ below_after high k) (not_true (le high k) (sym (lt_is k high) ∙ ap is_lt e))
+after_le k high e = end (le (after k) high) (sym (lt_is high (after k)) ∙ below_after high k) (not_true (le high k) (sym (lt_is k high) ∙ ap is_lt e))
   where
-    back : (t : Bool) → not t ≡ le high k → le high k ≡ false → t ≡ true
-    back true e h = refl
-    back false e h = absurd (true≢false (e ∙ h))
+    end : (t : Bool) → not t ≡ le high k → le high k ≡ false → t ≡ true
+    end true e h = refl
+    end false e h = absurd (true≢false (e ∙ h))
 
 -- ---- lists of pairs, in order
 
@@ -179,9 +179,9 @@ join_list a b c (e ∷ es) ab bc s =
           low_side (is_within a c e.0) (is_within a b e.0) (is_within b c e.0) e (between a c es) (between a b es) (between b c es) w.0 w.1 rest
     ] refl
 
--- ---- stretches of pairs
+-- ---- key ranges of pairs
 
-pub join : (pairs : Pairs) (a b c : Bytes) → le a b ≡ true → le b c ≡ true → stretch pairs a c ≡ stretch pairs a b ++ stretch pairs b c
+pub join : (pairs : Pairs) (a b c : Bytes) → le a b ≡ true → le b c ≡ true → key_range pairs a c ≡ key_range pairs a b ++ key_range pairs b c
 join pairs a b c ab bc = join_list a b c (map.entries pairs) ab bc (map.entries_sorted pairs)
 
 pub some_in : {A : Type 0} (b : Bool) (o : Option A) (v : A) → cond b o None ≡ Some v → (b ≡ true) × (o ≡ Some v)
@@ -196,10 +196,10 @@ not_both true = refl
 not_both false = refl
 
 -- none stands from a key to below it
-pub stretch_itself : (pairs : Pairs) (a : Bytes) → stretch pairs a a ≡ []
-stretch_itself pairs a =
-    same_entries bytes_cmp bytes_cmp_total bytes_cmp-IsAntisymmetric (stretch pairs a a) [] (stretch_sorted pairs a a) tt
-    (λ q. find_stretch pairs a a q ∙ none_out (is_within a a q) (map.get pairs q) (within_is a a q ∙ not_both (le a q)))
+pub key_range_itself : (pairs : Pairs) (a : Bytes) → key_range pairs a a ≡ []
+key_range_itself pairs a =
+    same_entries bytes_cmp bytes_cmp_total bytes_cmp-IsAntisymmetric (key_range pairs a a) [] (key_range_sorted pairs a a) tt
+    (λ q. find_key_range pairs a a q ∙ none_out (is_within a a q) (map.get pairs q) (within_is a a q ∙ not_both (le a q)))
 
 not_less : (x a : Bytes) → le a x ≡ true → bytes_cmp x a ≢ Less
 not_less x a e less = true≢false (sym (ap is_lt less) ∙ lt_is x a ∙ ap not e)
@@ -212,11 +212,11 @@ below_outside q x high e =
     within_is (after x) high q
     ∙ ap (λ t. t && not (le high q)) (not_true (le (after x) q) (sym (lt_is q (after x)) ∙ below_after q x ∙ ap is_le e))
 
--- a stretch that begins with a pair
-module _ (pairs : Pairs) (low high : Bytes) (p : Pair) (behind : List Pair) (f : stretch pairs low high ≡ p ∷ behind) where
+-- a key range that begins with a pair
+module _ (pairs : Pairs) (low high : Bytes) (p : Pair) (behind : List Pair) (f : key_range pairs low high ≡ p ∷ behind) where
   found : cond (is_within low high p.0) (map.get pairs p.0) None ≡ Some p.1
   found =
-      sym (find_stretch pairs low high p.0) ∙ ap (find bytes_cmp p.0) f
+      sym (find_key_range pairs low high p.0) ∙ ap (find bytes_cmp p.0) f
       ∙ ap (λ r. cond (is_eq r) (Some p.1) (find bytes_cmp p.0 behind)) (tied_itself bytes_cmp_total p.0)
 
   here : map.get pairs p.0 ≡ Some p.1
@@ -231,9 +231,9 @@ module _ (pairs : Pairs) (low high : Bytes) (p : Pair) (behind : List Pair) (f :
   none_before : (q : Bytes) → bytes_cmp q low ≢ Less → bytes_cmp q p.0 ≡ Less → map.get pairs q ≡ None
   none_before q from less =
       let inside : is_within low high q ≡ true = ap (λ t. t && is_lt (bytes_cmp q high)) (reached (bytes_cmp q low) from) ∙ ap is_lt (bytes_cmp_total.trans q p.0 high less below) in
-      let sorted : T (is_sorted bytes_cmp (p ∷ behind)) = subst (λ (l : List Pair). T (is_sorted bytes_cmp l)) f (stretch_sorted pairs low high) in
+      let sorted : T (is_sorted bytes_cmp (p ∷ behind)) = subst (λ (l : List Pair). T (is_sorted bytes_cmp l)) f (key_range_sorted pairs low high) in
       sym (ap (λ t. cond t (map.get pairs q) None) inside)
-      ∙ sym (find_stretch pairs low high q) ∙ ap (find bytes_cmp q) f
+      ∙ sym (find_key_range pairs low high q) ∙ ap (find bytes_cmp q) f
       ∙ ap (λ t. cond t (Some p.1) (find bytes_cmp q behind)) (below_apart q p.0 less)
       ∙ find_none behind q (below_from q p.0 behind less (both_first _ _ sorted))
     where
@@ -246,57 +246,57 @@ module _ (pairs : Pairs) (low high : Bytes) (p : Pair) (behind : List Pair) (f :
   first_next = record { here = here; reached = not_less p.0 low at_low; first = none_before }
 
   pub begins : Begins pairs low high p
-  begins = stretch_next pairs low high p first_next below
+  begins = key_range_next pairs low high p first_next below
 
 module _ (pairs : Pairs) (low high : Bytes) (p : Pair) (f : Begins pairs low high p) where
   pub first_here : map.get pairs p.0 ≡ Some p.1
-  first_here = here pairs low high p (stretch pairs (after p.0) high) f
+  first_here = here pairs low high p (key_range pairs (after p.0) high) f
 
   pub first_reached : le low p.0 ≡ true
-  first_reached = at_low pairs low high p (stretch pairs (after p.0) high) f
+  first_reached = at_low pairs low high p (key_range pairs (after p.0) high) f
 
   pub first_below : bytes_cmp p.0 high ≡ Less
-  first_below = below pairs low high p (stretch pairs (after p.0) high) f
+  first_below = below pairs low high p (key_range pairs (after p.0) high) f
 
   next : IsNext pairs low p
-  next = first_next pairs low high p (stretch pairs (after p.0) high) f
+  next = first_next pairs low high p (key_range pairs (after p.0) high) f
 
   -- no pair from another start than those before low
-  pub first_before : (start : Bytes) → le start low ≡ true → stretch pairs start p.0 ≡ stretch pairs start low
+  pub first_before : (start : Bytes) → le start low ≡ true → key_range pairs start p.0 ≡ key_range pairs start low
   first_before start at =
       join pairs start low p.0 at first_reached
-      ∙ ap (λ l. stretch pairs start low ++ l) (stretch_past pairs low p.0 p next (not_less p.0 p.0 (le_itself p.0)))
-      ∙ append-nil (stretch pairs start low)
+      ∙ ap (λ l. key_range pairs start low ++ l) (key_range_past pairs low p.0 p next (not_less p.0 p.0 (le_itself p.0)))
+      ∙ append-nil (key_range pairs start low)
 
   -- the pairs so far, and one more
-  pub first_more : (start : Bytes) → le start low ≡ true → stretch pairs start (after p.0) ≡ stretch pairs start low ++ p ∷ []
+  pub first_more : (start : Bytes) → le start low ≡ true → key_range pairs start (after p.0) ≡ key_range pairs start low ++ p ∷ []
   first_more start at =
       join pairs start low (after p.0) at (le_trans low p.0 (after p.0) first_reached (le_after p.0))
-      ∙ ap (λ l. stretch pairs start low ++ l) (stretch_next pairs low (after p.0) p next (less_of (bytes_cmp p.0 (after p.0)) (below_after p.0 p.0 ∙ le_itself p.0)))
-      ∙ ap (λ l. stretch pairs start low ++ p ∷ l) (stretch_itself pairs (after p.0))
+      ∙ ap (λ l. key_range pairs start low ++ l) (key_range_next pairs low (after p.0) p next (less_of (bytes_cmp p.0 (after p.0)) (below_after p.0 p.0 ∙ le_itself p.0)))
+      ∙ ap (λ l. key_range pairs start low ++ p ∷ l) (key_range_itself pairs (after p.0))
 
 -- ---- parts of a store
 
 pub get-part : (pairs : Pairs) (low high q : Bytes) → map.get (part pairs low high) q ≡ cond (is_within low high q) (map.get pairs q) None
 get-part pairs low high q = map.get-retain_keys pairs (is_within low high) q (λ x e. ap (is_within low high) (sym (bytes_cmp-IsAntisymmetric q x e)))
 
-pub entries-part : (pairs : Pairs) (low high : Bytes) → map.entries (part pairs low high) ≡ stretch pairs low high
+pub entries-part : (pairs : Pairs) (low high : Bytes) → map.entries (part pairs low high) ≡ key_range pairs low high
 entries-part pairs low high =
-    same_entries bytes_cmp bytes_cmp_total bytes_cmp-IsAntisymmetric (map.entries (part pairs low high)) (stretch pairs low high) (map.entries_sorted (part pairs low high)) (stretch_sorted pairs low high)
-    (λ q. sym (map.get-entries (part pairs low high) q) ∙ get-part pairs low high q ∙ sym (find_stretch pairs low high q))
+    same_entries bytes_cmp bytes_cmp_total bytes_cmp-IsAntisymmetric (map.entries (part pairs low high)) (key_range pairs low high) (map.entries_sorted (part pairs low high)) (key_range_sorted pairs low high)
+    (λ q. sym (map.get-entries (part pairs low high) q) ∙ get-part pairs low high q ∙ sym (find_key_range pairs low high q))
 
-pub same_part : (pairs : Pairs) (a b c d : Bytes) → stretch pairs a b ≡ stretch pairs c d → part pairs a b ≡ part pairs c d
+pub same_part : (pairs : Pairs) (a b c d : Bytes) → key_range pairs a b ≡ key_range pairs c d → part pairs a b ≡ part pairs c d
 same_part pairs a b c d e = map.same_entries_map (part pairs a b) (part pairs c d) (entries-part pairs a b ∙ e ∙ sym (entries-part pairs c d))
 
--- a part, and the pair that stands behind it
+-- a part, and the pair that stands after it
 pub part_more : (pairs : Pairs) (start at high : Bytes) (p : Pair) → Begins pairs at high p → le start at ≡ true → map.insert (part pairs start at) p.0 p.1 ≡ part pairs start (after p.0)
 part_more pairs start at high p f from =
     map.same_map bytes_cmp_total bytes_cmp-IsAntisymmetric (map.insert (part pairs start at) p.0 p.1) (part pairs start (after p.0)) (λ q.
     map.get-insert bytes_cmp_total (part pairs start at) p.0 p.1 q
-    ∙ ap (cond (eq_by_cmp bytes_cmp q p.0) (Some p.1)) (get-part pairs start at q ∙ sym (find_stretch pairs start at q))
-    ∙ sym (find-append bytes_cmp bytes_cmp_total (stretch pairs start at) p.0 p.1 q absent)
+    ∙ ap (cond (eq_by_cmp bytes_cmp q p.0) (Some p.1)) (get-part pairs start at q ∙ sym (find_key_range pairs start at q))
+    ∙ sym (find-append bytes_cmp bytes_cmp_total (key_range pairs start at) p.0 p.1 q absent)
     ∙ ap (find bytes_cmp q) (sym (first_more pairs at high p f start from))
-    ∙ find_stretch pairs start (after p.0) q ∙ sym (get-part pairs start (after p.0) q))
+    ∙ find_key_range pairs start (after p.0) q ∙ sym (get-part pairs start (after p.0) q))
   where
-    absent : find bytes_cmp p.0 (stretch pairs start at) ≡ None
-    absent = find_stretch pairs start at p.0 ∙ none_out (is_within start at p.0) (map.get pairs p.0) (within_is start at p.0 ∙ ap (λ t. le start p.0 && not t) (first_reached pairs at high p f) ∙ off (le start p.0))
+    absent : find bytes_cmp p.0 (key_range pairs start at) ≡ None
+    absent = find_key_range pairs start at p.0 ∙ none_out (is_within start at p.0) (map.get pairs p.0) (within_is start at p.0 ∙ ap (λ t. le start p.0 && not t) (first_reached pairs at high p f) ∙ off (le start p.0))

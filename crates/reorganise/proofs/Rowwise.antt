@@ -8,7 +8,7 @@ use Rattle.keycode.specs.Order.{bytes_cmp}
 use Rattle.row_map.specs.declared.key.KeyOf.{KeyOf}
 use Rattle.row_map.specs.declared.key.KeyOf.TheVariants.{Exists, Column, Index as IndexKey}
 use Rattle.row_map.specs.Keys.{key_code, IsKey}
-use Rattle.row_map.specs.Reading.{key_at}
+use Rattle.row_map.specs.ReadKey.{key_at}
 use Rattle.row_map.specs.Rows.{Bytes, RowKey, Cells, Rows, Pairs, AreStorable, row_cmp}
 use Rattle.row_map.specs.Writes.{Writes, written_all}
 use Rattle.row_map.specs.Ranges.{is_within}
@@ -17,14 +17,14 @@ use Rattle.row_map.proofs.Orders.{row_cmp_total, row_cmp-IsAntisymmetric}
 use Rattle.row_map.proofs.Entries.{each_entry}
 use Rattle.element_state.specs.Elements.{HasForm, AreFormed, Exact, IsFromScratch, owner, owner_named}
 use Rattle.element_state.specs.Exists.{row_key, exists_meaning}
-use Rattle.element_state.specs.ExistsLaws.{one_key}
+use Rattle.element_state.specs.lemmas.ExistsLaws.{one_key}
 use Rattle.element_state.specs.Items.{row_items, AmongEntries}
-use Rattle.element_state.specs.Clears.{entry_kept, facts_kept}
-use Rattle.reorganise.specs.Regions.{row_read, row_at}
+use Rattle.element_state.specs.lemmas.Clears.{entry_kept, facts_kept}
+use Rattle.reorganise.specs.ScanRanges.{row_read, row_at}
 use Rattle.reorganise.specs.Pieces.{part}
 use Rattle.reorganise.proofs.Items.{Pair}
 use Rattle.reorganise.proofs.Order.{get-part, some_in, and_true}
-use Rattle.reorganise.proofs.Naming.{Named, AllGive, all_give, From, named_from, Among, named_among, written_same}
+use Rattle.reorganise.proofs.SameKeys.{Named, AllGive, all_give, From, named_from, Among, named_among, written_same}
 
 pub same_some : {A : Type 0} (v w : A) → Some v ≡ Some w → v ≡ w
 same_some v w e = cc
@@ -81,11 +81,11 @@ module _ (P : Pairs) (R : Rows) (low high : Bytes) (table : ℕ) (held : AreStor
   row_of_item x v key at is =
       let w = some_in (is_within low high x) (map.get P x) v (sym (get-part P low high x) ∙ at) in
       let f : HasForm x = formed x v w.1 in
-      let read : key_at x ≡ Ok f.key = ap key_at f.spelled ∙ key_again f.key f.form in
+      let read : key_at x ≡ Ok f.key = ap key_at f.encoded ∙ key_again f.key f.form in
       let k_is : f.key ≡ Exists table key = row_form table key f.key (ap (row_read table) (sym read) ∙ is) in
       let form : IsKey (Exists table key) = subst IsKey k_is f.form in
-      let x_is : x ≡ row_key (table, key) = f.spelled ∙ ap key_code k_is in
-      let own : owner x ≡ Some 0 = owner_named 0 x (record { key = Exists table key; form = form; spelled = x_is; names = refl }) in
+      let x_is : x ≡ row_key (table, key) = f.encoded ∙ ap key_code k_is in
+      let own : owner x ≡ Some 0 = owner_named 0 x (record { key = Exists table key; form = form; encoded = x_is; names = refl }) in
       let s : IsFromScratch exists_meaning R x v = exact.subset x v own w.1 in
       let row = held s.key s.cells s.there in
       let same : s.key ≡ (table, key) = one_key s.key (table, key) row.table row.primary form (s.key_is ∙ x_is) in

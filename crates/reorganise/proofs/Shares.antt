@@ -17,10 +17,10 @@ use Rattle.row_map.specs.Rows.{Bytes, Pairs}
 use Rattle.row_map.specs.Ranges.{is_within}
 use Rattle.std.specs.FinMap.Entries.{where_key}
 use Rattle.reorganise.proofs.Order.{le, le_trans, le_itself, less_le, less_of, within_is, within_parts}
-use Rattle.reorganise.specs.declared.region.Region.{Region}
-use Rattle.reorganise.specs.declared.region.Region.TheVariants.{Rows, Entries}
+use Rattle.reorganise.specs.declared.scan_range.ScanRange.{ScanRange}
+use Rattle.reorganise.specs.declared.scan_range.ScanRange.TheVariants.{Rows, Entries}
 use Rattle.reorganise.specs.declared.work.Span.{Span}
-use Rattle.reorganise.specs.Regions.{prefix, prefix_end, front, back, is_item, item_keys, items}
+use Rattle.reorganise.specs.ScanRanges.{prefix, prefix_end, start, end, is_item, item_keys, items}
 use Rattle.reorganise.specs.Pieces.{bound, span_at, spans}
 use Rattle.reorganise.specs.Partition.{AreJoined, holders, IsPartition}
 use Rattle.reorganise.proofs.Items.{Pair, item_keys-cons}
@@ -99,33 +99,33 @@ place_rising k n p some =
 not_zero : (k : ℕ) → ((k + 1) == 0) ≡ false
 not_zero k = grind (arith, nat_tests)
 
-bound_at : (region : Region) (keys : List Bytes) (pieces k : ℕ) → (k == 0) ≡ false → bound region keys pieces k ≡ at_or keys (back region) ((k * length keys) / pieces)
-bound_at region keys pieces k e = ap (λ b. if b then front region else at_or keys (back region) ((k * length keys) / pieces)) e
+bound_at : (scan_range : ScanRange) (keys : List Bytes) (pieces k : ℕ) → (k == 0) ≡ false → bound scan_range keys pieces k ≡ at_or keys (end scan_range) ((k * length keys) / pieces)
+bound_at scan_range keys pieces k e = ap (λ b. if b then start scan_range else at_or keys (end scan_range) ((k * length keys) / pieces)) e
 
 suc_not_zero : (k : ℕ) → (suc k == 0) ≡ false
 suc_not_zero k = grind (arith, nat_tests)
 
-bound_rising : (region : Region) (keys : List Bytes) (pieces k : ℕ) → 0 < pieces → AreRising (front region) (back region) keys → le (bound region keys pieces k) (bound region keys pieces (k + 1)) ≡ true
-bound_rising region keys pieces zero some r =
-    ap (le (front region)) (bound_at region keys pieces (0 + 1) (not_zero 0)) ∙ low_at (front region) (back region) keys (((0 + 1) * length keys) / pieces) r
-bound_rising region keys pieces (suc k) some r =
-    ap (λ x. le x (bound region keys pieces (suc k + 1))) (bound_at region keys pieces (suc k) (suc_not_zero k))
-    ∙ ap (le (at_or keys (back region) ((suc k * length keys) / pieces))) (bound_at region keys pieces (suc k + 1) (not_zero (suc k)))
-    ∙ at_rising (front region) (back region) keys ((suc k * length keys) / pieces) (((suc k + 1) * length keys) / pieces) (place_rising (suc k) (length keys) pieces some) r
+bound_rising : (scan_range : ScanRange) (keys : List Bytes) (pieces k : ℕ) → 0 < pieces → AreRising (start scan_range) (end scan_range) keys → le (bound scan_range keys pieces k) (bound scan_range keys pieces (k + 1)) ≡ true
+bound_rising scan_range keys pieces zero some r =
+    ap (le (start scan_range)) (bound_at scan_range keys pieces (0 + 1) (not_zero 0)) ∙ low_at (start scan_range) (end scan_range) keys (((0 + 1) * length keys) / pieces) r
+bound_rising scan_range keys pieces (suc k) some r =
+    ap (λ x. le x (bound scan_range keys pieces (suc k + 1))) (bound_at scan_range keys pieces (suc k) (suc_not_zero k))
+    ∙ ap (le (at_or keys (end scan_range) ((suc k * length keys) / pieces))) (bound_at scan_range keys pieces (suc k + 1) (not_zero (suc k)))
+    ∙ at_rising (start scan_range) (end scan_range) keys ((suc k * length keys) / pieces) (((suc k + 1) * length keys) / pieces) (place_rising (suc k) (length keys) pieces some) r
 
 some_not_zero : (n : ℕ) → 0 < n → (n == 0) ≡ false
 some_not_zero n some = grind (arith, nat_tests)
 
-pub bound_last : (region : Region) (keys : List Bytes) (pieces : ℕ) → 0 < pieces → bound region keys pieces pieces ≡ back region
-bound_last region keys pieces some =
-    bound_at region keys pieces pieces (some_not_zero pieces some)
-    ∙ ap (at_or keys (back region)) (mul-div_cancel_left (length keys) some)
-    ∙ ap (λ o. unwrap_or o (back region)) (slice_get_past keys (length keys) (omega arith))
+pub bound_last : (scan_range : ScanRange) (keys : List Bytes) (pieces : ℕ) → 0 < pieces → bound scan_range keys pieces pieces ≡ end scan_range
+bound_last scan_range keys pieces some =
+    bound_at scan_range keys pieces pieces (some_not_zero pieces some)
+    ∙ ap (at_or keys (end scan_range)) (mul-div_cancel_left (length keys) some)
+    ∙ ap (λ o. unwrap_or o (end scan_range)) (slice_get_past keys (length keys) (omega arith))
 
-pub spans_joined : (region : Region) (keys : List Bytes) (pieces k : ℕ) → 0 < pieces → AreRising (front region) (back region) keys → AreJoined (front region) (bound region keys pieces k) (spans region keys pieces k)
-spans_joined region keys pieces zero some r = refl
-spans_joined region keys pieces (suc k) some r =
-    joined_more (front region) (bound region keys pieces k) (bound region keys pieces (suc k)) (spans region keys pieces k) (span_at region keys pieces k) (spans_joined region keys pieces k some r) refl (bound_rising region keys pieces k some r) (ap (bound region keys pieces) (add-one k))
+pub spans_joined : (scan_range : ScanRange) (keys : List Bytes) (pieces k : ℕ) → 0 < pieces → AreRising (start scan_range) (end scan_range) keys → AreJoined (start scan_range) (bound scan_range keys pieces k) (spans scan_range keys pieces k)
+spans_joined scan_range keys pieces zero some r = refl
+spans_joined scan_range keys pieces (suc k) some r =
+    joined_more (start scan_range) (bound scan_range keys pieces k) (bound scan_range keys pieces (suc k)) (spans scan_range keys pieces k) (span_at scan_range keys pieces k) (spans_joined scan_range keys pieces k some r) refl (bound_rising scan_range keys pieces k some r) (ap (bound scan_range keys pieces) (add-one k))
 
 -- ---- the items of a store rise
 
@@ -157,16 +157,16 @@ all_front : (a high : List ℕ) (es : List Pair) → AllFrom a high a es
 all_front a high [] = tt
 all_front a high (e ∷ es) = (λ w. (within_parts a high e.0 w).0, all_front a high es)
 
-rising : (region : Region) (a high low : List ℕ) (es : List Pair) → AllFrom a high low es → T (is_sorted bytes_cmp es) → le low high ≡ true → AreRising low high (item_keys region (between a high es))
-rising region a high low [] from s at = at
-rising region a high low (e ∷ es) from s at =
-    elim (is_within a high e.0) as (λ b. is_within a high e.0 ≡ b → AreRising low high (item_keys region (cond b (e ∷ between a high es) (between a high es)))) [
-      | true ↦ λ w. elim (is_item region e.0) as (λ b. is_item region e.0 ≡ b → AreRising low high (item_keys region (e ∷ between a high es))) [
-        | true ↦ λ item. subst (AreRising low high) (sym (item_keys-cons region e (between a high es) true item))
-            (from.0 w, rising region a high e.0 es (all_behind a high e.0 es (first_of _ _ s)) (second_of _ _ s) (less_le e.0 high (within_parts a high e.0 w).1))
-        | false ↦ λ item. subst (AreRising low high) (sym (item_keys-cons region e (between a high es) false item)) (rising region a high low es from.1 (second_of _ _ s) at)
+rising : (scan_range : ScanRange) (a high low : List ℕ) (es : List Pair) → AllFrom a high low es → T (is_sorted bytes_cmp es) → le low high ≡ true → AreRising low high (item_keys scan_range (between a high es))
+rising scan_range a high low [] from s at = at
+rising scan_range a high low (e ∷ es) from s at =
+    elim (is_within a high e.0) as (λ b. is_within a high e.0 ≡ b → AreRising low high (item_keys scan_range (cond b (e ∷ between a high es) (between a high es)))) [
+      | true ↦ λ w. elim (is_item scan_range e.0) as (λ b. is_item scan_range e.0 ≡ b → AreRising low high (item_keys scan_range (e ∷ between a high es))) [
+        | true ↦ λ item. subst (AreRising low high) (sym (item_keys-cons scan_range e (between a high es) true item))
+            (from.0 w, rising scan_range a high e.0 es (all_behind a high e.0 es (first_of _ _ s)) (second_of _ _ s) (less_le e.0 high (within_parts a high e.0 w).1))
+        | false ↦ λ item. subst (AreRising low high) (sym (item_keys-cons scan_range e (between a high es) false item)) (rising scan_range a high low es from.1 (second_of _ _ s) at)
       ] refl
-      | false ↦ λ w. rising region a high low es from.1 (second_of _ _ s) at
+      | false ↦ λ w. rising scan_range a high low es from.1 (second_of _ _ s) at
     ] refl
 
 -- ---- the range
@@ -191,12 +191,12 @@ prefix_rises tag n same more = by_test (nat_lt (n + 1) (2 ^ 32)) refl
         ∙ ap is_le (numbers n (n + 1) (grind (arith, nat_tests, e)) (grind (arith, nat_tests, e))) ∙ grind (arith, nat_tests)
     by_test false e = ap (λ o. is_le (ordering_then o (bytes_cmp (to_be_bytes w32 n) []))) more
 
-range_rises : (region : Region) → le (front region) (back region) ≡ true
+range_rises : (scan_range : ScanRange) → le (start scan_range) (end scan_range) ≡ true
 range_rises (Rows table) = prefix_rises 82 table refl refl
 range_rises (Entries number) = prefix_rises 88 number refl refl
 
-pub begun_joined : (region : Region) (pairs : Pairs) (pieces : ℕ) → 0 < pieces → AreJoined (front region) (back region) (spans region (items region pairs) pieces pieces)
-begun_joined region pairs pieces some =
-    subst (λ x. AreJoined (front region) x (spans region (items region pairs) pieces pieces)) (bound_last region (items region pairs) pieces some)
-    (spans_joined region (items region pairs) pieces pieces some
-    (rising region (front region) (back region) (front region) (map.entries pairs) (all_front (front region) (back region) (map.entries pairs)) (map.entries_sorted pairs) (range_rises region)))
+pub begun_joined : (scan_range : ScanRange) (pairs : Pairs) (pieces : ℕ) → 0 < pieces → AreJoined (start scan_range) (end scan_range) (spans scan_range (items scan_range pairs) pieces pieces)
+begun_joined scan_range pairs pieces some =
+    subst (λ x. AreJoined (start scan_range) x (spans scan_range (items scan_range pairs) pieces pieces)) (bound_last scan_range (items scan_range pairs) pieces some)
+    (spans_joined scan_range (items scan_range pairs) pieces pieces some
+    (rising scan_range (start scan_range) (end scan_range) (start scan_range) (map.entries pairs) (all_front (start scan_range) (end scan_range) (map.entries pairs)) (map.entries_sorted pairs) (range_rises scan_range)))

@@ -1,17 +1,18 @@
+-- Cited by the contracts of PreparedPiece, PreparedPiece::expect, PreparedPiece::batch.
 -- What a piece writes.
 use Rattle.std.specs.Prelude.{◌≡◌, ℕ, List, [], ◌∷◌, Option, Some, None, option_map, if◌then◌else◌, filter_map}
 use Rattle.std.specs.List.{flat_map}
 use Rattle.std.specs.FinMap as map
 use Rattle.keycode.specs.declared.value.Value.{Value}
 use Rattle.row_map.specs.declared.key.KeyOf.TheVariants.{Column}
-use Rattle.row_map.specs.Cell.{only_value, typed_value}
+use Rattle.row_map.specs.Cell.{value_from, typed_value}
 use Rattle.row_map.specs.declared.shape.ColumnType.{ColumnType}
 use Rattle.row_map.specs.Keys.{key_code}
 use Rattle.row_map.specs.Rows.{Bytes, Pairs}
 use Rattle.row_map.specs.Shape.{is_null}
 use Rattle.row_map.specs.Writes.{Writes, Batch, noted}
 use Rattle.row_map.specs.declared.shape.Row.{Row}
-use Rattle.row_map.specs.declared.expect.Stretch.{Stretch}
+use Rattle.row_map.specs.declared.expect.KeyRange.{KeyRange}
 use Rattle.row_map.specs.declared.expect.Expect.{Expect}
 use Rattle.schema_version.specs.declared.element.Kind.{Kind}
 use Rattle.schema_version.specs.declared.element.Kind.TheVariants.{Index, Optional, Required}
@@ -22,9 +23,9 @@ use Rattle.element_state.specs.Kinds.{kind_meaning}
 use Rattle.element_state.specs.Sources.{source_alone}
 use Rattle.schema_version.specs.declared.element.Work.{Work}
 use Rattle.schema_version.specs.declared.element.Work.TheVariants.{Fill, Clear}
-use Rattle.reorganise.specs.declared.region.Region.TheVariants.{Entries}
-use Rattle.reorganise.specs.declared.reading.Reading.{Reading}
-use Rattle.reorganise.specs.Regions.{row_at, is_item}
+use Rattle.reorganise.specs.declared.scan_range.ScanRange.TheVariants.{Entries}
+use Rattle.reorganise.specs.declared.read.Reading.{Reading}
+use Rattle.reorganise.specs.ScanRanges.{row_at, is_item}
 use Rattle.reorganise.specs.Pieces.{IsReading}
 
 -- ---- the row of an item
@@ -34,20 +35,19 @@ abbrev pub but_null : Option Value → Option Value
 but_null None = None
 but_null (Some v) = if is_null v then None else Some v
 
--- the value that a column's pair spells, if there is one
-abbrev pub spelled : Option Bytes → Option Value
-spelled None = None
-spelled (Some bytes) = but_null (only_value bytes)
+-- the value that a column's pair encodes, if there is one
+abbrev pub encoded : Option Bytes → Option Value
+encoded pair = but_null (value_from pair)
 
 -- the value of a row in a column, as the pairs have it
 abbrev pub cell_in : Pairs → ℕ → List Value → ℕ → Option Value
-cell_in pairs table key column = spelled (map.get pairs (key_code (Column table key column)))
+cell_in pairs table key column = encoded (map.get pairs (key_code (Column table key column)))
 
 -- the cells of a row in these columns
 abbrev pub cells_in : Pairs → ℕ → List Value → List ℕ → List (ℕ × Value)
 cells_in pairs table key columns = filter_map (λ c. option_map (λ v. (c, v)) (cell_in pairs table key c)) columns
 
--- the value of the type that a column's pair spells, if there is one
+-- the value of the type that a column's pair encodes, if there is one
 abbrev pub typed : ColumnType → Option Bytes → Option Value
 typed type None = None
 typed type (Some bytes) = typed_value type bytes
@@ -100,22 +100,22 @@ piece_writes pairs element work = flat_map (λ (e : Bytes × Bytes). pair_writes
 -- ---- a prepared piece
 
 -- all that was read is expected again
-abbrev pub expect_of : Stretch → Expect
-expect_of stretch = record { points = map.empty; stretch = Some stretch }
+abbrev pub expect_of : KeyRange → Expect
+expect_of key_range = record { points = map.empty; key_range = Some key_range }
 
-abbrev pub batch_from : ElementDef → Work → Stretch → Batch
-batch_from element work stretch = noted map.empty (piece_writes stretch.pairs element work)
+abbrev pub batch_from : ElementDef → Work → KeyRange → Batch
+batch_from element work key_range = noted map.empty (piece_writes key_range.pairs element work)
 
 -- the batch of what was read
 abbrev pub batch_for : Reading → Batch
-batch_for read = batch_from read.element read.kind read.stretch
+batch_for read = batch_from read.element read.kind read.key_range
 
-abbrev pub stretch_of : Option Stretch → Stretch
-stretch_of None = record { low = []; high = []; pairs = map.empty }
-stretch_of (Some stretch) = stretch
+abbrev pub key_range_of : Option KeyRange → KeyRange
+key_range_of None = record { low = []; high = []; pairs = map.empty }
+key_range_of (Some key_range) = key_range
 
--- a prepared piece expects the stretch that was read, and has its batch
+-- a prepared piece expects the key range that was read, and has its batch
 pub record IsPrepared (element : ElementDef) (work : Work) (piece : ℕ) (low high : Bytes) (expect : Expect) (batch : Batch) : Type 0 where
-  pub read : IsReading (record { element = element; kind = work; piece = piece; low = low; high = high; stretch = stretch_of expect.stretch })
-  pub expected : expect ≡ expect_of (stretch_of expect.stretch)
-  pub written : batch ≡ batch_from element work (stretch_of expect.stretch)
+  pub read : IsReading (record { element = element; kind = work; piece = piece; low = low; high = high; key_range = key_range_of expect.key_range })
+  pub expected : expect ≡ expect_of (key_range_of expect.key_range)
+  pub written : batch ≡ batch_from element work (key_range_of expect.key_range)

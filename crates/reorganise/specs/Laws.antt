@@ -1,3 +1,4 @@
+-- Cited by the contracts of pieces_share, cursors_pass, ranges_are, bounds_hold and 3 more.
 -- What pieces come to, in the words in which elements keep their laws.
 use Rattle.std.specs.Prelude.{◌≡◌, ℕ, ◌≤◌, zero, suc, true, ◌+◌, ◌<◌, ◌^◌, ◌↔◌, List, [], ◌∷◌, Some, slice_get}
 use Rattle.std.specs.List.{AllByRecursion}
@@ -16,13 +17,13 @@ use Rattle.element_state.specs.Elements.{Meaning, AreFormed, Subset, Exact}
 use Rattle.element_state.specs.Exists.{exists_meaning}
 use Rattle.element_state.specs.Column.{IsLawfulColumn}
 use Rattle.element_state.specs.Required.{required_of}
-use Rattle.element_state.specs.Sources.{source_in, source_alone, stand_in_at}
+use Rattle.element_state.specs.Sources.{source_in, source_alone, default_value_at}
 use Rattle.element_state.specs.Consistent.{DemandOf}
 use Rattle.schema_version.specs.Sound.{IsSoundVersion}
 use Rattle.element_state.specs.Items.{ClearRange, Bounds, RowsOf, IsBound, HasRange, row_items, fill_puts, clear_writes}
 use Rattle.element_state.specs.Kinds.{kind_clear}
 use Rattle.element_state.specs.Versions.{meaning_of, Of}
-use Rattle.element_state.specs.Core.{Span as Passed, NoCell}
+use Rattle.element_state.specs.Core.{PassedSpan as Passed, NoCell}
 use Rattle.element_state.specs.Whole.{fresh_spans}
 use Rattle.element_state.specs.Reaches as reaches
 use Rattle.element_state.specs.Ended.{Piece, passed_spans, HaveEnded}
@@ -30,8 +31,8 @@ use Rattle.element_state.specs.Ended as ended
 use Rattle.schema_version.specs.declared.element.Work.{Work}
 use Rattle.schema_version.specs.declared.element.Work.TheVariants.{Fill, Clear}
 use Rattle.reorganise.specs.declared.work.Span.{Span}
-use Rattle.reorganise.specs.declared.reading.Reading.{Reading}
-use Rattle.reorganise.specs.Regions.{region_of, front, back}
+use Rattle.reorganise.specs.declared.read.Reading.{Reading}
+use Rattle.reorganise.specs.ScanRanges.{scan_range_of, start, end}
 use Rattle.reorganise.specs.Pieces.{begun, are_ended, IsReading}
 use Rattle.reorganise.specs.Partition.{AreJoined}
 use Rattle.reorganise.specs.Batches.{expect_of, batch_for}
@@ -48,7 +49,7 @@ pieces_of = each piece_of
 abbrev pub PiecesJoin : Type 0
 PiecesJoin = (low high : Bytes) (pieces : List Span) → AreJoined low high pieces → ended.AreJoined low high (pieces_of pieces)
 
--- all pieces have ended just where each has come to its upper bound
+-- all pieces have ended exactly when each has come to its upper bound
 abbrev pub PiecesEnd : Type 0
 PiecesEnd = (pieces : List Span) → (are_ended pieces ≡ true) ↔ HaveEnded (pieces_of pieces)
 
@@ -98,13 +99,13 @@ bounds_of element Clear = (clear_of element).bounds
 abbrev pub FillRange : Type 0
 FillRange =
     (element : ElementDef) → element.table + 1 < 2 ^ 32
-    → (front (region_of element Fill) ≡ table_prefix element.table) × (back (region_of element Fill) ≡ table_prefix (element.table + 1))
+    → (start (scan_range_of element Fill) ≡ table_prefix element.table) × (end (scan_range_of element Fill) ≡ table_prefix (element.table + 1))
 
 -- a clear goes through the range that its kind says
 abbrev pub ClearRangeIs : Type 0
 ClearRangeIs =
     (element : ElementDef) → HasRange element.table element.number
-    → (front (region_of element Clear) ≡ (clear_of element).low) × (back (region_of element Clear) ≡ (clear_of element).high)
+    → (start (scan_range_of element Clear) ≡ (clear_of element).low) × (end (scan_range_of element Clear) ≡ (clear_of element).high)
 
 pub record HasBounds (bounds : Bounds) (span : Span) : Type 0 where
   pub low : IsBound bounds span.low
@@ -124,7 +125,7 @@ BoundsStay =
 
 -- a piece comes to where it may end, whatever pairs it was read from
 abbrev pub ComesToBound : Type 0
-ComesToBound = (read : Reading) → IsReading read → IsBound (bounds_of read.element read.kind) read.high → IsBound (bounds_of read.element read.kind) read.stretch.high
+ComesToBound = (read : Reading) → IsReading read → IsBound (bounds_of read.element read.kind) read.high → IsBound (bounds_of read.element read.kind) read.key_range.high
 
 -- ---- what they write
 
@@ -133,7 +134,7 @@ pub record HasColumn (version : Version) (table : ℕ) (P : Pairs) (R : Rows) (c
   pub lawful : IsLawfulColumn column
   pub public : IsPublicColumn version table column
   pub demand : DemandOf version column (element_at version column) P R
-  pub stand_in : IsStorable (stand_in_at version column)
+  pub default_value : IsStorable (default_value_at version column)
 
 -- a required column in which no row has a value of its own yet, and that has only pairs of the default
 pub record HasDefaults (element : ElementDef) (fallback : Value) (P : Pairs) (R : Rows) : Type 0 where
@@ -163,14 +164,14 @@ meaning_in version element = meaning_of element.number (Of element.table (source
 -- a prepared piece of a fill, where its expectation holds, puts what `fill_of` gives for each row from the old cursor to below the new one
 abbrev pub FillLays : Type 0
 FillLays =
-    (version : Version) (read : Reading) (P : Pairs) (R : Rows) → IsReading read → read.kind ≡ Fill → Holds (expect_of read.stretch) P
+    (version : Version) (read : Reading) (P : Pairs) (R : Rows) → IsReading read → read.kind ≡ Fill → Holds (expect_of read.key_range) P
     → AreStorable R → AreFormed P → Exact exists_meaning P R → HasColumns version read.element P R
-    → read.element.table + 1 < 2 ^ 32 → IsRowBound read.element.table read.stretch.high
-    → laid (batch_for read) P ≡ written_all P (fill_puts (meaning_in version read.element) (row_items (meaning_in version read.element).serves R read.stretch.low read.stretch.high))
+    → read.element.table + 1 < 2 ^ 32 → IsRowBound read.element.table read.key_range.high
+    → laid (batch_for read) P ≡ written_all P (fill_puts (meaning_in version read.element) (row_items (meaning_in version read.element).serves R read.key_range.low read.key_range.high))
 
 -- a prepared piece of a clear, where its expectation holds, removes each item from the old cursor to below the new one
 abbrev pub ClearLays : Type 0
 ClearLays =
-    (read : Reading) (P : Pairs) (R : Rows) → IsReading read → read.kind ≡ Clear → Holds (expect_of read.stretch) P
+    (read : Reading) (P : Pairs) (R : Rows) → IsReading read → read.kind ≡ Clear → Holds (expect_of read.key_range) P
     → AreStorable R → AreFormed P → Exact exists_meaning P R → HasRange read.element.table read.element.number
-    → laid (batch_for read) P ≡ written_all P (clear_writes ((clear_of read.element).items R P read.stretch.low read.stretch.high))
+    → laid (batch_for read) P ≡ written_all P (clear_writes ((clear_of read.element).items R P read.key_range.low read.key_range.high))

@@ -1,7 +1,7 @@
-pub mod Regions
+pub mod ScanRanges
 pub mod Pieces
 pub mod Partition
 pub mod Refusals
 pub mod Batches
 pub mod Laws
-pub mod Moving
+pub mod Cursor

@@ -1,3 +1,4 @@
+-- Cited by the contracts of Progress::begin.
 -- Pieces share a range.
 use Rattle.std.specs.Prelude.{◌≡◌, ℕ, true, List, [], ◌∷◌, ◌+◌, if◌then◌else◌}
 use Rattle.std.specs.Ordering.{is_le}

@@ -1,3 +1,4 @@
+-- Cited by the contracts of Progress::read_piece.
 -- When a piece is not read.
 use Rattle.std.specs.Prelude.{◌≡◌, ◌≢◌, ℕ, ◌≤◌, ◌<◌, length, Some, ◌⊎◌, slice_get}
 use Rattle.std.specs.declared.cmp.Ordering.TheVariants.{Less}

@@ -1,19 +1,19 @@
-//! Where the pieces of a reorganisation begin and end.
+//! If the pieces of a reorganisation begin and end.
 ghost use Rattle.std.specs.Prelude.{◌≡◌, ◌≤◌, IfOk};
-ghost use Rattle.reorganise.specs.Regions.{items, region_of as region_for, front as front_of, back as back_of};
+ghost use Rattle.reorganise.specs.ScanRanges.{items, scan_range_of as scan_range_for, start as front_of, end as back_of};
 ghost use Rattle.reorganise.specs.Pieces.{bound as bound_of, spans as spans_of, begun, are_ended};
 ghost use Rattle.reorganise.specs.Partition.{AreJoined, IsPartition};
 
-use crate::region::{Region, back, front, is_item, region_of};
+use crate::scan_range::{ScanRange, end, is_item, scan_range_of, start};
 use crate::work::{Progress, Span};
 use byte_map::Bytes;
-use listed::Listed;
+use collections::List;
 use row_map::PairView;
 use schema_version::{ElementDef, Work};
 use std::alloc::{AllocError, Global};
 
 /// The bytes, as an owner has them.
-pub(crate) fn copied(alloc: Global, bytes: &[u8]) -> Result<Bytes, AllocError>
+pub(crate) fn copy_bytes(alloc: Global, bytes: &[u8]) -> Result<Bytes, AllocError>
     ensures { IfOk result (λ copy. copy ≡ bytes.now) }
 {
     let mut out = Vec::new(alloc);
@@ -22,83 +22,88 @@ pub(crate) fn copied(alloc: Global, bytes: &[u8]) -> Result<Bytes, AllocError>
 }
 
 /// A further owner of the bytes.
-pub(crate) fn shared(bytes: &Bytes) -> Result<Bytes, AllocError>
+pub(crate) fn share_bytes(bytes: &Bytes) -> Result<Bytes, AllocError>
     ensures { IfOk result (λ owner. owner ≡ bytes.now) }
 {
     bytes.clone()
 }
 
 /// The keys of all items, in order.
-fn item_keys<V: PairView>(alloc: Global, region: Region, view: &V) -> Result<Vec<Bytes>, AllocError>
-    ensures { IfOk result (λ keys. keys.items ≡ items region (V.pairs view.now)) }
+fn item_keys<V: PairView>(
+    alloc: Global,
+    scan_range: ScanRange,
+    view: &V,
+) -> Result<Vec<Bytes>, AllocError>
+    ensures { IfOk result (λ keys. keys.items ≡ items scan_range (V.pairs view.now)) }
 {
-    let low = front(alloc, region)?;
-    let high = back(alloc, region)?;
+    let low = start(alloc, scan_range)?;
+    let high = end(alloc, scan_range)?;
     let mut keys = Vec::new(alloc);
     let mut walk = view.walk_within(low.as_slice(), high.as_slice());
     while let Some((key, _)) = walk.next() {
-        if is_item(alloc, region, key)? {
-            keys.push(copied(alloc, key)?)?;
+        if is_item(alloc, scan_range, key)? {
+            keys.push(copy_bytes(alloc, key)?)?;
         }
     }
     Ok(keys)
 }
 
-/// Where piece `k` begins, and the one before it ends.
+/// If piece `k` begins, and the one before it ends.
 fn bound(
     alloc: Global,
-    region: Region,
+    scan_range: ScanRange,
     keys: &[Bytes],
     pieces: u32,
     k: u32,
 ) -> Result<Bytes, AllocError>
     requires some { 1 ≤ pieces }
     requires within { k ≤ pieces }
-    ensures { IfOk result (λ bytes. bytes ≡ bound_of region keys.now pieces k) }
+    ensures { IfOk result (λ bytes. bytes ≡ bound_of scan_range keys.now pieces k) }
 {
     if k == 0 {
-        return front(alloc, region);
+        return start(alloc, scan_range);
     }
     let place = u128::from(k) * (keys.len() as u128) / u128::from(pieces);
     match keys.get(place as usize) {
-        Some(key) => shared(key),
-        None => back(alloc, region),
+        Some(key) => share_bytes(key),
+        None => end(alloc, scan_range),
     }
 }
 
 /// All pieces, each with its cursor at its lower bound.
 fn spans(
     alloc: Global,
-    region: Region,
+    scan_range: ScanRange,
     keys: &[Bytes],
     pieces: u32,
-) -> Result<Listed<Span>, AllocError>
+) -> Result<List<Span>, AllocError>
     requires some { 1 ≤ pieces }
     requires bounded { pieces ≤ 64 }
-    ensures { IfOk result (λ list. list ≡ spans_of region keys.now pieces pieces) }
+    ensures { IfOk result (λ list. list ≡ spans_of scan_range keys.now pieces pieces) }
 {
     let mut list = Vec::new(alloc);
     for k in 0..pieces {
-        let low = bound(alloc, region, keys, pieces, k)?;
-        let high = bound(alloc, region, keys, pieces, k + 1)?;
-        let cursor = shared(&low)?;
+        let low = bound(alloc, scan_range, keys, pieces, k)?;
+        let high = bound(alloc, scan_range, keys, pieces, k + 1)?;
+        let cursor = share_bytes(&low)?;
         list.push(Span { low, high, cursor })?;
     }
-    Ok(Listed::new(list))
+    Ok(List::new(list))
 }
 
 impl Progress {
-    /// Begins a fill or a clear: fixes the pieces by the items that are present. A fill, and a clear of a column, go by
-    /// the rows of the element's table; a clear of an index goes by the index's pairs. With `n` items, piece `k` begins
-    /// at the key of item `k * n / pieces`, rounded down, and the first at the front of the range; each ends where the
-    /// next one begins, the last at the end of the range. So the pieces have as many items each, but for one.
+    /// Begins a fill or a clear: fixes the pieces by the items that are present. A fill, and a
+    /// clear of a column, go by the rows of the element's table; a clear of an index goes by the
+    /// index's pairs. With `n` items, piece `k` begins at the key of item `k * n / pieces`, rounded
+    /// down, and the first at the start of the range; each ends where the next one begins, the last
+    /// at the end of the range. So the pieces have as many items each, but for one.
     ///
     /// - `element`: what is filled or cleared. Its state is not looked at.
     /// - `kind`: whether it is filled or cleared.
     /// - `view`: the pairs that are present. A key that `read_key` refuses is no item.
     /// - `pieces`: how many pieces, 1 to 64.
     ///
-    /// Refused for want of memory alone.
+    /// Refused only when out of memory.
     pub fn begin<V: PairView>(
         alloc: Global,
         element: ElementDef,
@@ -109,14 +114,14 @@ impl Progress {
         requires some { 1 ≤ pieces }
         requires bounded { pieces ≤ 64 }
         ensures begun { IfOk result (λ progress. progress ≡ begun element kind (V.pairs view.now) pieces) }
-        // Each piece ends where the next one begins, from the front of the range to its end.
-        ensures joined { IfOk result (λ progress. AreJoined (front_of (region_for element kind)) (back_of (region_for element kind)) progress.pieces) }
+        // Each piece ends where the next one begins, from the start of the range to its end.
+        ensures joined { IfOk result (λ progress. AreJoined (front_of (scan_range_for element kind)) (back_of (scan_range_for element kind)) progress.pieces) }
         // Each key of the range lies in just one piece.
-        ensures partition { IfOk result (λ progress. IsPartition (front_of (region_for element kind)) (back_of (region_for element kind)) progress.pieces) }
+        ensures partition { IfOk result (λ progress. IsPartition (front_of (scan_range_for element kind)) (back_of (scan_range_for element kind)) progress.pieces) }
     {
-        let region = region_of(&element, kind);
-        let keys = item_keys(alloc, region, view)?;
-        let pieces = spans(alloc, region, keys.as_slice(), pieces)?;
+        let scan_range = scan_range_of(&element, kind);
+        let keys = item_keys(alloc, scan_range, view)?;
+        let pieces = spans(alloc, scan_range, keys.as_slice(), pieces)?;
         Ok(Progress {
             element,
             kind,

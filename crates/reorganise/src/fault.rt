@@ -17,7 +17,7 @@ pub enum ViewFault {
     /// The limit is not from 1 to 1,000.
     #[error("the limit is not from 1 to 1000")]
     BadLimit,
-    /// Want of memory.
+    /// Out of memory.
     #[error("out of memory")]
     Memory,
 }

@@ -3,8 +3,8 @@
 //! `element_state` speaks of.
 ghost use Rattle.reorganise.specs.Laws.{PiecesJoin, PiecesEnd, BeginsFresh, CursorStands, CursorMoves, JoinStays, FillRange, ClearRangeIs, ClearIsOfKind, BeginsAtBounds, BoundsStay, ComesToBound, ColumnsAgree, FillLays, ClearLays};
 
-/// Pieces that join one another are such in the words of `element_state`, and have all ended just where `finished`
-/// says so.
+/// Pieces that join one another are such in the words of `element_state`, and have all ended
+/// exactly when `finished` says so.
 pub fn pieces_share()
     ensures join { PiecesJoin }
     ensures end { PiecesEnd }

@@ -7,14 +7,14 @@
 #![tactic(auto)]
 
 mod begin;
+mod cursor;
 mod fault;
 mod laws;
-mod moving;
+mod prepare;
 mod prepared;
-mod preparing;
-mod reading;
-mod region;
+mod read;
 mod row;
+mod scan_range;
 mod view;
 mod work;
 
@@ -22,8 +22,8 @@ pub use fault::ViewFault;
 pub use laws::{
     bounds_hold, clear_lays, columns_agree, cursors_pass, fill_lays, pieces_share, ranges_are,
 };
+pub use prepare::prepare_piece;
 pub use prepared::PreparedPiece;
-pub use preparing::prepare_piece;
 pub use schema_version::Work;
 pub use view::PieceView;
 pub use work::{Progress, Span};

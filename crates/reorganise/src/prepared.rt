@@ -4,7 +4,7 @@ ghost use Rattle.reorganise.specs.Pieces.{IsReading};
 ghost use Rattle.reorganise.specs.Batches.{expect_of, batch_for};
 
 use byte_map::{Bytes, KeyMap};
-use row_map::{Batch, Expect, Stretch};
+use row_map::{Batch, Expect, KeyRange};
 use schema_version::{ElementDef, Work};
 use std::marker::Model;
 
@@ -22,16 +22,16 @@ pub struct PreparedPiece {
 }
 
 impl Model for PreparedPiece {
-    ghost use Rattle.reorganise.specs.declared.reading.Reading.{Reading};
-    ghost use Rattle.reorganise.specs.contracts.reading.Reading as reading;
+    ghost use Rattle.reorganise.specs.declared.read.Reading.{Reading};
+    ghost use Rattle.reorganise.specs.contracts.read.Reading as reading;
 
     ghost Value = { Reading };
 
     ghost coded = { reading.the_row.coded };
 
-    ghost use Rattle.reorganise.specs.Batches.{stretch_of, IsPrepared};
+    ghost use Rattle.reorganise.specs.Batches.{key_range_of, IsPrepared};
 
-    ghost view = { λ p. record { element = p.element; kind = p.kind; piece = p.piece; low = p.low; high = p.high; stretch = stretch_of p.expect.stretch } };
+    ghost view = { λ p. record { element = p.element; kind = p.kind; piece = p.piece; low = p.low; high = p.high; key_range = key_range_of p.expect.key_range } };
 
     ghost invariant = { λ p. IsPrepared p.element p.kind p.piece p.low p.high p.expect p.batch };
 }
@@ -69,7 +69,7 @@ impl PreparedPiece {
     /// What it expects of the store: that the pairs from the old cursor to below the new one are just those that were
     /// read.
     pub fn expect(&self) -> &Expect
-        ensures { result.now ≡ expect_of self.now.stretch }
+        ensures { result.now ≡ expect_of self.now.key_range }
     {
         &self.expect
     }
@@ -82,33 +82,33 @@ impl PreparedPiece {
     }
 
     /// The range that was read.
-    fn stretch(&self) -> &Stretch
-        ensures { result.now ≡ self.now.stretch }
+    fn key_range(&self) -> &KeyRange
+        ensures { result.now ≡ self.now.key_range }
     {
-        match &self.expect.stretch {
-            Some(stretch) => stretch,
+        match &self.expect.key_range {
+            Some(key_range) => key_range,
             None => unreachable!(),
         }
     }
 
     /// The piece's cursor as it was read, and where it comes to.
     pub fn cursors(&self) -> (&[u8], &[u8])
-        ensures old { result.0.now ≡ self.now.stretch.low }
-        ensures new { result.1.now ≡ self.now.stretch.high }
+        ensures old { result.0.now ≡ self.now.key_range.low }
+        ensures new { result.1.now ≡ self.now.key_range.high }
     {
-        let stretch = self.stretch();
-        (stretch.low.as_slice(), stretch.high.as_slice())
+        let key_range = self.key_range();
+        (key_range.low.as_slice(), key_range.high.as_slice())
     }
 
     /// All pairs that were read: those from the old cursor to below the new one.
     pub fn pairs(&self) -> &KeyMap<Bytes>
-        ensures { result.now ≡ self.now.stretch.pairs }
+        ensures { result.now ≡ self.now.key_range.pairs }
     {
-        &self.stretch().pairs
+        &self.key_range().pairs
     }
 
     /// Tells what is known of every prepared piece.
-    pub fn made(&self)
+    pub fn lemma_made(&self)
         ensures { IsReading self.now }
     {
         let _expect = &self.expect;

@@ -1,11 +1,11 @@
-//! The row of an item, as the pairs that were read spell it.
+//! The row of an item, as the pairs that were read encode it.
 ghost use Rattle.std.specs.Prelude.{◌≡◌, IfOk};
 ghost use Rattle.reorganise.specs.Batches.{but_null as but_null_of, cell_in, cells_in, typed_in, one_cell as one_cell_of, cells_for, row_in};
 
 use byte_map::{Bytes, KeyMap};
+use collections::List;
 use keycode::{Value, Values};
-use listed::Listed;
-use row_map::{ColumnType, Row, column_key, read_only_value, read_typed_value};
+use row_map::{ColumnType, Row, column_key, read_cell, read_typed_value};
 use schema_version::{ElementDef, Kind};
 use std::alloc::{AllocError, Global};
 
@@ -19,7 +19,7 @@ fn but_null(value: Option<Value>) -> Option<Value>
     }
 }
 
-/// The value of a row in a column, if its pair spells one.
+/// The value of a row in a column, if its pair encodes one.
 fn cell(
     alloc: Global,
     pairs: &KeyMap<Bytes>,
@@ -29,11 +29,7 @@ fn cell(
 ) -> Result<Option<Value>, AllocError>
     ensures { IfOk result (λ v. v ≡ cell_in pairs.now table key.now column) }
 {
-    let name = column_key(alloc, table, key, column)?;
-    match pairs.get(name.as_slice()) {
-        None => Ok(None),
-        Some(bytes) => Ok(but_null(read_only_value(alloc, bytes.as_slice())?)),
-    }
+    Ok(but_null(read_cell(alloc, pairs, table, key, column)?))
 }
 
 /// The cells of a row in these columns.
@@ -43,7 +39,7 @@ fn cells(
     table: u32,
     key: &[Value],
     columns: &[u32],
-) -> Result<Listed<(u32, Value)>, AllocError>
+) -> Result<List<(u32, Value)>, AllocError>
     ensures { IfOk result (λ cells. cells ≡ cells_in pairs.now table key.now columns.now) }
 {
     let mut cells = Vec::new(alloc);
@@ -52,10 +48,10 @@ fn cells(
             cells.push((*column, value))?;
         }
     }
-    Ok(Listed::new(cells))
+    Ok(List::new(cells))
 }
 
-/// The value of a row in a column of this type, if its pair spells one.
+/// The value of a row in a column of this type, if its pair encodes one.
 fn typed_cell(
     alloc: Global,
     pairs: &KeyMap<Bytes>,
@@ -78,14 +74,14 @@ fn one_cell(
     alloc: Global,
     column: u32,
     value: Option<Value>,
-) -> Result<Listed<(u32, Value)>, AllocError>
+) -> Result<List<(u32, Value)>, AllocError>
     ensures { IfOk result (λ cells. cells ≡ one_cell_of column value) }
 {
     let mut cells = Vec::new(alloc);
     if let Some(value) = value {
         cells.push((column, value))?;
     }
-    Ok(Listed::new(cells))
+    Ok(List::new(cells))
 }
 
 /// The cells of a row that the element's pair is made from: those of an index's columns, or that of a required column.
@@ -94,12 +90,12 @@ fn needed_cells(
     pairs: &KeyMap<Bytes>,
     element: &ElementDef,
     key: &[Value],
-) -> Result<Listed<(u32, Value)>, AllocError>
+) -> Result<List<(u32, Value)>, AllocError>
     ensures { IfOk result (λ found. found ≡ cells_for pairs.now element.now key.now element.now.kind) }
 {
     match &element.kind {
         Kind::Index(columns) => cells(alloc, pairs, element.table, key, columns.as_slice()),
-        Kind::Optional(_) => Ok(Listed::new(Vec::new(alloc))),
+        Kind::Optional(_) => Ok(List::new(Vec::new(alloc))),
         Kind::Required { column, .. } => {
             let value = typed_cell(alloc, pairs, *column, element.table, key, element.number)?;
             one_cell(alloc, element.number, value)

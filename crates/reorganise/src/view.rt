@@ -2,7 +2,7 @@
 ghost use Rattle.std.specs.Prelude.{◌≡◌};
 ghost use Rattle.reorganise.specs.Pieces.{IsReading};
 
-use crate::reading::Reading;
+use crate::read::Reading;
 use byte_map::{Bytes, KeyMap};
 use schema_version::{ElementDef, Work};
 use std::marker::Model;
@@ -14,8 +14,8 @@ pub struct PieceView {
 }
 
 impl Model for PieceView {
-    ghost use Rattle.reorganise.specs.declared.reading.Reading.{Reading};
-    ghost use Rattle.reorganise.specs.contracts.reading.Reading as reading;
+    ghost use Rattle.reorganise.specs.declared.read.Reading.{Reading};
+    ghost use Rattle.reorganise.specs.contracts.read.Reading as reading;
 
     ghost Value = { Reading };
 
@@ -60,20 +60,20 @@ impl PieceView {
 
     /// The piece's cursor as it was read, and where it comes to.
     pub fn cursors(&self) -> (&[u8], &[u8])
-        ensures old { result.0.now ≡ self.now.stretch.low }
-        ensures new { result.1.now ≡ self.now.stretch.high }
+        ensures old { result.0.now ≡ self.now.key_range.low }
+        ensures new { result.1.now ≡ self.now.key_range.high }
     {
         (
-            self.inside.stretch.low.as_slice(),
-            self.inside.stretch.high.as_slice(),
+            self.inside.key_range.low.as_slice(),
+            self.inside.key_range.high.as_slice(),
         )
     }
 
     /// All pairs that were read: those from the old cursor to below the new one.
     pub fn pairs(&self) -> &KeyMap<Bytes>
-        ensures { result.now ≡ self.now.stretch.pairs }
+        ensures { result.now ≡ self.now.key_range.pairs }
     {
-        &self.inside.stretch.pairs
+        &self.inside.key_range.pairs
     }
 
     /// Tells what is known of everything that was read of a piece.

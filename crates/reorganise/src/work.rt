@@ -1,6 +1,6 @@
 //! The pieces of fills and clears, and how far each has come.
 use byte_map::Bytes;
-use listed::Listed;
+use collections::List;
 use schema_version::{ElementDef, Work};
 
 /// A piece of a reorganisation: its bounds, and how far it has come.
@@ -22,5 +22,5 @@ pub struct Progress {
     /// Whether it is filled or cleared.
     pub kind: Work,
     /// The pieces, in the order of their keys.
-    pub pieces: Listed<Span>,
+    pub pieces: List<Span>,
 }

@@ -4,17 +4,17 @@ use Rattle.std.specs.Prelude.{Result, Ok, Err}
 use Rattle.std.proofs.lemmas.List.{length_push}
 use Rattle.std.proofs.lemmas.List.Elements.{All-push, All-same, All-nil}
 use Rattle.schema_version.specs.declared.element.Work.{Work}
-use Rattle.reorganise.specs.declared.reading.Reading.{Reading}
+use Rattle.reorganise.specs.declared.read.Reading.{Reading}
 use Rattle.reorganise.specs.declared.fault.ViewFault.TheVariants as view_fault
 use Rattle.replay.specs.Replay.{Opening}
-use Rattle.world.specs.Piecework.{PieceStep, ReadStep, piece_standing_at}
+use Rattle.world.specs.Piece.{PieceStep, ReadStep, piece_standing_at}
 use Rattle.world.specs.State.{State, facts_of}
 use Rattle.world.specs.declared.entry.PieceDone.{PieceDone}
 use Rattle.world.specs.declared.entry.Receipt.{Receipt}
-use Rattle.world.specs.declared.pieces.PieceFault.{PieceFault}
-use Rattle.world.specs.declared.pieces.PieceFault.TheVariants.{MomentTooLarge, NotWanted, WrongElement, Moved, Conflict, Memory}
-use Rattle.world.specs.declared.pieces.ReadFault.{ReadFault}
-use Rattle.world.specs.declared.pieces.ReadFault.TheVariants as read_fault
+use Rattle.world.specs.declared.piece.PieceFault.{PieceFault}
+use Rattle.world.specs.declared.piece.PieceFault.TheVariants.{MomentTooLarge, NotWanted, WrongElement, Moved, Conflict, Memory}
+use Rattle.world.specs.declared.piece.ReadFault.{ReadFault}
+use Rattle.world.specs.declared.piece.ReadFault.TheVariants as read_fault
 use Rattle.locked_store.specs.declared.fault.SharedFault.{SharedFault}
 use Rattle.locked_store.specs.declared.fault.SharedFault.TheVariants as shared
 use Rattle.locked_store.specs.declared.fault.WentBack.{WentBack}
@@ -23,11 +23,11 @@ use Rattle.locked_store.specs.Cores.{IsCore, IsCoreSince}
 use Rattle.locked_store.specs.Known.{Known}
 use Rattle.locked_store.specs.Receipts.{IsLogged}
 use Rattle.reorganise_workers.specs.Ends.{IsEndOf, IsTurn, IsFailedTry, FailedSoOften, Stood, WasRead, WasCommitted, WasUncommitted}
-use Rattle.reorganise_workers.specs.Turns.{WasSpent, unread_end, turn_of}
+use Rattle.reorganise_workers.specs.inner.Attempts.{WasSpent, unread_end, turn_of}
 use Rattle.reorganise_workers.specs.declared.end.PieceEnd.{PieceEnd}
 use Rattle.reorganise_workers.specs.declared.end.PieceEnd.TheVariants as piece_end
 use Rattle.reorganise_workers.specs.declared.job.Job.{Job}
-use Rattle.reorganise_workers.specs.declared.turns.Turn.TheVariants as turn
+use Rattle.reorganise_workers.specs.declared.attempt.Attempt.TheVariants as attempt
 
 -- what has seen as much as a handle has seen as much as the job says
 pub since : (opening : Opening) (front : ℕ) (v : Known) (core : State) → front ≤ v.front → IsCore opening core → v.front ≤ length core.log → IsCoreSince opening front core
@@ -102,7 +102,7 @@ was_committed opening v w job piece read prepared done seen is was own a =
 pub brought_to_its_end : (opening : Opening) (job : Job) (piece : ℕ) (done : PieceDone) → WasCommitted opening job piece done → done.ended ≡ true → IsEndOf opening job piece piece_end.Finished
 brought_to_its_end opening job piece done was ended = inr (done, was, ended)
 
-pub more_left : (opening : Opening) (job : Job) (piece : ℕ) (done : PieceDone) → WasCommitted opening job piece done → done.ended ≡ false → IsTurn opening job piece turn.More
+pub more_left : (opening : Opening) (job : Job) (piece : ℕ) (done : PieceDone) → WasCommitted opening job piece done → done.ended ≡ false → IsTurn opening job piece attempt.More
 more_left opening job piece done was ended = (done, was, ended)
 
 was_uncommitted : (opening : Opening) (v w : Known) (job : Job) (piece : ℕ) (read prepared back : Reading) (fault : PieceFault)
@@ -137,7 +137,7 @@ refused_by opening v w job piece read prepared back (shared.World Memory) s is w
 pub none_failed : (opening : Opening) (job : Job) (piece : ℕ) → FailedSoOften opening job piece 0
 none_failed opening job piece = ([], refl, All-nil (IsFailedTry opening job piece))
 
-pub one_more_failed : (opening : Opening) (job : Job) (piece times : ℕ) → FailedSoOften opening job piece times → IsTurn opening job piece turn.Again → FailedSoOften opening job piece (times + 1)
+pub one_more_failed : (opening : Opening) (job : Job) (piece times : ℕ) → FailedSoOften opening job piece times → IsTurn opening job piece attempt.Again → FailedSoOften opening job piece (times + 1)
 one_more_failed opening job piece times f t =
     (f.0 ++ t.0 ∷ [], length_push f.0 t.0 ∙ ap (λ n. n + 1) f.1, All-push (IsFailedTry opening job piece) f.0 t.0 f.2 t.1)
 

@@ -1,3 +1,3 @@
-pub mod Crews
+pub mod Workers
 pub mod Ends
 pub mod Reorganises

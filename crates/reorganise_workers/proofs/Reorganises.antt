@@ -5,23 +5,23 @@ use Rattle.std.specs.Option.{option_map}
 use Rattle.std.proofs.lemmas.List.{reverse-reverse}
 use Rattle.std.proofs.lemmas.List.Elements.{All-push, All-pop, All-same}
 use Rattle.std.proofs.lemmas.List.Sums.{sum_by-le, sum_by_push}
-use Rattle.tasks.proofs.Handing.{map_reverse, map_map, map_push, sum_reverse, sum_map}
-use Rattle.tasks.proofs.Seating.{reverse_push}
+use Rattle.tasks.proofs.Handed.{map_reverse, map_map, map_push, sum_reverse, sum_map}
+use Rattle.tasks.proofs.Seats.{reverse_push}
 use Rattle.tasks.specs.Outcomes.{IsRow, held_in}
 use Rattle.schema_version.specs.declared.element.Work.{Work}
 use Rattle.reorganise.specs.declared.work.Progress.{Progress}
 use Rattle.replay.specs.Replay.{Opening, progress_of}
-use Rattle.world.specs.Piecework.{standing, standing_at}
+use Rattle.world.specs.Piece.{standing, standing_at}
 use Rattle.world.specs.State.{State, facts_of}
 use Rattle.world.specs.declared.entry.Receipt.{Receipt}
 use Rattle.locked_store.specs.Cores.{IsCore}
 use Rattle.locked_store.specs.Known.{Known, total_count, IsLeastFront, OfLast}
 use Rattle.locked_store.specs.Receipts.{IsLogged}
-use Rattle.reorganise_workers.specs.Crews.{Filling, AreIdle}
+use Rattle.reorganise_workers.specs.inner.Workers.{Filling, AreIdle}
 use Rattle.reorganise_workers.specs.Ends.{IsEndOf}
-use Rattle.reorganise_workers.specs.Reorganised.{IsCount, IsRefused, Reorganises, IsWorkedOff, WasBegun, WasRefused, Stays, right, asked}
-use Rattle.reorganise_workers.specs.declared.reorganising.ReorganiseFault.{ReorganiseFault}
-use Rattle.reorganise_workers.specs.declared.reorganising.ReorganiseFault.TheVariants as fault
+use Rattle.reorganise_workers.specs.ReorganiseAll.{IsCount, IsRefused, Reorganises, IsWorkedOff, WasBegun, WasRefused, Stays, right, asked}
+use Rattle.reorganise_workers.specs.declared.all_pieces.ReorganiseFault.{ReorganiseFault}
+use Rattle.reorganise_workers.specs.declared.all_pieces.ReorganiseFault.TheVariants as fault
 use Rattle.reorganise_workers.specs.declared.end.PieceEnd.{PieceEnd}
 use Rattle.reorganise_workers.specs.declared.job.Job.{Job}
 
@@ -30,8 +30,8 @@ pub given_back : (handles : List Known) (ws : List Filling) → map (λ w. w.han
 given_back handles ws staff = ap reverse staff ∙ reverse-reverse handles
 
 -- idle workers keep nothing
-idle_none : (job : Job) (ws : List Filling) → AreIdle job ws → sum_by (λ w. length w.kept) ws ≡ 0
-idle_none job ws idle = omega (arith, sum_by-le (λ (w : Filling). length w.kept) 0 ws (λ i d lt. omega (arith, ap (λ (l : List Receipt). length l) (idle i d lt).0)))
+idle_none : (job : Job) (ws : List Filling) → AreIdle job ws → sum_by (λ w. length w.kept_receipts) ws ≡ 0
+idle_none job ws idle = omega (arith, sum_by-le (λ (w : Filling). length w.kept_receipts) 0 ws (λ i d lt. omega (arith, ap (λ (l : List Receipt). length l) (idle i d lt).0)))
 
 -- each worker has the whole job before it
 pub planned : (job : Job) (ws : List Filling) → AreIdle job ws → All (λ w. w.job.pieces ≡ job.pieces) ws
@@ -54,18 +54,18 @@ pub reorganises : (opening : Opening) (job : Job) (handles : List Known) (ws ps 
     → ((plan : Job) → All (λ w. w.job ≡ plan) ws → All (λ e. IsEndOf opening plan e.0 e.1) ends)
     → map (λ w. w.handle.id) ps ≡ map (λ w. w.handle.id) ws
     → ((plan : Job) → All (λ w. w.job ≡ plan) ws → All (λ w. w.job ≡ plan) ps)
-    → sum_by (λ w. w.handle.count) ps + sum_by (λ w. length w.kept) ws ≡ sum_by (λ w. w.handle.count) ws + sum_by (λ w. length w.kept) ps + held_in (λ (e : PieceEnd). 0) ends
-    → back ≡ reverse (map (λ w. w.handle) ps) → sum_by length receipts ≡ sum_by (λ w. length w.kept) ps
+    → sum_by (λ w. w.handle.count) ps + sum_by (λ w. length w.kept_receipts) ws ≡ sum_by (λ w. w.handle.count) ws + sum_by (λ w. length w.kept_receipts) ps + held_in (λ (e : PieceEnd). 0) ends
+    → back ≡ reverse (map (λ w. w.handle) ps) → sum_by length receipts ≡ sum_by (λ w. length w.kept_receipts) ps
     → ((plan : Job) → All (λ w. w.job ≡ plan) ps → All (All (IsLogged opening plan.front)) receipts)
     → Reorganises opening job handles ends back receipts
-reorganises opening job handles ws ps ends back receipts staff idle row fits ids plans counted back_is kept logged =
+reorganises opening job handles ws ps ends back receipts staff idle row fits ids plans counted back_is kept_receipts logged =
     let first : handles ≡ reverse (map (λ (w : Filling). w.handle) ws) = sym (given_back handles ws staff) in
     let staff_back : map (λ (w : Filling). w.handle) ps ≡ reverse back = sym (ap reverse back_is ∙ reverse-reverse (map (λ (w : Filling). w.handle) ps)) in
     record {
       each = row;
       own = fits job (λ i d lt. (idle i d lt).1);
       same = numbers back ps back_is ∙ ap reverse ids ∙ sym (numbers handles ws first);
-      counted = omega (arith, counted, idle_none job ws idle, shares handles ws staff, shares back ps staff_back, kept, none_held ends);
+      counted = omega (arith, counted, idle_none job ws idle, shares handles ws staff, shares back ps staff_back, kept_receipts, none_held ends);
       logged = logged job (plans job (λ i d lt. (idle i d lt).1));
     }
 
@@ -78,29 +78,29 @@ handle_apart all left w handle handles new total all_is new_is own_is so_far =
     ∙ ap (λ l. handles ++ l) (sym (reverse_push (λ (v : Filling). v.handle) left w) ∙ ap (λ l. reverse (map (λ (v : Filling). v.handle) l)) (sym all_is)) ∙ so_far
 
 -- and so do its receipts
-pub receipts_apart : (all left : List Filling) (w : Filling) (kept : List Receipt) (receipts new : List (List Receipt)) (total : ℕ) → all ≡ left ++ w ∷ [] → new ≡ receipts ++ kept ∷ [] → w.kept ≡ kept
-    → sum_by length receipts + sum_by (λ w. length w.kept) all ≡ total → sum_by length new + sum_by (λ w. length w.kept) left ≡ total
-receipts_apart all left w kept receipts new total all_is new_is own_is so_far =
+pub receipts_apart : (all left : List Filling) (w : Filling) (kept_receipts : List Receipt) (receipts new : List (List Receipt)) (total : ℕ) → all ≡ left ++ w ∷ [] → new ≡ receipts ++ kept_receipts ∷ [] → w.kept_receipts ≡ kept_receipts
+    → sum_by length receipts + sum_by (λ w. length w.kept_receipts) all ≡ total → sum_by length new + sum_by (λ w. length w.kept_receipts) left ≡ total
+receipts_apart all left w kept_receipts receipts new total all_is new_is own_is so_far =
     omega (
       arith,
       so_far,
       ap (sum_by (λ (l : List Receipt). length l)) new_is,
-      sum_by_push (λ (l : List Receipt). length l) receipts kept,
-      ap (sum_by (λ (v : Filling). length v.kept)) all_is,
-      sum_by_push (λ (v : Filling). length v.kept) left w,
+      sum_by_push (λ (l : List Receipt). length l) receipts kept_receipts,
+      ap (sum_by (λ (v : Filling). length v.kept_receipts)) all_is,
+      sum_by_push (λ (v : Filling). length v.kept_receipts) left w,
       ap (λ (l : List Receipt). length l) own_is,
     )
 
 -- which are logged, as the others' are
-pub logged_apart : (opening : Opening) (job own : Job) (all left : List Filling) (w : Filling) (kept : List Receipt) (receipts new : List (List Receipt))
-    → all ≡ left ++ w ∷ [] → new ≡ receipts ++ kept ∷ [] → w.job ≡ own → All (IsLogged opening own.front) kept
+pub logged_apart : (opening : Opening) (job own : Job) (all left : List Filling) (w : Filling) (kept_receipts : List Receipt) (receipts new : List (List Receipt))
+    → all ≡ left ++ w ∷ [] → new ≡ receipts ++ kept_receipts ∷ [] → w.job ≡ own → All (IsLogged opening own.front) kept_receipts
     → All (λ v. v.job ≡ job) all × All (All (IsLogged opening job.front)) receipts → All (λ v. v.job ≡ job) left × All (All (IsLogged opening job.front)) new
-logged_apart opening job own all left w kept receipts new all_is new_is own_is logged h =
+logged_apart opening job own all left w kept_receipts receipts new all_is new_is own_is logged h =
     let parts = All-pop (λ (v : Filling). v.job ≡ job) all left (Some w) all_is h.0 in
     let same : own ≡ job = sym own_is ∙ parts.1 in (
       parts.0,
-      All-same (All (IsLogged opening job.front)) new (receipts ++ kept ∷ []) new_is
-          (All-push (All (IsLogged opening job.front)) receipts kept h.1 (subst (λ (j : Job). All (IsLogged opening j.front) kept) same logged)),
+      All-same (All (IsLogged opening job.front)) new (receipts ++ kept_receipts ∷ []) new_is
+          (All-push (All (IsLogged opening job.front)) receipts kept_receipts h.1 (subst (λ (j : Job). All (IsLogged opening j.front) kept_receipts) same logged)),
     )
 
 -- ---- the look at the progress, which moves one front
@@ -123,7 +123,7 @@ looked old popped new before after old_is new_is id count =
 -- what is begun in a core has at most 64 pieces
 abbrev count_of : Option (Work × ℕ × Bool) → ℕ
 count_of None = 0
-count_of (Some told) = told.1
+count_of (Some reported) = reported.1
 
 pub few : (opening : Opening) (core : State) (element pieces : ℕ) (work : Work) (ended : Bool) → IsCore opening core → standing_at (facts_of core) element ≡ Some (work, pieces, ended) → pieces ≤ 64
 few opening core element pieces work ended c is = go (progress_of (facts_of core).progress element) refl is

@@ -1,22 +1,23 @@
+-- Cited by the contracts of PieceWorker.
 -- How a piece ends.
 use Rattle.std.specs.Prelude.{◌≡◌, ◌≢◌, ℕ, ◌⊎◌, List, length, All, Option, Some, None, Ok, Err, Bool, true, false}
 use Rattle.schema_version.specs.declared.element.Work.{Work}
-use Rattle.reorganise.specs.declared.reading.Reading.{Reading}
+use Rattle.reorganise.specs.declared.read.Reading.{Reading}
 use Rattle.replay.specs.Replay.{Opening}
-use Rattle.world.specs.Piecework.{PieceStep, ReadStep, piece_standing_at}
+use Rattle.world.specs.Piece.{PieceStep, ReadStep, piece_standing_at}
 use Rattle.world.specs.State.{State, facts_of}
 use Rattle.world.specs.declared.entry.PieceDone.{PieceDone}
-use Rattle.world.specs.declared.pieces.PieceFault.{PieceFault}
-use Rattle.world.specs.declared.pieces.PieceFault.TheVariants.{MomentTooLarge, NotWanted, WrongElement, Moved, Conflict, Memory}
-use Rattle.world.specs.declared.pieces.ReadFault.{ReadFault}
-use Rattle.world.specs.declared.pieces.ReadFault.TheVariants as read_fault
+use Rattle.world.specs.declared.piece.PieceFault.{PieceFault}
+use Rattle.world.specs.declared.piece.PieceFault.TheVariants.{MomentTooLarge, NotWanted, WrongElement, Moved, Conflict, Memory}
+use Rattle.world.specs.declared.piece.ReadFault.{ReadFault}
+use Rattle.world.specs.declared.piece.ReadFault.TheVariants as read_fault
 use Rattle.reorganise.specs.declared.fault.ViewFault.TheVariants as view_fault
 use Rattle.locked_store.specs.Cores.{IsCoreSince, WasLength}
 use Rattle.reorganise_workers.specs.declared.end.PieceEnd.{PieceEnd}
 use Rattle.reorganise_workers.specs.declared.end.PieceEnd.TheVariants as piece_end
 use Rattle.reorganise_workers.specs.declared.job.Job.{Job}
-use Rattle.reorganise_workers.specs.declared.turns.Turn.{Turn}
-use Rattle.reorganise_workers.specs.declared.turns.Turn.TheVariants as turn
+use Rattle.reorganise_workers.specs.declared.attempt.Attempt.{Attempt}
+use Rattle.reorganise_workers.specs.declared.attempt.Attempt.TheVariants as attempt
 
 -- ---- what the lock answered. Each core is one of the opening, with at least the entries that the workers' handles had seen
 
@@ -116,8 +117,8 @@ IsEndOf opening job piece (piece_end.WentBack seen) = WasLength opening seen
 IsEndOf opening job piece piece_end.Memory = Unit {0}
 
 -- a turn committed some items and left more; or failed; or found the piece at its end and then no longer there; or ended the piece
-abbrev pub IsTurn : Opening → Job → ℕ → Turn → Type 0
-IsTurn opening job piece turn.More = (done : PieceDone) × WasCommitted opening job piece done × (done.ended ≡ false)
-IsTurn opening job piece turn.Again = (fault : PieceFault) × IsFailedTry opening job piece fault
-IsTurn opening job piece turn.Reread = WasUnread opening job piece (read_fault.View view_fault.Spent)
-IsTurn opening job piece (turn.Ended end) = IsEndOf opening job piece end
+abbrev pub IsTurn : Opening → Job → ℕ → Attempt → Type 0
+IsTurn opening job piece attempt.More = (done : PieceDone) × WasCommitted opening job piece done × (done.ended ≡ false)
+IsTurn opening job piece attempt.Again = (fault : PieceFault) × IsFailedTry opening job piece fault
+IsTurn opening job piece attempt.Reread = WasUnread opening job piece (read_fault.View view_fault.Spent)
+IsTurn opening job piece (attempt.Ended end) = IsEndOf opening job piece end

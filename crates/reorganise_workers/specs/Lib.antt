@@ -1,5 +1,3 @@
-pub mod Jobs
 pub mod Ends
-pub mod Turns
-pub mod Crews
-pub mod Reorganised
+pub mod ReorganiseAll
+pub mod inner

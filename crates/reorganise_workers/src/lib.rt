@@ -5,11 +5,11 @@
 //! Change in F1", Rae et al., PVLDB 6(11), 2013).
 #![tactic(auto)]
 
+mod all_pieces;
+mod attempt;
 mod end;
 mod job;
-mod reorganising;
-mod turns;
 mod worker;
 
+pub use all_pieces::{ReorganiseFault, Reorganised, reorganise_all};
 pub use end::PieceEnd;
-pub use reorganising::{ReorganiseFault, Reorganised, reorganise_all};

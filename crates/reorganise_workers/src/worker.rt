@@ -1,9 +1,9 @@
 //! One worker: a handle that works on pieces.
 
+use crate::attempt::work_piece;
 use crate::end::PieceEnd;
 use crate::job::Job;
-use crate::turns::work_piece;
-use locked_store::{Handle, Room, Shared};
+use locked_store::{Handle, Shared, SharedLedger};
 use std::alloc::Global;
 use std::marker::Model;
 use std::sync::Wait;
@@ -12,25 +12,25 @@ use world::Receipt;
 
 /// A handle, with the receipts of the pieces that it committed.
 #[derive(Drop)]
-pub(crate) struct PieceWorker<'a, L: Room, R: Wait> {
+pub(crate) struct PieceWorker<'a, L: SharedLedger, R: Wait> {
     pub(crate) rt: &'a R,
     pub(crate) shared: &'a Shared<L>,
     pub(crate) handle: Handle<L>,
-    pub(crate) kept: Vec<Receipt>,
+    pub(crate) kept_receipts: Vec<Receipt>,
     pub(crate) job: Job,
 }
 
-impl<'a, L: Room, R: Wait> Model for PieceWorker<'a, L, R> {
-    ghost use Rattle.reorganise_workers.specs.Crews.{Filling, IsAtWork};
+impl<'a, L: SharedLedger, R: Wait> Model for PieceWorker<'a, L, R> {
+    ghost use Rattle.reorganise_workers.specs.inner.Workers.{Filling, IsAtWork};
 
     ghost Value = { Filling };
 
-    ghost view = { λ w. record { handle = w.handle; kept = w.kept.items; job = w.job } };
+    ghost view = { λ w. record { handle = w.handle; kept_receipts = w.kept_receipts.items; job = w.job } };
 
-    ghost invariant = { λ w. IsAtWork L.opening (record { handle = w.handle; kept = w.kept.items; job = w.job }) };
+    ghost invariant = { λ w. IsAtWork L.opening (record { handle = w.handle; kept_receipts = w.kept_receipts.items; job = w.job }) };
 }
 
-impl<'a, L: Room, R: Wait> Worker for PieceWorker<'a, L, R> {
+impl<'a, L: SharedLedger, R: Wait> Worker for PieceWorker<'a, L, R> {
     ghost use Rattle.std.specs.Prelude.{length};
     ghost use Rattle.reorganise_workers.specs.Ends.{IsEndOf};
     ghost use Rattle.reorganise_workers.specs.declared.job.Job.{Job};
@@ -47,7 +47,7 @@ impl<'a, L: Room, R: Wait> Worker for PieceWorker<'a, L, R> {
 
     ghost count = { λ w. w.handle.count };
 
-    ghost kept = { λ w. length w.kept };
+    ghost kept_receipts = { λ w. length w.kept_receipts };
 
     ghost held = { λ end. 0 };
 
@@ -58,10 +58,10 @@ impl<'a, L: Room, R: Wait> Worker for PieceWorker<'a, L, R> {
             rt,
             shared,
             handle,
-            kept,
+            kept_receipts,
             job,
         } = self;
-        work_piece(rt, alloc, shared, handle, kept, job, number as u32)
+        work_piece(rt, alloc, shared, handle, kept_receipts, job, number as u32)
     }
 
     fn held_back() -> PieceEnd {

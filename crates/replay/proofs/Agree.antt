@@ -12,12 +12,12 @@ use Rattle.row_map.specs.Rows.{Rows, Pairs}
 use Rattle.schema_version.specs.declared.element.ElementDef.{ElementDef}
 use Rattle.schema_version.specs.Version.{Version, element_at}
 use Rattle.element_state.specs.Consistent.{IsConsistent, DemandOf, AreLawfulRows}
-use Rattle.element_state.specs.Core.{Meets, IsConsistent as Consistent}
+use Rattle.element_state.specs.Core.{Meets, MeetsAll as Consistent}
 use Rattle.element_state.specs.Elements.{AreFormed}
 use Rattle.element_state.specs.Versions.{the_kinds, schema_of, entry_of, row_entry}
 use Rattle.element_state.proofs.Versions.{get-schema_of, exists_exact}
 use Rattle.replay.specs.Replay.{Facts, version_in, version_at, first_or, before_of}
-use Rattle.replay.specs.Kept.{IsKept, Agrees, used_before}
+use Rattle.replay.specs.Kept.{IsKept, FactsAgree, used_before}
 
 some_one : {A : Type 0} (v w : A) → Some v ≡ Some w → v ≡ w
 some_one v w e = cc
@@ -76,7 +76,7 @@ counts_still facts k number version usable at = elim (usable_to facts.line numbe
   | inr is ↦ inl (sym (used_is facts is.2 ∙ before_at facts.newest facts.older version number is.0 (omega (arith, is.1, k.counted)) at))
 ]
 
-pub agrees : (facts : Facts) → IsKept facts → Agrees facts
+pub agrees : (facts : Facts) → IsKept facts → FactsAgree facts
 agrees facts k number version usable at = elim (counts_still facts k number version usable at) [
   | inl is ↦ subst (λ (v : Version). IsConsistent v facts.rows facts.pairs) (sym is) (consistent (used_before facts facts.moment) facts.rows facts.pairs k.core_kept.before k.core_kept.formed k.rows_before)
   | inr is ↦ subst (λ (v : Version). IsConsistent v facts.rows facts.pairs) (sym is) (consistent facts.newest facts.rows facts.pairs k.core_kept.newest k.core_kept.formed k.rows)

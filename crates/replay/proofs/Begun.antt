@@ -49,7 +49,7 @@ pub passed_at : (ps : List Progress) (n : ℕ) (p : Progress) → progress_of ps
 passed_at ps n p at = get_passed ps n ∙ ap (option_map passed) at
 
 -- and is nowhere else from
-pub from_passed : (ps : List Progress) (n : ℕ) (c : core.Progress) → map.get (all_passed ps) n ≡ Some c → (p : Progress) × (progress_of ps n ≡ Some p) × (passed p ≡ c)
+pub from_passed : (ps : List Progress) (n : ℕ) (c : core.CoreProgress) → map.get (all_passed ps) n ≡ Some c → (p : Progress) × (progress_of ps n ≡ Some p) × (passed p ≡ c)
 from_passed ps n c at = by (progress_of ps n) refl (sym (get_passed ps n) ∙ at)
   where
     by : (o : Option Progress) → progress_of ps n ≡ o → option_map passed o ≡ Some c → (p : Progress) × (progress_of ps n ≡ Some p) × (passed p ≡ c)

@@ -7,7 +7,7 @@ use Rattle.std.specs.Option.{option_or}
 use Rattle.std.specs.Ordering.{is_le}
 use Rattle.std.specs.Prelude.{filter, slice_get}
 use mathlib.Core.List.{map as each}
-use Rattle.listed.proofs.Steps.{AllByRecursion-append}
+use Rattle.collections.proofs.Steps.{AllByRecursion-append}
 use Rattle.keycode.specs.Order.{bytes_cmp}
 use Rattle.row_map.specs.Rows.{Bytes, Pairs}
 use Rattle.schema_version.specs.declared.element.ElementDef.{ElementDef}
@@ -18,7 +18,7 @@ use Rattle.reorganise.specs.declared.work.Progress.{Progress}
 use Rattle.reorganise.specs.Laws.{with_cursor}
 use Rattle.reorganise.specs.Partition.{AreJoined}
 use Rattle.reorganise.specs.Pieces.{span_at, spans, begun}
-use Rattle.reorganise.specs.Regions.{region_of, front, back, items}
+use Rattle.reorganise.specs.ScanRanges.{scan_range_of, start, end, items}
 use Rattle.reorganise.proofs.Shares.{begun_joined}
 use Rattle.replay.specs.Replay.{is_of, progress_of, stays, come_to, moved_to}
 use Rattle.replay.specs.Kept.{IsInPiece, IsInPieces, AreInPieces}
@@ -39,15 +39,15 @@ stay_in_pieces step begun all number progress there = all number progress (staye
 
 -- ---- a begin
 
-count_is : (element : ElementDef) (work : Work) (keys : List Bytes) (pieces k : ℕ) → length (spans (region_of element work) keys pieces k) ≡ k
+count_is : (element : ElementDef) (work : Work) (keys : List Bytes) (pieces k : ℕ) → length (spans (scan_range_of element work) keys pieces k) ≡ k
 count_is element work keys pieces zero = refl
 count_is element work keys pieces (suc k) =
-    length-append (spans (region_of element work) keys pieces k) (span_at (region_of element work) keys pieces k ∷ []) ∙ ap (λ (n : ℕ). n + 1) (count_is element work keys pieces k) ∙ add-one k
+    length-append (spans (scan_range_of element work) keys pieces k) (span_at (scan_range_of element work) keys pieces k ∷ []) ∙ ap (λ (n : ℕ). n + 1) (count_is element work keys pieces k) ∙ add-one k
 
-fresh : (element : ElementDef) (work : Work) (keys : List Bytes) (pieces k : ℕ) → AllByRecursion (λ (s : Span). s.cursor ≡ s.low) (spans (region_of element work) keys pieces k)
+fresh : (element : ElementDef) (work : Work) (keys : List Bytes) (pieces k : ℕ) → AllByRecursion (λ (s : Span). s.cursor ≡ s.low) (spans (scan_range_of element work) keys pieces k)
 fresh element work keys pieces zero = tt
 fresh element work keys pieces (suc k) =
-    AllByRecursion-append (λ (s : Span). s.cursor ≡ s.low) (spans (region_of element work) keys pieces k) (span_at (region_of element work) keys pieces k ∷ []) (fresh element work keys pieces k) (refl, tt)
+    AllByRecursion-append (λ (s : Span). s.cursor ≡ s.low) (spans (scan_range_of element work) keys pieces k) (span_at (scan_range_of element work) keys pieces k ∷ []) (fresh element work keys pieces k) (refl, tt)
 
 -- no piece ends below where it begins
 begin_within : (low high : Bytes) (pieces : List Span) → AreJoined low high pieces → AllByRecursion (λ (s : Span). s.cursor ≡ s.low) pieces → AllByRecursion IsInPiece pieces
@@ -56,12 +56,12 @@ begin_within low high (s ∷ ss) joined at = (subst (λ (cursor : Bytes). is_le 
 
 begun_in : (element : ElementDef) (work : Work) (pairs : Pairs) (pieces : ℕ) → IsPieceCount pieces → IsInPieces (begun element work pairs pieces)
 begun_in element work pairs pieces count =
-    let keys = items (region_of element work) pairs in
+    let keys = items (scan_range_of element work) pairs in
     record {
       few = subst (λ (n : ℕ). n ≤ 64) (sym (count_is element work keys pieces pieces)) count.1;
       cursors =
-          begin_within (front (region_of element work)) (back (region_of element work)) (spans (region_of element work) keys pieces pieces)
-          (begun_joined (region_of element work) pairs pieces (omega (arith, count.0))) (fresh element work keys pieces pieces);
+          begin_within (start (scan_range_of element work)) (end (scan_range_of element work)) (spans (scan_range_of element work) keys pieces pieces)
+          (begun_joined (scan_range_of element work) pairs pieces (omega (arith, count.0))) (fresh element work keys pieces pieces);
     }
 
 -- one more, at the end

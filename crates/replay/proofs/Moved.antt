@@ -13,12 +13,12 @@ use Rattle.schema_version.specs.declared.element.ElementDef.{ElementDef}
 use Rattle.schema_version.specs.declared.step.Move.{Move}
 use Rattle.schema_version.specs.declared.step.Move.TheVariants.{Enter, Go, Turn}
 use Rattle.schema_version.specs.Edges.{edge, edge_by, is_filled, HasEdge}
-use Rattle.schema_version.specs.Version.{Version, element_at, listed}
+use Rattle.schema_version.specs.Version.{Version, element_at, indexed_columns}
 use Rattle.schema_version.proofs.Lists.{here, later}
 use Rattle.keycode.specs.declared.value.Value.{Value}
 use Rattle.element_state.specs.Column.{column_edge}
 use Rattle.element_state.specs.Index.{index_edge}
-use Rattle.element_state.specs.Sources.{Source, IndexOn, OptionalIn, RequiredIn, source_in, stand_in_at, fallback_or_null}
+use Rattle.element_state.specs.Sources.{Source, IndexOn, OptionalIn, RequiredIn, source_in, default_value_at, default_or_null}
 use mathlib.Core.List.{map as each}
 use Rattle.schema_version.specs.Moves.{moved, turned, after_move, after_step}
 use Rattle.schema_version.specs.Steps.{in_state_or_none, StepOf, Same, New, Next, Back}
@@ -87,14 +87,14 @@ not_at_once kind (way, next, e) = none_at_once (is_filled kind) way next e
 -- ---- a version as the laws see it
 
 -- the `exists` pairs under number 0, and else the element
-abbrev pub seen : Version → Bool → Option ElementDef → Option (Entry ElementKind)
-seen version b o = cond b (Some row_entry) (option_map (entry_of version) o)
+abbrev pub visible : Version → Bool → Option ElementDef → Option (Entry ElementKind)
+visible version b o = cond b (Some row_entry) (option_map (entry_of version) o)
 
 abbrev pub is_zero : ℕ → Bool
 is_zero n = eq_by_cmp nat_cmp n 0
 
-pub get_seen : (version : Version) (n : ℕ) → map.get (schema_of version) n ≡ seen version (is_zero n) (element_at version n)
-get_seen version n = get-schema_of version n
+pub get_visible : (version : Version) (n : ℕ) → map.get (schema_of version) n ≡ visible version (is_zero n) (element_at version n)
+get_visible version n = get-schema_of version n
 
 module _ (version : Version) where
   next_joined : (n : ℕ) (x : ElementDef) (to : ElementState) (way : Way) → edge x.kind x.way x.state to ≡ Some way → JoinedAt the_kinds n (Some (entry_of version x)) (option_map (entry_of version) (in_state_or_none x to))
@@ -119,18 +119,18 @@ module _ (version : Version) where
       (subst (λ (o : Option ElementDef). JoinedAt the_kinds n (Some (entry_of version x)) (option_map (entry_of version) o)) (sym is) (refl, inl refl))
 
   -- an element and what a step makes of it, seen by one version, are built from the same, and in equal states or in states that an edge joins
-  pub joined_step : (b : Bool) (n next : ℕ) (old new : Option ElementDef) → StepOf next n old new → JoinedAt the_kinds n (seen version b old) (seen version b new)
+  pub joined_step : (b : Bool) (n next : ℕ) (old new : Option ElementDef) → StepOf next n old new → JoinedAt the_kinds n (visible version b old) (visible version b new)
   joined_step true n next old new st = joined_itself n (Some row_entry)
   joined_step false n next old new st = joined_def n next old new st
 
 -- ---- what pairs are built from, in a version and in one where the columns that an index lists are the same
 
-listed_same : (v s : Version) (cs : List ℕ) → ((c : ℕ) → Contains cs c → element_at s c ≡ element_at v c) → each {B = ℕ × Value} (λ c. (c, stand_in_at s c)) cs ≡ each (λ c. (c, stand_in_at v c)) cs
+listed_same : (v s : Version) (cs : List ℕ) → ((c : ℕ) → Contains cs c → element_at s c ≡ element_at v c) → each {B = ℕ × Value} (λ c. (c, default_value_at s c)) cs ≡ each (λ c. (c, default_value_at v c)) cs
 listed_same v s [] same = refl
 listed_same v s (c ∷ cs) same =
-    ap₂ (λ (x : ℕ × Value) (xs : List (ℕ × Value)). x ∷ xs) (ap (λ o. (c, fallback_or_null o)) (same c (here c cs))) (listed_same v s cs (λ d there. same d (later c d cs there)))
+    ap₂ (λ (x : ℕ × Value) (xs : List (ℕ × Value)). x ∷ xs) (ap (λ o. (c, default_or_null o)) (same c (here c cs))) (listed_same v s cs (λ d there. same d (later c d cs there)))
 
-pub source_same : (v s : Version) (kind : Kind) → ((c : ℕ) → Contains (listed kind) c → element_at s c ≡ element_at v c) → source_in s kind ≡ source_in v kind
+pub source_same : (v s : Version) (kind : Kind) → ((c : ℕ) → Contains (indexed_columns kind) c → element_at s c ≡ element_at v c) → source_in s kind ≡ source_in v kind
 source_same v s (Index columns) same = ap IndexOn (listed_same v s columns same)
 source_same v s (Optional type) same = refl
 source_same v s (Required type fallback) same = refl

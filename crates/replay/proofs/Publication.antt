@@ -25,7 +25,7 @@ use Rattle.schema_version.specs.Moves.{is_move_of, moves_element, in_state, afte
 use Rattle.schema_version.specs.Sound.{IsSoundVersion}
 use Rattle.schema_version.specs.Steps.{Change, Stays, Enters, Goes, Turns, in_state_or_none, StepOf, Same, New, Next, Back, IsOrdered}
 use Rattle.schema_version.proofs.Lists.{any_from, not_both}
-use Rattle.schema_version.proofs.Stepping.{split_at, some_edge, adding_to_public, adding_before, own_way, may_turn, change_at, steps_keep_to_edges}
+use Rattle.schema_version.proofs.StepEffects.{split_at, some_edge, adding_to_public, adding_before, own_way, may_turn, change_at, steps_keep_to_edges}
 use Rattle.schema_version.proofs.Along.{ordered_of}
 use Rattle.schema_version.proofs.Changes.{its_go, its_turn}
 use Rattle.schema_version.proofs.Served.{steps_stay_sound, indexed_columns_stay}
@@ -36,8 +36,8 @@ use Rattle.element_state.specs.Laws.{IsLive}
 use Rattle.element_state.specs.Items.{ClearRange, HasRange}
 use Rattle.element_state.specs.Kinds.{kind_clear, kind_clears}
 use Rattle.element_state.specs.Ended as ended
-use Rattle.element_state.specs.Publishing.{MayBePublic, Was, Filled, Unfilled, MayBeAbsent, Was_not, Cleared, FillEnded, Steps}
-use Rattle.element_state.proofs.Publishing.{publish_kept}
+use Rattle.element_state.specs.Publish.{MayBePublic, Was, Filled, Unfilled, MayBeAbsent, Was_not, Cleared, FillEnded, Steps}
+use Rattle.element_state.proofs.Publications.{publish_kept}
 use Rattle.element_state.proofs.Reaches.{fill_ended, clear_ended}
 use Rattle.element_state.specs.Schemas.{Entry, state_of}
 use Rattle.element_state.specs.Sources.{Source, IndexOn, OptionalIn, RequiredIn, source_in}
@@ -46,16 +46,16 @@ use Rattle.element_state.proofs.Versions.{one_table}
 use Rattle.schema_version.specs.declared.element.Work.{Work}
 use Rattle.schema_version.specs.declared.element.Work.TheVariants.{Fill, Clear}
 use Rattle.reorganise.specs.declared.work.Progress.{Progress}
-use Rattle.reorganise.specs.Regions.{region_of, front, back}
+use Rattle.reorganise.specs.ScanRanges.{scan_range_of, start, end}
 use Rattle.reorganise.specs.Laws.{pieces_of, passed_by}
-use Rattle.reorganise.proofs.Bounding.{pieces_join, pieces_end, fill_range, clear_range, clear_is_of_kind}
+use Rattle.reorganise.proofs.Bounds.{pieces_join, pieces_end, fill_range, clear_range, clear_is_of_kind}
 use Rattle.replay.specs.declared.entry.What.TheVariants.{Publish}
 use Rattle.replay.specs.Replay.{Facts, after, stays, progress_of}
 use Rattle.replay.specs.Kept.{IsKept, IsBegun, core_at, all_passed}
 use Rattle.replay.specs.Laws.{IsDone, IsFinished, AreFinished, PublicationsKeep}
 use Rattle.replay.proofs.Agree.{at_number}
 use Rattle.replay.proofs.Begun.{found, stayed, all_stayed, passed_at, from_passed}
-use Rattle.replay.proofs.Moved.{filled_of, filled_in, seen, is_zero, get_seen, joined_step, source_same, live_state, not_at_once, same_tables, next_rises}
+use Rattle.replay.proofs.Moved.{filled_of, filled_in, visible, is_zero, get_visible, joined_step, source_same, live_state, not_at_once, same_tables, next_rises}
 use Rattle.replay.proofs.Cursors.{stay_in_pieces}
 use Rattle.replay.proofs.Soundness.{lawful}
 use Rattle.replay.proofs.Time.{retired}
@@ -131,10 +131,10 @@ module _ (facts : Facts) (step : List Move) (allowed : IsAllowed facts.newest st
   sound_after = steps_stay_sound v step k.sound allowed
 
   -- the next version has its elements built from what they are built from in this one: no index lists a column that moves
-  get_after : (n : ℕ) → map.get (schema_of s) n ≡ seen v (is_zero n) (element_at s n)
-  get_after n = get_seen s n ∙ by (element_at s n) refl
+  get_after : (n : ℕ) → map.get (schema_of s) n ≡ visible v (is_zero n) (element_at s n)
+  get_after n = get_visible s n ∙ by (element_at s n) refl
     where
-      by : (o : Option ElementDef) → element_at s n ≡ o → seen s (is_zero n) o ≡ seen v (is_zero n) o
+      by : (o : Option ElementDef) → element_at s n ≡ o → visible s (is_zero n) o ≡ visible v (is_zero n) o
       by None is = refl
       by (Some d) is =
           ap (λ (source : Source). cond (is_zero n) (Some row_entry) (Some (let e : Entry ElementKind = record { kind = Of d.table source; state = d.state; adding = is_adding d.way } in e)))
@@ -156,7 +156,7 @@ module _ (facts : Facts) (step : List Move) (allowed : IsAllowed facts.newest st
   -- ---- what is finished
 
   passed_so : (n : ℕ) (work : Work) (d : IsDone facts n work) → map.get (all_passed facts.progress) n ≡ Some (record { work = work; spans = passed_by d.progress.pieces })
-  passed_so n work d = passed_at facts.progress n d.progress d.here ∙ ap (λ (x : Work). Some (let c : core.Progress = record { work = x; spans = passed_by d.progress.pieces } in c)) d.work_is
+  passed_so n work d = passed_at facts.progress n d.progress d.here ∙ ap (λ (x : Work). Some (let c : core.CoreProgress = record { work = x; spans = passed_by d.progress.pieces } in c)) d.work_is
 
   filled : (n : ℕ) (x : ElementDef) → element_at v n ≡ Some x → IsDone facts n Fill → FillEnded the_kinds w n (Of x.table (source_in v x.kind))
   filled n x at d =
@@ -164,11 +164,11 @@ module _ (facts : Facts) (step : List Move) (allowed : IsAllowed facts.newest st
       let b = begun_at n d.progress d.here in
       let element : d.progress.element ≡ x = some_one (sym (element_of n d.progress d.here) ∙ at) in
       let range = fill_range x own.range.table_below in
-      let joined : ended.AreJoined (front (region_of x Fill)) (back (region_of x Fill)) (pieces_of d.progress.pieces)
-      = subst (λ (e : ElementDef). ended.AreJoined (front (region_of e Fill)) (back (region_of e Fill)) (pieces_of d.progress.pieces)) element
-      (subst (λ (u : Work). ended.AreJoined (front (region_of d.progress.element u)) (back (region_of d.progress.element u)) (pieces_of d.progress.pieces)) d.work_is (pieces_join _ _ d.progress.pieces b.0.joined)) in
+      let joined : ended.AreJoined (start (scan_range_of x Fill)) (end (scan_range_of x Fill)) (pieces_of d.progress.pieces)
+      = subst (λ (e : ElementDef). ended.AreJoined (start (scan_range_of e Fill)) (end (scan_range_of e Fill)) (pieces_of d.progress.pieces)) element
+      (subst (λ (u : Work). ended.AreJoined (start (scan_range_of d.progress.element u)) (end (scan_range_of d.progress.element u)) (pieces_of d.progress.pieces)) d.work_is (pieces_join _ _ d.progress.pieces b.0.joined)) in
       fill_ended the_kinds w n (Of x.table (source_in v x.kind)) x.table (pieces_of d.progress.pieces) (laws n (Of x.table (source_in v x.kind)) own) (one_table n x.table (source_in v x.kind)) own.range.table_below (passed_so n Fill d)
-      (subst (λ high. ended.AreJoined (table_prefix x.table) high (pieces_of d.progress.pieces)) range.1 (subst (λ low. ended.AreJoined low (back (region_of x Fill)) (pieces_of d.progress.pieces)) range.0 joined))
+      (subst (λ high. ended.AreJoined (table_prefix x.table) high (pieces_of d.progress.pieces)) range.1 (subst (λ low. ended.AreJoined low (end (scan_range_of x Fill)) (pieces_of d.progress.pieces)) range.0 joined))
       ((pieces_end d.progress.pieces).0 d.ended)
 
   cleared : (n : ℕ) (x : ElementDef) → element_at v n ≡ Some x → IsDone facts n Clear → MayBeAbsent the_kinds w n
@@ -178,12 +178,12 @@ module _ (facts : Facts) (step : List Move) (allowed : IsAllowed facts.newest st
       let element : d.progress.element ≡ x = some_one (sym (element_of n d.progress d.here) ∙ at) in
       let number : x.number ≡ n = (k.sound.elements n x at).own in
       let range = clear_range x (subst (λ (m : ℕ). HasRange x.table m) (sym number) own.range) in
-      let joined : ended.AreJoined (front (region_of x Clear)) (back (region_of x Clear)) (pieces_of d.progress.pieces)
-      = subst (λ (e : ElementDef). ended.AreJoined (front (region_of e Clear)) (back (region_of e Clear)) (pieces_of d.progress.pieces)) element
-      (subst (λ (u : Work). ended.AreJoined (front (region_of d.progress.element u)) (back (region_of d.progress.element u)) (pieces_of d.progress.pieces)) d.work_is (pieces_join _ _ d.progress.pieces b.0.joined)) in
+      let joined : ended.AreJoined (start (scan_range_of x Clear)) (end (scan_range_of x Clear)) (pieces_of d.progress.pieces)
+      = subst (λ (e : ElementDef). ended.AreJoined (start (scan_range_of e Clear)) (end (scan_range_of e Clear)) (pieces_of d.progress.pieces)) element
+      (subst (λ (u : Work). ended.AreJoined (start (scan_range_of d.progress.element u)) (end (scan_range_of d.progress.element u)) (pieces_of d.progress.pieces)) d.work_is (pieces_join _ _ d.progress.pieces b.0.joined)) in
       Cleared (clear_ended the_kinds w n (entry_of v x) (kind_clear x.table n (source_in v x.kind)) (pieces_of d.progress.pieces) (kind_clears x.table n (source_in v x.kind) own.lawful own.range) kept_core (entry_at n x at) (passed_so n Clear d)
       (subst (λ (m : ℕ). ended.AreJoined (kind_clear x.table m (source_in v x.kind)).low (kind_clear x.table m (source_in v x.kind)).high (pieces_of d.progress.pieces)) number
-      (subst (λ high. ended.AreJoined (kind_clear x.table x.number (source_in v x.kind)).low high (pieces_of d.progress.pieces)) (range.1 ∙ ap (λ (c : ClearRange). c.high) (clear_is_of_kind v x)) (subst (λ low. ended.AreJoined low (back (region_of x Clear)) (pieces_of d.progress.pieces)) (range.0 ∙ ap (λ (c : ClearRange). c.low) (clear_is_of_kind v x)) joined)))
+      (subst (λ high. ended.AreJoined (kind_clear x.table x.number (source_in v x.kind)).low high (pieces_of d.progress.pieces)) (range.1 ∙ ap (λ (c : ClearRange). c.high) (clear_is_of_kind v x)) (subst (λ low. ended.AreJoined low (end (scan_range_of x Clear)) (pieces_of d.progress.pieces)) (range.0 ∙ ap (λ (c : ClearRange). c.low) (clear_is_of_kind v x)) joined)))
       ((pieces_end d.progress.pieces).0 d.ended))
 
   -- ---- a step to public, and one to absent
@@ -208,7 +208,7 @@ module _ (facts : Facts) (step : List Move) (allowed : IsAllowed facts.newest st
       unfilled n table (RequiredIn type fallback) e = e
 
   public_def : (n : ℕ) (d : ElementDef) → element_at s n ≡ Some d → is_zero n ≡ false → d.state ≡ Public → Change step v.next n (element_at v n) (element_at s n) → MayBePublic the_kinds w n (Of d.table (source_in v d.kind))
-  public_def n d at b public (Stays same) = Was (ap state_of (get_seen v n ∙ ap (λ c. seen v c (element_at v n)) b ∙ ap (option_map (entry_of v)) (sym same ∙ at)) ∙ public)
+  public_def n d at b public (Stays same) = Was (ap state_of (get_visible v n ∙ ap (λ c. visible v c (element_at v n)) b ∙ ap (option_map (entry_of v)) (sym same ∙ at)) ∙ public)
   public_def n d at b public (Enters fresh to there le none is) =
       let p = split_at step (Enter fresh to) there in
       let entered : to ≡ Public = ap (λ (e : ElementDef). e.state) (some_one (sym is ∙ at)) ∙ public in
@@ -222,15 +222,15 @@ module _ (facts : Facts) (step : List Move) (allowed : IsAllowed facts.newest st
   public_step : (n : ℕ) (e : Entry ElementKind) → map.get (schema_of s) n ≡ Some e → e.state ≡ Public → MayBePublic the_kinds w n e.kind
   public_step n e at public = by (is_zero n) refl (element_at s n) refl (sym (get_after n) ∙ at)
     where
-      by : (b : Bool) → is_zero n ≡ b → (o : Option ElementDef) → element_at s n ≡ o → seen v b o ≡ Some e → MayBePublic the_kinds w n e.kind
-      by true b o there is = Was (ap state_of (get_seen v n ∙ ap (λ c. seen v c (element_at v n)) b))
+      by : (b : Bool) → is_zero n ≡ b → (o : Option ElementDef) → element_at s n ≡ o → visible v b o ≡ Some e → MayBePublic the_kinds w n e.kind
+      by true b o there is = Was (ap state_of (get_visible v n ∙ ap (λ c. visible v c (element_at v n)) b))
       by false b None there is = none_some is
       by false b (Some d) there is =
           subst (λ (x : Entry ElementKind). MayBePublic the_kinds w n x.kind) (some_one is)
           (public_def n d there b (ap (λ (x : Entry ElementKind). x.state) (some_one is) ∙ public) (change n))
 
   absent_def : (n : ℕ) → element_at s n ≡ None → is_zero n ≡ false → Change step v.next n (element_at v n) (element_at s n) → MayBeAbsent the_kinds w n
-  absent_def n at b (Stays same) = Was_not (get_seen v n ∙ ap (λ c. seen v c (element_at v n)) b ∙ ap (option_map (entry_of v)) (sym same ∙ at))
+  absent_def n at b (Stays same) = Was_not (get_visible v n ∙ ap (λ c. visible v c (element_at v n)) b ∙ ap (option_map (entry_of v)) (sym same ∙ at))
   absent_def n at b (Enters fresh to there le none is) = none_some (sym at ∙ is)
   absent_def n at b (Goes x to there was is) =
       let target : to ≡ Absent = goes_away x to (sym is ∙ at) in
@@ -240,7 +240,7 @@ module _ (facts : Facts) (step : List Move) (allowed : IsAllowed facts.newest st
   absent_step : (n : ℕ) → map.get (schema_of s) n ≡ None → MayBeAbsent the_kinds w n
   absent_step n at = by (is_zero n) refl (element_at s n) refl (sym (get_after n) ∙ at)
     where
-      by : (b : Bool) → is_zero n ≡ b → (o : Option ElementDef) → element_at s n ≡ o → seen v b o ≡ None → MayBeAbsent the_kinds w n
+      by : (b : Bool) → is_zero n ≡ b → (o : Option ElementDef) → element_at s n ≡ o → visible v b o ≡ None → MayBeAbsent the_kinds w n
       by true b o there is = none_some (sym is)
       by false b None there is = absent_def n there b (change n)
       by false b (Some d) there is = none_some (sym is)
@@ -253,11 +253,11 @@ module _ (facts : Facts) (step : List Move) (allowed : IsAllowed facts.newest st
   still_def n p at still (Goes x to there was is) = absurd (not_both (any_from (is_move_of n) step (Go n to) there (its_go n to)) still)
   still_def n p at still (Turns x there was is) = absurd (not_both (any_from (is_move_of n) step (Turn n) there (its_turn n)) still)
 
-  progress_kept : (n : ℕ) (c : core.Progress) → map.get (all_passed (filter (stays step) facts.progress)) n ≡ Some c → (map.get w.progress n ≡ Some c) × (map.get (schema_of s) n ≡ map.get w.newest n)
+  progress_kept : (n : ℕ) (c : core.CoreProgress) → map.get (all_passed (filter (stays step) facts.progress)) n ≡ Some c → (map.get w.progress n ≡ Some c) × (map.get (schema_of s) n ≡ map.get w.newest n)
   progress_kept n c at =
       let f = from_passed (filter (stays step) facts.progress) n c at in
       let t = stayed step facts.progress n f.0 f.1 in
-      (passed_at facts.progress n f.0 t.0 ∙ ap Some f.2, get_after n ∙ ap (seen v (is_zero n)) (still_def n f.0 t.0 t.1 (change n)) ∙ sym (get_seen v n))
+      (passed_at facts.progress n f.0 t.0 ∙ ap Some f.2, get_after n ∙ ap (visible v (is_zero n)) (still_def n f.0 t.0 t.1 (change n)) ∙ sym (get_visible v n))
 
   begun_after : AllByRecursion (IsBegun s) (filter (stays step) facts.progress)
   begun_after = all_stayed (λ p. IsBegun v p × (progress_of facts.progress p.element.number ≡ progress_of facts.progress p.element.number)) (IsBegun s) step facts.progress
@@ -300,9 +300,9 @@ module _ (facts : Facts) (step : List Move) (allowed : IsAllowed facts.newest st
       dropped e = absurd cc
 
   fresh_step : (n : ℕ) → NeverPublic the_kinds s.next n (map.get (schema_of s) n) → NeverPublic the_kinds v.next n (map.get w.newest n)
-  fresh_step n never = subst (NeverPublic the_kinds v.next n) (sym (get_seen v n)) (by (is_zero n) refl (subst (NeverPublic the_kinds s.next n) (get_after n) never))
+  fresh_step n never = subst (NeverPublic the_kinds v.next n) (sym (get_visible v n)) (by (is_zero n) refl (subst (NeverPublic the_kinds s.next n) (get_after n) never))
     where
-      by : (b : Bool) → is_zero n ≡ b → NeverPublic the_kinds s.next n (seen v b (element_at s n)) → NeverPublic the_kinds v.next n (seen v b (element_at v n))
+      by : (b : Bool) → is_zero n ≡ b → NeverPublic the_kinds s.next n (visible v b (element_at s n)) → NeverPublic the_kinds v.next n (visible v b (element_at v n))
       by true b h = absurd (h.1 refl)
       by false b h = fresh_def n h (change n)
 
@@ -310,7 +310,7 @@ module _ (facts : Facts) (step : List Move) (allowed : IsAllowed facts.newest st
 
   steps : Steps the_kinds w (schema_of s) s.next (all_passed (filter (stays step) facts.progress))
   steps = record {
-    joined = λ n. subst (λ a. core.JoinedAt the_kinds n a (map.get (schema_of s) n)) (sym (get_seen v n)) (subst (core.JoinedAt the_kinds n (seen v (is_zero n) (element_at v n))) (sym (get_after n)) (joined_step v (is_zero n) n v.next (element_at v n) (element_at s n) (step_at n)));
+    joined = λ n. subst (λ a. core.JoinedAt the_kinds n a (map.get (schema_of s) n)) (sym (get_visible v n)) (subst (core.JoinedAt the_kinds n (visible v (is_zero n) (element_at v n))) (sym (get_after n)) (joined_step v (is_zero n) n v.next (element_at v n) (element_at s n) (step_at n)));
     lawful = lawful s sound_after;
     live = λ n e at. live_at n e at;
     to_public = public_step;
@@ -322,7 +322,7 @@ module _ (facts : Facts) (step : List Move) (allowed : IsAllowed facts.newest st
       live_at : (n : ℕ) (e : Entry ElementKind) → map.get (schema_of s) n ≡ Some e → IsLive e.state
       live_at n e at = by (is_zero n) (element_at s n) refl (sym (get_after n) ∙ at)
         where
-          by : (b : Bool) (o : Option ElementDef) → element_at s n ≡ o → seen v b o ≡ Some e → IsLive e.state
+          by : (b : Bool) (o : Option ElementDef) → element_at s n ≡ o → visible v b o ≡ Some e → IsLive e.state
           by true o there is = subst IsLive (ap (λ (x : Entry ElementKind). x.state) (some_one is)) tt
           by false None there is = none_some is
           by false (Some d) there is = live_state e.state (λ a. (sound_after.elements n d there).live (ap (λ (x : Entry ElementKind). x.state) (some_one is) ∙ a))

@@ -12,7 +12,7 @@ use Rattle.element_state.proofs.Sources.{lawful_source}
 use Rattle.element_state.specs.Schemas.{Entry, AreLawful}
 use Rattle.element_state.specs.Versions.{ElementKind, the_kinds, schema_of, entry_of, row_entry, IsLawful}
 use Rattle.element_state.proofs.Versions.{get-schema_of}
-use Rattle.replay.specs.Small.{AreTablesSmall, AreNumbersFit}
+use Rattle.replay.specs.inner.Small.{AreTablesSmall, AreNumbersFit}
 
 none_some : {A B : Type 0} (v : A) → None ≡ Some v → B
 none_some v e = absurd cc

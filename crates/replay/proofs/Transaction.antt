@@ -18,7 +18,7 @@ use Rattle.schema_version.specs.Version.{Version, table_at, element_at, type_of_
 use Rattle.schema_version.specs.Sound.{IsSoundVersion}
 use Rattle.element_state.specs.Consistent.{IsLawfulRow, AreLawfulRows}
 use Rattle.element_state.specs.Core.{Invariant, Runs, JoinedAt}
-use Rattle.element_state.specs.Effects.{row_here, row_apart, key_one}
+use Rattle.element_state.specs.lemmas.Effects.{row_here, row_apart, key_one}
 use Rattle.element_state.specs.Elements.{Change, rows_after, cell}
 use Rattle.element_state.specs.Schemas.{state_of}
 use Rattle.element_state.specs.Sources.{Source, IndexOn, OptionalIn, RequiredIn, source_in}
@@ -29,17 +29,17 @@ use Rattle.row_write.specs.declared.op.RowOp.{RowOp}
 use Rattle.row_write.specs.declared.op.RowOutcome.{RowOutcome}
 use Rattle.row_write.specs.declared.op.RowOutcome.TheVariants.{Done, Refused}
 use Rattle.row_write.specs.declared.fault.RowFault.{RowFault}
-use Rattle.row_write.specs.Plain.{applied, told, outcome, kept, transacted}
-use Rattle.row_write.specs.Prepare.{writes_of, accepted_writes, txn_writes, Spells}
+use Rattle.row_write.specs.Plain.{applied, reported, outcome, kept, transacted}
+use Rattle.row_write.specs.Prepare.{writes_of, accepted_writes, txn_writes, Encodes}
 use Rattle.row_write.specs.Made.{PreparedTxn}
 use Rattle.replay.specs.Replay.{Facts, after, writes_under}
 use Rattle.replay.specs.Kept.{IsKept, core_at, used_before}
 use Rattle.replay.specs.Laws.{IsDue, txn_entry, OutcomesHold, TxnsKeep, RefusedWriteNothing}
 use Rattle.replay.proofs.Agree.{at_number, counts_still}
 use Rattle.replay.proofs.Changes.{changes, all_applied}
-use Rattle.replay.proofs.Operating.{all_steps}
+use Rattle.replay.proofs.Operations.{all_steps}
 use Rattle.replay.proofs.Soundness.{fits, small}
-use Rattle.replay.proofs.Spelling.{Agreeing, spells}
+use Rattle.replay.proofs.Encoding.{Agreeing, encodes}
 use Rattle.replay.proofs.Time.{at, kept_later}
 
 some_one : {A : Type 0} {v w : A} → Some v ≡ (let o : Option A = Some w in o) → v ≡ w
@@ -105,15 +105,15 @@ type_of_source (IndexOn columns) = None
 type_of_source (OptionalIn type) = Some type
 type_of_source (RequiredIn type fallback) = Some type
 
-type_told : (version : Version) (kind : Kind) → type_of_source (source_in version kind) ≡ type_of_kind kind
+type_reported : (version : Version) (kind : Kind) → type_of_source (source_in version kind) ≡ type_of_kind kind
 unfolding type_of_source
-type_told version (Index columns) = refl
-type_told version (Optional type) = refl
-type_told version (Required type fallback) = refl
+type_reported version (Index columns) = refl
+type_reported version (Optional type) = refl
+type_reported version (Required type fallback) = refl
 
 -- ---- what was prepared
 
-done_applied : (rows : Rows) (ops : List RowOp) (r : Result Rows (ℕ × RowFault)) → applied 0 rows ops ≡ r → told r ≡ Done → applied 0 rows ops ≡ Ok (kept rows r)
+done_applied : (rows : Rows) (ops : List RowOp) (r : Result Rows (ℕ × RowFault)) → applied 0 rows ops ≡ r → reported r ≡ Done → applied 0 rows ops ≡ Ok (kept rows r)
 done_applied rows ops (Ok new) e done = e
 done_applied rows ops (Err refusal) e done = absurd (not_done refusal.0 refusal.1 done)
   where
@@ -148,15 +148,15 @@ module _ (facts : Facts) (now : ℕ) (prepared : PreparedTxn) (later : facts.mom
     | inr e ↦ subst (λ (v : Version). Agreeing v facts.pairs facts.rows) (sym e) agreeing_newest
   ]
 
-  reads_spell : Spells version ops due.made.view facts.rows
-  reads_spell = spells version ops due.made.view facts.pairs facts.rows agreeing due.made.keys (subst (λ e. Holds e facts.pairs) due.made.expected due.holds) due.made.sound
+  reads_encode : Encodes version ops due.made.view facts.rows
+  reads_encode = encodes version ops due.made.view facts.pairs facts.rows agreeing due.made.keys (subst (λ e. Holds e facts.pairs) due.made.expected due.holds) due.made.sound
 
-  pub outcome_holds : prepared.told ≡ outcome facts.rows ops
-  outcome_holds = (due.made.prepared_so facts.rows reads_spell).0
+  pub outcome_holds : prepared.reported ≡ outcome facts.rows ops
+  outcome_holds = (due.made.prepared_so facts.rows reads_encode).0
 
   lays : laid prepared.batch facts.pairs ≡ written_all facts.pairs (txn_writes version facts.rows ops)
   lays =
-      ap (λ (b : Batch). laid b facts.pairs) (due.made.prepared_so facts.rows reads_spell).1
+      ap (λ (b : Batch). laid b facts.pairs) (due.made.prepared_so facts.rows reads_encode).1
       ∙ laid-noted bytes_cmp_total bytes_cmp-IsAntisymmetric (txn_writes version facts.rows ops) facts.pairs
 
   pub writes_so : laid prepared.batch facts.pairs ≡ (after facts (txn_entry now prepared)).pairs
@@ -193,7 +193,7 @@ module _ (facts : Facts) (now : ℕ) (prepared : PreparedTxn) (later : facts.mom
         let joined : JoinedAt the_kinds n (Some (entry_of before e)) (Some (entry_of facts.newest d))
         = subst (λ o. JoinedAt the_kinds n o (Some (entry_of facts.newest d))) (at_number before n above ∙ ap (option_map (entry_of before)) at_before)
         (subst (JoinedAt the_kinds n (map.get (schema_of before) n)) (at_number facts.newest n above ∙ ap (option_map (entry_of facts.newest)) at_newest) (k.core_kept.joined n)) in
-        sym (type_told before e.kind) ∙ ap type_of_source (of_source e.table d.table (source_in before e.kind) (source_in facts.newest d.kind) joined.0) ∙ type_told facts.newest d.kind
+        sym (type_reported before e.kind) ∙ ap type_of_source (of_source e.table d.table (source_in before e.kind) (source_in facts.newest d.kind) joined.0) ∙ type_reported facts.newest d.kind
 
     lawful_of : (u : Version) → IsSoundVersion u → u.tables ≡ version.tables → SameTypes u version → AreLawfulRows u facts.rows → AreLawfulRows u (transacted facts.rows ops)
     lawful_of u sound tables same rows = subst (AreLawfulRows u) rows_are (lawful_other u version facts.rows (changes facts.rows ops) sound tables same steps.0 rows steps.1)

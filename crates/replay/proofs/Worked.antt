@@ -5,12 +5,12 @@ use Rattle.std.specs.FinMap as map
 use Rattle.std.specs.Ordering.{eq_by_cmp}
 use Rattle.byte_map.proofs.Order.{bytes_cmp_total}
 use Rattle.keycode.specs.Order.{bytes_cmp}
-use Rattle.keycode.specs.Reading.{value_at, int_at}
+use Rattle.keycode.specs.Read.{value_at, int_at}
 use Rattle.keycode.specs.declared.value.Value.TheVariants.{Int}
 use Rattle.lease.specs.Timeline.{IsUsable}
 use Rattle.row_map.specs.Rows.{Bytes, Cells, row_cmp}
 use Rattle.row_map.specs.Keys.{row_code, index_code}
-use Rattle.row_map.specs.Reading.{key_at, row_key_at, number_at, until_zero, last_number, with_number}
+use Rattle.row_map.specs.ReadKey.{key_at, row_key_at, number_at, until_zero, last_number, with_number}
 use Rattle.row_map.specs.Expect.{View, Holds}
 use Rattle.row_map.specs.Writes.{noted}
 use Rattle.row_map.specs.declared.shape.ColumnType.{ColumnType}
@@ -21,13 +21,13 @@ use Rattle.schema_version.specs.declared.element.Kind.{Kind}
 use Rattle.schema_version.specs.declared.element.Kind.TheVariants.{Index, Optional, Required}
 use Rattle.schema_version.specs.declared.element.ElementDef.{ElementDef}
 use Rattle.schema_version.specs.declared.step.Move.TheVariants.{Enter, Go}
-use Rattle.schema_version.specs.Accepting.{are_lawful}
-use Rattle.schema_version.specs.Deciding.{step_check}
+use Rattle.schema_version.specs.inner.AcceptTables.{are_lawful}
+use Rattle.schema_version.specs.Checks.{step_check}
 use Rattle.schema_version.specs.Moves.{as_element, in_state}
 use Rattle.schema_version.specs.Shape.{column_types}
 use Rattle.schema_version.specs.Sound.{IsSoundVersion}
 use Rattle.schema_version.specs.Version.{element_at}
-use Rattle.schema_version.proofs.Beginning.{declared_sound}
+use Rattle.schema_version.proofs.DeclaredSound.{declared_sound}
 use Rattle.schema_version.proofs.Decides.{AreNumbered}
 use Rattle.schema_version.proofs.Declared.{lawful}
 use Rattle.schema_version.proofs.Lists.{here_or_later, some_same}
@@ -35,25 +35,25 @@ use Rattle.schema_version.proofs.Steps.{step_allowed}
 use Rattle.row_write.specs.declared.op.RowOp.{RowOp}
 use Rattle.row_write.specs.declared.op.RowOp.TheVariants.{Insert}
 use Rattle.row_write.specs.declared.op.RowOutcome.TheVariants.{Done}
-use Rattle.row_write.specs.Deciding.{ops_check, AreKnownUntil}
-use Rattle.row_write.specs.Entering.{KeySet, entered_all}
+use Rattle.row_write.specs.inner.Checks.{ops_check, AreKnownUntil}
+use Rattle.row_write.specs.inner.Enter.{KeySet, entered_all}
 use Rattle.row_write.specs.Made.{PreparedTxn, IsMade, expects}
 use Rattle.row_write.specs.Plain.{outcome}
-use Rattle.row_write.specs.Prepare.{IsSpelledRow, Spells, txn_writes}
+use Rattle.row_write.specs.Prepare.{IsEncodedRow, Encodes, txn_writes}
 use Rattle.row_write.specs.Reads.{IsPublicColumn}
-use Rattle.row_write.specs.Served.{IsServed}
-use Rattle.row_write.specs.Viewing.{HaveSameKeys}
+use Rattle.row_write.specs.inner.IndexedColumns.{IsServed}
+use Rattle.row_write.specs.inner.View.{HaveSameKeys}
 use Rattle.row_write.proofs.Columns.{column_listed}
 use Rattle.row_write.proofs.Decides.{ops_sound}
 use Rattle.row_write.proofs.Entered.{reads_are}
-use Rattle.row_write.proofs.Keys.{keys_tell, spelled_with}
+use Rattle.row_write.proofs.Keys.{keys_tell, encoded_with}
 use Rattle.row_write.proofs.Prepares.{made_from}
 use Rattle.row_write.proofs.Ran.{prepared_for_all}
 use Rattle.row_write.proofs.Sound.{served_from}
 use Rattle.schema_version.specs.declared.element.Work.TheVariants.{Fill}
 use Rattle.reorganise.specs.declared.work.Span.{Span}
 use Rattle.reorganise.specs.declared.work.Progress.{Progress}
-use Rattle.reorganise.specs.declared.reading.Reading.{Reading}
+use Rattle.reorganise.specs.declared.read.Reading.{Reading}
 use Rattle.reorganise.specs.Pieces.{part, IsReading}
 use Rattle.reorganise.specs.Batches.{expect_of}
 use Rattle.reorganise.proofs.Order.{get-part, some_in}
@@ -63,8 +63,8 @@ use Rattle.replay.specs.Kept.{IsKept}
 use Rattle.replay.specs.Laws.{IsDone, Needs, AreFinished}
 use Rattle.replay.specs.Replay.{Facts, start, replay, progress_of}
 use Rattle.replay.specs.Worked.{table_t, opening, first_lease, insertion, index_i, to_delete_only, second_lease, to_write_only, third_lease, to_public, front_of_t, end_of_t, log, opened, leased, inserted, entered, leased_again, writing, leased_last, begun, filled, exists_pair, column_pair, index_pair, ALogSays, ALogFollows}
-use Rattle.replay.proofs.Computing.{computed}
-use Rattle.replay.proofs.Following.{call_kept, headline}
+use Rattle.replay.proofs.Computed.{computed}
+use Rattle.replay.proofs.Follows.{call_kept, headline}
 use Rattle.replay.proofs.Time.{opened_kept}
 
 -- ---- what it says
@@ -142,8 +142,8 @@ none_in x (k, below, is) = absurd (omega (arith, below))
 -- a is the one public column
 only_a : (number : ℕ) (type : ColumnType) → IsPublicColumn opening.schema 1 number type → number ≡ 1
 only_a number type column =
-    let listed = subst (λ l. Contains l (number, type)) columns_are (column_listed opening.schema served 1 number type column) in
-    elim (here_or_later (1, IntColumn) (number, type) [] listed) [
+    let indexed_columns = subst (λ l. Contains l (number, type)) columns_are (column_listed opening.schema served 1 number type column) in
+    elim (here_or_later (1, IntColumn) (number, type) [] indexed_columns) [
       | inl same ↦ ap (λ (c : ℕ × ColumnType). c.0) (sym same)
       | inr more ↦ none_in (number, type) more
     ]
@@ -159,8 +159,8 @@ absent_column = simp (computed) refl
 no_row : {A : Type 0} (cells : Cells) → map.get (map.empty {R = row_cmp}) (1, Int (pos 7) ∷ []) ≡ Some cells → A
 no_row cells there = absurd (let x : None ≡ Some cells = sym (map.get-empty row_cmp (1, Int (pos 7) ∷ [])) ∙ there in cc)
 
-spelled_row : IsSpelledRow opening.schema view map.empty op
-spelled_row =
+encoded_row : IsEncodedRow opening.schema view map.empty op
+encoded_row =
     record {
       absent = λ _. absent_exists;
       present = λ cells there. no_row cells there;
@@ -168,8 +168,8 @@ spelled_row =
       columns = λ number type cells column there. no_row cells there;
     }
 
-spelled : Spells opening.schema insertion view map.empty
-spelled = spelled_with opening.schema insertion view reads (reads_are opening.schema served insertion) same_keys map.empty (spelled_row, tt)
+encoded : Encodes opening.schema insertion view map.empty
+encoded = encoded_with opening.schema insertion view reads (reads_are opening.schema served insertion) same_keys map.empty (encoded_row, tt)
 
 accepted : outcome map.empty insertion ≡ Done
 accepted = simp (computed) refl
@@ -188,13 +188,13 @@ prepared =
       ops = insertion;
       expect = expects view;
       batch = noted map.empty (txn_writes opening.schema map.empty insertion);
-      told = Done;
+      reported = Done;
     }
 
 made : IsMade prepared
 made =
-    made_from opening.schema opening.schema insertion insertion first_lease view prepared.batch Done refl refl (ops_sound opening.schema served insertion known checked, omega arith) (map.empty, spelled)
-    (prepared_for_all opening.schema served view insertion map.empty Done prepared.batch spelled (sym accepted) refl)
+    made_from opening.schema opening.schema insertion insertion first_lease view prepared.batch Done refl refl (ops_sound opening.schema served insertion known checked, omega arith) (map.empty, encoded)
+    (prepared_for_all opening.schema served view insertion map.empty Done prepared.batch encoded (sym accepted) refl)
 
 -- where all that was read is that there is nothing
 all_none : (one two : Bool) (found wanted : Option Bytes) (rest : Option (Option Bytes)) → rest ≡ None → cond one (Some None) (cond two (Some None) rest) ≡ Some wanted → found ≡ None → found ≡ wanted
@@ -315,7 +315,7 @@ read =
       piece = 0;
       low = front_of_t;
       high = end_of_t;
-      stretch = record { low = front_of_t; high = end_of_t; pairs = part begun.pairs front_of_t end_of_t };
+      key_range = record { low = front_of_t; high = end_of_t; pairs = part begun.pairs front_of_t end_of_t };
     }
 
 is_reading : IsReading read
@@ -325,7 +325,7 @@ is_reading =
       inside = λ key value at. (some_in _ (map.get begun.pairs key) value (sym (get-part begun.pairs front_of_t end_of_t key) ∙ at)).0;
     }
 
-piece_holds : Holds (expect_of read.stretch) begun.pairs
+piece_holds : Holds (expect_of read.key_range) begun.pairs
 piece_holds key missed =
     elim missed [
       | inl other ↦ absurd (let x : None ≡ Some other.0 = sym (map.get-empty bytes_cmp key) ∙ other.1 in cc)
@@ -343,7 +343,7 @@ piece_follows =
 kept_filled : IsKept filled
 kept_filled = call_kept begun 30 (Piece 2 0 end_of_t) (omega arith) piece_follows kept_begun
 
--- ---- the step to public, behind the fill
+-- ---- the step to public, after the fill
 
 last_checked : step_check filled.newest to_public ≡ Ok tt
 last_checked = simp (computed) refl

@@ -1,4 +1,5 @@
--- How an opening is told apart from another.
+-- Cited by the definitions of world/Code.
+-- How an opening is distinguished from another.
 use Rattle.std.specs.Prelude.{ℕ, refl}
 use Rattle.std.specs.Coded.{Coded, code_by, coded×, coded_ℕ}
 use Rattle.schema_version.specs.Version.{Version}

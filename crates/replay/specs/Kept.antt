@@ -1,3 +1,4 @@
+-- Cited by the contracts of world::World::lemma_agrees.
 -- What every log of accepted calls keeps, of which the agreement of the pairs with the rows is a part.
 use Rattle.std.specs.Prelude.{◌≡◌, ℕ, ◌≤◌, List, ◌∷◌, length, Some, true, nat_lt, if◌then◌else◌}
 use Rattle.std.specs.List.{AllByRecursion}
@@ -6,7 +7,7 @@ use Rattle.std.specs.FinMap.{FinMap, from_entries}
 use Rattle.std.specs.Ordering.{nat_cmp, is_le}
 use Rattle.keycode.specs.Order.{bytes_cmp}
 use Rattle.lease.specs.Timeline.{IsValid, IsUsable, earliest, last_publication, newest as newest_number}
-use Rattle.schema_version.specs.Edges.{wanted}
+use Rattle.schema_version.specs.Edges.{wanted_work}
 use Rattle.schema_version.specs.Version.{Version, element_at}
 use Rattle.schema_version.specs.Sound.{IsSoundVersion}
 use Rattle.element_state.specs.Consistent.{IsConsistent, AreLawfulRows}
@@ -15,17 +16,17 @@ use Rattle.element_state.specs.Core as core
 use Rattle.element_state.specs.Versions.{ElementKind, the_kinds, schema_of}
 use Rattle.reorganise.specs.declared.work.Span.{Span}
 use Rattle.reorganise.specs.declared.work.Progress.{Progress}
-use Rattle.reorganise.specs.Regions.{region_of, front, back}
+use Rattle.reorganise.specs.ScanRanges.{scan_range_of, start, end}
 use Rattle.reorganise.specs.Partition.{AreJoined}
 use Rattle.reorganise.specs.Laws.{passed_by, bounds_of, HasBounds}
 use Rattle.replay.specs.Replay.{Facts, before_of, version_at, progress_of}
 
 -- ---- the core as the elements' laws see it
 
-abbrev pub passed : Progress → core.Progress
+abbrev pub passed : Progress → core.CoreProgress
 passed progress = record { work = progress.kind; spans = passed_by progress.pieces }
 
-abbrev pub all_passed : List Progress → FinMap nat_cmp core.Progress
+abbrev pub all_passed : List Progress → FinMap nat_cmp core.CoreProgress
 all_passed begun = from_entries (each (λ (p : Progress). (p.element.number, passed p)) begun)
 
 -- the version before the newest, as long as a lease on it may be in force; then the newest
@@ -48,8 +49,8 @@ core_at facts now =
 -- a begun reorganisation is what its element wants, and its pieces share the range
 pub record IsBegun (newest : Version) (progress : Progress) : Type 0 where
   pub element : element_at newest progress.element.number ≡ Some progress.element
-  pub wanted_so : wanted progress.element ≡ Some progress.kind
-  pub joined : AreJoined (front (region_of progress.element progress.kind)) (back (region_of progress.element progress.kind)) progress.pieces
+  pub wanted_so : wanted_work progress.element ≡ Some progress.kind
+  pub joined : AreJoined (start (scan_range_of progress.element progress.kind)) (end (scan_range_of progress.element progress.kind)) progress.pieces
   pub bounds : AllByRecursion (HasBounds (bounds_of progress.element progress.kind)) progress.pieces
 
 -- the cursor does not stand past the upper bound
@@ -82,7 +83,7 @@ pub record IsKept (facts : Facts) : Type 0 where
   pub in_pieces : AreInPieces facts.progress
 
 -- for every usable version, each element has the pairs that its state demands, by the rows of the log
-abbrev pub Agrees : Facts → Type 0
-Agrees facts =
+abbrev pub FactsAgree : Facts → Type 0
+FactsAgree facts =
     (number : ℕ) (version : Version) → IsUsable facts.line number facts.moment → version_at facts number ≡ Some version
     → IsConsistent version facts.rows facts.pairs

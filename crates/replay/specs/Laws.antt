@@ -1,3 +1,4 @@
+-- Cited by the contracts of openings_keep, leases_keep, transactions_keep, publications_keep and 3 more.
 -- What each accepted call keeps.
 use Rattle.std.specs.Prelude.{◌≡◌, ℕ, ◌≤◌, List, Option, Some, None, true, Contains, slice_get}
 use Rattle.lease.specs.declared.lease.Lease.{Lease}
@@ -9,14 +10,14 @@ use Rattle.schema_version.specs.declared.element.Kind.{Kind}
 use Rattle.schema_version.specs.declared.element.ElementDef.{ElementDef}
 use Rattle.schema_version.specs.declared.step.Move.{Move}
 use Rattle.schema_version.specs.declared.step.Move.TheVariants.{Go}
-use Rattle.schema_version.specs.Edges.{needed, wanted}
+use Rattle.schema_version.specs.Edges.{needed_work, wanted_work}
 use Rattle.schema_version.specs.Moves.{IsAllowed}
 use Rattle.schema_version.specs.Sound.{IsSoundVersion}
 use Rattle.schema_version.specs.Version.{element_at, state_of}
 use Rattle.schema_version.specs.declared.element.Work.{Work}
 use Rattle.reorganise.specs.declared.work.Span.{Span}
 use Rattle.reorganise.specs.declared.work.Progress.{Progress}
-use Rattle.reorganise.specs.declared.reading.Reading.{Reading}
+use Rattle.reorganise.specs.declared.read.Reading.{Reading}
 use Rattle.reorganise.specs.Pieces.{are_ended, IsReading}
 use Rattle.reorganise.specs.Batches.{expect_of, batch_for}
 use Rattle.row_write.specs.declared.op.RowOutcome.TheVariants.{Done, Refused}
@@ -26,7 +27,7 @@ use Rattle.row_write.specs.Plain.{outcome}
 use Rattle.replay.specs.declared.entry.Entry.{Entry}
 use Rattle.replay.specs.declared.entry.What.TheVariants.{Lease as Granted, Txn, Publish, Begin, Piece}
 use Rattle.replay.specs.Replay.{Opening, Facts, start, after, version_at, progress_of}
-use Rattle.replay.specs.Kept.{IsKept, Agrees, used_before}
+use Rattle.replay.specs.Kept.{IsKept, FactsAgree, used_before}
 
 -- an empty store under one sound version
 abbrev pub OpeningsKeep : Type 0
@@ -49,7 +50,7 @@ IsFinished facts number None = Unit {0}
 IsFinished facts number (Some work) = IsDone facts number work
 
 abbrev pub Needs : Facts → Kind → ℕ → ElementState → Type 0
-Needs facts kind number to = IsFinished facts number (needed kind to)
+Needs facts kind number to = IsFinished facts number (needed_work kind to)
 
 abbrev pub AreFinished : Facts → List Move → Type 0
 AreFinished facts step = (number : ℕ) (to : ElementState) (element : ElementDef) → Contains step (Go number to) → element_at facts.newest number ≡ Some element → Needs facts element.kind number to
@@ -67,7 +68,7 @@ IsPieceCount pieces = (1 ≤ pieces) × (pieces ≤ 64)
 -- a reorganisation that the element wants, begun where every version that a lease may still use has it in that state
 abbrev pub BeginsKeep : Type 0
 BeginsKeep =
-    (facts : Facts) (now number pieces : ℕ) (element : ElementDef) (work : Work) → facts.moment ≤ now → element_at facts.newest number ≡ Some element → wanted element ≡ Some work
+    (facts : Facts) (now number pieces : ℕ) (element : ElementDef) (work : Work) → facts.moment ≤ now → element_at facts.newest number ≡ Some element → wanted_work element ≡ Some work
     → state_of (used_before facts now) number ≡ element.state → progress_of facts.progress number ≡ None → IsPieceCount pieces
     → IsKept facts → IsKept (after facts (record { moment = now; what = Begin number pieces }))
 
@@ -80,13 +81,13 @@ pub record IsNextOf (facts : Facts) (number : ℕ) (read : Reading) : Type 0 whe
   pub span : Span
   pub piece : slice_get progress.pieces read.piece ≡ Some span
   pub high : read.high ≡ span.high
-  pub cursor : read.stretch.low ≡ span.cursor
+  pub cursor : read.key_range.low ≡ span.cursor
   pub read_so : IsReading read
-  pub holds : Holds (expect_of read.stretch) facts.pairs
+  pub holds : Holds (expect_of read.key_range) facts.pairs
 
 -- the entry of such a piece
 abbrev pub piece_entry : ℕ → ℕ → Reading → Entry
-piece_entry now number read = record { moment = now; what = Piece number read.piece read.stretch.high }
+piece_entry now number read = record { moment = now; what = Piece number read.piece read.key_range.high }
 
 -- its batch writes what its entry says, and keeps all
 abbrev pub PiecesKeep : Type 0
@@ -104,9 +105,9 @@ pub record IsDue (facts : Facts) (now : ℕ) (prepared : PreparedTxn) : Type 0 w
 abbrev pub txn_entry : ℕ → PreparedTxn → Entry
 txn_entry now prepared = record { moment = now; what = Txn prepared.lease prepared.ops }
 
--- what it was told is what the rows of the log say, however old its reads are
+-- what it was reported is what the rows of the log say, however old its reads are
 abbrev pub OutcomesHold : Type 0
-OutcomesHold = (facts : Facts) (now : ℕ) (prepared : PreparedTxn) → facts.moment ≤ now → IsDue facts now prepared → IsKept facts → prepared.told ≡ outcome facts.rows prepared.ops
+OutcomesHold = (facts : Facts) (now : ℕ) (prepared : PreparedTxn) → facts.moment ≤ now → IsDue facts now prepared → IsKept facts → prepared.reported ≡ outcome facts.rows prepared.ops
 
 -- where the rows accept it, its batch writes what its entry says, and keeps all
 abbrev pub TxnsKeep : Type 0
@@ -122,4 +123,4 @@ RefusedWriteNothing =
 
 -- what is kept is more than the theorem: for every version that a lease may still use, the pairs are consistent with it and the rows
 abbrev pub KeptAgrees : Type 0
-KeptAgrees = (facts : Facts) → IsKept facts → Agrees facts
+KeptAgrees = (facts : Facts) → IsKept facts → FactsAgree facts

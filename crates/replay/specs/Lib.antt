@@ -1,7 +1,7 @@
 pub mod Replay
 pub mod Code
-pub mod Small
 pub mod Kept
 pub mod Laws
 pub mod Worked
 pub mod Headline
+pub mod inner

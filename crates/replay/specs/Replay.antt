@@ -1,3 +1,4 @@
+-- Cited by the contracts of locked_store::SharedLedger.
 -- What a log of entries says: the moment, the versions, the rows, the reorganisations and the pairs.
 use Rattle.std.specs.Prelude.{ℕ, ◌+◌, ◌==◌, List, [], ◌∷◌, ◌++◌, length, Option, Some, None, Bool, not, filter, if◌then◌else◌, slice_get}
 use Rattle.std.specs.List.{find}
@@ -8,7 +9,7 @@ use Rattle.row_map.specs.Rows.{Bytes, Rows, Pairs}
 use Rattle.row_map.specs.Writes.{Writes, written_all}
 use Rattle.schema_version.specs.declared.element.ElementDef.{ElementDef}
 use Rattle.schema_version.specs.declared.step.Move.{Move}
-use Rattle.schema_version.specs.Edges.{wanted}
+use Rattle.schema_version.specs.Edges.{wanted_work}
 use Rattle.schema_version.specs.Version.{Version, element_at}
 use Rattle.schema_version.specs.Moves.{after_step, moves_element}
 use Rattle.row_write.specs.declared.op.RowOp.{RowOp}
@@ -92,7 +93,7 @@ begun_by element (Some work) pairs pieces = begun element work pairs pieces ∷ 
 -- by the items that are present at the begin
 abbrev pub begun_of : Option ElementDef → Pairs → ℕ → List Progress
 begun_of None pairs pieces = []
-begun_of (Some element) pairs pieces = begun_by element (wanted element) pairs pieces
+begun_of (Some element) pairs pieces = begun_by element (wanted_work element) pairs pieces
 
 -- one piece's cursor has come on
 abbrev pub come_to : ℕ → Bytes → Progress → Progress

@@ -1,3 +1,4 @@
+-- Cited by the contracts of a_log_says.
 -- What a log says that has an entry of each kind, worked out by hand, and that each of its entries may follow those before it.
 use Rattle.std.specs.Prelude.{◌≡◌, pos, List, [], ◌∷◌, Some, None}
 use Rattle.std.specs.FinMap as map
@@ -14,13 +15,13 @@ use Rattle.schema_version.specs.declared.element.NewElement.{NewElement}
 use Rattle.schema_version.specs.declared.step.Move.{Move}
 use Rattle.schema_version.specs.declared.step.Move.TheVariants.{Enter, Go}
 use Rattle.schema_version.specs.declared.table.TableDef.{TableDef}
-use Rattle.schema_version.specs.Declaring.{declared}
+use Rattle.schema_version.specs.Declare.{declared}
 use Rattle.schema_version.specs.Moves.{after_step}
 use Rattle.schema_version.specs.Sound.{IsSoundVersion}
 use Rattle.replay.specs.declared.entry.Entry.{Entry}
 use Rattle.replay.specs.declared.entry.What.TheVariants.{Lease as Granted, Txn, Publish, Begin, Piece}
 use Rattle.replay.specs.Headline.{MayFollow, AllFollow}
-use Rattle.replay.specs.Kept.{Agrees}
+use Rattle.replay.specs.Kept.{FactsAgree}
 use Rattle.replay.specs.Replay.{Opening, Facts, start, after_call, replay, version_at}
 
 -- ---- the log
@@ -59,7 +60,7 @@ third_lease = record { version = 3; granted = 20; until = 30 }
 abbrev pub to_public : List Move
 to_public = Go 2 Public ∷ []
 
--- before all keys of rows of the table t, and behind them
+-- before all keys of rows of the table t, and after them
 abbrev pub front_of_t : Bytes
 front_of_t = 0x52 ∷ 0 ∷ 0 ∷ 0 ∷ 1 ∷ []
 
@@ -79,7 +80,7 @@ log =
     ∷ record { moment = 30; what = Publish to_public }
     ∷ []
 
--- ---- what it says behind each entry
+-- ---- what it says after each entry
 
 abbrev pub opened : Facts
 opened = start opening
@@ -143,4 +144,4 @@ pub record ALogFollows : Type 0 where
   pub piece : MayFollow begun 30 (Piece 2 0 end_of_t)
   pub last_step : MayFollow filled 30 (Publish to_public)
   pub all : AllFollow (start opening) log
-  pub agrees : Agrees (replay opening log)
+  pub agrees : FactsAgree (replay opening log)

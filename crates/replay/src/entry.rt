@@ -1,7 +1,7 @@
 //! The entries of a log.
 use byte_map::Bytes;
+use collections::ArcValue;
 use lease::Lease;
-use listed::Counted;
 use row_write::RowOps;
 use schema_version::Step;
 
@@ -27,7 +27,7 @@ pub enum What {
         element: u32,
         /// The number of the piece, from 0.
         piece: u32,
-        /// Where its cursor came to.
+        /// If its cursor came to.
         cursor: Bytes,
     },
 }
@@ -38,5 +38,5 @@ pub struct Entry {
     /// The moment that counted in the call.
     pub moment: u64,
     /// What the call did. The log and the receipts share it.
-    pub what: Counted<What>,
+    pub what: ArcValue<What>,
 }

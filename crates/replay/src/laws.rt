@@ -13,9 +13,9 @@ pub fn leases_keep()
     ensures { LeasesKeep }
 {}
 
-/// A prepared transaction of a version that a lease may still use, whose reads hold, has the outcome that the rows of the
-/// log give, however old its reads are. Where they accept it, its batch writes what its entry says and keeps all; where they
-/// refuse it, its batch writes nothing.
+/// A prepared transaction of a version that a lease may still use, whose reads hold, has the
+/// outcome that the rows of the log give, however old its reads are. If they accept it, its batch
+/// writes what its entry says and keeps all; where they refuse it, its batch writes nothing.
 pub fn transactions_keep()
     ensures outcome { OutcomesHold }
     ensures done { TxnsKeep }
@@ -40,7 +40,7 @@ pub fn pieces_keep()
     ensures { PiecesKeep }
 {}
 
-/// Where all is kept, the pairs agree with the rows for every version that a lease may still use.
+/// If all is kept, the pairs agree with the rows for every version that a lease may still use.
 pub fn kept_agrees()
     ensures { KeptAgrees }
 {}

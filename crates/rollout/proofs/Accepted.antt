@@ -16,7 +16,7 @@ use Rattle.schema_version.proofs.Lists.{some_same}
 use Rattle.schema_version.specs.declared.element.Work.{Work}
 use Rattle.reorganise.specs.declared.work.Span.{Span}
 use Rattle.reorganise.specs.declared.work.Progress.{Progress}
-use Rattle.reorganise.specs.declared.reading.Reading.{Reading}
+use Rattle.reorganise.specs.declared.read.Reading.{Reading}
 use Rattle.reorganise.specs.declared.fault.ViewFault.{ViewFault}
 use Rattle.reorganise.specs.declared.fault.ViewFault.TheVariants as view
 use Rattle.reorganise.specs.Batches.{expect_of}
@@ -27,19 +27,19 @@ use Rattle.replay.specs.Kept.{IsKept, IsBegun}
 use Rattle.replay.specs.Laws.{IsPieceCount}
 use Rattle.replay.specs.Replay.{progress_of}
 use Rattle.replay.proofs.Begun.{found}
-use Rattle.world.specs.declared.beginning.BeginFault.{BeginFault}
-use Rattle.world.specs.declared.beginning.BeginFault.TheVariants as begin_fault
-use Rattle.world.specs.declared.publishing.PublishFault.{PublishFault}
-use Rattle.world.specs.declared.publishing.PublishFault.TheVariants as publish_fault
-use Rattle.world.specs.declared.pieces.PieceFault.{PieceFault}
-use Rattle.world.specs.declared.pieces.PieceFault.TheVariants as piece_fault
-use Rattle.world.specs.declared.pieces.ReadFault.TheVariants.{NotWanted, View}
-use Rattle.world.specs.Beginning.{BeginCondition}
-use Rattle.world.specs.Piecework.{standing, PieceCondition, IsPieceOf}
-use Rattle.world.specs.Publishing.{PublishCondition}
+use Rattle.world.specs.declared.begin_reorg.BeginFault.{BeginFault}
+use Rattle.world.specs.declared.begin_reorg.BeginFault.TheVariants as begin_fault
+use Rattle.world.specs.declared.publish.PublishFault.{PublishFault}
+use Rattle.world.specs.declared.publish.PublishFault.TheVariants as publish_fault
+use Rattle.world.specs.declared.piece.PieceFault.{PieceFault}
+use Rattle.world.specs.declared.piece.PieceFault.TheVariants as piece_fault
+use Rattle.world.specs.declared.piece.ReadFault.TheVariants.{NotWanted, View}
+use Rattle.world.specs.BeginReorg.{BeginCondition}
+use Rattle.world.specs.Piece.{standing, PieceCondition, IsPieceOf}
+use Rattle.world.specs.Publish.{PublishCondition}
 use Rattle.world.specs.State.{State, facts_of}
 use Rattle.world.proofs.Awaited.{not_unfinished}
-use Rattle.piece_work.specs.Working.{IsNext, HasEnded}
+use Rattle.piece_work.specs.WorkOff.{IsNext, HasEnded}
 use Rattle.rollout.specs.Due.{MayBegin, IsOpen, ready_moves}
 use Rattle.rollout.specs.Advance.{BeginsAreAccepted, StepsAreAccepted, ReadsAreAccepted, PiecesAreAccepted, AreAccepted, IsMemoryOrVersion, IsLimit}
 use Rattle.rollout.proofs.Ready.{step_allowed, step_finished}
@@ -105,12 +105,12 @@ nothing_there : (key : Bytes) (w : Option Bytes) → map.get (map.empty {R = byt
 nothing_there key w e = none_some (sym (map.get-empty bytes_cmp key) ∙ e)
 
 -- what was just read is still there
-just_read : (p : Progress) (pairs : Pairs) (piece limit : ℕ) (span : Span) → Holds (expect_of (view_at p pairs piece limit span).stretch) pairs
+just_read : (p : Progress) (pairs : Pairs) (piece limit : ℕ) (span : Span) → Holds (expect_of (view_at p pairs piece limit span).key_range) pairs
 just_read p pairs piece limit span key = by
   where
-    by : Misses (expect_of (view_at p pairs piece limit span).stretch) pairs key → ⊥
+    by : Misses (expect_of (view_at p pairs piece limit span).key_range) pairs key → ⊥
     by (inl h) = absurd (nothing_there key h.0 h.1)
-    by (inr h) = h.1 (sym (get-part pairs (view_at p pairs piece limit span).stretch.low (view_at p pairs piece limit span).stretch.high key ∙ ap (λ b. cond b (map.get pairs key) None) h.0))
+    by (inr h) = h.1 (sym (get-part pairs (view_at p pairs piece limit span).key_range.low (view_at p pairs piece limit span).key_range.high key ∙ ap (λ b. cond b (map.get pairs key) None) h.0))
 
 -- a piece that was just read, of the reorganisation as it is then
 module _ (s : State) (now number piece limit : ℕ) (p : Progress) (span : Span) (kept : IsKept (facts_of s)) (late : now ≤ max_moment) (begun : progress_of (facts_of s).progress number ≡ Some p) (here : slice_get p.pieces piece ≡ Some span) where

@@ -4,12 +4,12 @@ use Rattle.lease.specs.Timeline.{max_moment, newest as newest_number}
 use Rattle.schema_version.specs.declared.step.Move.{Move}
 use Rattle.replay.specs.declared.entry.What.TheVariants.{Publish, Begin}
 use Rattle.replay.specs.Kept.{IsKept}
-use Rattle.world.specs.Beginning.{BeginStep}
-use Rattle.world.specs.Calls.{counted}
-use Rattle.world.specs.Publishing.{PublishStep, max_versions}
+use Rattle.world.specs.BeginReorg.{BeginStep}
+use Rattle.world.specs.Calls.{effective_moment}
+use Rattle.world.specs.Publish.{PublishStep, max_versions}
 use Rattle.world.specs.declared.entry.Receipt.{Receipt}
 use Rattle.world.specs.State.{State, facts_of}
-use Rattle.piece_work.specs.Working.{Turns, HasEnded}
+use Rattle.piece_work.specs.WorkOff.{Rounds, HasEnded}
 use Rattle.rollout.specs.declared.act.Act.{Act}
 use Rattle.rollout.specs.declared.act.Act.TheVariants as act
 use Rattle.rollout.specs.declared.advanced.AdvanceFault.{AdvanceFault}
@@ -46,24 +46,24 @@ pub record IsNextState (old middle new : State) (now : ℕ) : Type 0 where
   pub lower : all_left (facts_of new) now < all_left (facts_of middle) now
   pub past : (facts_of new).moment ≤ now
 
-pub begin_next : (old middle new : State) (now number pieces : ℕ) (receipt : Receipt) (what : Act) → IsCarried old middle → IsKept (facts_of middle) → (facts_of middle).moment ≤ now → what ≡ act.Begin number → IsDue (facts_of middle) (counted middle now) what → BeginStep middle now number pieces (Ok receipt) new → IsNextState old middle new now
+pub begin_next : (old middle new : State) (now number pieces : ℕ) (receipt : Receipt) (what : Act) → IsCarried old middle → IsKept (facts_of middle) → (facts_of middle).moment ≤ now → what ≡ act.Begin number → IsDue (facts_of middle) (effective_moment middle now) what → BeginStep middle now number pieces (Ok receipt) new → IsNextState old middle new now
 begin_next old middle new now number pieces receipt what so kept past is due at =
-    let c = begin_carries middle new now number pieces receipt kept past (due_as (facts_of middle) (counted middle now) what (act.Begin number) is due) at in
-    record { carried = carried_on old middle new now 1 so c (acts_then middle new (counted middle now) (Begin number pieces) receipt at.1); lower = c.lower; past = c.past }
+    let c = begin_carries middle new now number pieces receipt kept past (due_as (facts_of middle) (effective_moment middle now) what (act.Begin number) is due) at in
+    record { carried = carried_on old middle new now 1 so c (acts_then middle new (effective_moment middle now) (Begin number pieces) receipt at.1); lower = c.lower; past = c.past }
 
-pub step_next : (old middle new : State) (now : ℕ) (step : List Move) (done : ℕ × Receipt) (what : Act) → IsCarried old middle → IsKept (facts_of middle) → (facts_of middle).moment ≤ now → what ≡ act.Publish step → IsDue (facts_of middle) (counted middle now) what → PublishStep middle now step (Ok done) new → IsNextState old middle new now
+pub step_next : (old middle new : State) (now : ℕ) (step : List Move) (done : ℕ × Receipt) (what : Act) → IsCarried old middle → IsKept (facts_of middle) → (facts_of middle).moment ≤ now → what ≡ act.Publish step → IsDue (facts_of middle) (effective_moment middle now) what → PublishStep middle now step (Ok done) new → IsNextState old middle new now
 step_next old middle new now step done what so kept past is due at =
-    let c = step_carries middle new now step done kept past (due_as (facts_of middle) (counted middle now) what (act.Publish step) is due) at in
-    record { carried = carried_on old middle new now 1 so c (acts_then middle new (counted middle now) (Publish step) done.1 at.2); lower = c.lower; past = c.past }
+    let c = step_carries middle new now step done kept past (due_as (facts_of middle) (effective_moment middle now) what (act.Publish step) is due) at in
+    record { carried = carried_on old middle new now 1 so c (acts_then middle new (effective_moment middle now) (Publish step) done.1 at.2); lower = c.lower; past = c.past }
 
-pub work_next : (old middle new : State) (now number limit : ℕ) (what : Act) → IsCarried old middle → IsKept (facts_of middle) → (facts_of middle).moment ≤ now → what ≡ act.Work number → IsDue (facts_of middle) (counted middle now) what → (commits : ℕ) × Turns commits middle number now limit new → HasEnded new number → IsNextState old middle new now
+pub work_next : (old middle new : State) (now number limit : ℕ) (what : Act) → IsCarried old middle → IsKept (facts_of middle) → (facts_of middle).moment ≤ now → what ≡ act.Work number → IsDue (facts_of middle) (effective_moment middle now) what → (commits : ℕ) × Rounds commits middle number now limit new → HasEnded new number → IsNextState old middle new now
 work_next old middle new now number limit what so kept past is due turns ended =
-    let c = work_carries middle new now number limit turns.0 kept past (due_as (facts_of middle) (counted middle now) what (act.Work number) is due) turns.1 ended in
+    let c = work_carries middle new now number limit turns.0 kept past (due_as (facts_of middle) (effective_moment middle now) what (act.Work number) is due) turns.1 ended in
     let log = turns_acts turns.0 middle new number now limit turns.1 in
     record { carried = carried_on old middle new now 0 so c (omega (arith, log)); lower = c.lower; past = c.past }
 
 -- pieces that were worked before one was refused
-pub some_turns : (old middle new : State) (now number limit : ℕ) → IsCarried old middle → (commits : ℕ) × Turns commits middle number now limit new → IsCarried old new
+pub some_turns : (old middle new : State) (now number limit : ℕ) → IsCarried old middle → (commits : ℕ) × Rounds commits middle number now limit new → IsCarried old new
 some_turns old middle new now number limit so turns =
     let w = all_turns turns.0 middle new number now limit turns.1 in
     let log = turns_acts turns.0 middle new number now limit turns.1 in
@@ -105,7 +105,7 @@ refused_step old middle new moment pieces limit fault result so same counts due 
     (subst (λ (r : Result ℕ AdvanceFault). CompleteStep old moment pieces limit r middle) (sym is)
     (complete_step old middle moment pieces limit (Err fault) so (refused_by old middle moment pieces limit fault counts due why)))
 
-pub nothing_step : (old s : State) (moment pieces limit now : ℕ) (what : Act) → IsCarried old s → AreCounts pieces limit → IsKept (facts_of s) → what ≡ act.Nothing → IsDue (facts_of s) (counted s now) what → counted old moment ≤ now → (facts_of s).moment ≤ now → now ≤ max_moment → CompleteStep old moment pieces limit (Ok now) s
+pub nothing_step : (old s : State) (moment pieces limit now : ℕ) (what : Act) → IsCarried old s → AreCounts pieces limit → IsKept (facts_of s) → what ≡ act.Nothing → IsDue (facts_of s) (effective_moment s now) what → effective_moment old moment ≤ now → (facts_of s).moment ≤ now → now ≤ max_moment → CompleteStep old moment pieces limit (Ok now) s
 nothing_step old s moment pieces limit now what so counts kept is due since past le =
     complete_step old s moment pieces limit (Ok now) so
-    (counts, completed (facts_of old) (facts_of s) kept (due_as (facts_of s) (counted s now) what act.Nothing is due).0 (way_ends (facts_of old) (facts_of s) so.way), since, past, le)
+    (counts, completed (facts_of old) (facts_of s) kept (due_as (facts_of s) (effective_moment s now) what act.Nothing is due).0 (way_ends (facts_of old) (facts_of s) so.way), since, past, le)

@@ -8,37 +8,37 @@ use Rattle.schema_version.specs.declared.element.ElementDef.{ElementDef}
 use Rattle.schema_version.specs.declared.element.Work.{Work}
 use Rattle.schema_version.specs.declared.step.Move.{Move}
 use Rattle.schema_version.specs.declared.step.Move.TheVariants.{Enter, Turn as TurnBack}
-use Rattle.schema_version.specs.Edges.{wanted}
+use Rattle.schema_version.specs.Edges.{wanted_work}
 use Rattle.schema_version.specs.Version.{Version, element_at}
 use Rattle.schema_version.specs.Moves.{after_step}
 use Rattle.schema_version.specs.Steps.{Change, Stays, Enters, Goes, Turns as TurnsBack}
 use Rattle.schema_version.proofs.Along.{ordered_of}
 use Rattle.schema_version.proofs.Entries.{tells}
-use Rattle.schema_version.proofs.Stepping.{change_at}
+use Rattle.schema_version.proofs.StepEffects.{change_at}
 use Rattle.row_map.specs.Rows.{Bytes}
 use Rattle.reorganise.specs.declared.work.Progress.{Progress}
-use Rattle.reorganise.specs.declared.reading.Reading.{Reading}
+use Rattle.reorganise.specs.declared.read.Reading.{Reading}
 use Rattle.replay.specs.declared.entry.What.TheVariants.{Publish, Begin, Piece}
 use Rattle.replay.specs.Kept.{IsKept}
 use Rattle.replay.specs.Replay.{Facts, after, is_of, progress_of, moved_to}
 use Rattle.replay.proofs.Begun.{progress_moved}
 use Rattle.replay.proofs.Moved.{same_tables}
-use Rattle.world.specs.Beginning.{wanted_at, BeginStep}
-use Rattle.world.specs.Calls.{counted}
-use Rattle.world.specs.Piecework.{standing, standing_at}
-use Rattle.world.specs.Publishing.{PublishStep}
+use Rattle.world.specs.BeginReorg.{wanted_at, BeginStep}
+use Rattle.world.specs.Calls.{effective_moment}
+use Rattle.world.specs.Piece.{standing, standing_at}
+use Rattle.world.specs.Publish.{PublishStep}
 use Rattle.world.specs.declared.entry.Receipt.{Receipt}
 use Rattle.world.specs.State.{State, facts_of}
-use Rattle.piece_work.specs.Working.{Turn, Turns, HasEnded}
+use Rattle.piece_work.specs.WorkOff.{Round, Rounds, HasEnded}
 use Rattle.rollout.specs.declared.act.Act.{Act}
 use Rattle.rollout.specs.declared.act.Act.TheVariants as act
 use Rattle.rollout.specs.StatePath.{next_state}
 use Rattle.rollout.specs.Due.{IsUnderWay, MayBegin, IsOpen, IsDue, ready_moves}
 use Rattle.rollout.specs.Left.{sum_below, edges_at, edges_left, unbegun_at, unbegun, acts_by, acts_at, acts_left, is_open_in, open_at, open_left, waiting, all_left, end_of, IsFurther, IsOnTheWay, AreCompleted}
-use Rattle.rollout.proofs.Falling.{sum_less, sum_same, step_falls, gos_next, ready_gos, not_go_enter, not_go_turn, next_of}
+use Rattle.rollout.proofs.Falls.{sum_less, sum_same, step_falls, gos_next, ready_gos, not_go_enter, not_go_turn, next_of}
 use Rattle.rollout.proofs.Few.{begin_acts, step_acts}
 use Rattle.rollout.proofs.Way.{stays_further, same_way}
-use Rattle.rollout.proofs.Counting.{facts_then, begin_falls, begun_made, not_of, its_number, moved_other}
+use Rattle.rollout.proofs.CountLemmas.{facts_then, begin_falls, begun_made, not_of, its_number, moved_other}
 use Rattle.rollout.proofs.Onward.{goes_further, at_end}
 use Rattle.rollout.proofs.Ready.{ready_says, step_allowed}
 
@@ -163,22 +163,22 @@ moved_some : (n piece : ℕ) (cursor : Bytes) (o : Option Progress) → is_some 
 moved_some n piece cursor None = refl
 moved_some n piece cursor (Some p) = refl
 
-one_turn : (old new : State) (number moment limit : ℕ) → Turn old number moment limit new → IsWorked (facts_of old) (facts_of new) moment number
+one_turn : (old new : State) (number moment limit : ℕ) → Round old number moment limit new → IsWorked (facts_of old) (facts_of new) moment number
 one_turn old new number moment limit t =
-    subst (λ (f : Facts). IsWorked (facts_of old) f moment number) (sym (facts_then old new (counted old moment) (Piece t.read.element.number t.read.piece t.read.stretch.high) t.done.receipt t.committed.2))
+    subst (λ (f : Facts). IsWorked (facts_of old) f moment number) (sym (facts_then old new (effective_moment old moment) (Piece t.read.element.number t.read.piece t.read.key_range.high) t.done.receipt t.committed.2))
     (record {
       newest = refl;
       line = refl;
       rows = refl;
       past = λ le. omega (arith, le);
-      begun = λ k. ap is_some (progress_moved t.read.element.number t.read.piece t.read.stretch.high (facts_of old).progress k) ∙ moved_some t.read.element.number t.read.piece t.read.stretch.high (progress_of (facts_of old).progress k);
-      others = λ k ne. progress_moved t.read.element.number t.read.piece t.read.stretch.high (facts_of old).progress k ∙ moved_other (facts_of old).progress t.read.element.number t.read.piece t.read.stretch.high k (λ e. ne (e ∙ own)) (progress_of (facts_of old).progress k) refl;
+      begun = λ k. ap is_some (progress_moved t.read.element.number t.read.piece t.read.key_range.high (facts_of old).progress k) ∙ moved_some t.read.element.number t.read.piece t.read.key_range.high (progress_of (facts_of old).progress k);
+      others = λ k ne. progress_moved t.read.element.number t.read.piece t.read.key_range.high (facts_of old).progress k ∙ moved_other (facts_of old).progress t.read.element.number t.read.piece t.read.key_range.high k (λ e. ne (e ∙ own)) (progress_of (facts_of old).progress k) refl;
     })
   where
     own : t.read.element.number ≡ number
     own = ap (λ (r : Reading). r.element.number) t.read_so.3.read_is ∙ its_number (facts_of old).progress number t.read_so.0 t.read_so.1
 
-pub all_turns : (n : ℕ) (old new : State) (number moment limit : ℕ) → Turns n old number moment limit new → IsWorked (facts_of old) (facts_of new) moment number
+pub all_turns : (n : ℕ) (old new : State) (number moment limit : ℕ) → Rounds n old number moment limit new → IsWorked (facts_of old) (facts_of new) moment number
 all_turns zero old new number moment limit same =
     subst (λ (s : State). IsWorked (facts_of old) (facts_of s) moment number) (sym same)
     (record { newest = refl; line = refl; rows = refl; past = λ le. le; begun = λ k. refl; others = λ k ne. refl })
@@ -196,7 +196,7 @@ all_turns (suc n) old new number moment limit (middle, turns, last) =
 
 module _ (old new : Facts) (now number : ℕ) (w : IsWorked old new now number) where
   same_unbegun : (k : ℕ) → unbegun_at new k ≡ unbegun_at old k
-  same_unbegun k = ap (λ (v : Version). cond (is_some (option_and_then wanted (element_at v k)) && not (is_some (progress_of new.progress k))) 1 0) w.newest ∙ ap (λ (b : Bool). cond (is_some (wanted_at old k) && not b) 1 0) (w.begun k)
+  same_unbegun k = ap (λ (v : Version). cond (is_some (option_and_then wanted_work (element_at v k)) && not (is_some (progress_of new.progress k))) 1 0) w.newest ∙ ap (λ (b : Bool). cond (is_some (wanted_at old k) && not b) 1 0) (w.begun k)
 
   pub worked_acts : acts_left new ≡ acts_left old
   worked_acts =
@@ -249,39 +249,39 @@ pub record Carries (old new : Facts) (now acts : ℕ) : Type 0 where
   pub way : IsOnTheWay old new
   pub fewer : acts_left new + acts ≤ acts_left old
 
-pub counted_is : (s : State) (now : ℕ) → (facts_of s).moment ≤ now → counted s now ≡ now
+pub counted_is : (s : State) (now : ℕ) → (facts_of s).moment ≤ now → effective_moment s now ≡ now
 counted_is s now le = omega (arith, le)
 
 pub due_as : (facts : Facts) (now : ℕ) (a b : Act) → a ≡ b → IsDue facts now a → IsDue facts now b
 due_as facts now a b is due = subst (IsDue facts now) is due
 
-pub begin_carries : (old new : State) (now number pieces : ℕ) (receipt : Receipt) → IsKept (facts_of old) → (facts_of old).moment ≤ now → IsDue (facts_of old) (counted old now) (act.Begin number) → BeginStep old now number pieces (Ok receipt) new → Carries (facts_of old) (facts_of new) now 1
+pub begin_carries : (old new : State) (now number pieces : ℕ) (receipt : Receipt) → IsKept (facts_of old) → (facts_of old).moment ≤ now → IsDue (facts_of old) (effective_moment old now) (act.Begin number) → BeginStep old now number pieces (Ok receipt) new → Carries (facts_of old) (facts_of new) now 1
 begin_carries old new now number pieces receipt kept past d at =
     let time = counted_is old now past in
-    let less = begin_acts (facts_of old) (counted old now) number pieces d.0 kept in
-    subst (λ (f : Facts). Carries (facts_of old) f now 1) (sym (facts_then old new (counted old now) (Begin number pieces) receipt at.1))
+    let less = begin_acts (facts_of old) (effective_moment old now) number pieces d.0 kept in
+    subst (λ (f : Facts). Carries (facts_of old) f now 1) (sym (facts_then old new (effective_moment old now) (Begin number pieces) receipt at.1))
     (record {
-      lower = subst (λ (t : ℕ). all_left (after (facts_of old) (record { moment = counted old now; what = Begin number pieces })) t < all_left (facts_of old) t) time (begin_lower (facts_of old) (counted old now) number pieces d.0 kept);
+      lower = subst (λ (t : ℕ). all_left (after (facts_of old) (record { moment = effective_moment old now; what = Begin number pieces })) t < all_left (facts_of old) t) time (begin_lower (facts_of old) (effective_moment old now) number pieces d.0 kept);
       past = omega (arith, time);
       rows = refl;
-      way = same_way (facts_of old) (after (facts_of old) (record { moment = counted old now; what = Begin number pieces })) refl;
+      way = same_way (facts_of old) (after (facts_of old) (record { moment = effective_moment old now; what = Begin number pieces })) refl;
       fewer = omega (arith, less);
     })
 
-pub step_carries : (old new : State) (now : ℕ) (step : List Move) (done : ℕ × Receipt) → IsKept (facts_of old) → (facts_of old).moment ≤ now → IsDue (facts_of old) (counted old now) (act.Publish step) → PublishStep old now step (Ok done) new → Carries (facts_of old) (facts_of new) now 1
+pub step_carries : (old new : State) (now : ℕ) (step : List Move) (done : ℕ × Receipt) → IsKept (facts_of old) → (facts_of old).moment ≤ now → IsDue (facts_of old) (effective_moment old now) (act.Publish step) → PublishStep old now step (Ok done) new → Carries (facts_of old) (facts_of new) now 1
 step_carries old new now step done kept past d at =
     let time = counted_is old now past in
-    let less = step_acts (facts_of old) (counted old now) kept.sound step d.0.1 d.0.2 in
-    subst (λ (f : Facts). Carries (facts_of old) f now 1) (sym (facts_then old new (counted old now) (Publish step) done.1 at.2))
+    let less = step_acts (facts_of old) (effective_moment old now) kept.sound step d.0.1 d.0.2 in
+    subst (λ (f : Facts). Carries (facts_of old) f now 1) (sym (facts_then old new (effective_moment old now) (Publish step) done.1 at.2))
     (record {
-      lower = subst (λ (t : ℕ). all_left (after (facts_of old) (record { moment = counted old now; what = Publish step })) t < all_left (facts_of old) t) time (step_lower (facts_of old) (counted old now) kept step d.0.1 d.0.2);
+      lower = subst (λ (t : ℕ). all_left (after (facts_of old) (record { moment = effective_moment old now; what = Publish step })) t < all_left (facts_of old) t) time (step_lower (facts_of old) (effective_moment old now) kept step d.0.1 d.0.2);
       past = omega (arith, time);
       rows = refl;
-      way = step_way (facts_of old) (counted old now) kept step d.0.1 d.0.2;
+      way = step_way (facts_of old) (effective_moment old now) kept step d.0.1 d.0.2;
       fewer = omega (arith, less);
     })
 
-pub work_carries : (old new : State) (now number limit commits : ℕ) → IsKept (facts_of old) → (facts_of old).moment ≤ now → IsDue (facts_of old) (counted old now) (act.Work number) → Turns commits old number now limit new → HasEnded new number → Carries (facts_of old) (facts_of new) now 0
+pub work_carries : (old new : State) (now number limit commits : ℕ) → IsKept (facts_of old) → (facts_of old).moment ≤ now → IsDue (facts_of old) (effective_moment old now) (act.Work number) → Rounds commits old number now limit new → HasEnded new number → Carries (facts_of old) (facts_of new) now 0
 work_carries old new now number limit commits kept past d turns ended =
     let w = all_turns commits old new number now limit turns in
     let same = worked_acts (facts_of old) (facts_of new) now number w in

@@ -7,7 +7,7 @@ use Rattle.schema_version.specs.declared.element.ElementState.{ElementState}
 use Rattle.schema_version.specs.declared.element.ElementDef.{ElementDef}
 use Rattle.schema_version.specs.declared.step.Move.{Move}
 use Rattle.schema_version.specs.declared.step.Move.TheVariants.{Enter, Go, Turn as TurnBack}
-use Rattle.schema_version.specs.Edges.{wanted}
+use Rattle.schema_version.specs.Edges.{wanted_work}
 use Rattle.schema_version.specs.Version.{element_at}
 use Rattle.schema_version.specs.Moves.{after_step, is_move_of, moves_element}
 use Rattle.schema_version.specs.Sound.{IsSoundVersion}
@@ -15,26 +15,26 @@ use Rattle.schema_version.specs.Steps.{Change, Stays, Enters, Goes, Turns as Tur
 use Rattle.schema_version.proofs.Along.{ordered_of}
 use Rattle.schema_version.proofs.Changes.{its_go}
 use Rattle.schema_version.proofs.Lists.{not_both, any_says, any_from}
-use Rattle.schema_version.proofs.Stepping.{change_at}
+use Rattle.schema_version.proofs.StepEffects.{change_at}
 use Rattle.reorganise.specs.declared.work.Progress.{Progress}
 use Rattle.replay.specs.declared.entry.Entry.{Entry}
 use Rattle.replay.specs.declared.entry.What.{What}
 use Rattle.replay.specs.declared.entry.What.TheVariants.{Publish, Begin, Piece}
 use Rattle.replay.specs.Kept.{IsKept}
 use Rattle.replay.specs.Replay.{Facts, after, is_of, progress_of, stays}
-use Rattle.world.specs.Beginning.{wanted_at}
-use Rattle.world.specs.Calls.{counted, Appends}
+use Rattle.world.specs.BeginReorg.{wanted_at}
+use Rattle.world.specs.Calls.{effective_moment, Appends}
 use Rattle.world.specs.declared.entry.Receipt.{Receipt}
 use Rattle.world.specs.State.{State, facts_of}
-use Rattle.piece_work.specs.Working.{Turn, Turns}
+use Rattle.piece_work.specs.WorkOff.{Round, Rounds}
 use Rattle.rollout.specs.declared.advanced.Advanced.TheVariants as advanced
 use Rattle.rollout.specs.Advance.{AdvancesLower}
 use Rattle.rollout.specs.StatePath.{next_state, edges_of}
 use Rattle.rollout.specs.Due.{MayBegin, ready_moves}
 use Rattle.rollout.specs.Few.{act_of, acts_in, is_moving, change_at as change_number, AreFewLeft}
 use Rattle.rollout.specs.Left.{sum_below, edges_at, unbegun_at, acts_by, acts_at, acts_left, Falls}
-use Rattle.rollout.proofs.Counting.{facts_then, less_by, begun_least, begun_less, its_element, begin_falls, piece_unbegun, piece_falls, read_comes, some_left, none_left}
-use Rattle.rollout.proofs.Falling.{sum_less, sum_same, step_falls, gos_next, not_go_enter, not_go_turn, landed, first_ready, ready_gos}
+use Rattle.rollout.proofs.CountLemmas.{facts_then, less_by, begun_least, begun_less, its_element, begin_falls, piece_unbegun, piece_falls, read_comes, some_left, none_left}
+use Rattle.rollout.proofs.Falls.{sum_less, sum_same, step_falls, gos_next, not_go_enter, not_go_turn, landed, first_ready, ready_gos}
 use Rattle.rollout.proofs.Onward.{edges_fall, edges_end, edges_most, last_edge}
 use Rattle.rollout.proofs.Ready.{ready_says, step_allowed, IsReadyMove}
 
@@ -145,7 +145,7 @@ module _ (facts : Facts) (now : ℕ) (sound : IsSoundVersion facts.newest) where
       by false still =
           let same : element_at then.newest n ≡ element_at facts.newest n = stays_by n (element_at then.newest n) still (change_at facts.newest (ready_moves facts) (step_allowed facts sound) (ordered_of facts.newest sound) n) in
           let least = less_by (is_some (wanted_at facts n)) (is_some (progress_of facts.progress n)) (is_some (progress_of then.progress n)) (begun_stays (ready_moves facts) n still facts.progress) in
-          subst (λ (o : Option ElementDef). acts_by (edges_of o) (cond (is_some (option_and_then wanted o) && not (is_some (progress_of then.progress n))) 1 0) ≤ acts_at facts n) (sym same)
+          subst (λ (o : Option ElementDef). acts_by (edges_of o) (cond (is_some (option_and_then wanted_work o) && not (is_some (progress_of then.progress n))) 1 0) ≤ acts_at facts n) (sym same)
           (acts_least (edges_at facts.newest n) (unbegun_at facts n) (cond (is_some (wanted_at facts n) && not (is_some (progress_of then.progress n))) 1 0) least)
 
   ready_acts : (moves : List Move) → moves ≡ ready_moves facts → moves ≢ [] → sum_below (acts_at then) facts.newest.next < acts_left facts
@@ -170,18 +170,18 @@ piece_acts facts now number piece cursor =
 
 pub advances_lower : AdvancesLower
 advances_lower old new moment pieces limit (advanced.Began number receipt) kept (due, at) =
-    let falls = begin_falls (facts_of old) (counted old moment) number pieces due.0 kept in
-    subst (λ (f : Facts). Falls (facts_of old) f (advanced.Began number receipt)) (sym (facts_then old new (counted old moment) (Begin number pieces) receipt at.1))
-    (falls.0, falls.1, begin_acts (facts_of old) (counted old moment) number pieces due.0 kept)
+    let falls = begin_falls (facts_of old) (effective_moment old moment) number pieces due.0 kept in
+    subst (λ (f : Facts). Falls (facts_of old) f (advanced.Began number receipt)) (sym (facts_then old new (effective_moment old moment) (Begin number pieces) receipt at.1))
+    (falls.0, falls.1, begin_acts (facts_of old) (effective_moment old moment) number pieces due.0 kept)
 advances_lower old new moment pieces limit (advanced.Published version receipt) kept (step, due, at) =
-    subst (λ (f : Facts). Falls (facts_of old) f (advanced.Published version receipt)) (sym (facts_then old new (counted old moment) (Publish step) receipt at.2))
-    (step_falls (facts_of old) kept.sound step due.0.1 due.0.2, step_acts (facts_of old) (counted old moment) kept.sound step due.0.1 due.0.2)
+    subst (λ (f : Facts). Falls (facts_of old) f (advanced.Published version receipt)) (sym (facts_then old new (effective_moment old moment) (Publish step) receipt at.2))
+    (step_falls (facts_of old) kept.sound step due.0.1 due.0.2, step_acts (facts_of old) (effective_moment old moment) kept.sound step due.0.1 due.0.2)
 advances_lower old new moment pieces limit (advanced.Worked number done) kept (due, w) =
-    subst (λ (f : Facts). Falls (facts_of old) f (advanced.Worked number done)) (sym (facts_then old new (counted old moment) (Piece w.read.element.number w.read.piece w.read.stretch.high) done.receipt w.committed.2)) (
+    subst (λ (f : Facts). Falls (facts_of old) f (advanced.Worked number done)) (sym (facts_then old new (effective_moment old moment) (Piece w.read.element.number w.read.piece w.read.key_range.high) done.receipt w.committed.2)) (
       refl,
-      piece_falls (facts_of old) (counted old moment) w.read.element.number w.read.piece w.read.stretch.high,
-      piece_acts (facts_of old) (counted old moment) w.read.element.number w.read.piece w.read.stretch.high,
-      read_comes old (counted old moment) number w.piece limit w.read w.was_read.0 w.was_read.1,
+      piece_falls (facts_of old) (effective_moment old moment) w.read.element.number w.read.piece w.read.key_range.high,
+      piece_acts (facts_of old) (effective_moment old moment) w.read.element.number w.read.piece w.read.key_range.high,
+      read_comes old (effective_moment old moment) number w.piece limit w.read w.was_read.0 w.was_read.1,
     )
 advances_lower old new moment pieces limit (advanced.Waiting until) kept (due, same) = some_left (facts_of old) kept due.0.2
 advances_lower old new moment pieces limit advanced.Finished kept (due, same) = none_left (facts_of old) due.0
@@ -196,11 +196,11 @@ pub acts_then : (old new : State) (now : ℕ) (what : What) (receipt : Receipt) 
 acts_then old new now what receipt a =
     ap (λ (s : State). acts_in s.log) a.state ∙ acts_more old.log receipt.entry ∙ ap (λ (e : Entry). acts_in old.log + act_of e.what) a.entry
 
-turn_acts : (old new : State) (number moment limit : ℕ) → Turn old number moment limit new → acts_in new.log ≡ acts_in old.log
+turn_acts : (old new : State) (number moment limit : ℕ) → Round old number moment limit new → acts_in new.log ≡ acts_in old.log
 turn_acts old new number moment limit t =
-    let more = acts_then old new (counted old moment) (Piece t.read.element.number t.read.piece t.read.stretch.high) t.done.receipt t.committed.2 in
+    let more = acts_then old new (effective_moment old moment) (Piece t.read.element.number t.read.piece t.read.key_range.high) t.done.receipt t.committed.2 in
     omega (arith, more)
 
-pub turns_acts : (n : ℕ) (old new : State) (number moment limit : ℕ) → Turns n old number moment limit new → acts_in new.log ≡ acts_in old.log
+pub turns_acts : (n : ℕ) (old new : State) (number moment limit : ℕ) → Rounds n old number moment limit new → acts_in new.log ≡ acts_in old.log
 turns_acts zero old new number moment limit same = ap (λ (s : State). acts_in s.log) same
 turns_acts (suc n) old new number moment limit (middle, turns, last) = turn_acts middle new number moment limit last ∙ turns_acts n old middle number moment limit turns

@@ -1,12 +1,12 @@
 pub mod Onward
 pub mod Ready
-pub mod Searching
+pub mod Searches
 pub mod Accepted
-pub mod Falling
-pub mod Counting
+pub mod Falls
+pub mod CountLemmas
 pub mod Few
 pub mod Way
 pub mod Ended
 pub mod Carried
-pub mod Rising
-pub mod Taking
+pub mod Rises
+pub mod Taken

@@ -8,7 +8,7 @@ use Rattle.schema_version.specs.declared.element.Way.{Way}
 use Rattle.schema_version.specs.declared.element.Way.TheVariants.{Adding, Dropping}
 use Rattle.schema_version.specs.declared.element.ElementDef.{ElementDef}
 use Rattle.schema_version.specs.declared.element.Work.{Work}
-use Rattle.schema_version.specs.Edges.{is_filled, edge_by, edge, state_by, needed_by, needed, wanted}
+use Rattle.schema_version.specs.Edges.{is_filled, edge_by, edge, state_by, needed_by, needed_work, wanted_work}
 use Rattle.schema_version.specs.Version.{Version}
 use Rattle.schema_version.specs.Sound.{IsSoundElement}
 use Rattle.schema_version.specs.Moves.{in_state}
@@ -59,7 +59,7 @@ wants_by false Adding DeleteOnly Public e = refl
 wants_by false Dropping DeleteOnly Absent e = refl
 wants_by filled way from to e = absurd cc
 
-pub wants_next : (e : ElementDef) (to : ElementState) → next_state e ≡ Some to → wanted e ≡ needed e.kind to
+pub wants_next : (e : ElementDef) (to : ElementState) → next_state e ≡ Some to → wanted_work e ≡ needed_work e.kind to
 wants_next e to next = wants_by (is_filled e.kind) e.way e.state to next
 
 -- what wants work is under way
@@ -70,7 +70,7 @@ next_wants false Adding DeleteOnly work e = (Public, refl)
 next_wants false Dropping DeleteOnly work e = (Absent, refl)
 next_wants filled way from work e = none_some e
 
-pub under_way : (e : ElementDef) (work : Work) → wanted e ≡ Some work → (to : ElementState) × (next_state e ≡ Some to)
+pub under_way : (e : ElementDef) (work : Work) → wanted_work e ≡ Some work → (to : ElementState) × (next_state e ≡ Some to)
 under_way e work wants = next_wants (is_filled e.kind) e.way e.state work wants
 
 -- what wants work has one edge left
@@ -81,7 +81,7 @@ wants_last false Adding DeleteOnly work e = refl
 wants_last false Dropping DeleteOnly work e = refl
 wants_last filled way from work e = none_some e
 
-pub last_edge : (e : ElementDef) (work : Work) → wanted e ≡ Some work → edges_of (Some e) ≡ 1
+pub last_edge : (e : ElementDef) (work : Work) → wanted_work e ≡ Some work → edges_of (Some e) ≡ 1
 last_edge e work wants = wants_last (is_filled e.kind) e.way e.state work wants
 
 -- ---- one edge less

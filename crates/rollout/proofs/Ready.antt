@@ -19,21 +19,21 @@ use Rattle.schema_version.specs.declared.step.Move.{Move}
 use Rattle.schema_version.specs.declared.step.Move.TheVariants.{Go}
 use Rattle.schema_version.specs.declared.step.StepFault.{StepFault}
 use Rattle.schema_version.specs.declared.step.StepFault.TheVariants as fault
-use Rattle.schema_version.specs.Edges.{edge, needed, wanted}
-use Rattle.schema_version.specs.Version.{Version, element_at, live, listed, state_of, state_or_absent, is_public, IsPublicColumn}
+use Rattle.schema_version.specs.Edges.{edge, needed_work, wanted_work}
+use Rattle.schema_version.specs.Version.{Version, element_at, live, indexed_columns, state_of, state_or_absent, is_public, IsPublicColumn}
 use Rattle.schema_version.specs.Sound.{IsSoundVersion}
 use Rattle.schema_version.specs.Moves.{is_move_of, moves_element, is_unready, IsFirstSuch, DependsOn, HasNoEdge, GoFault, GoFaultAt, MoveFault, IsAllowed}
 use Rattle.schema_version.proofs.Changes.{AreMovedOnce, its_go}
 use Rattle.schema_version.proofs.Entries.{tells, found_above, one, other}
 use Rattle.schema_version.proofs.Lists.{here, later, here_or_later, some_same, not_both, any_says, any_from}
 use Rattle.schema_version.proofs.Live.{live_from, from_values, element_at-lookup}
-use Rattle.schema_version.proofs.Stepping.{not_true}
+use Rattle.schema_version.proofs.StepEffects.{not_true}
 use Rattle.reorganise.specs.declared.work.Progress.{Progress}
 use Rattle.replay.specs.Kept.{IsKept, IsBegun}
 use Rattle.replay.specs.Laws.{IsDone, IsFinished, AreFinished}
 use Rattle.replay.specs.Replay.{Facts, progress_of}
 use Rattle.replay.proofs.Begun.{found}
-use Rattle.world.specs.Piecework.{standing}
+use Rattle.world.specs.Piece.{standing}
 use Rattle.rollout.specs.StatePath.{next_state}
 use Rattle.rollout.specs.Due.{ended_in, is_ended_at, is_ready_by, move_by, move_of, ready_moves}
 use Rattle.rollout.proofs.Onward.{edge_next, not_public, wants_next}
@@ -49,7 +49,7 @@ pub record IsReadyMove (facts : Facts) (element : ElementDef) (move : Move) : Ty
   pub to : ElementState
   pub next : next_state element ≡ Some to
   pub is : move ≡ Go element.number to
-  pub ready : is_ready_by (needed element.kind to) (is_ended_at facts element.number) ≡ true
+  pub ready : is_ready_by (needed_work element.kind to) (is_ended_at facts element.number) ≡ true
 
 from_filter : {X Y : Type 0} (f : X → Option Y) (xs : List X) (y : Y) → Contains (filter_map f xs) y → (x : X) × Contains xs x × (f x ≡ Some y)
 from_filter f [] y (k, below, is) = absurd (omega (arith, below))
@@ -71,13 +71,13 @@ own_at v e sound there =
 move_says : (facts : Facts) (e : ElementDef) (m : Move) → element_at facts.newest e.number ≡ Some e → move_of facts e ≡ Some m → IsReadyMove facts e m
 move_says facts e m there is = by (next_state e) refl is
   where
-    ready_by : (to : ElementState) → next_state e ≡ Some to → (b : Bool) → is_ready_by (needed e.kind to) (is_ended_at facts e.number) ≡ b → (cond b (Some (Go e.number to)) None) ≡ Some m → IsReadyMove facts e m
+    ready_by : (to : ElementState) → next_state e ≡ Some to → (b : Bool) → is_ready_by (needed_work e.kind to) (is_ended_at facts e.number) ≡ b → (cond b (Some (Go e.number to)) None) ≡ Some m → IsReadyMove facts e m
     ready_by to next true ready is = record { there = there; to = to; next = next; is = sym (some_same is); ready = ready }
     ready_by to next false ready is = none_some is
 
     by : (o : Option ElementState) → next_state e ≡ o → move_by facts e o ≡ Some m → IsReadyMove facts e m
     by None next is = none_some is
-    by (Some to) next is = ready_by to next (is_ready_by (needed e.kind to) (is_ended_at facts e.number)) refl is
+    by (Some to) next is = ready_by to next (is_ready_by (needed_work e.kind to) (is_ended_at facts e.number)) refl is
 
 pub ready_says : (facts : Facts) (m : Move) → IsSoundVersion facts.newest → Contains (ready_moves facts) m → (e : ElementDef) × IsReadyMove facts e m
 ready_says facts m sound there =
@@ -137,7 +137,7 @@ go_number facts e m is n its = by (next_state e) is
 
     by : (o : Option ElementState) → move_by facts e o ≡ Some m → n ≡ e.number
     by None is = none_some is
-    by (Some to) is = ready_by to (is_ready_by (needed e.kind to) (is_ended_at facts e.number)) is
+    by (Some to) is = ready_by to (is_ready_by (needed_work e.kind to) (is_ended_at facts e.number)) is
 
 once_in : (facts : Facts) (es : List ElementDef) → AreApart es → AreMovedOnce (filter_map (move_of facts) es)
 once_in facts [] apart = tt
@@ -173,12 +173,12 @@ not_before step earlier later m n once split its = by earlier (subst AreMovedOnc
 
 module _ (facts : Facts) (sound : IsSoundVersion facts.newest) where
   -- nothing that a live index lists moves
-  column_stays : (n column : ℕ) (index : ElementDef) → element_at facts.newest n ≡ Some index → Contains (listed index.kind) column → (e : ElementDef) (to : ElementState) → element_at facts.newest column ≡ Some e → next_state e ≡ Some to → ⊥
+  column_stays : (n column : ℕ) (index : ElementDef) → element_at facts.newest n ≡ Some index → Contains (indexed_columns index.kind) column → (e : ElementDef) (to : ElementState) → element_at facts.newest column ≡ Some e → next_state e ≡ Some to → ⊥
   column_stays n column index at lists e to there next =
       let c : IsPublicColumn facts.newest index.table column = (sound.elements n index at).columns column lists in
       not_public e to next (ap (λ (x : ElementDef). x.state) (some_same (sym there ∙ c.2)) ∙ c.5)
 
-  ready_column : (n column : ℕ) (index : ElementDef) → element_at facts.newest n ≡ Some index → Contains (listed index.kind) column → is_unready facts.newest (ready_moves facts) column ≡ false
+  ready_column : (n column : ℕ) (index : ElementDef) → element_at facts.newest n ≡ Some index → Contains (indexed_columns index.kind) column → is_unready facts.newest (ready_moves facts) column ≡ false
   ready_column n column index at lists =
       let c : IsPublicColumn facts.newest index.table column = (sound.elements n index at).columns column lists in
       let public : is_public (state_of facts.newest column) ≡ true = ap (λ (o : Option ElementDef). is_public (state_or_absent o)) c.2 ∙ ap is_public c.5 in
@@ -196,7 +196,7 @@ module _ (facts : Facts) (sound : IsSoundVersion facts.newest) where
 
   depends : (e : ElementDef) (to : ElementState) (on : ℕ) → element_at facts.newest e.number ≡ Some e → next_state e ≡ Some to → (k : Kind) → e.kind ≡ k → DependsOn facts.newest (ready_moves facts) e.number k on → ⊥
   depends e to on there next (Index columns) is h =
-      first_unready (is_unready facts.newest (ready_moves facts)) columns on (λ c lists. ready_column e.number c e there (subst (λ (k : Kind). Contains (listed k) c) (sym is) lists)) h
+      first_unready (is_unready facts.newest (ready_moves facts)) columns on (λ c lists. ready_column e.number c e there (subst (λ (k : Kind). Contains (indexed_columns k) c) (sym is) lists)) h
   depends e to on there next (Optional type) is h = column_stays on e.number h.0.0 h.0.1 h.0.2 e to there next
   depends e to on there next (Required type fallback) is h = column_stays on e.number h.0.0 h.0.1 h.0.2 e to there next
 
@@ -225,7 +225,7 @@ module _ (facts : Facts) (sound : IsSoundVersion facts.newest) where
 
 -- ---- what it needs is finished
 
-done_by : (facts : Facts) (e : ElementDef) (to : ElementState) (work : Work) → IsKept facts → element_at facts.newest e.number ≡ Some e → next_state e ≡ Some to → needed e.kind to ≡ Some work → is_ended_at facts e.number ≡ true → IsDone facts e.number work
+done_by : (facts : Facts) (e : ElementDef) (to : ElementState) (work : Work) → IsKept facts → element_at facts.newest e.number ≡ Some e → next_state e ≡ Some to → needed_work e.kind to ≡ Some work → is_ended_at facts e.number ≡ true → IsDone facts e.number work
 done_by facts e to work kept there next needs ended = by (progress_of facts.progress e.number) refl ended
   where
     by : (o : Option Progress) → progress_of facts.progress e.number ≡ o → ended_in (option_map standing o) ≡ true → IsDone facts e.number work
@@ -236,11 +236,11 @@ done_by facts e to work kept there next needs ended = by (progress_of facts.prog
         record {
           progress = p;
           here = is;
-          work_is = some_same (sym r.0.wanted_so ∙ ap wanted same ∙ wants_next e to next ∙ needs);
+          work_is = some_same (sym r.0.wanted_so ∙ ap wanted_work same ∙ wants_next e to next ∙ needs);
           ended = ended;
         }
 
-finished_by : (facts : Facts) (e : ElementDef) (to : ElementState) → IsKept facts → element_at facts.newest e.number ≡ Some e → next_state e ≡ Some to → (o : Option Work) → needed e.kind to ≡ o → is_ready_by o (is_ended_at facts e.number) ≡ true → IsFinished facts e.number o
+finished_by : (facts : Facts) (e : ElementDef) (to : ElementState) → IsKept facts → element_at facts.newest e.number ≡ Some e → next_state e ≡ Some to → (o : Option Work) → needed_work e.kind to ≡ o → is_ready_by o (is_ended_at facts e.number) ≡ true → IsFinished facts e.number o
 finished_by facts e to kept there next None needs ready = tt
 finished_by facts e to kept there next (Some work) needs ready = done_by facts e to work kept there next needs ready
 
@@ -256,7 +256,7 @@ step_finished facts kept number to element there at =
     let own : number ≡ r.0.number = go_of number r.0.number to r.1.to r.1.is in
     let where_to : to ≡ r.1.to = go_to number r.0.number to r.1.to r.1.is in
     let same : r.0 ≡ element = some_same (sym r.1.there ∙ ap (element_at facts.newest) (sym own) ∙ at) in
-    let f : IsFinished facts r.0.number (needed r.0.kind r.1.to) = finished_by facts r.0 r.1.to kept r.1.there r.1.next (needed r.0.kind r.1.to) refl r.1.ready in
-    let g : IsFinished facts number (needed r.0.kind r.1.to) = subst (λ (n : ℕ). IsFinished facts n (needed r.0.kind r.1.to)) (sym own) f in
-    let h : IsFinished facts number (needed element.kind r.1.to) = subst (λ (e : ElementDef). IsFinished facts number (needed e.kind r.1.to)) same g in
-    subst (λ (s : ElementState). IsFinished facts number (needed element.kind s)) (sym where_to) h
+    let f : IsFinished facts r.0.number (needed_work r.0.kind r.1.to) = finished_by facts r.0 r.1.to kept r.1.there r.1.next (needed_work r.0.kind r.1.to) refl r.1.ready in
+    let g : IsFinished facts number (needed_work r.0.kind r.1.to) = subst (λ (n : ℕ). IsFinished facts n (needed_work r.0.kind r.1.to)) (sym own) f in
+    let h : IsFinished facts number (needed_work element.kind r.1.to) = subst (λ (e : ElementDef). IsFinished facts number (needed_work e.kind r.1.to)) same g in
+    subst (λ (s : ElementState). IsFinished facts number (needed_work element.kind s)) (sym where_to) h

@@ -1,26 +1,27 @@
+-- Cited by the contracts of advance, due_is_accepted, advances_lower.
 -- What `advance` answers, and the state that it leaves.
 use Rattle.std.specs.Prelude.{◌≡◌, ℕ, ◌<◌, ◌≤◌, List, ◌⊎◌, Result, Ok, Err}
 use Rattle.lease.specs.Timeline.{max_moment, newest as newest_number}
 use Rattle.schema_version.specs.declared.step.Move.{Move}
-use Rattle.reorganise.specs.declared.reading.Reading.{Reading}
+use Rattle.reorganise.specs.declared.read.Reading.{Reading}
 use Rattle.reorganise.specs.declared.fault.ViewFault.TheVariants.{Memory as ViewMemory}
 use Rattle.replay.specs.Kept.{IsKept}
 use Rattle.replay.specs.Laws.{IsPieceCount}
 use Rattle.world.specs.declared.entry.PieceDone.{PieceDone}
-use Rattle.world.specs.declared.beginning.BeginFault.{BeginFault}
-use Rattle.world.specs.declared.beginning.BeginFault.TheVariants as begin_fault
-use Rattle.world.specs.declared.publishing.PublishFault.{PublishFault}
-use Rattle.world.specs.declared.publishing.PublishFault.TheVariants as publish_fault
-use Rattle.world.specs.declared.pieces.PieceFault.{PieceFault}
-use Rattle.world.specs.declared.pieces.PieceFault.TheVariants as piece_fault
-use Rattle.world.specs.declared.pieces.ReadFault.{ReadFault}
-use Rattle.world.specs.declared.pieces.ReadFault.TheVariants.{View}
-use Rattle.world.specs.Beginning.{BeginAt, BeginStep}
-use Rattle.world.specs.Calls.{counted}
-use Rattle.world.specs.Piecework.{ReadStep, PieceAt, PieceStep}
-use Rattle.world.specs.Publishing.{PublishAt, PublishStep, max_versions}
+use Rattle.world.specs.declared.begin_reorg.BeginFault.{BeginFault}
+use Rattle.world.specs.declared.begin_reorg.BeginFault.TheVariants as begin_fault
+use Rattle.world.specs.declared.publish.PublishFault.{PublishFault}
+use Rattle.world.specs.declared.publish.PublishFault.TheVariants as publish_fault
+use Rattle.world.specs.declared.piece.PieceFault.{PieceFault}
+use Rattle.world.specs.declared.piece.PieceFault.TheVariants as piece_fault
+use Rattle.world.specs.declared.piece.ReadFault.{ReadFault}
+use Rattle.world.specs.declared.piece.ReadFault.TheVariants.{View}
+use Rattle.world.specs.BeginReorg.{BeginAt, BeginStep}
+use Rattle.world.specs.Calls.{effective_moment}
+use Rattle.world.specs.Piece.{ReadStep, PieceAt, PieceStep}
+use Rattle.world.specs.Publish.{PublishAt, PublishStep, max_versions}
 use Rattle.world.specs.State.{State, facts_of}
-use Rattle.piece_work.specs.Working.{IsNext, WasRead}
+use Rattle.piece_work.specs.WorkOff.{IsNext, WasRead}
 use Rattle.rollout.specs.declared.act.Act.TheVariants as act
 use Rattle.rollout.specs.declared.advanced.Advanced.{Advanced}
 use Rattle.rollout.specs.declared.advanced.Advanced.TheVariants as advanced
@@ -50,26 +51,26 @@ pub record WorksPiece (old : State) (number moment limit : ℕ) (done : PieceDon
 -- the act that is due is done by the world's own call
 abbrev pub Advances : State → ℕ → ℕ → ℕ → Advanced → State → Type 0
 Advances old moment pieces limit (advanced.Began number receipt) new =
-    IsDue (facts_of old) (counted old moment) (act.Begin number) × BeginStep old moment number pieces (Ok receipt) new
+    IsDue (facts_of old) (effective_moment old moment) (act.Begin number) × BeginStep old moment number pieces (Ok receipt) new
 Advances old moment pieces limit (advanced.Published version receipt) new =
-    (step : List Move) × IsDue (facts_of old) (counted old moment) (act.Publish step) × PublishStep old moment step (Ok (version, receipt)) new
+    (step : List Move) × IsDue (facts_of old) (effective_moment old moment) (act.Publish step) × PublishStep old moment step (Ok (version, receipt)) new
 Advances old moment pieces limit (advanced.Worked number done) new =
-    IsDue (facts_of old) (counted old moment) (act.Work number) × WorksPiece old number moment limit done new
-Advances old moment pieces limit (advanced.Waiting until) new = IsDue (facts_of old) (counted old moment) (act.Wait until) × (new ≡ old)
-Advances old moment pieces limit advanced.Finished new = IsDue (facts_of old) (counted old moment) act.Nothing × (new ≡ old)
+    IsDue (facts_of old) (effective_moment old moment) (act.Work number) × WorksPiece old number moment limit done new
+Advances old moment pieces limit (advanced.Waiting until) new = IsDue (facts_of old) (effective_moment old moment) (act.Wait until) × (new ≡ old)
+Advances old moment pieces limit advanced.Finished new = IsDue (facts_of old) (effective_moment old moment) act.Nothing × (new ≡ old)
 
 -- a publication is due
 abbrev pub IsStepDue : State → ℕ → Type 0
-IsStepDue old moment = (step : List Move) × IsDue (facts_of old) (counted old moment) (act.Publish step)
+IsStepDue old moment = (step : List Move) × IsDue (facts_of old) (effective_moment old moment) (act.Publish step)
 
 -- refused for the first reason that holds, and then nothing has changed
 abbrev pub AdvanceStep : State → ℕ → ℕ → ℕ → Result Advanced AdvanceFault → State → Type 0
-AdvanceStep old moment pieces limit (Ok done) new = AreCounts pieces limit × (counted old moment ≤ max_moment) × Advances old moment pieces limit done new
+AdvanceStep old moment pieces limit (Ok done) new = AreCounts pieces limit × (effective_moment old moment ≤ max_moment) × Advances old moment pieces limit done new
 AdvanceStep old moment pieces limit (Err advance_fault.BadCount) new = (¬ (AreCounts pieces limit)) × (new ≡ old)
-AdvanceStep old moment pieces limit (Err advance_fault.MomentTooLarge) new = AreCounts pieces limit × (max_moment < counted old moment) × (new ≡ old)
+AdvanceStep old moment pieces limit (Err advance_fault.MomentTooLarge) new = AreCounts pieces limit × (max_moment < effective_moment old moment) × (new ≡ old)
 AdvanceStep old moment pieces limit (Err advance_fault.VersionsSpent) new =
-    AreCounts pieces limit × (counted old moment ≤ max_moment) × IsStepDue old moment × (max_versions ≤ newest_number (facts_of old).line) × (new ≡ old)
-AdvanceStep old moment pieces limit (Err advance_fault.Memory) new = AreCounts pieces limit × (counted old moment ≤ max_moment) × (new ≡ old)
+    AreCounts pieces limit × (effective_moment old moment ≤ max_moment) × IsStepDue old moment × (max_versions ≤ newest_number (facts_of old).line) × (new ≡ old)
+AdvanceStep old moment pieces limit (Err advance_fault.Memory) new = AreCounts pieces limit × (effective_moment old moment ≤ max_moment) × (new ≡ old)
 
 -- ---- no act that is due is refused, except when out of memory or of versions
 

@@ -1,9 +1,10 @@
+-- Cited by the contracts of complete, calls_go_on.
 -- What `complete` answers, and the state that it leaves.
 use Rattle.std.specs.Prelude.{◌≡◌, ℕ, ◌+◌, ◌*◌, ◌<◌, ◌≤◌, ◌⊎◌, Result, Ok, Err}
 use Rattle.lease.specs.Timeline.{earliest, max_moment, newest as newest_number}
 use Rattle.replay.specs.Replay.{Facts}
-use Rattle.world.specs.Calls.{counted}
-use Rattle.world.specs.Publishing.{max_versions}
+use Rattle.world.specs.Calls.{effective_moment}
+use Rattle.world.specs.Publish.{max_versions}
 use Rattle.world.specs.State.{State, facts_of}
 use Rattle.rollout.specs.declared.advanced.AdvanceFault.{AdvanceFault}
 use Rattle.rollout.specs.declared.advanced.AdvanceFault.TheVariants as advance_fault
@@ -18,11 +19,11 @@ WaitsTooLong new = (max_moment < earliest (facts_of new).line) × ((number : ℕ
 
 -- the moment was above 2^62 from the start, and nothing has changed; or what is left has to wait for such a moment
 abbrev pub IsTooLate : State → ℕ → State → Type 0
-IsTooLate old moment new = ((max_moment < counted old moment) × (new ≡ old)) ⊎ WaitsTooLong new
+IsTooLate old moment new = ((max_moment < effective_moment old moment) × (new ≡ old)) ⊎ WaitsTooLong new
 
 abbrev pub CompleteAnswer : State → ℕ → ℕ → ℕ → Result ℕ AdvanceFault → State → Type 0
 CompleteAnswer old moment pieces limit (Ok now) new =
-    AreCounts pieces limit × AreCompleted (facts_of old) (facts_of new) × (counted old moment ≤ now) × ((facts_of new).moment ≤ now) × (now ≤ max_moment)
+    AreCounts pieces limit × AreCompleted (facts_of old) (facts_of new) × (effective_moment old moment ≤ now) × ((facts_of new).moment ≤ now) × (now ≤ max_moment)
 CompleteAnswer old moment pieces limit (Err advance_fault.BadCount) new = (¬ (AreCounts pieces limit)) × (new ≡ old)
 CompleteAnswer old moment pieces limit (Err advance_fault.MomentTooLarge) new = AreCounts pieces limit × IsTooLate old moment new
 CompleteAnswer old moment pieces limit (Err advance_fault.VersionsSpent) new = AreCounts pieces limit × ((now : ℕ) × IsStepDue new now) × (max_versions ≤ newest_number (facts_of new).line)

@@ -1,20 +1,21 @@
+-- Cited by the contracts of due.
 -- What is due in a state of the world: read off its facts alone, with no plan kept.
 use Rattle.std.specs.Prelude.{◌≡◌, ◌≢◌, ℕ, ◌<◌, ◌≤◌, List, [], Bool, true, false, Option, Some, None, if◌then◌else◌, ◌⊎◌}
 use Rattle.std.specs.List.{filter_map}
-use Rattle.listed.specs.Refusal.{IsFirst}
+use Rattle.collections.specs.Refusal.{IsFirst}
 use Rattle.lease.specs.Timeline.{earliest}
 use Rattle.schema_version.specs.declared.element.ElementState.{ElementState}
 use Rattle.schema_version.specs.declared.element.ElementDef.{ElementDef}
 use Rattle.schema_version.specs.declared.element.Work.{Work}
 use Rattle.schema_version.specs.declared.step.Move.{Move}
 use Rattle.schema_version.specs.declared.step.Move.TheVariants.{Go}
-use Rattle.schema_version.specs.Edges.{needed}
+use Rattle.schema_version.specs.Edges.{needed_work}
 use Rattle.schema_version.specs.Version.{element_at, live}
 use Rattle.reorganise.specs.declared.work.Progress.{Progress}
 use Rattle.reorganise.specs.Pieces.{are_ended}
 use Rattle.replay.specs.Replay.{Facts, progress_of}
-use Rattle.world.specs.Beginning.{wanted_at, IsSettled}
-use Rattle.world.specs.Piecework.{standing_at}
+use Rattle.world.specs.BeginReorg.{wanted_at, IsSettled}
+use Rattle.world.specs.Piece.{standing_at}
 use Rattle.rollout.specs.declared.act.Act.{Act}
 use Rattle.rollout.specs.declared.act.Act.TheVariants as act
 use Rattle.rollout.specs.StatePath.{next_state}
@@ -59,7 +60,7 @@ is_ready_by (Some work) ended = ended
 
 abbrev pub move_by : Facts → ElementDef → Option ElementState → Option Move
 move_by facts element None = None
-move_by facts element (Some to) = if is_ready_by (needed element.kind to) (is_ended_at facts element.number) then Some (Go element.number to) else None
+move_by facts element (Some to) = if is_ready_by (needed_work element.kind to) (is_ended_at facts element.number) then Some (Go element.number to) else None
 
 -- the move of an element along its way, if it needs no work or the work is finished
 abbrev pub move_of : Facts → ElementDef → Option Move

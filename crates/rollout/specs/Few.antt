@@ -1,3 +1,4 @@
+-- Cited by the contracts of few_acts_are_left.
 -- How few begins and publications complete all changes.
 use Rattle.std.specs.Prelude.{ℕ, ◌+◌, ◌*◌, ◌≤◌, List, [], ◌∷◌, Bool, false, Option, Some, None, is_some, if◌then◌else◌}
 use Rattle.schema_version.specs.declared.element.ElementDef.{ElementDef}

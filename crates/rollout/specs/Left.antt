@@ -1,3 +1,4 @@
+-- Cited by the contracts of pieces_take_items.
 -- What is left of all changes that are under way: the measure that each advance lowers.
 use Rattle.std.specs.Prelude.{◌≡◌, ◌≢◌, ◌⊎◌, ℕ, length, zero, suc, ◌+◌, ◌*◌, ◌<◌, ◌≤◌, Bool, false, ◌&&◌, not, nat_lt, true, slice_get, Option, Some, None, is_some, if◌then◌else◌}
 use Rattle.lease.specs.Timeline.{earliest}
@@ -11,14 +12,14 @@ use Rattle.std.specs.Ordering.{is_le}
 use Rattle.std.specs.declared.cmp.Ordering.TheVariants.{Less}
 use Rattle.keycode.specs.Order.{bytes_cmp}
 use Rattle.row_map.specs.Rows.{Bytes, Pairs}
-use Rattle.row_map.specs.Walk.{stretch}
+use Rattle.row_map.specs.Walk.{key_range}
 use Rattle.reorganise.specs.declared.work.Span.{Span}
 use Rattle.reorganise.specs.declared.work.Progress.{Progress}
-use Rattle.reorganise.specs.Regions.{region_of, item_keys}
+use Rattle.reorganise.specs.ScanRanges.{scan_range_of, item_keys}
 use Rattle.reorganise.specs.Pieces.{next_cursor}
 use Rattle.replay.specs.Replay.{Facts, progress_of, come_to}
-use Rattle.world.specs.Beginning.{wanted_at}
-use Rattle.world.specs.Piecework.{standing_at}
+use Rattle.world.specs.BeginReorg.{wanted_at}
+use Rattle.world.specs.Piece.{standing_at}
 use Rattle.rollout.specs.declared.advanced.Advanced.{Advanced}
 use Rattle.rollout.specs.declared.advanced.Advanced.TheVariants as advanced
 use Rattle.rollout.specs.StatePath.{edges_of}
@@ -119,8 +120,8 @@ end_of (Some element) = end_by element.way element
 abbrev pub AreCompleted : Facts → Facts → Type 0
 AreCompleted old new = (number : ℕ) → element_at new.newest number ≡ end_of (element_at old.newest number)
 
--- an element that is where it was, or further on its way: nothing of it has changed but its state, and fewer edges are left; or it was
--- being dropped and is gone. Where no element was, none is
+-- an element that is where it was, or further on its way: nothing of it has changed but its state,
+-- and fewer edges are left; or it was being dropped and is gone. If no element was, none is
 abbrev pub IsFurther : Option ElementDef → Option ElementDef → Type 0
 IsFurther None new = new ≡ None
 IsFurther (Some element) None = element.way ≡ Dropping
@@ -136,11 +137,11 @@ pub record IsOnTheWay (old new : Facts) : Type 0 where
 
 -- the items of a reorganisation among pairs, from a key to below another
 abbrev pub items_between : ElementDef → Work → Pairs → Bytes → Bytes → ℕ
-items_between element work pairs low high = length (item_keys (region_of element work) (stretch pairs low high))
+items_between element work pairs low high = length (item_keys (scan_range_of element work) (key_range pairs low high))
 
 -- a read of an open piece takes exactly so many of the items that are left, or reaches its end
 abbrev pub PiecesTakeItems : Type 0
 PiecesTakeItems =
     (element : ElementDef) (work : Work) (pairs : Pairs) (cursor high : Bytes) (limit : ℕ) → 1 ≤ limit → bytes_cmp cursor high ≡ Less
-    → (next_cursor (region_of element work) pairs cursor high limit ≡ high)
-    ⊎ (items_between element work pairs (next_cursor (region_of element work) pairs cursor high limit) high + limit ≡ items_between element work pairs cursor high)
+    → (next_cursor (scan_range_of element work) pairs cursor high limit ≡ high)
+    ⊎ (items_between element work pairs (next_cursor (scan_range_of element work) pairs cursor high limit) high + limit ≡ items_between element work pairs cursor high)

@@ -1,3 +1,4 @@
+-- Cited by the contracts of next_state.
 -- The way of an element: the state that comes next, and how many edges are left.
 use Rattle.std.specs.Prelude.{ℕ, Bool, true, false, Option, Some, None}
 use Rattle.schema_version.specs.declared.element.ElementState.{ElementState}

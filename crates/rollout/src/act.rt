@@ -1,7 +1,7 @@
 //! The act that is due.
 ghost use Rattle.std.specs.Prelude.{IfOk};
 ghost use Rattle.world.specs.State.{facts_of};
-ghost use Rattle.world.specs.Calls.{counted};
+ghost use Rattle.world.specs.Calls.{effective_moment};
 ghost use Rattle.rollout.specs.Due.{IsDue};
 
 use crate::candidates::{find_begin, find_open, is_under_way, ready_step};
@@ -31,9 +31,9 @@ pub enum Act {
 ///
 /// Refused only when out of memory.
 pub fn due(alloc: Global, world: &World, moment: u64) -> Result<Act, AllocError>
-    ensures { IfOk result (λ act. IsDue (facts_of world.now) (counted world.now moment) act) }
+    ensures { IfOk result (λ act. IsDue (facts_of world.now) (effective_moment world.now moment) act) }
 {
-    world.agrees();
+    world.lemma_agrees();
     let now = moment.max(world.moment());
     if let Some(element) = find_begin(world, now) {
         return Ok(Act::Begin { element });

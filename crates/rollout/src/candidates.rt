@@ -7,8 +7,8 @@ ghost use Rattle.rollout.specs.StatePath.{next_state as next_state_of};
 ghost use Rattle.rollout.specs.Due.{MayBegin, IsOpen, IsUnderWay, is_ended_at, is_ready_by, move_of, ready_moves as ready_moves_of, AreMovesNow};
 
 use crate::state_path::next_state;
-use listed::Listed;
-use schema_version::{ElementDef, ElementState, Move, Step, Work, needed};
+use collections::List;
+use schema_version::{ElementDef, ElementState, Move, Step, Work, needed_work};
 use std::alloc::{AllocError, Global};
 use world::World;
 
@@ -37,7 +37,10 @@ fn ready_move(world: &World, element: &ElementDef) -> Option<Move>
     ensures { result ≡ move_of (facts_of world.now) element.now }
 {
     let to = next_state(element)?;
-    if is_ready(needed(&element.kind, to), is_ended(world, element.number)) {
+    if is_ready(
+        needed_work(&element.kind, to),
+        is_ended(world, element.number),
+    ) {
         Some(Move::Go {
             element: element.number,
             to,
@@ -65,9 +68,9 @@ pub(crate) fn ready_step(alloc: Global, world: &World, now: u64) -> Result<Step,
     ensures { IfOk result (λ step. AreMovesNow (facts_of world.now) now step) }
 {
     if now < world.timeline().earliest() {
-        return Ok(Listed::new(Vec::new(alloc)));
+        return Ok(List::new(Vec::new(alloc)));
     }
-    Ok(Listed::new(ready_moves(alloc, world)?))
+    Ok(List::new(ready_moves(alloc, world)?))
 }
 
 /// Whether the fill or the clear of an element may begin.
@@ -77,7 +80,9 @@ fn may_begin(world: &World, now: u64, number: u32) -> bool
     let Some(element) = world.newest().get().element(number) else {
         return false;
     };
-    element.wanted().is_some() && world.progress(number).is_none() && world.is_settled(now, number)
+    element.wanted_work().is_some()
+        && world.progress(number).is_none()
+        && world.is_settled(now, number)
 }
 
 /// The first element whose fill or clear may begin.
@@ -85,7 +90,7 @@ pub(crate) fn find_begin(world: &World, now: u64) -> Option<u32>
     ensures { MatchOption result ((number : ℕ) → ¬ (MayBegin (facts_of world.now) now number)) (MayBegin (facts_of world.now) now) }
 {
     let schema = world.newest().get();
-    schema.known();
+    schema.lemma_known();
     for element in schema.elements() {
         if may_begin(world, now, element.number) {
             return Some(element.number);
@@ -112,7 +117,7 @@ pub(crate) fn find_open(world: &World) -> Option<u32>
     ensures { MatchOption result ((number : ℕ) → ¬ (IsOpen (facts_of world.now) number)) (IsOpen (facts_of world.now)) }
 {
     let schema = world.newest().get();
-    schema.known();
+    schema.lemma_known();
     for element in schema.elements() {
         if is_open(world, element.number) {
             return Some(element.number);
@@ -133,6 +138,6 @@ pub(crate) fn is_under_way(world: &World) -> bool
     ensures { Decides result ((number : ℕ) × IsUnderWay (facts_of world.now) number) }
 {
     let schema = world.newest().get();
-    schema.known();
+    schema.lemma_known();
     is_any_moving(schema.elements())
 }

@@ -36,7 +36,7 @@ pub fn complete(
     }
     let mut now = moment.max(world.moment());
     'acts: loop {
-        world.agrees();
+        world.lemma_agrees();
         if now > MAX_MOMENT {
             return Err(AdvanceFault::MomentTooLarge);
         }

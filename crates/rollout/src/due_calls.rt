@@ -2,9 +2,9 @@
 ghost use Rattle.std.specs.Prelude.{◌≡◌, ◌≤◌, IfOk, IfErr, OnErr, Ok};
 ghost use Rattle.lease.specs.Timeline.{max_moment, newest as newest_number};
 ghost use Rattle.replay.specs.Laws.{IsPieceCount};
-ghost use Rattle.world.specs.Beginning.{BeginStep};
-ghost use Rattle.world.specs.Calls.{counted};
-ghost use Rattle.world.specs.Publishing.{PublishStep, max_versions};
+ghost use Rattle.world.specs.BeginReorg.{BeginStep};
+ghost use Rattle.world.specs.Calls.{effective_moment};
+ghost use Rattle.world.specs.Publish.{PublishStep, max_versions};
 ghost use Rattle.world.specs.State.{facts_of};
 ghost use Rattle.rollout.specs.declared.act.Act.TheVariants as act;
 ghost use Rattle.rollout.specs.declared.advanced.AdvanceFault.TheVariants as advance_fault;
@@ -25,8 +25,8 @@ pub(crate) fn begin(
     pieces: u32,
 ) -> Result<Receipt, AllocError>
     requires pieces { IsPieceCount pieces }
-    requires moment { counted world.old moment ≤ max_moment }
-    requires due { IsDue (facts_of world.old) (counted world.old moment) (act.Begin element) }
+    requires moment { effective_moment world.old moment ≤ max_moment }
+    requires due { IsDue (facts_of world.old) (effective_moment world.old moment) (act.Begin element) }
     ensures step { IfOk result (λ receipt. BeginStep world.old moment element pieces (Ok receipt) world.new) }
     ensures same { OnErr result (world.new ≡ world.old) }
 {
@@ -43,8 +43,8 @@ pub(crate) fn publish(
     moment: u64,
     step: &Step,
 ) -> Result<(u64, Receipt), AdvanceFault>
-    requires moment { counted world.old moment ≤ max_moment }
-    requires due { IsDue (facts_of world.old) (counted world.old moment) (act.Publish step.now) }
+    requires moment { effective_moment world.old moment ≤ max_moment }
+    requires due { IsDue (facts_of world.old) (effective_moment world.old moment) (act.Publish step.now) }
     ensures step { IfOk result (λ done. PublishStep world.old moment step.now (Ok done) world.new) }
     ensures refused { IfErr result (λ fault. (fault ≡ advance_fault.VersionsSpent → max_versions ≤ newest_number (facts_of world.old).line) × (fault ≡ advance_fault.MomentTooLarge → ⊥) × (fault ≡ advance_fault.BadCount → ⊥)) }
     ensures same { OnErr result (world.new ≡ world.old) }

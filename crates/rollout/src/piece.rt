@@ -1,10 +1,10 @@
 //! The next piece of a fill or a clear.
 ghost use Rattle.std.specs.Prelude.{◌≡◌, ℕ, ◌≤◌, IfOk, OnErr, OnOk};
 ghost use Rattle.lease.specs.Timeline.{max_moment};
-ghost use Rattle.world.specs.Calls.{counted};
+ghost use Rattle.world.specs.Calls.{effective_moment};
 ghost use Rattle.world.specs.State.{facts_of};
-ghost use Rattle.piece_work.specs.Steps.{HasPieces};
-ghost use Rattle.piece_work.specs.Working.{HasEnded, Turns, WasRead};
+ghost use Rattle.piece_work.specs.inner.Steps.{HasPieces};
+ghost use Rattle.piece_work.specs.WorkOff.{HasEnded, Rounds, WasRead};
 ghost use Rattle.rollout.specs.Due.{IsOpen};
 ghost use Rattle.rollout.specs.Advance.{IsLimit, WorksPiece};
 
@@ -18,7 +18,7 @@ fn piece_count(world: &World, element: u32) -> u32
     requires { IsOpen (facts_of world.now) element }
     ensures { HasPieces world.now element result }
 {
-    world.agrees();
+    world.lemma_agrees();
     match world.progress(element) {
         Some((_, pieces, _)) => pieces as u32,
         None => unreachable!(),
@@ -36,7 +36,7 @@ fn next_view(
     requires limit { IsLimit limit }
     ensures { IfOk result (λ view. (piece : ℕ) × WasRead world.now element limit piece view) }
 {
-    world.agrees();
+    world.lemma_agrees();
     let pieces = piece_count(world, element);
     let mut piece = 0u32;
     while piece < pieces {
@@ -59,7 +59,7 @@ pub(crate) fn work_piece(
 ) -> Result<PieceDone, AllocError>
     requires open { IsOpen (facts_of world.old) element }
     requires limit { IsLimit limit }
-    requires moment { counted world.old moment ≤ max_moment }
+    requires moment { effective_moment world.old moment ≤ max_moment }
     ensures done { IfOk result (λ done. WorksPiece world.old element moment limit done world.new) }
     ensures same { OnErr result (world.new ≡ world.old) }
 {
@@ -81,7 +81,7 @@ pub(crate) fn work_all(
     moment: u64,
     limit: u32,
 ) -> Result<(), AllocError>
-    ensures turns { (commits : ℕ) × Turns commits world.old element moment limit world.new }
+    ensures turns { (commits : ℕ) × Rounds commits world.old element moment limit world.new }
     ensures ended { OnOk result (HasEnded world.new element) }
 {
     match work_off(alloc, world, element, moment, limit) {

@@ -1,9 +1,9 @@
 //! A world of one table with five rows, and the step that begins three changes at once. Elements 1 and 2 are the columns a and b, 3 is
 //! the index and 4 the column that enter.
 
+use collections::List;
 use keycode::{Text, Value};
 use lease::Lease;
-use listed::Listed;
 use row_map::ColumnType;
 use row_write::{RowOp, prepare, reads_of};
 use schema_version::{ElementState, Kind, Move, NewElement, TableDef};
@@ -35,13 +35,13 @@ fn config(alloc: Global) -> Result<Config, AllocError> {
     ]?;
     let table = TableDef {
         name: named(alloc, "t")?,
-        key: Listed::new(key),
-        columns: Listed::new(columns),
-        indexes: Listed::new(Vec::new(alloc)),
+        key: List::new(key),
+        columns: List::new(columns),
+        indexes: List::new(Vec::new(alloc)),
     };
     Ok(Config {
         length: 10,
-        tables: Listed::new(vec![in alloc; table]?),
+        tables: List::new(vec![in alloc; table]?),
     })
 }
 
@@ -49,8 +49,8 @@ fn config(alloc: Global) -> Result<Config, AllocError> {
 fn insert(alloc: Global, id: i64) -> Result<RowOp, AllocError> {
     Ok(RowOp::Insert {
         table: 1,
-        key: Listed::new(vec![in alloc; Value::Int(id)]?),
-        cells: Listed::new(vec![in alloc; (1u32, Value::Int(id)), (2u32, Value::Int(5))]?),
+        key: List::new(vec![in alloc; Value::Int(id)]?),
+        cells: List::new(vec![in alloc; (1u32, Value::Int(id)), (2u32, Value::Int(5))]?),
     })
 }
 
@@ -61,7 +61,7 @@ fn add_row(alloc: Global, world: &mut World, id: i64) -> Option<()> {
     let keys = reads_of(alloc, world.newest().get(), ops.as_slice()).ok()?;
     let view = world.read(alloc, &keys).ok()?;
     let schema = world.newest().clone().ok()?;
-    let Ok(work) = prepare(alloc, schema, FIRST, Listed::new(ops), view) else {
+    let Ok(work) = prepare(alloc, schema, FIRST, List::new(ops), view) else {
         return None;
     };
     match world.commit(alloc, 1, work) {
@@ -71,11 +71,11 @@ fn add_row(alloc: Global, world: &mut World, id: i64) -> Option<()> {
 }
 
 // add index by_a on t (a); add column c int default 7; drop column b
-fn first_step(alloc: Global) -> Result<Listed<Move>, AllocError> {
+fn first_step(alloc: Global) -> Result<List<Move>, AllocError> {
     let index = NewElement {
         table: 1,
         name: named(alloc, "by_a")?,
-        kind: Kind::Index(Listed::new(vec![in alloc; 1u32]?)),
+        kind: Kind::Index(List::new(vec![in alloc; 1u32]?)),
     };
     let column = NewElement {
         table: 1,
@@ -86,7 +86,7 @@ fn first_step(alloc: Global) -> Result<Listed<Move>, AllocError> {
         },
     };
     let to = ElementState::DeleteOnly;
-    Ok(Listed::new(vec![in alloc;
+    Ok(List::new(vec![in alloc;
         Move::Enter { fresh: index, to },
         Move::Enter { fresh: column, to },
         Move::Go { element: 2, to },

@@ -1,7 +1,7 @@
 //! One operator goes on where another stopped, after an element was abandoned in mid-course; also if a call is out of memory.
 
 use crate::fixtures::{is_whole, mark, states, with_changes};
-use listed::Listed;
+use collections::List;
 use rollout::{AdvanceFault, advance, complete};
 use schema_version::{ElementState, Move};
 use std::alloc::Global;
@@ -13,7 +13,7 @@ fn abandoned(alloc: Global) -> Option<World> {
     for moment in [20u64, 20, 20, 20, 20, 20, 30, 30, 30, 30, 30] {
         advance(alloc, &mut world, moment, 4, 1).ok()?;
     }
-    let index = Listed::new(vec![in alloc; Move::Turn { element: 3 }].ok()?);
+    let index = List::new(vec![in alloc; Move::Turn { element: 3 }].ok()?);
     match world.publish(alloc, 40, &index) {
         Ok(_) => Some(world),
         Err(_) => None,

@@ -14,7 +14,7 @@ use Rattle.row_map.specs.declared.shape.Row.{Row}
 use Rattle.row_map.specs.declared.shape.ShapeFault.{ShapeFault}
 use Rattle.row_map.specs.declared.shape.ShapeFault.TheVariants.{WrongArity, WrongType, NullInKey}
 use Rattle.row_map.specs.Shape.{is_null, has_type, is_key_value, are_key_values, has_null, type_of, fits_column, is_cell, are_cells, row_check}
-use Rattle.row_map.specs.Spelled.{IsOfType, IsColumn, IsRowOf, RowsAreChecked}
+use Rattle.row_map.specs.Encoded.{IsOfType, IsColumn, IsRowOf, RowsAreChecked}
 
 -- ---- values
 

@@ -22,7 +22,7 @@ use Rattle.schema_version.proofs.Lists.{here, later, here_or_later, some_same}
 use Rattle.schema_version.proofs.Live.{live_has, live_from}
 use Rattle.row_query.specs.Answer.{is_named}
 use Rattle.schema_version.specs.Columns.{is_shown, type_in, column_type}
-use Rattle.row_query.specs.Checked.{public_numbers}
+use Rattle.row_query.specs.inner.Checks.{public_numbers}
 use Rattle.row_query.specs.Refused.{IsColumn}
 
 -- ---- lists

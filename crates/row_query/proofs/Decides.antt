@@ -4,8 +4,8 @@ use Rattle.std.specs.Prelude.{IfErr, OnOk}
 use Rattle.std.specs.List.{AllByRecursion}
 use Rattle.std.specs.Cmp.Lexicographic.{pointwise}
 use mathlib.Core.List.{map as each}
-use Rattle.listed.specs.Answers.{◌>>>=◌}
-use Rattle.listed.specs.Refusal.{IsFirst, IsClear}
+use Rattle.collections.specs.Answers.{◌>>>=◌}
+use Rattle.collections.specs.Refusal.{IsFirst, IsClear}
 use Rattle.keycode.specs.declared.value.Value.{Value}
 use Rattle.keycode.specs.declared.value.Value.TheVariants.{Null, Int, Text, Bool as Flag}
 use Rattle.row_map.specs.declared.shape.ColumnType.{ColumnType}
@@ -20,7 +20,7 @@ use Rattle.row_query.specs.declared.query.Cond.{Cond}
 use Rattle.row_query.specs.declared.query.Cond.TheVariants.{Key, Equal, Between}
 use Rattle.row_query.specs.declared.query.Query.{Query}
 use Rattle.schema_version.specs.Columns.{column_type}
-use Rattle.row_query.specs.Checked.{is_key_for, may_equal, is_bound, tested, condition_check, conditions_check, columns_check, check_in, query_check}
+use Rattle.row_query.specs.inner.Checks.{is_key_for, may_equal, is_bound, tested, condition_check, conditions_check, columns_check, check_in, query_check}
 use Rattle.row_query.specs.Kinds.{has_kind}
 use Rattle.row_query.specs.Refused.{IsColumn, IsHidden, Part, Named, Where, parts, IsBadBound, PartFault, rank, IsFirstPartFault, IsRefused, IsSound}
 use Rattle.row_query.proofs.Columns.{column_says, column_from}
@@ -222,7 +222,7 @@ module _ (v : Version) (sound : IsSoundVersion v) (number : ℕ) (table : Table)
   SayAll all (Ok u) = AreClear all
   SayAll all (Err fault) = IsFirstPartFault v number table all fault
 
-  -- a part whose test is behind us
+  -- a part whose test is after us
   more : (part : Part) (all : List Part) (r : Checks) → IsClear (Fault part) → SayAll all r → SayAll (part ∷ all) r
   more part all (Ok u) clear rest = (clear, rest)
   more part all (Err fault) clear (before, after, first, split, of, others) = (part ∷ before, after, first, ap (λ l. part ∷ l) split, of, (clear, others))

@@ -12,7 +12,7 @@ use Rattle.keycode.specs.declared.value.Value.{Value}
 use Rattle.keycode.specs.Order.{values_cmp}
 use Rattle.keycode.proofs.Orders.{values_cmp_total, bytes_cmp_total, bytes_cmp-IsAntisymmetric}
 use Rattle.keycode.specs.Order.{bytes_cmp}
-use Rattle.row_query.specs.Bounds.{index_key_in, with_key, gathered}
+use Rattle.row_query.specs.inner.Bounds.{index_key_in, with_key, gathered}
 use Rattle.row_query.proofs.Sorted.{tied_is}
 
 module _ {K : Type 0} (R : K → K → Ordering) (o : IsTotalOrder R) where

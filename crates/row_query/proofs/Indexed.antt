@@ -18,12 +18,12 @@ use Rattle.keycode.proofs.Orders.{value_cmp_total, bytes_cmp_total, bytes_cmp-Is
 use Rattle.row_map.specs.declared.key.KeyOf.{KeyOf}
 use Rattle.row_map.specs.declared.key.KeyOf.TheVariants.{Exists, Column, Index}
 use Rattle.row_map.specs.Keys.{IsKey, key_code, index_code}
-use Rattle.row_map.specs.Reading.{key_at}
+use Rattle.row_map.specs.ReadKey.{key_at}
 use Rattle.row_map.proofs.KeyLaws.{key_again}
 use Rattle.keycode.specs.Order.{bytes_cmp}
 use Rattle.row_map.specs.Rows.{Bytes, RowKey, row_cmp, Cells, Rows, Pairs, value_or_null}
 use Rattle.row_map.specs.Shape.{is_null}
-use Rattle.schema_version.specs.Version.{Version, live, listed, is_public}
+use Rattle.schema_version.specs.Version.{Version, live, indexed_columns, is_public}
 use Rattle.schema_version.specs.declared.element.ElementDef.{ElementDef}
 use Rattle.row_query.specs.declared.query.Cond.{Cond}
 use Rattle.row_query.specs.declared.query.Cond.TheVariants.{Key, Equal as Same, Between}
@@ -31,18 +31,18 @@ use Rattle.schema_version.specs.declared.element.Kind.{Kind}
 use Rattle.schema_version.specs.declared.element.Kind.TheVariants as kind
 use Rattle.row_query.specs.declared.query.Query.{Query}
 use Rattle.row_query.specs.Answer.{is_from, is_between, meets, plain_answer}
-use Rattle.row_map.specs.Walk.{stretch}
+use Rattle.row_map.specs.Walk.{key_range}
 use Rattle.row_map.specs.Ranges.{is_within}
-use Rattle.row_query.specs.Found.{rows_in, row_in}
-use Rattle.row_query.specs.Checked.{public_numbers, IsKnown, AreKnown}
+use Rattle.row_query.specs.inner.Found.{rows_in, row_in}
+use Rattle.row_query.specs.inner.Checks.{public_numbers, IsKnown, AreKnown}
 use Rattle.row_query.specs.Path.{is_on, leads, serves}
-use Rattle.row_query.specs.Bounds.{leading, from_bytes, to_bytes, low_bound, high_bound, key_of_index, index_key_in, gathered}
+use Rattle.row_query.specs.inner.Bounds.{leading, from_bytes, to_bytes, low_bound, high_bound, key_of_index, index_key_in, gathered}
 use Rattle.element_state.specs.Elements.{HasForm}
 use Rattle.row_query.proofs.Premise.{HasExactly, Reads}
 use Rattle.row_query.proofs.Sorted.{all_found}
-use Rattle.row_map.proofs.Stretches.{stretch_sorted, find_stretch}
+use Rattle.row_map.proofs.KeyRanges.{key_range_sorted, find_key_range}
 use Rattle.std.specs.Cmp.{Equal-is}
-use Rattle.listed.proofs.Steps.{AllByRecursion-append}
+use Rattle.collections.proofs.Steps.{AllByRecursion-append}
 use Rattle.keycode.proofs.ByteOrder.{code_order, same_value}
 use Rattle.row_query.proofs.Rows.{same_number, is_number, low_tags, low_tag, not_below_empty, behind_prefix, IsOpen, asked, asked_of, of_table, candidates, some_of}
 use Rattle.row_query.proofs.Columns.{both_true, find_says}
@@ -127,7 +127,7 @@ at_high number key value (Between column bound (Some high)) x on met p q low =
 
 -- ---- the index
 
-kind_is : (conditions : List Cond) (k : Kind) (c : Cond) → leading conditions (listed k) ≡ Some c → (first : ℕ) × (others : List ℕ) × (k ≡ kind.Index (first ∷ others)) × (find (is_on first) conditions ≡ Some c)
+kind_is : (conditions : List Cond) (k : Kind) (c : Cond) → leading conditions (indexed_columns k) ≡ Some c → (first : ℕ) × (others : List ℕ) × (k ≡ kind.Index (first ∷ others)) × (find (is_on first) conditions ≡ Some c)
 kind_is conditions (kind.Index []) c e = absurd cc
 kind_is conditions (kind.Index (first ∷ others)) c e = (first, others, refl, e)
 kind_is conditions (kind.Optional type) c e = absurd cc
@@ -181,7 +181,7 @@ module _ (version : Version) (rows : Rows) (pairs : Pairs) (agree : Reads versio
   width = length (first ∷ others)
 
   abbrev walk : List (Bytes × Bytes)
-  walk = stretch pairs (low_bound number c) (high_bound number c)
+  walk = key_range pairs (low_bound number c) (high_bound number c)
 
   -- ---- the pair of a row
 
@@ -238,7 +238,7 @@ module _ (version : Version) (rows : Rows) (pairs : Pairs) (agree : Reads versio
 
     index_has : list_all (meets key (value_or_null cells)) query.conditions ≡ true → list_any (eq_by_cmp values_cmp key) (gathered number width [] walk) ≡ true
     index_has all = gathered_has number width (index_code number (indexed cells ++ key)) [] key [] walk
-        (find_stretch pairs (low_bound number c) (high_bound number c) (index_code number (indexed cells ++ key))
+        (find_key_range pairs (low_bound number c) (high_bound number c) (index_code number (indexed cells ++ key))
         ∙ ap (λ b. cond b (map.get pairs (index_code number (indexed cells ++ key))) None) (index_within all) ∙ index.each_row key cells here)
         index_key_again
 
@@ -248,13 +248,13 @@ module _ (version : Version) (rows : Rows) (pairs : Pairs) (agree : Reads versio
   IsPair pair = (map.get pairs pair.0 ≡ Some pair.1) × HasForm pair.0
 
   all_pairs : AllByRecursion IsPair walk
-  all_pairs = all_found bytes_cmp_total bytes_cmp-IsAntisymmetric IsPair walk (stretch_sorted pairs (low_bound number c) (high_bound number c)) (λ q x is.
-      let there = some_of version rows pairs agree query plain (is_within (low_bound number c) (high_bound number c) q) (map.get pairs q) x (sym (find_stretch pairs (low_bound number c) (high_bound number c) q) ∙ is) in
+  all_pairs = all_found bytes_cmp_total bytes_cmp-IsAntisymmetric IsPair walk (key_range_sorted pairs (low_bound number c) (high_bound number c)) (λ q x is.
+      let there = some_of version rows pairs agree query plain (is_within (low_bound number c) (high_bound number c) q) (map.get pairs q) x (sym (find_key_range pairs (low_bound number c) (high_bound number c) q) ∙ is) in
       (there, agree.forms q x there))
 
   key_found : (pair : Bytes × Bytes) (k : List Value) → IsPair pair → index_key_in number width pair.0 ≡ Some k → IsKey (Exists query.table k)
   unfolding index_key_in
-  key_found pair k p e = of p.1.key p.1.form p.1.spelled (ap (key_of_index number width) (sym (ap key_at p.1.spelled ∙ key_again p.1.key p.1.form)) ∙ e)
+  key_found pair k p e = of p.1.key p.1.form p.1.encoded (ap (key_of_index number width) (sym (ap key_at p.1.encoded ∙ key_again p.1.key p.1.form)) ∙ e)
     where
       of : (form : KeyOf) → IsKey form → pair.0 ≡ key_code form → key_of_index number width (Ok form) ≡ Some k → IsKey (Exists query.table k)
       of (Exists t other) f is e = absurd cc
@@ -294,13 +294,13 @@ module _ (version : Version) (rows : Rows) (pairs : Pairs) (agree : Reads versio
 
 -- an index that serves gives the plain answer
 pub index_answers : (version : Version) (rows : Rows) (pairs : Pairs) → Reads version rows pairs → (query : Query) → IsOpen version query → AreKnown query.conditions
-    → (e : ElementDef) (c : Cond) → find (serves query) (live version) ≡ Some e → leading query.conditions (listed e.kind) ≡ Some c
-    → rows_in pairs (public_numbers (live version) query.table) query (gathered e.number (length (listed e.kind)) [] (stretch pairs (low_bound e.number c) (high_bound e.number c))) ≡ plain_answer rows query
+    → (e : ElementDef) (c : Cond) → find (serves query) (live version) ≡ Some e → leading query.conditions (indexed_columns e.kind) ≡ Some c
+    → rows_in pairs (public_numbers (live version) query.table) query (gathered e.number (length (indexed_columns e.kind)) [] (key_range pairs (low_bound e.number c) (high_bound e.number c))) ≡ plain_answer rows query
 index_answers version rows pairs agree query plain known e c is leads_by =
     let found = find_says (serves query) (live version) e is in
-    let served = both_true ((e.table == query.table) && is_public e.state) (leads query.conditions (listed e.kind)) found.1 in
+    let served = both_true ((e.table == query.table) && is_public e.state) (leads query.conditions (indexed_columns e.kind)) found.1 in
     let public = both_true (e.table == query.table) (is_public e.state) served.0 in
     let k = kind_is query.conditions e.kind c leads_by in
     let exact = subst (λ t. HasExactly rows pairs t e.number (k.0 ∷ k.1)) (is_number e.table query.table public.0) (agree.indexes e found.0 (k.0 ∷ k.1) k.2 public.1) in
-    ap (λ (columns : List ℕ). rows_in pairs (public_numbers (live version) query.table) query (gathered e.number (length columns) [] (stretch pairs (low_bound e.number c) (high_bound e.number c)))) (ap listed k.2)
+    ap (λ (columns : List ℕ). rows_in pairs (public_numbers (live version) query.table) query (gathered e.number (length columns) [] (key_range pairs (low_bound e.number c) (high_bound e.number c)))) (ap indexed_columns k.2)
     ∙ index_is version rows pairs agree query plain known e.number k.0 k.1 exact c k.3

@@ -1,8 +1,8 @@
 -- What a query needs of pairs that agree with a version and rows.
 use Rattle.std.proofs.Common.{◌≡◌, ℕ, zero, suc, ◌+◌, ◌-◌, ◌<◌, ◌≤◌, ◌^◌, ◌==◌, length, List, [], ◌∷◌, ◌++◌, Bool, true, false, cond, eqb, eqb-true, eq-eqb, Option, Some, None, option_map, is_some, refl, sym, ap, subst, ◌∙◌, Contains, arith, ap₂, unwrap_or}
-use Rattle.element_state.proofs.Seen.{seen_get, seen_from, seen_agree}
-use Rattle.element_state.specs.Seen.{default_of, default_at, own_or, seen}
-use Rattle.element_state.specs.Sources.{source_in, stand_in_at, fallback_or_null}
+use Rattle.element_state.proofs.Visible.{visible_get, visible_from, visible_agree}
+use Rattle.element_state.specs.Visible.{default_of, default_at, own_or, visible_rows}
+use Rattle.element_state.specs.Sources.{source_in, default_value_at, default_or_null}
 use Rattle.element_state.specs.Required.{required_meaning}
 use Rattle.schema_version.proofs.Lists.{here, later}
 use Rattle.keycode.specs.declared.value.Value.TheVariants.{Null}
@@ -30,22 +30,22 @@ use Rattle.schema_version.specs.declared.element.Kind.TheVariants as kind
 use Rattle.schema_version.specs.declared.element.ElementDef.{ElementDef}
 use Rattle.schema_version.specs.Moves.{IsFairKind}
 use Rattle.schema_version.specs.Sound.{IsSoundTable, IsSoundVersion}
-use Rattle.schema_version.specs.Version.{Version, Table, table_at, element_at, live, is_public, type_of_kind, fallback_of, listed, IsPublicColumn}
-use Rattle.element_state.specs.Apart.{none_some, some_one, not_none}
+use Rattle.schema_version.specs.Version.{Version, Table, table_at, element_at, live, is_public, type_of_kind, default_value_of, indexed_columns, IsPublicColumn}
+use Rattle.element_state.specs.lemmas.Apart.{none_some, some_one, not_none}
 use Rattle.element_state.specs.Column.{column_meaning, IsLawfulColumn, coded}
-use Rattle.element_state.specs.ColumnLaws.{column_laws}
+use Rattle.element_state.specs.lemmas.ColumnLaws.{column_laws}
 use Rattle.element_state.specs.Consistent.{IsConsistent, DemandOf, IsKeyFor, IsLawfulRow}
-use Rattle.element_state.specs.Effects.{none_where}
+use Rattle.element_state.specs.lemmas.Effects.{none_where}
 use Rattle.element_state.specs.Elements.{AreFormed, Demand, Exact, IsFromScratch, owner, owner_named}
 use Rattle.element_state.specs.Exists.{exists_meaning}
-use Rattle.element_state.specs.ExistsLaws.{one_key}
+use Rattle.element_state.specs.lemmas.ExistsLaws.{one_key}
 use Rattle.element_state.specs.Index.{indexed, index_meaning, IsLawfulIndex, value_in}
-use Rattle.element_state.specs.IndexLaws.{index_is_key}
+use Rattle.element_state.specs.lemmas.IndexLaws.{index_is_key}
 use Rattle.element_state.specs.Kinds.{kind_meaning}
 use Rattle.element_state.specs.Laws.{Laws}
 use Rattle.element_state.specs.Tables.{within, some_in}
 use Rattle.row_query.specs.Answer.{is_named}
-use Rattle.row_query.specs.Checked.{public_numbers}
+use Rattle.row_query.specs.inner.Checks.{public_numbers}
 use Rattle.row_query.specs.Refused.{IsColumn}
 use Rattle.row_query.proofs.Columns.{public_is, found_at, named_column, numbers_rise, and_true}
 
@@ -127,7 +127,7 @@ index_lists : (n : ℕ) (columns : List ℕ) (k : Kind) → k ≡ kind.Index col
 index_lists n columns k is few list =
     let l = subst IsFairKind is list in
     let same : length (with_nulls columns) ≡ length columns = length_each (λ c. (c, Null)) columns in
-    record { number = omega (arith, few); some_columns = omega (arith, same, l.0); few_columns = omega (arith, same, l.1); stand_ins = storable_nulls columns }
+    record { number = omega (arith, few); some_columns = omega (arith, same, l.0); few_columns = omega (arith, same, l.1); default_values = storable_nulls columns }
 
 in_table : (table : ℕ) (o : Option Bytes) (v : Bytes) → o ≡ Some v → cond (eqb table table) o None ≡ Some v
 in_table table o v e = ap (λ (b : Bool). cond b o None) (eq-eqb table table refl) ∙ e
@@ -146,11 +146,11 @@ own_twice None None = refl
 own_twice None (Some v) = refl
 own_twice (Some v) d = refl
 
-seen_full : (version : Version) (rows : Rows) → IsFull version (seen version rows)
-seen_full version rows table key cells column here =
-    let r = seen_from version rows (table, key) cells here in
+visible_full : (version : Version) (rows : Rows) → IsFull version (visible_rows version rows)
+visible_full version rows table key cells column here =
+    let r = visible_from version rows (table, key) cells here in
     let default : Option Value = default_at table (element_at version column) in
-    let is : map.get cells column ≡ own_or (map.get r.0 column) default = ap (λ (c : Cells). map.get c column) r.2 ∙ seen_get version table r.0 column in
+    let is : map.get cells column ≡ own_or (map.get r.0 column) default = ap (λ (c : Cells). map.get c column) r.2 ∙ visible_get version table r.0 column in
     ap (λ o. own_or o default) is ∙ own_twice (map.get r.0 column) default ∙ sym is
 
 module _ (version : Version) (sound : IsSoundVersion version) (rows : Rows) (pairs : Pairs) (agree : IsConsistent version rows pairs) (full : IsFull version rows) where
@@ -175,7 +175,7 @@ module _ (version : Version) (sound : IsSoundVersion version) (rows : Rows) (pai
 
   pair_row : (table : ℕ) (key : List Value) (value : Bytes) → IsKey (Exists table key) → map.get pairs (row_code table key 0) ≡ Some value → is_some (map.get rows (table, key)) ≡ true
   pair_row table key value form is =
-      let own : owner (row_code table key 0) ≡ Some 0 = owner_named 0 (row_code table key 0) (record { key = Exists table key; form = form; spelled = refl; names = refl }) in
+      let own : owner (row_code table key 0) ≡ Some 0 = owner_named 0 (row_code table key 0) (record { key = Exists table key; form = form; encoded = refl; names = refl }) in
       let s : IsFromScratch exists_meaning rows (row_code table key 0) value = agree.exists.subset (row_code table key 0) value own is in
       let row : IsStorableRow s.key s.cells = held s.key s.cells s.there in
       let same : s.key ≡ (table, key) = one_key s.key (table, key) row.table row.primary form s.key_is in
@@ -218,7 +218,7 @@ module _ (version : Version) (sound : IsSoundVersion version) (rows : Rows) (pai
       by None e = absurd (none_some fallback (sym e))
       by (Some v) e = refl
 
-  -- an optional column has the pair of its value, and none where the row has no value
+  -- an optional column has the pair of its value, and none if the row has no value
   optional_pair : (table : ℕ) (key : List Value) (cells : Cells) (n : ℕ) (type kept : ColumnType) → map.get rows (table, key) ≡ Some cells → (column : IsColumn version table n type) → column.element.kind ≡ kind.Optional kept → map.get pairs (row_code table key n) ≡ option_map code (map.get cells n)
   optional_pair table key cells n type kept here column of = by (map.get cells n) refl
     where
@@ -258,19 +258,19 @@ module _ (version : Version) (sound : IsSoundVersion version) (rows : Rows) (pai
   -- ---- indexes
 
   -- what an index has for a public column of a row is its value, or Null: no row lacks a value for which a default stands
-  value_stands : (table : ℕ) (key : List Value) (cells : Cells) (c : ℕ) → map.get rows (table, key) ≡ Some cells → IsPublicColumn version table c → value_in cells (c, stand_in_at version c) ≡ value_or_null cells c
+  value_stands : (table : ℕ) (key : List Value) (cells : Cells) (c : ℕ) → map.get rows (table, key) ≡ Some cells → IsPublicColumn version table c → value_in cells (c, default_value_at version c) ≡ value_or_null cells c
   value_stands table key cells c here (element, type, at, home, typed, public) = by element.kind refl typed
     where
-      by : (k : Kind) → element.kind ≡ k → type_of_kind k ≡ Some type → value_in cells (c, stand_in_at version c) ≡ value_or_null cells c
+      by : (k : Kind) → element.kind ≡ k → type_of_kind k ≡ Some type → value_in cells (c, default_value_at version c) ≡ value_or_null cells c
       by (kind.Index columns) of e = absurd (none_some type e)
-      by (kind.Optional kept) of e = ap (λ (v : Value). unwrap_or (map.get cells c) v) (ap fallback_or_null at ∙ ap fallback_of of)
+      by (kind.Optional kept) of e = ap (λ (v : Value). unwrap_or (map.get cells c) v) (ap default_or_null at ∙ ap default_value_of of)
       by (kind.Required kept fallback) of e = there (map.get cells c) (has_value element table c kept fallback key cells here at home of public)
         where
-          there : (o : Option Value) → own_or o (Some fallback) ≡ o → unwrap_or o (stand_in_at version c) ≡ unwrap_or o Null
+          there : (o : Option Value) → own_or o (Some fallback) ≡ o → unwrap_or o (default_value_at version c) ≡ unwrap_or o Null
           there None e = absurd (none_some fallback (sym e))
           there (Some v) e = refl
 
-  values_stand : (table : ℕ) (key : List Value) (cells : Cells) (columns : List ℕ) → map.get rows (table, key) ≡ Some cells → ((c : ℕ) → Contains columns c → IsPublicColumn version table c) → indexed (each (λ c. (c, stand_in_at version c)) columns) cells ≡ each (value_or_null cells) columns
+  values_stand : (table : ℕ) (key : List Value) (cells : Cells) (columns : List ℕ) → map.get rows (table, key) ≡ Some cells → ((c : ℕ) → Contains columns c → IsPublicColumn version table c) → indexed (each (λ c. (c, default_value_at version c)) columns) cells ≡ each (value_or_null cells) columns
   values_stand table key cells [] there all = refl
   values_stand table key cells (c ∷ columns) there all =
       ap₂ (λ (v : Value) (vs : List Value). v ∷ vs) (value_stands table key cells c there (all c (here c columns))) (values_stand table key cells columns there (λ x within. all x (later c x columns within)))
@@ -284,10 +284,10 @@ module _ (version : Version) (sound : IsSoundVersion version) (rows : Rows) (pai
 
     -- an index's columns with what stands for a missing value
     abbrev sources : List (ℕ × Value)
-    sources = each (λ c. (c, stand_in_at version c)) columns
+    sources = each (λ c. (c, default_value_at version c)) columns
 
     listed_values : (key : List Value) (cells : Cells) → map.get rows (element.table, key) ≡ Some cells → indexed sources cells ≡ each (value_or_null cells) columns
-    listed_values key cells row = values_stand element.table key cells columns row (λ c within. (sound.elements element.number element at).columns c (subst (λ (k : Kind). Contains (listed k) c) (sym of) within))
+    listed_values key cells row = values_stand element.table key cells columns row (λ c within. (sound.elements element.number element at).columns c (subst (λ (k : Kind). Contains (indexed_columns k) c) (sym of) within))
 
     exact_index : Exact (within element.table (index_meaning element.number sources)) pairs rows
     exact_index = public_demand element element.table element.number (kind.Index columns) at refl of (public_is element.state public)
@@ -296,7 +296,7 @@ module _ (version : Version) (sound : IsSoundVersion version) (rows : Rows) (pai
         → (key : List Value) × (cells : Cells) × (map.get rows (element.table, key) ≡ Some cells) × (values ≡ each (value_or_null cells) columns ++ key)
     index_pair_row values value form is =
         let own : owner (index_code element.number values) ≡ Some element.number =
-        owner_named element.number (index_code element.number values) (record { key = Index element.number values; form = form; spelled = refl; names = refl }) in
+        owner_named element.number (index_code element.number values) (record { key = Index element.number values; form = form; encoded = refl; names = refl }) in
         let s : IsFromScratch (within element.table (index_meaning element.number sources)) rows (index_code element.number values) value = exact_index.subset (index_code element.number values) value own is in
         let home : s.key.0 ≡ element.table = eqb-true s.key.0 element.table (some_in (eqb s.key.0 element.table) (Some []) value s.value_is).0 in
         let row : IsStorableRow s.key s.cells = held s.key s.cells s.there in
@@ -336,5 +336,5 @@ module _ (version : Version) (sound : IsSoundVersion version) (rows : Rows) (pai
   }
 
 -- pairs that agree with rows are read as the rows that the version sees
-pub reads_from : (version : Version) → IsSoundVersion version → (rows : Rows) (pairs : Pairs) → IsConsistent version rows pairs → Reads version (seen version rows) pairs
-reads_from version sound rows pairs agree = reads version sound (seen version rows) pairs (seen_agree version rows pairs sound agree) (seen_full version rows)
+pub reads_from : (version : Version) → IsSoundVersion version → (rows : Rows) (pairs : Pairs) → IsConsistent version rows pairs → Reads version (visible_rows version rows) pairs
+reads_from version sound rows pairs agree = reads version sound (visible_rows version rows) pairs (visible_agree version rows pairs sound agree) (visible_full version rows)

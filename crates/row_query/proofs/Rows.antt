@@ -23,7 +23,7 @@ use Rattle.row_map.specs.declared.shape.Row.{Row}
 use Rattle.row_map.specs.declared.key.KeyOf.{KeyOf}
 use Rattle.row_map.specs.declared.key.KeyOf.TheVariants.{Exists, Column, Index}
 use Rattle.row_map.specs.Keys.{IsKey, key_code, row_code}
-use Rattle.row_map.specs.Reading.{key_at}
+use Rattle.row_map.specs.ReadKey.{key_at}
 use Rattle.row_map.proofs.Cells.{only_again}
 use Rattle.row_map.proofs.KeyLaws.{key_again, row_code_is}
 use Rattle.row_map.proofs.KeyOrder.{row_keys, number_order}
@@ -34,16 +34,17 @@ use Rattle.row_query.specs.declared.query.Query.{Query}
 use Rattle.row_map.specs.Rows.{RowKey, row_cmp, Cells, Rows, Pairs, value_or_null}
 use Rattle.row_map.proofs.Orders.{row_cmp_total, row_cmp-IsAntisymmetric}
 use Rattle.row_query.specs.Answer.{meets, is_asked, is_named, cut, plain_answer}
-use Rattle.row_query.specs.Bounds.{table_end}
+use Rattle.row_query.specs.inner.Bounds.{table_end}
 use Rattle.schema_version.specs.Version.{Version, live}
 use Rattle.element_state.specs.Elements.{HasForm}
 use Rattle.row_query.proofs.Premise.{Reads}
-use Rattle.row_map.specs.Walk.{stretch}
+use Rattle.row_map.specs.Walk.{key_range}
 use Rattle.row_map.specs.Ranges.{is_within, table_prefix}
-use Rattle.row_query.specs.Found.{value_from, cell_in, cells_in, value_in, row_of, row_in, key_of_row, row_key_in, row_of_key, row_at, rows_at}
-use Rattle.row_query.specs.Checked.{public_numbers}
+use Rattle.row_map.specs.Cell.{value_from, cell_in}
+use Rattle.row_query.specs.inner.Found.{cells_in, value_in, row_of, row_in, key_of_row, row_key_in, row_of_key, row_at, rows_at}
+use Rattle.row_query.specs.inner.Checks.{public_numbers}
 use Rattle.row_query.proofs.Sorted.{kept, find_kept, sorted_kept, passing, sorted_filter, find_filter, all_found, member_of, sorted_map, all_given, same_given, tied}
-use Rattle.row_map.proofs.Stretches.{stretch_sorted, find_stretch}
+use Rattle.row_map.proofs.KeyRanges.{key_range_sorted, find_key_range}
 
 -- ---- numbers
 
@@ -84,7 +85,7 @@ then_equal Greater = refl
 -- an `exists` pair is the pair of one row
 row_key_is : (table : ℕ) (bytes : List ℕ) (key : List Value) → HasForm bytes → row_key_in table bytes ≡ Some key → (bytes ≡ row_code table key 0) × IsKey (Exists table key)
 unfolding row_key_in
-row_key_is table bytes key form e = from form.key form.form form.spelled
+row_key_is table bytes key form e = from form.key form.form form.encoded
   where
     from : (k : KeyOf) → IsKey k → bytes ≡ key_code k → (bytes ≡ row_code table key 0) × IsKey (Exists table key)
     from k f is = of k f is (ap (key_of_row table) (sym (ap key_at is ∙ key_again k f)) ∙ e)
@@ -124,7 +125,7 @@ not_below_empty (b ∷ x) = refl
 pub behind_prefix : (n : ℕ) (x y : List ℕ) → n < 2 ^ 32 → slice_cmp nat_cmp (to_be_bytes w32 n ++ x) (to_be_bytes w32 n ++ y) ≡ slice_cmp nat_cmp x y
 behind_prefix n x y lt = number_order n n x y lt lt ∙ ap (λ o. ordering_then o (slice_cmp nat_cmp x y)) (tied_itself nat_cmp_total n)
 
--- a row stands in the stretch of its table
+-- a row is in the key range of its table
 row_within : (table : ℕ) (key : List Value) → IsKey (Exists table key) → is_within (table_prefix table) (table_end table) (row_code table key 0) ≡ true
 row_within table key f =
     let rest = codes_of key ++ to_be_bytes w32 0 in
@@ -270,7 +271,7 @@ module _ (version : Version) (rows : Rows) (pairs : Pairs) (agree : Reads versio
       ∙ ap (passing row_cmp_total row_cmp-IsAntisymmetric (is_asked query) row) (map.get-entries rows row)
       ∙ sym (find_filter row_cmp_total row_cmp-IsAntisymmetric (is_asked query) row (map.entries rows) (map.entries_sorted rows))))
 
-  -- ---- the stretch of a table
+  -- ---- the key range of a table
 
   pub asked_of : (row : RowKey) (o : Option Cells) (cells : Cells) → passing row_cmp_total row_cmp-IsAntisymmetric (is_asked query) row o ≡ Some cells → (o ≡ Some cells) × (is_asked query (row, cells) ≡ true)
   asked_of row None cells e = absurd cc
@@ -297,15 +298,15 @@ module _ (version : Version) (rows : Rows) (pairs : Pairs) (agree : Reads versio
       (ap (λ r. r.0) (sym same), is ∙ ap (λ r. Some r.1) same)
 
   abbrev walked : List (List ℕ × List ℕ)
-  walked = stretch pairs (table_prefix query.table) (table_end query.table)
+  walked = key_range pairs (table_prefix query.table) (table_end query.table)
 
   pub some_of : {X : Type 0} (b : Bool) (o : Option X) (x : X) → cond b o None ≡ Some x → o ≡ Some x
   some_of true o x e = e
   some_of false o x e = absurd cc
 
-  pub all_forms : (low high : List ℕ) → AllByRecursion (λ (e : List ℕ × List ℕ). HasForm e.0) (stretch pairs low high)
-  all_forms low high = all_found bytes_cmp_total bytes_cmp-IsAntisymmetric (λ e. HasForm e.0) (stretch pairs low high) (stretch_sorted pairs low high)
-      (λ q x is. agree.forms q x (some_of (is_within low high q) (map.get pairs q) x (sym (find_stretch pairs low high q) ∙ is)))
+  pub all_forms : (low high : List ℕ) → AllByRecursion (λ (e : List ℕ × List ℕ). HasForm e.0) (key_range pairs low high)
+  all_forms low high = all_found bytes_cmp_total bytes_cmp-IsAntisymmetric (λ e. HasForm e.0) (key_range pairs low high) (key_range_sorted pairs low high)
+      (λ q x is. agree.forms q x (some_of (is_within low high q) (map.get pairs q) x (sym (find_key_range pairs low high q) ∙ is)))
 
   at_pair : (pair : List ℕ × List ℕ) → row_at pairs columns query pair.0 ≡ bound (λ (row : RowKey). row_in pairs columns query row.1) (key_of_pair pair)
   at_pair pair = elim (row_key_in query.table pair.0) as (λ o. row_of_key pairs columns query o ≡ bound (λ (row : RowKey). row_in pairs columns query row.1) (option_map (λ key. (query.table, key)) o)) [ None ↦ refl | Some key ↦ refl ]
@@ -332,7 +333,7 @@ module _ (version : Version) (rows : Rows) (pairs : Pairs) (agree : Reads versio
   covers_at key cells here =
       let form = agree.keys query.table key cells here in
       member_of bytes_cmp_total bytes_cmp-IsAntisymmetric key_of_pair (eq_by_cmp row_cmp (query.table, key)) (row_code query.table key 0) [] (query.table, key) walked
-      (find_stretch pairs (table_prefix query.table) (table_end query.table) (row_code query.table key 0)
+      (find_key_range pairs (table_prefix query.table) (table_end query.table) (row_code query.table key 0)
       ∙ ap (λ b. cond b (map.get pairs (row_code query.table key 0)) None) (row_within query.table key form) ∙ agree.each_row query.table key cells here)
       (ap (option_map (λ key. (query.table, key))) (row_key_again query.table key form))
       (tied row_cmp_total row_cmp-IsAntisymmetric (query.table, key))
@@ -343,11 +344,11 @@ module _ (version : Version) (rows : Rows) (pairs : Pairs) (agree : Reads versio
       let of = of_table row cells a.1 in
       subst (λ (t : ℕ). map.get rows (t, row.1) ≡ Some cells → list_any (eq_by_cmp row_cmp (t, row.1)) (filter_map key_of_pair walked) ≡ true) (sym of) (covers_at row.1 cells) a.0
 
-  pub scan_is : rows_at pairs columns query (stretch pairs (table_prefix query.table) (table_end query.table)) ≡ plain_answer rows query
+  pub scan_is : rows_at pairs columns query (key_range pairs (table_prefix query.table) (table_end query.table)) ≡ plain_answer rows query
   scan_is =
       let forms = all_forms (table_prefix query.table) (table_end query.table) in
       bind_map key_of_pair (λ (row : RowKey). row_in pairs columns query row.1) (λ pair. row_at pairs columns query pair.0) (λ pair o e. at_pair pair ∙ ap (bound (λ (row : RowKey). row_in pairs columns query row.1)) e) walked
       ∙ candidates (filter_map key_of_pair walked)
-      (sorted_map bytes_cmp row_cmp (λ e. HasForm e.0) key_of_pair in_order walked forms (stretch_sorted pairs _ _))
+      (sorted_map bytes_cmp row_cmp (λ e. HasForm e.0) key_of_pair in_order walked forms (key_range_sorted pairs _ _))
       (all_given (λ (e : List ℕ × List ℕ). HasForm e.0) IsCandidate key_of_pair is_candidate walked forms)
       covers

@@ -9,7 +9,7 @@ use Rattle.std.specs.FinMap as map
 use Rattle.std.specs.FinMap.{nat_cmp-IsAntisymmetric}
 use Rattle.std.specs.List.Sorted.{IsStrictlySortedBy}
 use Rattle.std.specs.Cmp.{Equal-is, tied_itself}
-use Rattle.listed.specs.Answers.{◌>>>=◌}
+use Rattle.collections.specs.Answers.{◌>>>=◌}
 use Rattle.keycode.specs.declared.value.Value.{Value}
 use Rattle.keycode.specs.Order.{bytes_cmp, values_cmp}
 use Rattle.keycode.specs.Valid.{AreValues}
@@ -29,10 +29,10 @@ use Rattle.row_query.specs.declared.query.Cond.{Cond}
 use Rattle.row_query.specs.declared.query.Cond.TheVariants.{Key, Equal as Same, Between}
 use Rattle.row_query.specs.declared.query.Query.{Query}
 use Rattle.row_query.specs.Answer.{meets, is_named, plain_answer}
-use Rattle.row_query.specs.Bounds.{first_key}
+use Rattle.row_query.specs.inner.Bounds.{first_key}
 use Rattle.schema_version.specs.Columns.{column_type}
-use Rattle.row_query.specs.Checked.{public_numbers, may_equal, is_bound, tested, condition_check, conditions_check, columns_check, check_in, query_check, AreKnown}
-use Rattle.row_query.specs.Found.{cells_in, row_of, row_in, one_row}
+use Rattle.row_query.specs.inner.Checks.{public_numbers, may_equal, is_bound, tested, condition_check, conditions_check, columns_check, check_in, query_check, AreKnown}
+use Rattle.row_query.specs.inner.Found.{cells_in, row_of, row_in, one_row}
 use Rattle.element_state.specs.Elements.{HasForm}
 use Rattle.row_query.proofs.Columns.{type_named, both_true}
 use Rattle.row_query.proofs.Decides.{Checks, passed}
@@ -110,9 +110,10 @@ no_index : (table : ℕ) (key : List Value) (element : ℕ) (values : List Value
 unfolding row_code index_code
 no_index table key element values is = omega (arith, ap (λ (l : List ℕ). get_or l 0 0) is)
 
--- a pair's key is spelled by values that can be stored, and no other values are spelled so: a key with a long text has no pair
+-- a pair's key is encoded by values that can be stored, and no other values are encoded so: a key
+-- with a long text has no pair
 found_form : (table : ℕ) (key : List Value) → table < 2 ^ 32 → AreValues key → HasForm (row_code table key 0) → IsKey (Exists table key)
-found_form table key small values form = of form.key form.form form.spelled
+found_form table key small values form = of form.key form.form form.encoded
   where
     same_parts : (t : ℕ) (other : List Value) (element : ℕ) → t < 2 ^ 32 → AreKeyValues 1 4 other → element < 2 ^ 24 → row_code table key 0 ≡ row_code t other element → (key ≡ other) × (0 ≡ element)
     same_parts t other element p q r is =

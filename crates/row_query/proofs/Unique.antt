@@ -1,7 +1,7 @@
--- A query has at most one refusal, and none where nothing is wrong with it.
+-- A query has at most one refusal, and none if nothing is wrong with it.
 use Rattle.std.proofs.Common.{◌≡◌, ◌++◌, ℕ, false, List, [], ◌∷◌, Some, refl, sym, ap, subst, ◌∙◌, arith, is_some}
 use Rattle.std.specs.List.{AllByRecursion}
-use Rattle.listed.specs.Refusal.{IsFirst, IsClear}
+use Rattle.collections.specs.Refusal.{IsFirst, IsClear}
 use Rattle.schema_version.specs.Version.{Version, Table, table_at}
 use Rattle.schema_version.proofs.Lists.{some_same, not_both}
 use Rattle.row_query.specs.declared.fault.QueryFault.{QueryFault}

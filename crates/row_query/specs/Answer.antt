@@ -1,3 +1,4 @@
+-- Cited by the contracts of answer.
 -- What a query answers, from the rows alone.
 use Rattle.std.specs.Prelude.{ℕ, List, Option, Some, None, filter, Bool, true, ◌&&◌, not, ◌==◌}
 use Rattle.std.specs.List.{list_all, list_any}

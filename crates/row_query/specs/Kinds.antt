@@ -1,3 +1,4 @@
+-- Cited by the definitions of Checks, Refused.
 -- Of which kind a value is.
 use Rattle.std.specs.Prelude.{Bool, true, false}
 use Rattle.keycode.specs.declared.value.Value.{Value}

@@ -1,7 +1,5 @@
 pub mod Answer
 pub mod Refused
 pub mod Path
-pub mod Checked
-pub mod Found
 pub mod Kinds
-pub mod Bounds
+pub mod inner

@@ -1,8 +1,9 @@
+-- Cited by the contracts of path_of.
 -- How the rows of a query are found.
 use Rattle.std.specs.Prelude.{ℕ, List, [], ◌∷◌, Option, Some, None, Bool, true, false, ◌&&◌, ◌==◌, if◌then◌else◌}
 use Rattle.std.specs.List.{list_any, find}
 use Rattle.schema_version.specs.declared.element.ElementDef.{ElementDef}
-use Rattle.schema_version.specs.Version.{Version, live, is_public, listed}
+use Rattle.schema_version.specs.Version.{Version, live, is_public, indexed_columns}
 use Rattle.row_query.specs.declared.query.Cond.{Cond}
 use Rattle.row_query.specs.declared.query.Cond.TheVariants.{Key, Equal, Between}
 use Rattle.row_query.specs.declared.query.Query.{Query}
@@ -27,7 +28,7 @@ leads conditions (first ∷ others) = list_any (is_on first) conditions
 
 -- a public index of the query's table with a condition on its first column
 abbrev pub serves : Query → ElementDef → Bool
-serves query element = (element.table == query.table) && is_public element.state && leads query.conditions (listed element.kind)
+serves query element = (element.table == query.table) && is_public element.state && leads query.conditions (indexed_columns element.kind)
 
 abbrev pub by_index : Option ElementDef → Path
 by_index None = path.Scan

@@ -1,9 +1,10 @@
+-- Cited by the contracts of answer, one_refusal.
 -- Why a query is refused.
 use Rattle.std.specs.Prelude.{◌≡◌, ◌≢◌, ℕ, List, ◌∷◌, ◌++◌, Option, Some, None, IsTrue, IsNone, ◌⊎◌}
 use Rattle.std.specs.List.{AllByRecursion}
 use Rattle.std.specs.Cmp.Lexicographic.{pointwise}
 use mathlib.Core.List.{map as each}
-use Rattle.listed.specs.Refusal.{IsFirst, IsClear}
+use Rattle.collections.specs.Refusal.{IsFirst, IsClear}
 use Rattle.keycode.specs.declared.value.Value.{Value}
 use Rattle.keycode.specs.declared.value.Value.TheVariants.{Null}
 use Rattle.row_map.specs.declared.shape.ColumnType.{ColumnType}

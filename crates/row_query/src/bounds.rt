@@ -1,7 +1,7 @@
-//! Where walks begin and end.
+//! If walks begin and end.
 ghost use Rattle.std.specs.Prelude.{◌≡◌, ◌∷◌, IfOk};
 ghost use Rattle.std.specs.Int.{w32, to_be_bytes};
-ghost use Rattle.row_query.specs.Bounds.{table_end, low_bound, high_bound};
+ghost use Rattle.row_query.specs.inner.Bounds.{table_end, low_bound, high_bound};
 
 use crate::query::Cond;
 use keycode::push_value;
@@ -17,7 +17,7 @@ pub(crate) fn prefix_of(alloc: Global, tag: u8, number: u32) -> Result<Vec<u8>, 
     Ok(out)
 }
 
-/// A key behind those of a table's rows.
+/// A key after those of a table's rows.
 pub(crate) fn end_of(alloc: Global, table: u32) -> Result<Vec<u8>, AllocError>
     ensures { IfOk result (λ bytes. bytes.items ≡ table_end table) }
 {
@@ -40,7 +40,7 @@ pub(crate) fn low_of(alloc: Global, number: u32, condition: &Cond) -> Result<Vec
     Ok(out)
 }
 
-/// A key behind those.
+/// A key after those.
 pub(crate) fn high_of(alloc: Global, number: u32, condition: &Cond) -> Result<Vec<u8>, AllocError>
     ensures { IfOk result (λ bytes. bytes.items ≡ high_bound number condition.now) }
 {

@@ -5,10 +5,10 @@ ghost use Rattle.std.specs.List.{list_all};
 ghost use Rattle.keycode.specs.declared.value.Value.TheVariants.{Null};
 ghost use Rattle.keycode.specs.Order.{value_cmp};
 ghost use Rattle.row_query.specs.Answer.{is_from, is_up_to, is_between, meets};
-ghost use Rattle.row_query.specs.Found.{value_in};
+ghost use Rattle.row_query.specs.inner.Found.{value_in};
 
 use crate::query::Cond;
-use crate::reading::value_among;
+use crate::read::value_among;
 use keycode::{Value, compare};
 
 fn is_equal(value: Option<&Value>, wanted: &Value) -> bool

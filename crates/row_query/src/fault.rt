@@ -22,7 +22,7 @@ pub enum QueryFault {
     /// a bound. A text over 1,024 bytes is a text like any other: no row holds it, and it is compared as any value is.
     #[error("a value of another type, or a null in a key or as a bound")]
     WrongType,
-    /// Want of memory, which never stands in place of another refusal.
+    /// Out of memory, which never is in place of another refusal.
     #[error("out of memory")]
     Memory,
 }

@@ -1,19 +1,19 @@
 //! Queries over one table: what they answer, why they are refused, and the three paths by which their rows are found.
 #![tactic(auto)]
 
-mod answering;
+mod answer_query;
 mod bounds;
-mod checking;
+mod check;
 mod conditions;
 mod fault;
-mod gathering;
+mod gather;
 mod laws;
 mod path;
 mod query;
-mod reading;
+mod read;
 mod scan;
 
-pub use answering::answer;
+pub use answer_query::answer;
 pub use fault::QueryFault;
 pub use laws::one_refusal;
 pub use path::path_of;

@@ -2,7 +2,7 @@
 ghost use Rattle.std.specs.Prelude.{◌≡◌, option_map};
 ghost use Rattle.std.specs.List.{list_any, find};
 ghost use Rattle.std.specs.Option.{option_copied};
-ghost use Rattle.row_query.specs.Bounds.{first_key, leading};
+ghost use Rattle.row_query.specs.inner.Bounds.{first_key, leading};
 ghost use Rattle.row_query.specs.Path.{is_on_key as is_on_key_of, is_on as is_on_of, leads as leads_of, serves as serves_of, plain_path};
 
 use crate::query::{Cond, Path, Query};
@@ -73,7 +73,7 @@ fn serves(query: &Query, element: &ElementDef) -> bool
 {
     element.table == query.table
         && element.state.is_public()
-        && leads(query.conditions.as_slice(), element.kind.listed())
+        && leads(query.conditions.as_slice(), element.kind.indexed_columns())
 }
 
 /// The least public index of the table whose first column has a condition.

@@ -1,6 +1,6 @@
 //! Queries and their conditions.
+use collections::List;
 use keycode::{Value, Values};
-use listed::Listed;
 
 /// What a row must meet to be answered. Columns go by their element numbers, and values are ordered as keycode has it. A
 /// text may be of any length: one over 1,024 bytes is no row's, and rows lie below and above it as by any other.
@@ -33,9 +33,9 @@ pub struct Query {
     pub table: u32,
     /// The numbers of the columns whose values are answered, of a required column the default where a row has no value of its
     /// own. Their order says nothing, nor does a number that stands twice.
-    pub columns: Listed<u32>,
+    pub columns: List<u32>,
     /// What the rows must meet, all of it.
-    pub conditions: Listed<Cond>,
+    pub conditions: List<Cond>,
 }
 
 /// How the rows of a query are found.

@@ -1,16 +1,16 @@
 //! Rows read by their keys, and the walk over a table.
 ghost use Rattle.std.specs.Prelude.{◌≡◌, IfOk};
 ghost use Rattle.row_map.specs.Ranges.{table_prefix};
-ghost use Rattle.row_map.specs.Walk.{stretch};
-ghost use Rattle.row_query.specs.Bounds.{table_end};
-ghost use Rattle.row_query.specs.Found.{row_of, row_in, row_key_in, row_at, rows_at};
+ghost use Rattle.row_map.specs.Walk.{key_range};
+ghost use Rattle.row_query.specs.inner.Bounds.{table_end};
+ghost use Rattle.row_query.specs.inner.Found.{row_of, row_in, row_key_in, row_at, rows_at};
 
 use crate::bounds::{end_of, prefix_of};
 use crate::conditions::meets_all;
 use crate::query::Query;
-use crate::reading::{cells, cut_to};
+use crate::read::{cells, cut_to};
+use collections::List;
 use keycode::{KeyFault, Value, Values};
-use listed::Listed;
 use row_map::{KeyOf, PairView, Row, exists_key, read_key};
 use std::alloc::{AllocError, Global};
 
@@ -19,7 +19,7 @@ fn row_from(
     alloc: Global,
     query: &Query,
     key: Values,
-    cells: Listed<(u32, Value)>,
+    cells: List<(u32, Value)>,
 ) -> Result<Option<Row>, AllocError>
     ensures { IfOk result (λ r. r ≡ row_of query.now key cells) }
 {
@@ -36,7 +36,7 @@ fn row_from(
 }
 
 /// The row of a key, if it is there and meets every condition.
-#[tactic(auto, unfolding(crate::specs::Found::row_in))]
+#[tactic(auto, unfolding(crate::specs::inner::Found::row_in))]
 pub(crate) fn row_by_key<V: PairView>(
     alloc: Global,
     view: &V,
@@ -55,7 +55,7 @@ pub(crate) fn row_by_key<V: PairView>(
 }
 
 /// The primary key of an `exists` pair of the table.
-#[tactic(auto, unfolding(crate::specs::Found::row_key_in))]
+#[tactic(auto, unfolding(crate::specs::inner::Found::row_key_in))]
 fn row_key(alloc: Global, table: u32, bytes: &[u8]) -> Result<Option<Values>, AllocError>
     ensures { IfOk result (λ k. k ≡ row_key_in table bytes.now) }
 {
@@ -92,7 +92,7 @@ pub(crate) fn scan<V: PairView>(
     columns: &[u32],
     query: &Query,
 ) -> Result<Vec<Row>, AllocError>
-    ensures { IfOk result (λ rows. rows.items ≡ rows_at (V.pairs view.now) columns.now query.now (stretch (V.pairs view.now) (table_prefix query.now.table) (table_end query.now.table))) }
+    ensures { IfOk result (λ rows. rows.items ≡ rows_at (V.pairs view.now) columns.now query.now (key_range (V.pairs view.now) (table_prefix query.now.table) (table_end query.now.table))) }
 {
     let mut rows = Vec::new(alloc);
     let low = prefix_of(alloc, b'R', query.table)?;

@@ -44,7 +44,7 @@ fn counted_at_last(
 ) -> Result<(u64, u64, u64), AllocError> {
     match counted(alloc, element, states, pairs) {
         Err(AllocError) => counted(alloc, element, states, pairs),
-        told => told,
+        reported => reported,
     }
 }
 

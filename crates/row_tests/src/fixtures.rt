@@ -1,10 +1,12 @@
-//! Table 1, named t, has the primary key `id` and the column `a`, which is element 1, both numbers, and the index `i` on
-//! `a`, which is element 2. Where it is asked for, the required column `r` enters, numbers with the default 5, as element 3. The key of a
-//! row's pair is 52, the table, the primary key and the element, or 0 for the `exists` pair; that of an index's pair is 58,
-//! the element, the value and the primary key. A number is 02 and its eight bytes with the highest bit flipped, Null is 01.
+//! Table 1, named t, has the primary key `id` and the column `a`, which is element 1, both numbers,
+//! and the index `i` on `a`, which is element 2. If it is asked for, the required column `r`
+//! enters, numbers with the default 5, as element 3. The key of a row's pair is 52, the table, the
+//! primary key and the element, or 0 for the `exists` pair; that of an index's pair is 58, the
+//! element, the value and the primary key. A number is 02 and its eight bytes with the highest bit
+//! flipped, Null is 01.
 use byte_map::{Bytes, KeyMap};
+use collections::List;
 use keycode::{Text, Value, Values};
-use listed::Listed;
 use row_map::{ColumnType, Write};
 use schema_version::{Columns, ElementState, Kind, Move, NewElement, Schema, TableDef};
 use std::alloc::{AllocError, Global};
@@ -97,7 +99,7 @@ pub fn value(alloc: Global, plain: Plain) -> Result<Value, AllocError> {
 /// The key of this one value.
 pub fn key(alloc: Global, plain: Plain) -> Result<Values, AllocError> {
     let value = value(alloc, plain)?;
-    Ok(Listed::new(vec![in alloc; value]?))
+    Ok(List::new(vec![in alloc; value]?))
 }
 
 pub fn bytes(alloc: Global, content: &[u8]) -> Result<Bytes, AllocError> {
@@ -136,15 +138,15 @@ pub fn are_writes(writes: &[Write], wanted: Points) -> bool {
 /// One column of numbers.
 fn column(alloc: Global, name: &str) -> Result<Columns, AllocError> {
     let name = text(alloc, name)?;
-    Ok(Listed::new(vec![in alloc; (name, ColumnType::Int)]?))
+    Ok(List::new(vec![in alloc; (name, ColumnType::Int)]?))
 }
 
 /// The index `i` on `a`.
-fn indexes(alloc: Global) -> Result<Listed<(Text, Listed<Text>)>, AllocError> {
+fn indexes(alloc: Global) -> Result<List<(Text, List<Text>)>, AllocError> {
     let a = text(alloc, "a")?;
-    let columns = Listed::new(vec![in alloc; a]?);
+    let columns = List::new(vec![in alloc; a]?);
     let name = text(alloc, "i")?;
-    Ok(Listed::new(vec![in alloc; (name, columns)]?))
+    Ok(List::new(vec![in alloc; (name, columns)]?))
 }
 
 fn table(alloc: Global) -> Result<TableDef, AllocError> {
@@ -171,7 +173,7 @@ pub fn declared(alloc: Global) -> Result<Schema, AllocError> {
 }
 
 fn after(alloc: Global, schema: &Schema, a: Move) -> Result<Schema, AllocError> {
-    let step = Listed::new(vec![in alloc; a]?);
+    let step = List::new(vec![in alloc; a]?);
     match schema.apply(&step) {
         Ok(schema) => Ok(schema),
         Err(_) => Err(AllocError),

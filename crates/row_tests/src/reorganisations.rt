@@ -6,13 +6,13 @@ use crate::fixtures::{
 use Of::{Column, Index, Required};
 use Work::{Clear, Fill};
 use byte_map::{Bytes, KeyMap};
-use listed::Listed;
+use collections::List;
 use reorganise::{PieceView, PreparedPiece, Progress, Span, ViewFault, Work, prepare_piece};
 use row_map::ColumnType;
 use schema_version::{ElementDef, ElementState, Kind, Way};
 use std::alloc::{AllocError, Global};
 
-/// Where the rows of table 1 begin, and where they end.
+/// If the rows of table 1 begin, and where they end.
 const TABLE: &[u8] = b"\x52\0\0\0\x01";
 
 const NEXT_TABLE: &[u8] = b"\x52\0\0\0\x02";
@@ -33,7 +33,7 @@ fn element(alloc: Global, of: Of) -> Result<ElementDef, AllocError> {
     let name = text(alloc, "e")?;
     let (number, kind) = match of {
         Column => (1, Kind::Optional(ColumnType::Int)),
-        Index => (2, Kind::Index(Listed::new(vec![in alloc; 1]?))),
+        Index => (2, Kind::Index(List::new(vec![in alloc; 1]?))),
         Required => (3, required()),
     };
     Ok(ElementDef {
@@ -97,7 +97,7 @@ fn divided_at_last(
 ) -> Result<bool, AllocError> {
     match divided(alloc, what, pairs, pieces, bounds) {
         Err(AllocError) => divided(alloc, what, pairs, pieces, bounds),
-        told => told,
+        reported => reported,
     }
 }
 
@@ -175,11 +175,11 @@ fn read(alloc: Global, what: (Of, Work), pairs: Pairs, limit: u32) -> Result<Pie
 
 /// A piece of what was read, which comes back where memory was short: then it is prepared once more.
 fn piece_of(alloc: Global, view: PieceView) -> Result<PreparedPiece, ViewFault> {
-    let told = match prepare_piece(alloc, view) {
+    let reported = match prepare_piece(alloc, view) {
         Ok(piece) => return Ok(piece),
         Err((AllocError, view)) => prepare_piece(alloc, view),
     };
-    match told {
+    match reported {
         Ok(piece) => Ok(piece),
         Err(_) => Err(ViewFault::BadLimit),
     }
@@ -231,12 +231,12 @@ fn written(
 ) -> Result<(bool, bool), ViewFault> {
     match written_once(alloc, what, pairs, limit, wanted, cursor) {
         Err(ViewFault::Memory) => written_once(alloc, what, pairs, limit, wanted, cursor),
-        told => told,
+        reported => reported,
     }
 }
 
-/// What is done over which pairs with which limit, what is written, and where the piece comes to. 05 begins no value,
-/// and behind 01, which is Null, nothing may stand.
+/// What is done over which pairs with which limit, what is written, and where the piece comes to.
+/// 05 begins no value, and after 01, which is Null, nothing may stand.
 static WRITTEN: [(&str, (Of, Work), Pairs, u32, Points, &[u8]); 9] = [
     (
         "a fill",

@@ -8,8 +8,8 @@ use Plain::{Int, Null, Text};
 use QueryFault::WrongType;
 use Stand::{Holed, Indexed, Required, Scanned};
 use byte_map::{Bytes, KeyMap};
+use collections::List;
 use keycode::Value;
-use listed::Listed;
 use row_map::Row;
 use row_query::{Cond, Path, Query, QueryFault, answer, path_of};
 use schema_version::ElementState::{Public, WriteOnly};
@@ -54,8 +54,8 @@ fn query(alloc: Global, table: u32, column: u32, asked: &[Asked]) -> Result<Quer
     }
     Ok(Query {
         table,
-        columns: Listed::new(vec![in alloc; column]?),
-        conditions: Listed::new(conditions),
+        columns: List::new(vec![in alloc; column]?),
+        conditions: List::new(conditions),
     })
 }
 
@@ -111,7 +111,7 @@ const WITH_R: Pairs<'static> = &[
     (R_4, NINE),
 ];
 
-/// What stands in the schema and in the store.
+/// What is in the schema and in the store.
 #[derive(Clone, Copy)]
 enum Stand {
     /// The index is public and has its pairs.
@@ -203,7 +203,7 @@ fn answered(
 ) -> Result<Option<Path>, QueryFault> {
     match answered_once(alloc, stand, place, asked, wanted) {
         Err(QueryFault::Memory) => answered_once(alloc, stand, place, asked, wanted),
-        told => told,
+        reported => reported,
     }
 }
 
@@ -341,7 +341,7 @@ static REFUSED: [(&str, (u32, u32), &[Asked], QueryFault); 7] = [
 ];
 
 #[test]
-fn under_refusal_the_first_fault_of_a_query_is_told(rt: HostRuntime) {
+fn under_refusal_the_first_fault_of_a_query_is_reported(rt: HostRuntime) {
     assert!(rt; mark(&rt));
     for (name, place, asked, fault) in &REFUSED {
         let refused = answered(rt.alloc(), Indexed, *place, *asked, &[]);

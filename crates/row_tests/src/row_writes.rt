@@ -8,9 +8,9 @@ use PrepareFault::{NoTable, NotPublic, ViewMismatch, WrongType};
 use RowOutcome::{Done, Refused};
 use Verb::{Delete, Insert, Update};
 use byte_map::{Bytes, KeyMap};
+use collections::{ArcValue, List};
 use keycode::Value;
 use lease::Lease;
-use listed::{Counted, Listed};
 use row_map::{ReadSet, ReadView};
 use row_write::{PrepareFault, Prepared, RowFault, RowOp, RowOutcome, prepare, reads_of};
 use std::alloc::{AllocError, Global};
@@ -32,12 +32,12 @@ enum Verb {
 /// An operation as a literal: what it does, the table, the key and the cells.
 type Op<'a> = (Verb, u32, Plain, &'a [(u32, Plain)]);
 
-fn cells(alloc: Global, plain: &[(u32, Plain)]) -> Result<Listed<(u32, Value)>, AllocError> {
+fn cells(alloc: Global, plain: &[(u32, Plain)]) -> Result<List<(u32, Value)>, AllocError> {
     let mut cells = Vec::new(alloc);
     for (column, content) in plain {
         cells.push((*column, value(alloc, *content)?))?;
     }
-    Ok(Listed::new(cells))
+    Ok(List::new(cells))
 }
 
 fn operation(alloc: Global, (verb, table, id, plain): Op) -> Result<RowOp, AllocError> {
@@ -81,9 +81,9 @@ fn read_set(alloc: Global, ops: &[RowOp]) -> Result<ReadSet, AllocError> {
 
 /// What is prepared; of no table where the operations did not come back with a refusal.
 fn prepared(alloc: Global, ops: Vec<RowOp>, view: ReadView) -> Result<Prepared, PrepareFault> {
-    let schema = Counted::new(alloc, declared(alloc)?)?;
+    let schema = ArcValue::new(alloc, declared(alloc)?)?;
     let count = ops.len();
-    match prepare(alloc, schema, LEASE, Listed::new(ops), view) {
+    match prepare(alloc, schema, LEASE, List::new(ops), view) {
         Ok(prepared) => Ok(prepared),
         Err((fault, ops)) => Err(if ops.len() == count { fault } else { NoTable }),
     }
@@ -120,7 +120,7 @@ fn outcome(
 ) -> Result<Option<RowOutcome>, PrepareFault> {
     match outcome_once(alloc, plain, points, wanted) {
         Err(PrepareFault::Memory) => outcome_once(alloc, plain, points, wanted),
-        told => told,
+        reported => reported,
     }
 }
 
@@ -182,8 +182,8 @@ static ACCEPTED: [(&str, &[Op], Points, Points); 5] = [
 fn under_refusal_accepted_operations_write_pairs(rt: HostRuntime) {
     assert!(rt; mark(&rt));
     for (name, plain, points, wanted) in &ACCEPTED {
-        let told = outcome(rt.alloc(), *plain, *points, *wanted);
-        assert!(rt; told == Ok(Some(Done)), "{name}");
+        let reported = outcome(rt.alloc(), *plain, *points, *wanted);
+        assert!(rt; reported == Ok(Some(Done)), "{name}");
     }
 }
 
@@ -191,7 +191,7 @@ const ONE: Op<'static> = (Insert, 1, Int(1), &[]);
 
 const TWO: Op<'static> = (Insert, 1, Int(2), &[]);
 
-/// Operations, what is read, and what is told where nothing is written.
+/// Operations, what is read, and what is reported where nothing is written.
 static TOLD: [(
     &str,
     &[Op],
@@ -327,7 +327,7 @@ static TOLD: [(
 ];
 
 #[test]
-fn under_refusal_what_writes_nothing_is_told(rt: HostRuntime) {
+fn under_refusal_what_writes_nothing_is_reported(rt: HostRuntime) {
     assert!(rt; mark(&rt));
     for (name, plain, points, want) in &TOLD {
         assert!(rt;
@@ -360,7 +360,7 @@ const READING: &[Op] = &[TWO, ONE, ONE, (Delete, 2, Int(1), &[])];
 fn are_read_at_last(alloc: Global, plain: &[Op], wanted: &[&[u8]]) -> Result<bool, AllocError> {
     match are_read(alloc, plain, wanted) {
         Err(AllocError) => are_read(alloc, plain, wanted),
-        told => told,
+        reported => reported,
     }
 }
 

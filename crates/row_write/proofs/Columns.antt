@@ -16,7 +16,7 @@ use Rattle.schema_version.specs.Shape.{public_column, column_types}
 use Rattle.schema_version.proofs.Lists.{here, later, here_or_later, some_same}
 use Rattle.schema_version.proofs.Live.{live_has, live_from}
 use Rattle.row_write.specs.Reads.{IsPublicColumn}
-use Rattle.row_write.specs.Served.{IsServed}
+use Rattle.row_write.specs.inner.IndexedColumns.{IsServed}
 use Rattle.schema_version.specs.Columns.{is_shown, type_in, column_type}
 
 -- ---- lists

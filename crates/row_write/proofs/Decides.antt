@@ -4,7 +4,7 @@ use Rattle.std.proofs.lemmas.Bool.{leb-true}
 use Rattle.std.specs.List.{list_any, AllByRecursion}
 use Rattle.std.specs.Cmp.Lexicographic.{pointwise}
 use mathlib.Core.List.{map as each}
-use Rattle.listed.specs.Refusal.{IsFirst}
+use Rattle.collections.specs.Refusal.{IsFirst}
 use Rattle.keycode.specs.declared.value.Value.{Value}
 use Rattle.keycode.specs.declared.value.Value.TheVariants.{Null, Int, Text, Bool as Flag}
 use Rattle.keycode.specs.Valid.{IsValue, AreValues, IsShort, IsStorable}
@@ -22,9 +22,9 @@ use Rattle.row_write.specs.Plain.{table_of, key_of, named_of}
 use Rattle.row_write.specs.Reads.{IsPublicColumn}
 use Rattle.row_write.specs.Prepare.{Suits, IsTyped, HasColumn, IsFirstHidden, rank, OpFault, IsFirstOpFault, Condition}
 use Rattle.row_write.specs.Made.{IsSound}
-use Rattle.row_write.specs.Served.{IsServed}
+use Rattle.row_write.specs.inner.IndexedColumns.{IsServed}
 use Rattle.schema_version.specs.Columns.{column_type}
-use Rattle.row_write.specs.Deciding.{first_hidden, suits, suits_all, are_distinct, is_key_for, is_typed, check_named, check_table, op_check, or_else, ops_check, AreKnown, AreKnownUntil}
+use Rattle.row_write.specs.inner.Checks.{first_hidden, suits, suits_all, are_distinct, is_key_for, is_typed, check_named, check_table, op_check, or_else, ops_check, AreKnown, AreKnownUntil}
 use Rattle.row_write.proofs.Columns.{column_says, column_from}
 
 pub both_true : (a b : Bool) → (a && b) ≡ true → (a ≡ true) × (b ≡ true)

@@ -14,8 +14,8 @@ use Rattle.schema_version.proofs.Lists.{here, later, here_or_later}
 use Rattle.row_write.specs.declared.op.RowOp.{RowOp}
 use Rattle.row_write.specs.Plain.{table_of, key_of}
 use Rattle.row_write.specs.Reads.{IsRowKey, IsRead}
-use Rattle.row_write.specs.Served.{IsServed}
-use Rattle.row_write.specs.Entering.{KeySet, entered, column_keys, row_keys, keys_in, op_keys, entered_all}
+use Rattle.row_write.specs.inner.IndexedColumns.{IsServed}
+use Rattle.row_write.specs.inner.Enter.{KeySet, entered, column_keys, row_keys, keys_in, op_keys, entered_all}
 use Rattle.row_write.proofs.Columns.{column_listed, listed_column}
 
 insert_here : (m : KeySet) (q : Bytes) → get (insert m q tt) q ≡ Some tt

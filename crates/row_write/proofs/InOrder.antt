@@ -18,55 +18,55 @@ use Rattle.row_map.specs.Expect.{View}
 use Rattle.row_map.proofs.Entries.{each_entry}
 use Rattle.row_write.specs.declared.op.RowOp.{RowOp}
 use Rattle.row_write.specs.Plain.{table_of, key_of}
-use Rattle.row_write.specs.Entering.{column_keys, row_keys}
-use Rattle.row_write.specs.Viewing.{IsThere, seen_at, keys_of, AreHeld}
+use Rattle.row_write.specs.inner.Enter.{column_keys, row_keys}
+use Rattle.row_write.specs.inner.View.{IsThere, visible_at, keys_of, AreHeld}
 
 -- ---- one key
 
 pub same_bytes : (a b : Bytes) (other : Bool) → other ≡ not (pointwise ◌==◌ a b) → other ≡ false → a ≡ b
-same_bytes a b other told is = same_text a b (by (pointwise ◌==◌ a b) (sym told ∙ is))
+same_bytes a b other reported is = same_text a b (by (pointwise ◌==◌ a b) (sym reported ∙ is))
   where
     by : (x : Bool) → not x ≡ false → true ≡ x
     by true e = refl
     by false e = absurd (let wrong : true ≡ false = e in cc)
 
 -- all of a row's key but the number at its end
-abbrev front_of : ℕ → List Value → Bytes
-front_of table primary = 82 ∷ to_be_bytes w32 table ++ codes_of primary
+abbrev prefix_of : ℕ → List Value → Bytes
+prefix_of table primary = 82 ∷ to_be_bytes w32 table ++ codes_of primary
 
-row_code_ends : (table : ℕ) (primary : List Value) (number : ℕ) → row_code table primary number ≡ front_of table primary ++ to_be_bytes w32 number
+row_code_ends : (table : ℕ) (primary : List Value) (number : ℕ) → row_code table primary number ≡ prefix_of table primary ++ to_be_bytes w32 number
 unfolding row_code
 row_code_ends table primary number = refl
 
 pub with_number : (key exists : Bytes) (number table : ℕ) (primary : List Value) (place : ℕ) → place ≡ length key - 4 → 4 ≤ length key → length key ≡ length exists
     → take place key ≡ take place exists → drop place key ≡ to_be_bytes w32 number → exists ≡ row_code table primary 0 → key ≡ row_code table primary number
-with_number key exists number table primary place at long alike front end is =
-    let ends : exists ≡ front_of table primary ++ to_be_bytes w32 0 = is ∙ row_code_ends table primary 0 in
-    let all : length exists ≡ length (front_of table primary ++ to_be_bytes w32 0) = ap length ends in
-    let place_is : place ≡ length (front_of table primary) = omega (arith, at, long, alike, all, length-append (front_of table primary) (to_be_bytes w32 0)) in
-    let front_is : take place key ≡ front_of table primary = front ∙ ap (take place) ends ∙ ap (λ n. take n (front_of table primary ++ to_be_bytes w32 0)) place_is ∙ take-append_seam (front_of table primary) (to_be_bytes w32 0) in
-    sym (take-append-drop place key) ∙ ap₂ (λ (a b : Bytes). a ++ b) front_is end ∙ sym (row_code_ends table primary number)
+with_number key exists number table primary place at long alike prefix end is =
+    let ends : exists ≡ prefix_of table primary ++ to_be_bytes w32 0 = is ∙ row_code_ends table primary 0 in
+    let all : length exists ≡ length (prefix_of table primary ++ to_be_bytes w32 0) = ap length ends in
+    let place_is : place ≡ length (prefix_of table primary) = omega (arith, at, long, alike, all, length-append (prefix_of table primary) (to_be_bytes w32 0)) in
+    let prefix_is : take place key ≡ prefix_of table primary = prefix ∙ ap (take place) ends ∙ ap (λ n. take n (prefix_of table primary ++ to_be_bytes w32 0)) place_is ∙ take-append_seam (prefix_of table primary) (to_be_bytes w32 0) in
+    sym (take-append-drop place key) ∙ ap₂ (λ (a b : Bytes). a ++ b) prefix_is end ∙ sym (row_code_ends table primary number)
 
 -- ---- what entries hold
 
-pub held_at : (seen : ℕ → Option (Option Bytes)) (columns : List (ℕ × ColumnType)) (held : List (Bytes × Option Bytes)) (i : ℕ) (entry : Bytes × Option Bytes) → i < length columns → AreHeld seen columns held → entry ≡ get_or held i entry
-    → seen (get_or columns i (0, kind.Int)).0 ≡ Some entry.1
-held_at seen [] held i entry lt all is = absurd (omega arith)
-held_at seen (c ∷ columns) [] i entry lt all is = absurd all
-held_at seen (c ∷ columns) (e ∷ held) zero entry lt all is = all.0 ∙ ap (λ (d : Bytes × Option Bytes). Some d.1) (sym is)
-held_at seen (c ∷ columns) (e ∷ held) (suc i) entry lt all is = held_at seen columns held i entry (omega arith) all.1 is
+pub held_at : (visible : ℕ → Option (Option Bytes)) (columns : List (ℕ × ColumnType)) (held : List (Bytes × Option Bytes)) (i : ℕ) (entry : Bytes × Option Bytes) → i < length columns → AreHeld visible columns held → entry ≡ get_or held i entry
+    → visible (get_or columns i (0, kind.Int)).0 ≡ Some entry.1
+held_at visible [] held i entry lt all is = absurd (omega arith)
+held_at visible (c ∷ columns) [] i entry lt all is = absurd all
+held_at visible (c ∷ columns) (e ∷ held) zero entry lt all is = all.0 ∙ ap (λ (d : Bytes × Option Bytes). Some d.1) (sym is)
+held_at visible (c ∷ columns) (e ∷ held) (suc i) entry lt all is = held_at visible columns held i entry (omega arith) all.1 is
 
-pub one_presence : (seen : Option (Option Bytes)) (a b : Bool) → IsThere seen a → IsThere seen b → a ≡ b
-one_presence seen true true p q = refl
-one_presence seen false false p q = refl
-one_presence seen true false p q = absurd (let wrong : Some (Some []) ≡ Some None = sym p ∙ q in cc)
-one_presence seen false true p q = absurd (let wrong : Some None ≡ Some (Some []) = sym p ∙ q in cc)
+pub one_presence : (visible : Option (Option Bytes)) (a b : Bool) → IsThere visible a → IsThere visible b → a ≡ b
+one_presence visible true true p q = refl
+one_presence visible false false p q = refl
+one_presence visible true false p q = absurd (let wrong : Some (Some []) ≡ Some None = sym p ∙ q in cc)
+one_presence visible false true p q = absurd (let wrong : Some None ≡ Some (Some []) = sym p ∙ q in cc)
 
 -- the entries of a view that has the keys of the operation's row in their order
 pub record AreInOrder (view : View) (op : RowOp) (columns : List (ℕ × ColumnType)) (first : Bytes × Option Bytes) (rest : List (Bytes × Option Bytes)) : Type 0 where
   pub keys : keys_of (entries view) ≡ row_keys op columns
-  pub presence : seen_at view op 0 ≡ Some first.1
-  pub held : AreHeld (seen_at view op) columns rest
+  pub presence : visible_at view op 0 ≡ Some first.1
+  pub held : AreHeld (visible_at view op) columns rest
 
 module _ (view : View) (op : RowOp) where
   abbrev IsIn : Bytes × Option Bytes → Type 0
@@ -75,7 +75,7 @@ module _ (view : View) (op : RowOp) where
   each_in : AllByRecursion IsIn (entries view)
   each_in = each_entry bytes_cmp bytes_cmp_total bytes_cmp-IsAntisymmetric (λ key value. get view key ≡ Some value) view (λ key value at. at)
 
-  held_each : (es : List (Bytes × Option Bytes)) (columns : List (ℕ × ColumnType)) → AllByRecursion IsIn es → keys_of es ≡ column_keys op columns → AreHeld (seen_at view op) columns es
+  held_each : (es : List (Bytes × Option Bytes)) (columns : List (ℕ × ColumnType)) → AllByRecursion IsIn es → keys_of es ≡ column_keys op columns → AreHeld (visible_at view op) columns es
   held_each [] [] all keys = tt
   held_each [] (c ∷ columns) all keys = absurd cc
   held_each (e ∷ es) [] all keys = absurd cc
@@ -95,5 +95,5 @@ module _ (view : View) (op : RowOp) where
       record {
         keys = ap keys_of (sym is) ∙ ap₂ (λ (k : Bytes) (ks : List Bytes). k ∷ ks) (ap (λ (d : Bytes × Option Bytes). d.0) (sym at)) (ap keys_of (sym rest)) ∙ keys;
         presence = ap (get view) (sym key ∙ ap (λ (d : Bytes × Option Bytes). d.0) at) ∙ all.0 ∙ ap (λ (d : Bytes × Option Bytes). Some d.1) (sym at);
-        held = subst (AreHeld (seen_at view op) columns) (sym rest) (held_each es columns all.1 (ap keys_of (sym rest) ∙ more));
+        held = subst (AreHeld (visible_at view op) columns) (sym rest) (held_each es columns all.1 (ap keys_of (sym rest) ∙ more));
       }

@@ -17,14 +17,14 @@ use Rattle.schema_version.specs.Shape.{column_types}
 use Rattle.schema_version.proofs.Lists.{here, later, here_or_later}
 use Rattle.row_write.specs.declared.op.RowOp.{RowOp}
 use Rattle.row_write.specs.Reads.{IsRead}
-use Rattle.row_write.specs.Prepare.{IsSpelledRow, Spells}
+use Rattle.row_write.specs.Prepare.{IsEncodedRow, Encodes}
 use Rattle.row_write.specs.Plain.{table_of, row_of}
 use Rattle.row_write.specs.Made.{IsSound}
-use Rattle.row_write.specs.Served.{IsServed}
-use Rattle.row_write.specs.Entering.{KeySet, row_keys, op_keys}
-use Rattle.row_write.specs.Viewing.{HaveSameKeys, keys_of, IsSeen, cells_there}
+use Rattle.row_write.specs.inner.IndexedColumns.{IsServed}
+use Rattle.row_write.specs.inner.Enter.{KeySet, row_keys, op_keys}
+use Rattle.row_write.specs.inner.View.{HaveSameKeys, keys_of, IsVisible, cells_there}
 use Rattle.row_write.proofs.Entered.{InTable, op_keys_are, op_key_has, op_key_from}
-use Rattle.row_write.proofs.Spelled.{spelled_once}
+use Rattle.row_write.proofs.Encoded.{encoded_once}
 use Rattle.row_write.proofs.Decides.{both_true, and_true}
 
 module _ {X : Type 0} (test : Bytes → Bool) where
@@ -66,14 +66,14 @@ keys_tell reads view a b p q = (
 )
 
 module _ (v : Version) (ops : List RowOp) (view : View) (reads : KeySet) (read : (key : Bytes) → (get reads key ≡ Some tt) ↔ IsRead v ops key) where
-  pub spelled_with : HaveSameKeys reads view → (rows : Rows) → AllByRecursion (IsSpelledRow v view rows) ops → Spells v ops view rows
-  spelled_with same rows all = record {
-    keys = λ key. (λ r. (same key).0 ((read key).1 r), λ seen. (read key).0 ((same key).1 seen));
-    spelled = all;
+  pub encoded_with : HaveSameKeys reads view → (rows : Rows) → AllByRecursion (IsEncodedRow v view rows) ops → Encodes v ops view rows
+  encoded_with same rows all = record {
+    keys = λ key. (λ r. (same key).0 ((read key).1 r), λ visible. (read key).0 ((same key).1 visible));
+    encoded = all;
   }
 
-  pub same_keys : (rows : Rows) → Spells v ops view rows → HaveSameKeys reads view
-  same_keys rows s key = (λ at. (s.keys key).0 ((read key).0 at), λ seen. (read key).1 ((s.keys key).1 seen))
+  pub same_keys : (rows : Rows) → Encodes v ops view rows → HaveSameKeys reads view
+  same_keys rows s key = (λ at. (s.keys key).0 ((read key).0 at), λ visible. (read key).1 ((s.keys key).1 visible))
 
 -- ---- the keys of entries, in their order
 
@@ -127,8 +127,8 @@ module _ (v : Version) (served : IsServed v) (op : RowOp) (sound : IsSound v op)
         (op, here op [], from.0, from.1),
   )
 
-  pub spelled_one : (rows before : Rows) (there : Bool) (cells : List (ℕ × Value)) → IsSeen view op (column_types v (table_of op)) there cells → rows ≡ written before (row_of op) (cells_there there cells) → Spells v (op ∷ []) view rows
-  spelled_one rows before there cells seen made = record {
+  pub encoded_one : (rows before : Rows) (there : Bool) (cells : List (ℕ × Value)) → IsVisible view op (column_types v (table_of op)) there cells → rows ≡ written before (row_of op) (cells_there there cells) → Encodes v (op ∷ []) view rows
+  encoded_one rows before there cells visible made = record {
     keys = reads_one;
-    spelled = (spelled_once v served view op before rows there cells seen made, tt);
+    encoded = (encoded_once v served view op before rows there cells visible made, tt);
   }

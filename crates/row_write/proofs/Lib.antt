@@ -5,7 +5,7 @@ pub mod Sound
 pub mod Viewed
 pub mod Worked
 pub mod InOrder
-pub mod Spelled
+pub mod Encoded
 pub mod Keys
 pub mod Edited
 pub mod Wanted

@@ -1,21 +1,21 @@
 -- When a transaction is refused, and when nothing stands against it.
 use Rattle.std.proofs.Common.{◌≡◌, ◌<◌, ◌≤◌, List, length, Option, Some, None, inl, inr, refl, sym, subst, ◌∙◌, arith}
 use Rattle.std.specs.List.{AllByRecursion}
-use Rattle.listed.specs.Refusal.{IsFirst, IsRefusal, IsClear}
+use Rattle.collections.specs.Refusal.{IsFirst, IsRefusal, IsClear}
 use Rattle.row_map.specs.Rows.{Rows}
 use Rattle.row_map.specs.Expect.{View}
 use Rattle.schema_version.specs.Version.{Version}
 use Rattle.row_write.specs.declared.op.RowOp.{RowOp}
 use Rattle.row_write.specs.declared.fault.PrepareFault.{PrepareFault}
 use Rattle.row_write.specs.declared.fault.PrepareFault.TheVariants.{NoTable, NotPublic, WrongType, TooManyOps, ViewMismatch, Memory}
-use Rattle.row_write.specs.Prepare.{rank, Condition, max_ops, Spells, IsPrepared}
+use Rattle.row_write.specs.Prepare.{rank, Condition, max_ops, Encodes, IsPrepared}
 use Rattle.lease.specs.declared.lease.Lease.{Lease}
 use Rattle.row_map.specs.Writes.{Batch}
 use Rattle.row_write.specs.declared.op.RowOutcome.{RowOutcome}
 use Rattle.row_write.specs.Made.{IsSound, IsMade, expects}
-use Rattle.row_write.specs.Served.{IsServed}
-use Rattle.row_write.specs.Deciding.{ops_check, AreKnownUntil}
-use Rattle.row_write.specs.Viewing.{IsMissed}
+use Rattle.row_write.specs.inner.IndexedColumns.{IsServed}
+use Rattle.row_write.specs.inner.Checks.{ops_check, AreKnownUntil}
+use Rattle.row_write.specs.inner.View.{IsMissed}
 use Rattle.row_write.proofs.Decides.{ops_first, ops_sound, sound_none, fault_condition, fault_lowest}
 
 module _ (v : Version) (served : IsServed v) (ops : List RowOp) where
@@ -48,29 +48,29 @@ module _ (v : Version) (served : IsServed v) (ops : List RowOp) where
     below_five few ViewMismatch lt h = absurd (omega arith)
     below_five few Memory lt h = h
 
-    pub mismatched : length ops ≤ max_ops → (fault : PrepareFault) → IsMissed ((rows : Rows) → ¬ (Spells v ops view rows)) fault → IsRefusal rank (Condition v ops view) Memory fault
+    pub mismatched : length ops ≤ max_ops → (fault : PrepareFault) → IsMissed ((rows : Rows) → ¬ (Encodes v ops view rows)) fault → IsRefusal rank (Condition v ops view) Memory fault
     mismatched few fault (inl memory) = (inl memory, subst (λ f. (other : PrepareFault) → rank other < rank f → ¬ (Condition v ops view other)) (sym memory) (below_five few))
     mismatched few fault (inr (is, never)) =
         subst (IsRefusal rank (Condition v ops view) Memory) (sym is) (inr never, below_five few)
 
-    pub clear : length ops ≤ max_ops → (rows : Rows) → Spells v ops view rows → IsClear (Condition v ops view)
-    clear few rows spelled NoTable h = sound_none v served ops NoTable sound h
-    clear few rows spelled (NotPublic column) h = sound_none v served ops (NotPublic column) sound h
-    clear few rows spelled WrongType h = sound_none v served ops WrongType sound h
-    clear few rows spelled TooManyOps h = absurd (omega (arith, few, h))
-    clear few rows spelled ViewMismatch h = h rows spelled
-    clear few rows spelled Memory h = h
+    pub clear : length ops ≤ max_ops → (rows : Rows) → Encodes v ops view rows → IsClear (Condition v ops view)
+    clear few rows encoded NoTable h = sound_none v served ops NoTable sound h
+    clear few rows encoded (NotPublic column) h = sound_none v served ops (NotPublic column) sound h
+    clear few rows encoded WrongType h = sound_none v served ops WrongType sound h
+    clear few rows encoded TooManyOps h = absurd (omega (arith, few, h))
+    clear few rows encoded ViewMismatch h = h rows encoded
+    clear few rows encoded Memory h = h
 
 pub first_refusal : (v : Version) (ops : List RowOp) (view : View) (fault : PrepareFault) → IsFirst rank (Condition v ops view) fault → IsRefusal rank (Condition v ops view) Memory fault
 first_refusal v ops view fault (holds, lower) = (inr holds, lower)
 
 -- what is known of a transaction that was prepared
-pub made_from : (seen v : Version) (looked ops : List RowOp) (lease : Lease) (view : View) (batch : Batch) (told : RowOutcome) → seen ≡ v → looked ≡ ops
-    → AllByRecursion (IsSound seen) looked × (length looked ≤ max_ops) → (rows : Rows) × Spells seen looked view rows → IsPrepared seen looked view told batch
-    → IsMade (record { schema = v; lease = lease; ops = ops; expect = expects view; batch = batch; told = told })
-made_from seen v looked ops lease view batch told same_version same_ops sound some_rows prepared =
-    subst (λ (w : Version). IsMade (record { schema = w; lease = lease; ops = ops; expect = expects view; batch = batch; told = told })) same_version
-    (subst (λ (os : List RowOp). IsMade (record { schema = seen; lease = lease; ops = os; expect = expects view; batch = batch; told = told })) same_ops (record {
+pub made_from : (visible v : Version) (looked ops : List RowOp) (lease : Lease) (view : View) (batch : Batch) (reported : RowOutcome) → visible ≡ v → looked ≡ ops
+    → AllByRecursion (IsSound visible) looked × (length looked ≤ max_ops) → (rows : Rows) × Encodes visible looked view rows → IsPrepared visible looked view reported batch
+    → IsMade (record { schema = v; lease = lease; ops = ops; expect = expects view; batch = batch; reported = reported })
+made_from visible v looked ops lease view batch reported same_version same_ops sound some_rows prepared =
+    subst (λ (w : Version). IsMade (record { schema = w; lease = lease; ops = ops; expect = expects view; batch = batch; reported = reported })) same_version
+    (subst (λ (os : List RowOp). IsMade (record { schema = visible; lease = lease; ops = os; expect = expects view; batch = batch; reported = reported })) same_ops (record {
       sound = sound.0;
       few = sound.1;
       view = view;

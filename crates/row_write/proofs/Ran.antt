@@ -9,7 +9,7 @@ use Rattle.byte_map.proofs.Written.{get-written, noted-append, written_here, wri
 use Rattle.keycode.specs.declared.value.Value.{Value}
 use Rattle.keycode.specs.Code.{code}
 use Rattle.keycode.specs.Valid.{IsValue}
-use Rattle.keycode.proofs.ByteOrder.{same_spelling}
+use Rattle.keycode.proofs.ByteOrder.{same_encoding}
 use Rattle.row_map.specs.Rows.{Bytes, RowKey, Cells, Rows}
 use Rattle.row_map.specs.Expect.{View}
 use Rattle.row_map.specs.Writes.{Writes, Batch, written, noted}
@@ -18,24 +18,24 @@ use Rattle.schema_version.specs.Version.{Version}
 use Rattle.schema_version.proofs.Lists.{some_same}
 use Rattle.element_state.specs.Elements.{Change, rows_after}
 use Rattle.element_state.specs.Schemas.{version_writes}
-use Rattle.element_state.specs.Seen.{seen_value}
+use Rattle.element_state.specs.Visible.{visible_value}
 use Rattle.element_state.specs.Versions.{the_kinds, schema_of}
 use Rattle.row_write.specs.declared.op.RowOp.{RowOp}
 use Rattle.row_write.specs.declared.op.RowOp.TheVariants.{Insert, Update, Delete}
 use Rattle.row_write.specs.declared.op.RowOutcome.{RowOutcome}
 use Rattle.row_write.specs.declared.fault.RowFault.{RowFault}
-use Rattle.row_write.specs.Plain.{cell_of, with_cells, table_of, row_of, change_of, change, go_on, applied, told, outcome}
-use Rattle.row_write.specs.Prepare.{IsSpelledRow, Spells, write_on, writes_of, accepted_writes, txn_writes, IsPrepared}
-use Rattle.row_write.specs.Served.{IsServed}
-use Rattle.row_write.specs.Running.{IsStep}
-use Rattle.row_write.proofs.Spelled.{IsSpelledAs, of_row}
-use Rattle.row_write.proofs.Wanted.{SeenAlike, shown, column_shown, same_writes}
+use Rattle.row_write.specs.Plain.{cell_of, with_cells, table_of, row_of, change_of, change, go_on, applied, reported, outcome}
+use Rattle.row_write.specs.Prepare.{IsEncodedRow, Encodes, write_on, writes_of, accepted_writes, txn_writes, IsPrepared}
+use Rattle.row_write.specs.inner.IndexedColumns.{IsServed}
+use Rattle.row_write.specs.inner.Run.{IsStep}
+use Rattle.row_write.proofs.Encoded.{IsEncodedAs, of_row}
+use Rattle.row_write.proofs.Wanted.{VisibleAlike, shown, column_shown, same_writes}
 
 -- ---- one more operation
 
-pub told_more : (v : Version) (rows then : Rows) (ops : List RowOp) (i place : ℕ) (op : RowOp) (b b_then : Batch) (total : Result Rows (ℕ × RowFault)) → i < length ops → op ≡ get_or ops i op → IsStep v rows op (Ok tt) then b b_then
+pub reported_more : (v : Version) (rows then : Rows) (ops : List RowOp) (i place : ℕ) (op : RowOp) (b b_then : Batch) (total : Result Rows (ℕ × RowFault)) → i < length ops → op ≡ get_or ops i op → IsStep v rows op (Ok tt) then b b_then
     → applied place rows (drop i ops) ≡ total → applied (place + 1) then (drop (i + 1) ops) ≡ total
-told_more v rows then ops i place op b b_then total lt is (made, done, rows_is, noted_is) so_far =
+reported_more v rows then ops i place op b b_then total lt is (made, done, rows_is, noted_is) so_far =
     ap (λ (r : Rows). applied (place + 1) r (drop (i + 1) ops)) rows_is
     ∙ sym (ap (λ r. go_on place rows r (λ new. applied (place + 1) new (drop (i + 1) ops))) done)
     ∙ ap (λ (o : RowOp). applied place rows (o ∷ drop (i + 1) ops)) is
@@ -53,34 +53,34 @@ batch_more v rows then ops i op b b_then total lt is (made, done, rows_is, noted
 
 -- ---- rows that agree
 
-module _ (f : ℕ → Bool) (see : ℕ → Option Value → Option Value) where
-  one_of_both : (i : ℕ) (b : Bool) (o p q : Option Value) → see i p ≡ see i q → see i (cond b o p) ≡ see i (cond b o q)
+module _ (f : ℕ → Bool) (as_visible : ℕ → Option Value → Option Value) where
+  one_of_both : (i : ℕ) (b : Bool) (o p q : Option Value) → as_visible i p ≡ as_visible i q → as_visible i (cond b o p) ≡ as_visible i (cond b o q)
   one_of_both i true o p q h = refl
   one_of_both i false o p q h = h
 
-  cells_alike : (named : List (ℕ × Value)) (r s : Cells) → ((i : ℕ) → IsTrue (f i) → see i (get r i) ≡ see i (get s i)) → (i : ℕ) → IsTrue (f i) → see i (get (with_cells r named) i) ≡ see i (get (with_cells s named) i)
+  cells_alike : (named : List (ℕ × Value)) (r s : Cells) → ((i : ℕ) → IsTrue (f i) → as_visible i (get r i) ≡ as_visible i (get s i)) → (i : ℕ) → IsTrue (f i) → as_visible i (get (with_cells r named) i) ≡ as_visible i (get (with_cells s named) i)
   cells_alike [] r s h = h
   cells_alike (x ∷ named) r s h = cells_alike named (written r x.0 (cell_of x.1)) (written s x.0 (cell_of x.1)) (λ i t.
-      ap (see i) (get-written nat_cmp_total nat_cmp-IsAntisymmetric r x.0 (cell_of x.1) i)
+      ap (as_visible i) (get-written nat_cmp_total nat_cmp-IsAntisymmetric r x.0 (cell_of x.1) i)
       ∙ one_of_both i (eq_by_cmp nat_cmp i x.0) (cell_of x.1) (get r i) (get s i) (h i t)
-      ∙ sym (ap (see i) (get-written nat_cmp_total nat_cmp-IsAntisymmetric s x.0 (cell_of x.1) i)))
+      ∙ sym (ap (as_visible i) (get-written nat_cmp_total nat_cmp-IsAntisymmetric s x.0 (cell_of x.1) i)))
 
 -- the same refusal, or changes of one row that agree
 AreSame : (ℕ → Bool) → (ℕ → Option Value → Option Value) → RowKey → Result Change RowFault → Result Change RowFault → Type 0
-AreSame f see key (Ok c) (Ok d) = (c.key ≡ key) × (d.key ≡ key) × SeenAlike f see c.old d.old × SeenAlike f see c.new d.new
-AreSame f see key (Err a) (Err b) = a ≡ b
-AreSame f see key _ _ = ⊥
+AreSame f as_visible key (Ok c) (Ok d) = (c.key ≡ key) × (d.key ≡ key) × VisibleAlike f as_visible c.old d.old × VisibleAlike f as_visible c.new d.new
+AreSame f as_visible key (Err a) (Err b) = a ≡ b
+AreSame f as_visible key _ _ = ⊥
 
-same_change : (f : ℕ → Bool) (see : ℕ → Option Value → Option Value) (o p : Option Cells) (op : RowOp) → SeenAlike f see o p → AreSame f see (row_of op) (change_of o op) (change_of p op)
+same_change : (f : ℕ → Bool) (as_visible : ℕ → Option Value → Option Value) (o p : Option Cells) (op : RowOp) → VisibleAlike f as_visible o p → AreSame f as_visible (row_of op) (change_of o op) (change_of p op)
 unfolding AreSame
-same_change f see None None (Insert table key cells) a = (refl, refl, tt, cells_alike f see cells empty empty (λ i t. refl))
-same_change f see None None (Update table key cells) a = refl
-same_change f see None None (Delete table key) a = refl
-same_change f see (Some r) (Some s) (Insert table key cells) a = refl
-same_change f see (Some r) (Some s) (Update table key cells) a = (refl, refl, a, cells_alike f see cells r s a)
-same_change f see (Some r) (Some s) (Delete table key) a = (refl, refl, a, tt)
-same_change f see None (Some s) op a = absurd a
-same_change f see (Some r) None op a = absurd a
+same_change f as_visible None None (Insert table key cells) a = (refl, refl, tt, cells_alike f as_visible cells empty empty (λ i t. refl))
+same_change f as_visible None None (Update table key cells) a = refl
+same_change f as_visible None None (Delete table key) a = refl
+same_change f as_visible (Some r) (Some s) (Insert table key cells) a = refl
+same_change f as_visible (Some r) (Some s) (Update table key cells) a = (refl, refl, a, cells_alike f as_visible cells r s a)
+same_change f as_visible (Some r) (Some s) (Delete table key) a = (refl, refl, a, tt)
+same_change f as_visible None (Some s) op a = absurd a
+same_change f as_visible (Some r) None op a = absurd a
 
 abbrev no_pair : Option (Option Bytes)
 no_pair = Some None
@@ -94,7 +94,7 @@ not_both e = absurd cc
 module _ (v : Version) (served : IsServed v) where
   -- two rows of the key in which the version sees the same in the public columns of its table
   abbrev AgreeAt : RowKey → Option Cells → Option Cells → Type 0
-  AgreeAt key o p = SeenAlike (shown v key.0) (seen_value v key.0) o p
+  AgreeAt key o p = VisibleAlike (shown v key.0) (visible_value v key.0) o p
 
   abbrev Agree : List RowOp → Rows → Rows → Type 0
   Agree ops work rows = AllByRecursion (λ (op : RowOp). AgreeAt (row_of op) (get work (row_of op)) (get rows (row_of op))) ops
@@ -115,12 +115,12 @@ module _ (v : Version) (served : IsServed v) where
   )
 
   abbrev SameRun : ℕ → List RowOp → Rows → Rows → Type 0
-  SameRun place ops work rows = (told (applied place work ops) ≡ told (applied place rows ops)) × (writes_of v work ops ≡ writes_of v rows ops)
+  SameRun place ops work rows = (reported (applied place work ops) ≡ reported (applied place rows ops)) × (writes_of v work ops ≡ writes_of v rows ops)
 
-  -- behind the answers of one operation on the two rows
+  -- after the answers of one operation on the two rows
   abbrev SameStep : ℕ → List RowOp → Rows → Rows → Result Change RowFault → Result Change RowFault → Type 0
   SameStep place ops work rows a b =
-      (told (go_on place work a (λ new. applied (place + 1) new ops)) ≡ told (go_on place rows b (λ new. applied (place + 1) new ops)))
+      (reported (go_on place work a (λ new. applied (place + 1) new ops)) ≡ reported (go_on place rows b (λ new. applied (place + 1) new ops)))
       × (write_on v work a (λ new. writes_of v new ops) ≡ write_on v rows b (λ new. writes_of v new ops))
 
   ok_same : (ops : List RowOp) (place : ℕ) (work rows : Rows) (key : RowKey) (c d : Change) → Agree ops work rows → ((w r : Rows) → Agree ops w r → SameRun (place + 1) ops w r)
@@ -134,19 +134,19 @@ module _ (v : Version) (served : IsServed v) where
       (rest.0, ap₂ (λ (a b : Writes). a ++ b) (same_writes v served c d same (at c.old d.old old) (at c.new d.new new)) rest.1)
 
   step_same : (ops : List RowOp) (place : ℕ) (work rows : Rows) (key : RowKey) (a b : Result Change RowFault) → Agree ops work rows → ((w r : Rows) → Agree ops w r → SameRun (place + 1) ops w r)
-      → AreSame (shown v key.0) (seen_value v key.0) key a b → SameStep place ops work rows a b
+      → AreSame (shown v key.0) (visible_value v key.0) key a b → SameStep place ops work rows a b
   unfolding AreSame
   step_same ops place work rows key (Ok c) (Ok d) all again (left, right, old, new) = ok_same ops place work rows key c d all again left right old new
-  step_same ops place work rows key (Err x) (Err y) all again s = (ap (λ why. told (go_on place work (Err why) (λ new. applied (place + 1) new ops))) s, refl)
+  step_same ops place work rows key (Err x) (Err y) all again s = (ap (λ why. reported (go_on place work (Err why) (λ new. applied (place + 1) new ops))) s, refl)
   step_same ops place work rows key (Ok c) (Err y) all again s = absurd s
   step_same ops place work rows key (Err x) (Ok d) all again s = absurd s
 
   same_run : (ops : List RowOp) (place : ℕ) (work rows : Rows) → Agree ops work rows → SameRun place ops work rows
   same_run [] place work rows all = (refl, refl)
   same_run (op ∷ ops) place work rows all =
-      step_same ops place work rows (row_of op) (change work op) (change rows op) all.1 (λ w r h. same_run ops (place + 1) w r h) (same_change (shown v (table_of op)) (seen_value v (table_of op)) (get work (row_of op)) (get rows (row_of op)) op all.0)
+      step_same ops place work rows (row_of op) (change work op) (change rows op) all.1 (λ w r h. same_run ops (place + 1) w r h) (same_change (shown v (table_of op)) (visible_value v (table_of op)) (get work (row_of op)) (get rows (row_of op)) op all.0)
 
-  -- ---- rows that one view spells
+  -- ---- rows that one view encodes
 
   value_one : (a b : Option Value) → option_map code a ≡ option_map code b → ((w : Value) → a ≡ Some w → IsValue w) → ((w : Value) → b ≡ Some w → IsValue w) → a ≡ b
   value_one None None e p q = refl
@@ -154,9 +154,9 @@ module _ (v : Version) (served : IsServed v) where
   value_one (Some w) None e p q = absurd (let x : Some (code w) ≡ None = e in cc)
   value_one (Some w) (Some u) e p q =
       let same : code w ≡ code u = some_same e in
-      ap Some (same_spelling w u [] [] (p w refl) (q u refl) (append-nil (code w) ∙ same ∙ sym (append-nil (code u)))).0
+      ap Some (same_encoding w u [] [] (p w refl) (q u refl) (append-nil (code w) ∙ same ∙ sym (append-nil (code u)))).0
 
-  agree_as : (view : View) (key : RowKey) (o p : Option Cells) → IsSpelledAs v view key o → IsSpelledAs v view key p → AgreeAt key o p
+  agree_as : (view : View) (key : RowKey) (o p : Option Cells) → IsEncodedAs v view key o → IsEncodedAs v view key p → AgreeAt key o p
   agree_as view key None None s t = tt
   agree_as view key None (Some r) s t = not_both (sym (s.absent refl) ∙ t.present r refl)
   agree_as view key (Some r) None s t = not_both (sym (t.absent refl) ∙ s.present r refl)
@@ -165,15 +165,15 @@ module _ (v : Version) (served : IsServed v) where
       let a = s.columns i has.0 r has.1 refl in
       let b = t.columns i has.0 u has.1 refl in
       let own : a.own ≡ b.own = value_one a.own b.own (some_same (sym a.held ∙ b.held)) (λ w at. (a.typed w at).1.0) (λ w at. (b.typed w at).1.0) in
-      sym a.same ∙ ap (seen_value v key.0 i) own ∙ b.same
+      sym a.same ∙ ap (visible_value v key.0 i) own ∙ b.same
 
-  agree_all : (view : View) (ops : List RowOp) (work rows : Rows) → AllByRecursion (IsSpelledRow v view work) ops → AllByRecursion (IsSpelledRow v view rows) ops → Agree ops work rows
+  agree_all : (view : View) (ops : List RowOp) (work rows : Rows) → AllByRecursion (IsEncodedRow v view work) ops → AllByRecursion (IsEncodedRow v view rows) ops → Agree ops work rows
   agree_all view [] work rows s t = tt
   agree_all view (op ∷ ops) work rows s t =
       (agree_as view (row_of op) (get work (row_of op)) (get rows (row_of op)) (of_row v view work op s.0) (of_row v view rows op t.0), agree_all view ops work rows s.1 t.1)
 
-  -- what is run on one of the rows that the view spells is right for all of them
-  pub prepared_for_all : (view : View) (ops : List RowOp) (work : Rows) (outcome_is : RowOutcome) (batch : Batch) → Spells v ops view work → outcome_is ≡ outcome work ops → batch ≡ noted empty (txn_writes v work ops) → IsPrepared v ops view outcome_is batch
-  prepared_for_all view ops work outcome_is batch spelled told_is batch_is rows also =
-      let s = same_run ops 0 work rows (agree_all view ops work rows spelled.spelled also.spelled) in
-      (told_is ∙ s.0, batch_is ∙ ap (noted empty) (ap₂ accepted_writes s.0 s.1))
+  -- what is run on one of the rows that the view encodes is right for all of them
+  pub prepared_for_all : (view : View) (ops : List RowOp) (work : Rows) (outcome_is : RowOutcome) (batch : Batch) → Encodes v ops view work → outcome_is ≡ outcome work ops → batch ≡ noted empty (txn_writes v work ops) → IsPrepared v ops view outcome_is batch
+  prepared_for_all view ops work outcome_is batch encoded reported_is batch_is rows also =
+      let s = same_run ops 0 work rows (agree_all view ops work rows encoded.encoded also.encoded) in
+      (reported_is ∙ s.0, batch_is ∙ ap (noted empty) (ap₂ accepted_writes s.0 s.1))

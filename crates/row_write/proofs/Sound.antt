@@ -2,7 +2,7 @@
 use Rattle.std.proofs.Common.{arith}
 use Rattle.schema_version.specs.Version.{Version}
 use Rattle.schema_version.specs.Sound.{IsSoundVersion}
-use Rattle.row_write.specs.Served.{IsServed}
+use Rattle.row_write.specs.inner.IndexedColumns.{IsServed}
 
 pub served_from : (v : Version) → IsSoundVersion v → IsServed v
 served_from v sound = record {

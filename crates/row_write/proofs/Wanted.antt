@@ -20,24 +20,24 @@ use Rattle.schema_version.specs.declared.element.ElementState.TheVariants.{Absen
 use Rattle.schema_version.specs.declared.element.Kind.{Kind}
 use Rattle.schema_version.specs.declared.element.Kind.TheVariants.{Index, Optional, Required}
 use Rattle.schema_version.specs.declared.element.ElementDef.{ElementDef}
-use Rattle.schema_version.specs.Version.{Version, element_at, live, listed, type_of_kind}
+use Rattle.schema_version.specs.Version.{Version, element_at, live, indexed_columns, type_of_kind}
 use Rattle.schema_version.proofs.Lists.{here, later}
 use Rattle.element_state.specs.Elements.{Change, Alike, Meaning}
 use Rattle.element_state.specs.Exists.{exists_by}
-use Rattle.element_state.specs.ExistsLaws.{exists_facts}
+use Rattle.element_state.specs.lemmas.ExistsLaws.{exists_facts}
 use Rattle.element_state.specs.Index.{value_in, indexed}
-use Rattle.element_state.specs.Seen.{seen_value}
-use Rattle.element_state.specs.Sources.{source_in, stand_in_at}
-use Rattle.element_state.proofs.Seen.{stands_for, optional_seen, required_seen}
+use Rattle.element_state.specs.Visible.{visible_value}
+use Rattle.element_state.specs.Sources.{source_in, default_value_at}
+use Rattle.element_state.proofs.Visible.{stands_for, optional_visible, required_visible}
 use Rattle.element_state.proofs.Sources.{lawful_source}
 use Rattle.element_state.specs.Kinds.{kind_meaning, IsLawfulKind, kind_laws}
 use Rattle.element_state.specs.Schemas.{Entry, writes_of, version_writes}
 use Rattle.element_state.specs.Tables.{within}
 use Rattle.element_state.specs.Versions.{ElementKind, meaning_of, the_kinds, entry_of, row_entry, schema_of}
 use Rattle.row_write.specs.Prepare.{HasColumn}
-use Rattle.row_write.specs.Served.{IsServed}
+use Rattle.row_write.specs.inner.IndexedColumns.{IsServed}
 use Rattle.schema_version.specs.Columns.{column_type}
-use Rattle.row_write.specs.Running.{element_writes, live_writes}
+use Rattle.row_write.specs.inner.Run.{element_writes, live_writes}
 use Rattle.row_write.proofs.Columns.{column_says, column_from}
 
 -- ---- the entries of a version
@@ -88,18 +88,18 @@ live_are v (e ∷ es) c h =
 
 -- ---- rows that agree on the public columns of a table
 
--- two rows, or none, in which the same is seen where the test holds
-abbrev pub SeenAlike : (ℕ → Bool) → (ℕ → Option Value → Option Value) → Option Cells → Option Cells → Type 0
-SeenAlike test see None None = Unit {0}
-SeenAlike test see (Some r) (Some s) = (i : ℕ) → IsTrue (test i) → see i (get r i) ≡ see i (get s i)
-SeenAlike test see _ _ = ⊥
+-- two rows, or none, in which the same is visible where the test holds
+abbrev pub VisibleAlike : (ℕ → Bool) → (ℕ → Option Value → Option Value) → Option Cells → Option Cells → Type 0
+VisibleAlike test as_visible None None = Unit {0}
+VisibleAlike test as_visible (Some r) (Some s) = (i : ℕ) → IsTrue (test i) → as_visible i (get r i) ≡ as_visible i (get s i)
+VisibleAlike test as_visible _ _ = ⊥
 
-alike_from : (test : ℕ → Bool) (see : ℕ → Option Value → Option Value) (sees : Cells → List Value) → ((r s : Cells) → ((i : ℕ) → IsTrue (test i) → see i (get r i) ≡ see i (get s i)) → sees r ≡ sees s)
-    → (a b : Option Cells) → SeenAlike test see a b → Alike sees a b
-alike_from test see sees h None None x = tt
-alike_from test see sees h (Some r) (Some s) x = h r s x
-alike_from test see sees h None (Some s) x = absurd x
-alike_from test see sees h (Some r) None x = absurd x
+alike_from : (test : ℕ → Bool) (as_visible : ℕ → Option Value → Option Value) (sees : Cells → List Value) → ((r s : Cells) → ((i : ℕ) → IsTrue (test i) → as_visible i (get r i) ≡ as_visible i (get s i)) → sees r ≡ sees s)
+    → (a b : Option Cells) → VisibleAlike test as_visible a b → Alike sees a b
+alike_from test as_visible sees h None None x = tt
+alike_from test as_visible sees h (Some r) (Some s) x = h r s x
+alike_from test as_visible sees h None (Some s) x = absurd x
+alike_from test as_visible sees h (Some r) None x = absurd x
 
 -- whether the number is one of a public column of the table
 abbrev pub shown : Version → ℕ → ℕ → Bool
@@ -132,15 +132,15 @@ module _ (v : Version) (served : IsServed v) where
   lawful_kind : (n : ℕ) (e : ElementDef) → element_at v n ≡ Some e → IsLawfulKind n (source_in v e.kind)
   lawful_kind n e at = lawful_source v served.fair n (served.first n e at) (served.given n e at) e.kind (served.fair n e at)
 
-  -- rows in which the same is seen in the public columns of a table
-  abbrev SeenSame : ℕ → Cells → Cells → Type 0
-  SeenSame table r s = (i : ℕ) → IsTrue (shown v table i) → seen_value v table i (get r i) ≡ seen_value v table i (get s i)
+  -- rows in which the same is visible in the public columns of a table
+  abbrev VisibleSame : ℕ → Cells → Cells → Type 0
+  VisibleSame table r s = (i : ℕ) → IsTrue (shown v table i) → visible_value v table i (get r i) ≡ visible_value v table i (get s i)
 
-  same_value_in : (table c : ℕ) (r s : Cells) → HasColumn v table c → SeenSame table r s → value_in r (c, stand_in_at v c) ≡ value_in s (c, stand_in_at v c)
+  same_value_in : (table c : ℕ) (r s : Cells) → HasColumn v table c → VisibleSame table r s → value_in r (c, default_value_at v c) ≡ value_in s (c, default_value_at v c)
   same_value_in table c r s has h =
-      sym (stands_for v table c (get r c)) ∙ ap (λ o. unwrap_or o (stand_in_at v c)) (h c (shown_column table c has)) ∙ stands_for v table c (get s c)
+      sym (stands_for v table c (get r c)) ∙ ap (λ o. unwrap_or o (default_value_at v c)) (h c (shown_column table c has)) ∙ stands_for v table c (get s c)
 
-  same_indexed : (table : ℕ) (r s : Cells) (cs : List ℕ) → AllByRecursion (HasColumn v table) cs → SeenSame table r s → indexed (each (λ c. (c, stand_in_at v c)) cs) r ≡ indexed (each (λ c. (c, stand_in_at v c)) cs) s
+  same_indexed : (table : ℕ) (r s : Cells) (cs : List ℕ) → AllByRecursion (HasColumn v table) cs → VisibleSame table r s → indexed (each (λ c. (c, default_value_at v c)) cs) r ≡ indexed (each (λ c. (c, default_value_at v c)) cs) s
   same_indexed table r s [] has h = refl
   same_indexed table r s (c ∷ cs) has h = ap₂ (λ (x : Value) (xs : List Value). x ∷ xs) (same_value_in table c r s has.0 h) (same_indexed table r s cs has.1 h)
 
@@ -149,23 +149,23 @@ module _ (v : Version) (served : IsServed v) where
   all_contained P (x ∷ xs) h = (h x (here x xs), all_contained P xs (λ y there. h y (later x y xs there)))
 
   -- an element writes the same for them
-  sees_same : (n : ℕ) (e : ElementDef) → element_at v n ≡ Some e → (k : Kind) → e.kind ≡ k → (q : ElementState) → e.state ≡ q → (r s : Cells) → SeenSame e.table r s → (kind_meaning n (source_in v k)).sees q r ≡ (kind_meaning n (source_in v k)).sees q s
+  sees_same : (n : ℕ) (e : ElementDef) → element_at v n ≡ Some e → (k : Kind) → e.kind ≡ k → (q : ElementState) → e.state ≡ q → (r s : Cells) → VisibleSame e.table r s → (kind_meaning n (source_in v k)).sees q r ≡ (kind_meaning n (source_in v k)).sees q s
   sees_same n e at (Index columns) is q state r s h =
-      same_indexed e.table r s columns (all_contained (HasColumn v e.table) columns (λ c there. served.columns n e at c (subst (λ k. Contains (listed k) c) (sym is) there))) h
+      same_indexed e.table r s columns (all_contained (HasColumn v e.table) columns (λ c there. served.columns n e at c (subst (λ k. Contains (indexed_columns k) c) (sym is) there))) h
   sees_same n e at (Optional type) is Absent state r s h = refl
   sees_same n e at (Optional type) is DeleteOnly state r s h = refl
   sees_same n e at (Optional type) is WriteOnly state r s h = refl
   sees_same n e at (Optional type) is Public state r s h =
       let shows = shown_column e.table n (type, record { element = e; known = at; home = refl; column = ap type_of_kind is; public = state }) in
-      ap option_to_list (sym (optional_seen v n e type e.table (get r n) at is) ∙ h n shows ∙ optional_seen v n e type e.table (get s n) at is)
+      ap option_to_list (sym (optional_visible v n e type e.table (get r n) at is) ∙ h n shows ∙ optional_visible v n e type e.table (get s n) at is)
   sees_same n e at (Required type fallback) is Absent state r s h = refl
   sees_same n e at (Required type fallback) is DeleteOnly state r s h = refl
   sees_same n e at (Required type fallback) is WriteOnly state r s h = refl
   sees_same n e at (Required type fallback) is Public state r s h =
       let shows = shown_column e.table n (type, record { element = e; known = at; home = refl; column = ap type_of_kind is; public = state }) in
-      ap (λ (x : Value). x ∷ []) (sym (required_seen v n e type fallback e.table (get r n) at is) ∙ ap (λ o. unwrap_or o fallback) (h n shows) ∙ required_seen v n e type fallback e.table (get s n) at is)
+      ap (λ (x : Value). x ∷ []) (sym (required_visible v n e type fallback e.table (get r n) at is) ∙ ap (λ o. unwrap_or o fallback) (h n shows) ∙ required_visible v n e type fallback e.table (get s n) at is)
 
-  module _ (c d : Change) (key : c.key ≡ d.key) (old : SeenAlike (shown v c.key.0) (seen_value v c.key.0) c.old d.old) (new : SeenAlike (shown v c.key.0) (seen_value v c.key.0) c.new d.new) where
+  module _ (c d : Change) (key : c.key ≡ d.key) (old : VisibleAlike (shown v c.key.0) (visible_value v c.key.0) c.old d.old) (new : VisibleAlike (shown v c.key.0) (visible_value v c.key.0) c.new d.new) where
     one_same : (e : ElementDef) → element_at v e.number ≡ Some e → element_writes v e c ≡ element_writes v e d
     one_same e at = by (eqb c.key.0 e.table) refl
       where
@@ -180,10 +180,10 @@ module _ (v : Version) (served : IsServed v) where
         by true p =
             let home : c.key.0 ≡ e.table = eqb-true c.key.0 e.table p in
             let m = kind_meaning e.number (source_in v e.kind) in
-            let sees = λ (r s : Cells) (h : SeenSame c.key.0 r s). sees_same e.number e at e.kind refl e.state refl r s (subst (λ table. SeenSame table r s) home h) in
+            let sees = λ (r s : Cells) (h : VisibleSame c.key.0 r s). sees_same e.number e at e.kind refl e.state refl r s (subst (λ table. VisibleSame table r s) home h) in
             (kind_laws e.table e.number (source_in v e.kind) (lawful_kind e.number e at)).same_writes e.state c d key
-            (alike_from (shown v c.key.0) (seen_value v c.key.0) (m.sees e.state) sees c.old d.old old)
-            (alike_from (shown v c.key.0) (seen_value v c.key.0) (m.sees e.state) sees c.new d.new new)
+            (alike_from (shown v c.key.0) (visible_value v c.key.0) (m.sees e.state) sees c.old d.old old)
+            (alike_from (shown v c.key.0) (visible_value v c.key.0) (m.sees e.state) sees c.new d.new new)
 
     live_same : (es : List (ℕ × ElementDef)) → AllByRecursion (λ (e : ℕ × ElementDef). element_at v e.1.number ≡ Some e.1) es → live_writes v (each (λ (e : ℕ × ElementDef). e.1) es) c ≡ live_writes v (each (λ (e : ℕ × ElementDef). e.1) es) d
     live_same [] h = refl
@@ -191,8 +191,8 @@ module _ (v : Version) (served : IsServed v) where
 
     exists_same : exists_by c.key c.old c.new ≡ exists_by d.key d.old d.new
     exists_same = exists_facts.same_writes Public c d key
-        (alike_from (shown v c.key.0) (seen_value v c.key.0) (λ r. []) (λ r s h. refl) c.old d.old old)
-        (alike_from (shown v c.key.0) (seen_value v c.key.0) (λ r. []) (λ r s h. refl) c.new d.new new)
+        (alike_from (shown v c.key.0) (visible_value v c.key.0) (λ r. []) (λ r s h. refl) c.old d.old old)
+        (alike_from (shown v c.key.0) (visible_value v c.key.0) (λ r. []) (λ r s h. refl) c.new d.new new)
 
     -- changes of rows that agree so write the same
     pub same_writes : version_writes the_kinds (schema_of v) c ≡ version_writes the_kinds (schema_of v) d

@@ -1,3 +1,4 @@
+-- Cited by the contracts of Prepared.
 -- What the fields of a Prepared stand for.
 use Rattle.row_write.specs.declared.prepared.Prepared.TheInside.{Inside}
 use Rattle.row_write.specs.Made.{PreparedTxn, IsMade}
@@ -10,7 +11,7 @@ prepared_of fields =
       ops = fields.ops;
       expect = fields.expect;
       batch = fields.batch;
-      told = fields.told;
+      reported = fields.reported;
     }
 
 abbrev pub IsHeld : Inside → Type 0

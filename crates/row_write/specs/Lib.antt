@@ -4,10 +4,4 @@ pub mod Prepare
 pub mod Made
 pub mod Code
 pub mod Inside
-pub mod Served
-pub mod Deciding
-pub mod Entering
-pub mod Viewing
-pub mod Working
-pub mod RowCode
-pub mod Running
+pub mod inner

@@ -1,3 +1,4 @@
+-- Cited by the contracts of prepare, Prepared, Prepared::lemma_made.
 -- A prepared transaction, as contracts see it.
 use Rattle.std.specs.Prelude.{◌≡◌, ℕ, ◌≤◌, List, length, None, Some, ◌↔◌, Option}
 use Rattle.std.specs.List.{AllByRecursion}
@@ -21,11 +22,11 @@ pub record PreparedTxn : Type 0 where
   pub ops : List RowOp
   pub expect : Expect
   pub batch : Batch
-  pub told : RowOutcome
+  pub reported : RowOutcome
 
 -- what was read is expected again
 abbrev pub expects : View → Expect
-expects view = record { points = view; stretch = None }
+expects view = record { points = view; key_range = None }
 
 -- the operation has none of the faults that preparation looks for
 pub record IsSound (version : Version) (op : RowOp) : Type 0 where
@@ -42,4 +43,4 @@ pub record IsMade (prepared : PreparedTxn) : Type 0 where
   pub view : View
   pub keys : (key : Bytes) → IsRead prepared.schema prepared.ops key ↔ ((value : Option Bytes) × (map.get view key ≡ Some value))
   pub expected : prepared.expect ≡ expects view
-  pub prepared_so : IsPrepared prepared.schema prepared.ops view prepared.told prepared.batch
+  pub prepared_so : IsPrepared prepared.schema prepared.ops view prepared.reported prepared.batch

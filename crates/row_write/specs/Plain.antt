@@ -1,3 +1,4 @@
+-- Cited by the definitions of Checks, Enter, Made, Prepare and 8 more.
 -- A transaction on plain rows.
 use Rattle.std.specs.Prelude.{ℕ, ◌+◌, List, [], ◌∷◌, Option, Some, None, Result, Ok, Err}
 use Rattle.std.specs.FinMap as map
@@ -56,7 +57,7 @@ change_of (Some old) (Delete table key) = Ok (record { key = (table, key); old =
 abbrev pub change : Rows → RowOp → Result Change RowFault
 change rows op = change_of (map.get rows (row_of op)) op
 
--- behind an operation that is accepted the rest goes on; a refused one ends the transaction
+-- after an operation that is accepted the rest goes on; a refused one ends the transaction
 abbrev pub go_on : ℕ → Rows → Result Change RowFault → (Rows → Result Rows (ℕ × RowFault)) → Result Rows (ℕ × RowFault)
 go_on place rows (Ok done) rest = rest (rows_after rows done)
 go_on place rows (Err why) rest = Err (place, why)
@@ -66,13 +67,13 @@ abbrev pub applied : ℕ → Rows → List RowOp → Result Rows (ℕ × RowFaul
 applied place rows [] = Ok rows
 applied place rows (op ∷ ops) = go_on place rows (change rows op) (λ new. applied (place + 1) new ops)
 
-abbrev pub told : Result Rows (ℕ × RowFault) → RowOutcome
-told (Ok new) = Done
-told (Err refusal) = Refused refusal.0 refusal.1
+abbrev pub reported : Result Rows (ℕ × RowFault) → RowOutcome
+reported (Ok new) = Done
+reported (Err refusal) = Refused refusal.0 refusal.1
 
 -- whether a transaction is accepted
 abbrev pub outcome : Rows → List RowOp → RowOutcome
-outcome rows ops = told (applied 0 rows ops)
+outcome rows ops = reported (applied 0 rows ops)
 
 abbrev pub kept : Rows → Result Rows (ℕ × RowFault) → Rows
 kept rows (Ok new) = new

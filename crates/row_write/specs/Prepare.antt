@@ -1,9 +1,10 @@
+-- Cited by the contracts of prepare.
 -- When a transaction can be prepared, and what it then writes.
 use Rattle.std.specs.Prelude.{◌≡◌, ℕ, ◌<◌, List, [], ◌∷◌, ◌++◌, length, Option, Some, None, option_map, Result, Ok, Err, IsTrue, IsNone, ◌⊎◌, ◌↔◌}
 use Rattle.std.specs.List.{AllByRecursion}
 use mathlib.Core.List.{map as each}
 use Rattle.std.specs.FinMap as map
-use Rattle.listed.specs.Refusal.{IsFirst}
+use Rattle.collections.specs.Refusal.{IsFirst}
 use Rattle.keycode.specs.declared.value.Value.{Value}
 use Rattle.keycode.specs.declared.value.Value.TheVariants.{Null}
 use Rattle.keycode.specs.Code.{code}
@@ -19,7 +20,7 @@ use Rattle.schema_version.specs.Moves.{is_distinct}
 use Rattle.element_state.specs.Consistent.{IsKeyFor}
 use Rattle.element_state.specs.Elements.{Change, rows_after}
 use Rattle.element_state.specs.Schemas.{version_writes}
-use Rattle.element_state.specs.Seen.{seen_value}
+use Rattle.element_state.specs.Visible.{visible_value}
 use Rattle.element_state.specs.Versions.{the_kinds, schema_of}
 use Rattle.row_write.specs.declared.op.RowOp.{RowOp}
 use Rattle.row_write.specs.declared.op.RowOutcome.{RowOutcome}
@@ -53,7 +54,7 @@ IsFirstHidden version op column =
     × (¬ (HasColumn version (table_of op) column))
     × AllByRecursion (λ (named : ℕ × Value). HasColumn version (table_of op) named.0) before
 
--- want of memory may come in place of a mismatch
+-- out of memory may come in place of a mismatch
 abbrev pub rank : PrepareFault → ℕ
 rank NoTable = 1
 rank (NotPublic column) = 2
@@ -84,24 +85,25 @@ max_ops = 64
 
 -- What was read at the key of a row's pair of a public column: a value of the type, or none. The version sees the same there as in the
 -- row's cell: it is the cell, but that in a required column the pair, or the cell, may have the default where the other has nothing.
-pub record IsSpelledCell (version : Version) (table number : ℕ) (type : ColumnType) (read : Option (Option Bytes)) (cell : Option Value) : Type 0 where
+pub record IsEncodedCell (version : Version) (table number : ℕ) (type : ColumnType) (read : Option (Option Bytes)) (cell : Option Value) : Type 0 where
   pub own : Option Value
   pub held : read ≡ Some (option_map code own)
   pub typed : (value : Value) → own ≡ Some value → IsTrue (has_type type value) × IsStorable value
-  pub same : seen_value version table number own ≡ seen_value version table number cell
+  pub same : visible_value version table number own ≡ visible_value version table number cell
 
--- the operation's row stands in the view as in the rows: its `exists` pair just where it is there, and its pairs of public columns
-pub record IsSpelledRow (version : Version) (view : View) (rows : Rows) (op : RowOp) : Type 0 where
+-- the operation's row is in the view as in the rows: its `exists` pair exactly when it is there,
+-- and its pairs of public columns
+pub record IsEncodedRow (version : Version) (view : View) (rows : Rows) (op : RowOp) : Type 0 where
   pub absent : map.get rows (row_of op) ≡ None → map.get view (row_code (table_of op) (key_of op) 0) ≡ Some None
   pub present : (cells : Cells) → map.get rows (row_of op) ≡ Some cells → map.get view (row_code (table_of op) (key_of op) 0) ≡ Some (Some [])
   pub no_columns : (number : ℕ) (type : ColumnType) → IsPublicColumn version (table_of op) number type → map.get rows (row_of op) ≡ None → map.get view (row_code (table_of op) (key_of op) number) ≡ Some None
   pub columns : (number : ℕ) (type : ColumnType) (cells : Cells) → IsPublicColumn version (table_of op) number type → map.get rows (row_of op) ≡ Some cells
-      → IsSpelledCell version (table_of op) number type (map.get view (row_code (table_of op) (key_of op) number)) (map.get cells number)
+      → IsEncodedCell version (table_of op) number type (map.get view (row_code (table_of op) (key_of op) number)) (map.get cells number)
 
--- the view has the keys that are read, and spells these rows
-pub record Spells (version : Version) (ops : List RowOp) (view : View) (rows : Rows) : Type 0 where
+-- the view has the keys that are read, and encodes these rows
+pub record Encodes (version : Version) (ops : List RowOp) (view : View) (rows : Rows) : Type 0 where
   pub keys : (key : Bytes) → IsRead version ops key ↔ ((value : Option Bytes) × (map.get view key ≡ Some value))
-  pub spelled : AllByRecursion (IsSpelledRow version view rows) ops
+  pub encoded : AllByRecursion (IsEncodedRow version view rows) ops
 
 -- why a transaction cannot be prepared
 abbrev pub Condition : Version → List RowOp → View → PrepareFault → Type 0
@@ -109,7 +111,7 @@ Condition version ops view NoTable = IsFirstOpFault version ops NoTable
 Condition version ops view (NotPublic column) = IsFirstOpFault version ops (NotPublic column)
 Condition version ops view WrongType = IsFirstOpFault version ops WrongType
 Condition version ops view TooManyOps = max_ops < length ops
-Condition version ops view ViewMismatch = (rows : Rows) → ¬ (Spells version ops view rows)
+Condition version ops view ViewMismatch = (rows : Rows) → ¬ (Encodes version ops view rows)
 Condition version ops view Memory = ⊥
 
 -- ---- what is written
@@ -132,7 +134,7 @@ accepted_writes (Refused op why) writes = []
 abbrev pub txn_writes : Version → Rows → List RowOp → Writes
 txn_writes version rows ops = accepted_writes (outcome rows ops) (writes_of version rows ops)
 
--- outcome and batch are those of the operations on any rows that the reads spell
+-- outcome and batch are those of the operations on any rows that the reads encode
 abbrev pub IsPrepared : Version → List RowOp → View → RowOutcome → Batch → Type 0
-IsPrepared version ops view told batch =
-    (rows : Rows) → Spells version ops view rows → (told ≡ outcome rows ops) × (batch ≡ noted map.empty (txn_writes version rows ops))
+IsPrepared version ops view reported batch =
+    (rows : Rows) → Encodes version ops view rows → (reported ≡ outcome rows ops) × (batch ≡ noted map.empty (txn_writes version rows ops))

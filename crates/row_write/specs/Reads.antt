@@ -1,3 +1,4 @@
+-- Cited by the contracts of reads_of.
 -- What a transaction reads.
 use Rattle.std.specs.Prelude.{◌≡◌, ℕ, List, Contains, ◌⊎◌}
 use Rattle.keycode.specs.declared.value.Value.{Value}

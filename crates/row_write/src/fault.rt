@@ -16,8 +16,8 @@ pub enum RowFault {
     NoRow,
 }
 
-/// Why a transaction cannot be prepared. The first operation with one of the first three faults decides by its lowest;
-/// the others come behind them, in this order.
+/// Why a transaction cannot be prepared. The first operation with one of the first three faults
+/// decides by its lowest; the others come after them, in this order.
 #[derive(Clone, Copy, Debug, PartialEq, Eq, Error)]
 pub enum PrepareFault {
     /// The schema has no such table.
@@ -35,10 +35,10 @@ pub enum PrepareFault {
     /// More than 64 operations.
     #[error("more than 64 operations")]
     TooManyOps,
-    /// The view has other keys than the transaction reads, or its pairs spell no row.
+    /// The view has other keys than the transaction reads, or its pairs encode no row.
     #[error("the view is not what the transaction reads")]
     ViewMismatch,
-    /// Want of memory, which may come in place of ViewMismatch.
+    /// Out of memory, which may come in place of ViewMismatch.
     #[error("out of memory")]
     Memory,
 }

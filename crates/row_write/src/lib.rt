@@ -2,26 +2,26 @@
 //! schema version.
 #![tactic(auto)]
 
-mod checking;
-mod editing;
+mod check;
+mod edit;
 mod fault;
+mod lemmas;
 mod op;
 mod parts;
+mod prepare_txn;
 mod prepared;
-mod preparing;
 mod public_columns;
-mod reading;
+mod read;
 mod reads;
-mod running;
+mod run;
 mod same;
-mod served;
-mod viewing;
-mod working;
-mod writing;
+mod view;
+mod work_rows;
+mod write;
 
 pub use fault::{PrepareFault, RowFault};
 pub use op::{RowOp, RowOps, RowOutcome};
+pub use prepare_txn::prepare;
 pub use prepared::Prepared;
-pub use preparing::prepare;
 pub use reads::reads_of;
 pub use same::are_same_ops;

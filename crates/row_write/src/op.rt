@@ -1,30 +1,30 @@
 //! Operations on rows.
 use crate::fault::RowFault;
+use collections::List;
 use keycode::{Value, Values};
-use listed::Listed;
 
 /// An operation on one row. Tables and columns go by their numbers.
 #[derive(Clone, Drop, PartialEq, Eq)]
 pub enum RowOp {
-    /// A new row, refused where there is a row of this key.
+    /// A new row, refused if there is a row of this key.
     Insert {
         /// The number of the table.
         table: u32,
         /// The primary key's values.
         key: Values,
         /// Columns with their values. Null means having none.
-        cells: Listed<(u32, Value)>,
+        cells: List<(u32, Value)>,
     },
-    /// New values for some columns of a row, refused where there is no row of this key.
+    /// New values for some columns of a row, refused if there is no row of this key.
     Update {
         /// The number of the table.
         table: u32,
         /// The primary key's values.
         key: Values,
         /// Columns with their new values. Null takes the value away.
-        cells: Listed<(u32, Value)>,
+        cells: List<(u32, Value)>,
     },
-    /// The end of a row, refused where there is no row of this key.
+    /// The end of a row, refused if there is no row of this key.
     Delete {
         /// The number of the table.
         table: u32,
@@ -34,7 +34,7 @@ pub enum RowOp {
 }
 
 /// The operations of a transaction. They act in turn, each seeing the ones before.
-pub type RowOps = Listed<RowOp>;
+pub type RowOps = List<RowOp>;
 
 /// What plain rows say to a transaction.
 #[derive(Clone, Copy, PartialEq, Eq)]

@@ -3,8 +3,8 @@ ghost use Rattle.std.specs.Prelude.{◌≡◌, IfOk};
 ghost use Rattle.row_write.specs.Made.{IsMade};
 
 use crate::op::{RowOp, RowOps, RowOutcome};
+use collections::ArcValue;
 use lease::Lease;
-use listed::Counted;
 use row_map::{Batch, Expect};
 use schema_version::Schema;
 use std::alloc::AllocError;
@@ -14,12 +14,12 @@ use std::marker::Model;
 /// it then writes. `prepare` alone makes one, and it can grow as old as it likes.
 #[derive(Drop)]
 pub struct Prepared {
-    pub(crate) schema: Counted<Schema>,
+    pub(crate) schema: ArcValue<Schema>,
     pub(crate) lease: Lease,
     pub(crate) ops: RowOps,
     pub(crate) expect: Expect,
     pub(crate) batch: Batch,
-    pub(crate) told: RowOutcome,
+    pub(crate) reported: RowOutcome,
 }
 
 impl Model for Prepared {
@@ -39,7 +39,7 @@ impl Model for Prepared {
 
 impl Prepared {
     /// The schema version under which it was prepared.
-    pub fn schema(&self) -> &Counted<Schema>
+    pub fn schema(&self) -> &ArcValue<Schema>
         ensures { result.now ≡ self.now.schema }
     {
         &self.schema
@@ -75,12 +75,12 @@ impl Prepared {
 
     /// What the rows say that were read.
     pub fn outcome(&self) -> RowOutcome
-        ensures { result ≡ self.now.told }
+        ensures { result ≡ self.now.reported }
     {
-        self.told
+        self.reported
     }
 
-    /// A copy of its operations, as the log keeps them. Refused for want of memory alone.
+    /// A copy of its operations, as the log keeps them. Refused only when out of memory.
     pub fn ops_copied(&self) -> Result<RowOps, AllocError>
         ensures { IfOk result (λ ops. ops ≡ self.now.ops) }
     {
@@ -88,7 +88,7 @@ impl Prepared {
     }
 
     /// Tells what is known of every prepared transaction.
-    pub fn made(&self)
+    pub fn lemma_made(&self)
         ensures { IsMade self.now }
     {
         let _schema = &self.schema;

@@ -3,11 +3,11 @@ ghost use Rattle.std.specs.Prelude.{◌≡◌, ◌↔◌, Some, IfOk, OnOk};
 ghost use Rattle.std.specs.FinMap as map;
 ghost use Rattle.row_map.specs.Rows.{Bytes as ByteString};
 ghost use Rattle.row_write.specs.Reads.{IsRead};
-ghost use Rattle.row_write.specs.Entering.{entered, column_keys, op_keys, entered_all};
+ghost use Rattle.row_write.specs.inner.Enter.{entered, column_keys, op_keys, entered_all};
 
+use crate::lemmas::lemma_served;
 use crate::op::RowOp;
 use crate::public_columns::columns_of;
-use crate::served::served;
 use byte_map::KeyMap;
 use row_map::{ColumnType, ReadSet, column_key, exists_key};
 use schema_version::Schema;
@@ -56,11 +56,12 @@ fn read_set(alloc: Global, schema: &Schema, ops: &[RowOp]) -> Result<ReadSet, Al
     Ok(set)
 }
 
-/// The keys that a transaction reads: for each operation's row the key of its `exists` pair and those of its pairs for the
-/// public columns of its table. An operation on a table that the schema lacks adds nothing. The only refusal is want of memory.
+/// The keys that a transaction reads: for each operation's row the key of its `exists` pair and
+/// those of its pairs for the public columns of its table. An operation on a table that the schema
+/// lacks adds nothing. The only refusal is running out of memory.
 pub fn reads_of(alloc: Global, schema: &Schema, ops: &[RowOp]) -> Result<ReadSet, AllocError>
     ensures { IfOk result (λ set. (key : ByteString) → (map.get set key ≡ Some tt) ↔ IsRead schema.now ops.now key) }
 {
-    served(schema);
+    lemma_served(schema);
     read_set(alloc, schema, ops)
 }

@@ -3,15 +3,15 @@
 ghost use Rattle.std.specs.Prelude.{◌≡◌, IfOk, [], ◌∷◌};
 ghost use Rattle.keycode.specs.declared.value.Value.TheVariants.{Int};
 
-use crate::making::{G_AND_J_COME, TABLE_T, mark, version};
+use crate::make::{G_AND_J_COME, TABLE_T, mark, version};
 use Operation::{Delete, Insert, Update};
 use byte_map::Bytes;
+use collections::List;
 use element_state::{
     AnyElement, Element, cell, clear_leaves_none, core_keeps, cover_stays, exact_stays,
     fill_covers, nothing_grows, subset_stays, two_versions_stay,
 };
 use keycode::{Text, Value};
-use listed::Listed;
 use row_map::{Batch, ColumnType, Row, Write};
 use schema_version::ElementState::{self, Absent, DeleteOnly, Public, WriteOnly};
 use schema_version::{ElementDef, Kind, Schema, Way};
@@ -21,13 +21,13 @@ use std::test::*;
 /// The pair of the column in row 1: 52, table, key, element.
 const COLUMN: &[u8] = &[0x52, 0, 0, 0, 1, 2, 0x80, 0, 0, 0, 0, 0, 0, 1, 0, 0, 0, 1];
 /// The same of the required column.
-const REQUIRED: &[u8] = &[0x52, 0, 0, 0, 1, 2, 0x80, 0, 0, 0, 0, 0, 0, 1, 0, 0, 0, 3];
+pub(crate) const REQUIRED: &[u8] = &[0x52, 0, 0, 0, 1, 2, 0x80, 0, 0, 0, 0, 0, 0, 1, 0, 0, 0, 3];
 /// The value 5, which is the default too.
-const FIVE: &[u8] = &[2, 0x80, 0, 0, 0, 0, 0, 0, 5];
+pub(crate) const FIVE: &[u8] = &[2, 0x80, 0, 0, 0, 0, 0, 0, 5];
 /// The value 6.
-const SIX: &[u8] = &[2, 0x80, 0, 0, 0, 0, 0, 0, 6];
+pub(crate) const SIX: &[u8] = &[2, 0x80, 0, 0, 0, 0, 0, 0, 6];
 /// The index's pair of row 1 where the value is 5: 58, element, value, key.
-const AT_FIVE: &[u8] = &[
+pub(crate) const AT_FIVE: &[u8] = &[
     0x58, 0, 0, 0, 2, 2, 0x80, 0, 0, 0, 0, 0, 0, 5, 2, 0x80, 0, 0, 0, 0, 0, 0, 1,
 ];
 /// The same where it is 6.
@@ -35,16 +35,16 @@ const AT_SIX: &[u8] = &[
     0x58, 0, 0, 0, 2, 2, 0x80, 0, 0, 0, 0, 0, 0, 6, 2, 0x80, 0, 0, 0, 0, 0, 0, 1,
 ];
 /// The same where there is none: Null is 01.
-const AT_NULL: &[u8] = &[0x58, 0, 0, 0, 2, 1, 2, 0x80, 0, 0, 0, 0, 0, 0, 1];
+pub(crate) const AT_NULL: &[u8] = &[0x58, 0, 0, 0, 2, 1, 2, 0x80, 0, 0, 0, 0, 0, 0, 1];
 
 /// The pairs of the index 6 over the column 1, and of the index 8 over the required column 7.
-const SIX_AT_NULL: &[u8] = &[0x58, 0, 0, 0, 6, 1, 2, 0x80, 0, 0, 0, 0, 0, 0, 1];
+pub(crate) const SIX_AT_NULL: &[u8] = &[0x58, 0, 0, 0, 6, 1, 2, 0x80, 0, 0, 0, 0, 0, 0, 1];
 
-const EIGHT_AT_FIVE: &[u8] = &[
+pub(crate) const EIGHT_AT_FIVE: &[u8] = &[
     0x58, 0, 0, 0, 8, 2, 0x80, 0, 0, 0, 0, 0, 0, 5, 2, 0x80, 0, 0, 0, 0, 0, 0, 1,
 ];
 
-const EIGHT_AT_SIX: &[u8] = &[
+pub(crate) const EIGHT_AT_SIX: &[u8] = &[
     0x58, 0, 0, 0, 8, 2, 0x80, 0, 0, 0, 0, 0, 0, 6, 2, 0x80, 0, 0, 0, 0, 0, 0, 1,
 ];
 
@@ -56,10 +56,11 @@ enum Operation {
     Delete,
 }
 
-/// A key with the value that is put, or none where its pair goes.
+/// A key with the value that is put, or none if its pair goes.
 type Wrote = (&'static [u8], Option<&'static [u8]>);
 
-/// An element, its state, an operation, the value of row 1 in the column before it and behind it, and what it writes for the element.
+/// An element, its state, an operation, the value of row 1 in the column before it and after it,
+/// and what it writes for the element.
 type Case = (
     u32,
     ElementState,
@@ -128,7 +129,7 @@ static REQUIRED_WRITES: [Case; 21] = [
     (3, DeleteOnly, Update, Some(5), Some(6), &[]),
     (3, DeleteOnly, Delete, Some(6), None, &[(REQUIRED, None)]),
     (3, DeleteOnly, Delete, None, None, &[(REQUIRED, None)]),
-    // Where no transaction reads it yet, a row that enters has the default.
+    // If no transaction reads it yet, a row that enters has the default.
     (
         3,
         WriteOnly,
@@ -161,24 +162,29 @@ static REQUIRED_WRITES: [Case; 21] = [
 ];
 
 /// The row of a key, with a value in a column or none.
-fn row(alloc: Global, key: i64, column: u32, value: Option<i64>) -> Result<Row, AllocError>
+pub(crate) fn row(
+    alloc: Global,
+    key: i64,
+    column: u32,
+    value: Option<i64>,
+) -> Result<Row, AllocError>
     ensures { IfOk result (λ r. r.key ≡ Int key ∷ []) }
 {
-    let key = Listed::new(vec![in alloc; Value::Int(key)]?);
+    let key = List::new(vec![in alloc; Value::Int(key)]?);
     let cells = match value {
         None => Vec::new(alloc),
         Some(value) => vec![in alloc; (column, Value::Int(value))]?,
     };
     Ok(Row {
         key,
-        cells: Listed::new(cells),
+        cells: List::new(cells),
     })
 }
 
 fn kind(alloc: Global, number: u32) -> Result<Kind, AllocError> {
     Ok(match number {
         1 => Kind::Optional(ColumnType::Int),
-        2 => Kind::Index(Listed::new(vec![in alloc; 1]?)),
+        2 => Kind::Index(List::new(vec![in alloc; 1]?)),
         _ => Kind::Required {
             column: ColumnType::Int,
             fallback: Value::Int(5),
@@ -187,7 +193,7 @@ fn kind(alloc: Global, number: u32) -> Result<Kind, AllocError> {
 }
 
 /// The column 1, the index 2, or else the required column of this number, without a version.
-fn alone(alloc: Global, number: u32) -> Result<AnyElement, AllocError> {
+pub(crate) fn alone(alloc: Global, number: u32) -> Result<AnyElement, AllocError> {
     let definition = ElementDef {
         number,
         table: 1,
@@ -300,7 +306,7 @@ fn holds_once(alloc: Global, case: &Case) -> Result<bool, AllocError> {
 fn holds(alloc: Global, case: &Case) -> bool {
     match holds_once(alloc, case) {
         Err(AllocError) => holds_once(alloc, case) == Ok(true),
-        told => told == Ok(true),
+        reported => reported == Ok(true),
     }
 }
 
@@ -318,7 +324,7 @@ fn under_refusal_operations(rt: HostRuntime) {
     }
 }
 
-fn are_lawful(element: &AnyElement) {
+pub(crate) fn are_lawful(element: &AnyElement) {
     subset_stays(element);
     exact_stays(element);
     nothing_grows(element);
@@ -327,98 +333,4 @@ fn are_lawful(element: &AnyElement) {
     fill_covers(element);
     clear_leaves_none(element);
     core_keeps();
-}
-
-/// Whether the version has it, an element, the column and row 1's value in it, and the pair with which the row fills the element.
-type Filled = (
-    bool,
-    u32,
-    u32,
-    Option<i64>,
-    Option<(&'static [u8], &'static [u8])>,
-);
-
-static FILLS: [Filled; 12] = [
-    // A column that a row may lack is not filled.
-    (false, 1, 1, Some(5), None),
-    (false, 1, 1, None, None),
-    (false, 2, 1, Some(5), Some((AT_FIVE, &[]))),
-    (false, 2, 1, None, Some((AT_NULL, &[]))),
-    (false, 3, 3, Some(6), Some((REQUIRED, SIX))),
-    (false, 3, 3, None, Some((REQUIRED, FIVE))),
-    // The value in another column is not its own.
-    (false, 3, 1, Some(6), Some((REQUIRED, FIVE))),
-    (true, 6, 1, None, Some((SIX_AT_NULL, &[]))),
-    (true, 8, 7, Some(6), Some((EIGHT_AT_SIX, &[]))),
-    // The default of the column 7 stands in the index over it, where the row has no value.
-    (true, 8, 7, None, Some((EIGHT_AT_FIVE, &[]))),
-    (true, 8, 1, Some(6), Some((EIGHT_AT_FIVE, &[]))),
-    (true, 1, 1, Some(6), None),
-];
-
-fn in_version(alloc: Global, schema: &Schema, number: u32) -> Result<AnyElement, AllocError> {
-    match schema.element(number) {
-        Some(definition) => AnyElement::of(alloc, schema, definition),
-        None => Err(AllocError),
-    }
-}
-
-/// The element of this number in a version, or by itself.
-fn element(alloc: Global, of_version: bool, number: u32) -> Result<AnyElement, AllocError> {
-    if !of_version {
-        return alone(alloc, number);
-    }
-    match version(alloc, &TABLE_T, G_AND_J_COME) {
-        Ok(schema) => in_version(alloc, &schema, number),
-        Err(_) => Err(AllocError),
-    }
-}
-
-/// Whether the row has just this value, in this column.
-fn has_cell(row: &Row, column: u32, value: Option<i64>) -> bool {
-    let same = match (cell(row, column), value) {
-        (Some(Value::Int(found)), Some(value)) => *found == value,
-        (None, None) => true,
-        _ => false,
-    };
-    same && cell(row, 2).is_none()
-}
-
-fn is_pair(pair: &Option<(Bytes, Bytes)>, want: Option<(&[u8], &[u8])>) -> bool {
-    match (pair, want) {
-        (Some(pair), Some((key, value))) => {
-            pair.0.as_slice() == key && pair.1.as_slice() == value
-        }
-        (None, None) => true,
-        _ => false,
-    }
-}
-
-fn fills(alloc: Global, element: &AnyElement, case: &Filled) -> Result<bool, AllocError> {
-    let row = row(alloc, 1, case.2, case.3)?;
-    let pair = element.fill_of(alloc, &row)?;
-    Ok(has_cell(&row, case.2, case.3) && is_pair(&pair, case.4))
-}
-
-/// The element's own number is told, a row's cells are found, and what is filled has the pair that is wanted.
-fn reads(alloc: Global, case: &Filled) -> Result<bool, AllocError> {
-    let element = element(alloc, case.0, case.1)?;
-    are_lawful(&element);
-    Ok(element.number() == case.1 && fills(alloc, &element, case)?)
-}
-
-/// The same, asked once more where memory was short.
-fn reads_at_last(alloc: Global, case: &Filled) -> bool {
-    match reads(alloc, case) {
-        Err(AllocError) => reads(alloc, case) == Ok(true),
-        told => told == Ok(true),
-    }
-}
-
-#[test]
-fn under_refusal_fills_and_cells(rt: HostRuntime) {
-    assert!(rt; mark(&rt));
-    for row in 0..FILLS.len() {
-        assert!(rt; reads_at_last(rt.alloc(), &FILLS[row]), "row {row}");
-    }
 }

@@ -4,7 +4,11 @@
 #[cfg(test)]
 mod elements;
 #[cfg(test)]
-mod making;
+mod fills;
+#[cfg(test)]
+mod make;
+#[cfg(test)]
+mod paths;
 #[cfg(test)]
 mod plans;
 #[cfg(test)]

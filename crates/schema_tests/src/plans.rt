@@ -1,7 +1,7 @@
 //! Plans of small batches, worked out from the edges of columns and indexes.
-use crate::making::Literal::{self, Bool, Int as Whole, Letters, Null};
-use crate::making::Plain::{self, Column, Go, Index, Required, Turn};
-use crate::making::{G_AND_J_COME, Path, TABLE_T, mark, text, texts, value, version};
+use crate::make::Literal::{self, Bool, Int as Whole, Letters, Null};
+use crate::make::Plain::{self, Column, Go, Index, Required, Turn};
+use crate::make::{G_AND_J_COME, Path, TABLE_T, mark, text, texts, value, version};
 use change_plan::Reorg::{Clear, Fill};
 use change_plan::{Change, PlanFault, PlanStep, Reorg, plan};
 use keycode::Value;
@@ -124,7 +124,8 @@ static PLANS: [Case; 15] = [
         &[(DropIndex, "i", b"")],
         Err(PlanFault::InChange),
     ),
-    // The second change of an element is refused, and the fault of what stands behind it is not told.
+    // The second change of an element is refused, and the fault of what stands after it is not
+    // told.
     (
         &[],
         &[
@@ -270,7 +271,8 @@ fn is_value(value: &Value, want: Literal) -> bool {
 fn is_kind(kind: &Kind, want: Plain) -> bool {
     match (kind, want) {
         (Kind::Optional(column), Column(_)) => *column == Int,
-        (Kind::Index(listed), Index(_, columns, _)) => listed.as_slice() == columns,
+        (Kind::Index(indexed_columns), Index(_, columns, _)) => indexed_columns.as_slice()
+            == columns,
         (Kind::Required { column, fallback }, Required(_, wanted, literal, _)) => {
             *column == wanted && is_value(fallback, literal)
         }
@@ -353,7 +355,7 @@ fn holds_once(alloc: Global, case: &Case) -> Result<bool, AllocError> {
 fn holds(alloc: Global, case: &Case) -> bool {
     match holds_once(alloc, case) {
         Err(AllocError) => holds_once(alloc, case) == Ok(true),
-        told => told == Ok(true),
+        reported => reported == Ok(true),
     }
 }
 

@@ -1,7 +1,11 @@
 //! Declarations, steps and readers of a version.
-use crate::making::Literal::{Bool, Int as Whole, Letters, Null};
-use crate::making::Plain::{Column, Go, Index, Required, Turn};
-use crate::making::{FULL, G_AND_J_COME, Path, PlainTable, TABLE_T, mark, version};
+use crate::make::Literal::{Bool, Int as Whole, Letters, Null};
+use crate::make::Plain::{Column, Go, Index, Required, Turn};
+use crate::make::{FULL, G_AND_J_COME, Path, PlainTable, TABLE_T, mark, version};
+use crate::paths::{
+    E_COMES_BACK, G_COMES_AND_GOES, G_TURNS_BACK, I_COMES_BACK, I_LEAVES, J_COMES_AND_GOES,
+    J_STANDS_OVER_G, J_TURNS_BACK,
+};
 use row_map::ColumnType::{self, Int, Text};
 use row_map::TableShape;
 use schema_version::ElementState::{self, Absent, DeleteOnly, Public, WriteOnly};
@@ -31,58 +35,6 @@ use Ask::{Number, Numbers as Numbered, Refused, Shape};
 type Case = (PlainTable, Path, Ask);
 
 const ONE: &[u32] = &[1];
-
-const I_LEAVES: Path = &[&[Go(6, WriteOnly)], &[Go(6, DeleteOnly)], &[Go(6, Absent)]];
-
-const I_COMES_BACK: Path = &[
-    &[Go(6, WriteOnly)],
-    &[Go(6, DeleteOnly)],
-    &[Go(6, Absent)],
-    &[Index("i", ONE, DeleteOnly)],
-];
-
-const J_COMES_AND_GOES: Path = &[
-    &[Index("j", ONE, DeleteOnly)],
-    &[Go(7, WriteOnly)],
-    &[Go(7, Public)],
-    &[Go(7, WriteOnly)],
-    &[Go(7, DeleteOnly)],
-    &[Go(7, Absent)],
-];
-
-const J_TURNS_BACK: Path = &[
-    &[Index("j", ONE, DeleteOnly)],
-    &[Go(7, WriteOnly)],
-    &[Turn(7)],
-    &[Go(7, DeleteOnly)],
-    &[Go(7, Absent)],
-];
-
-const E_COMES_BACK: Path = &[&[Go(5, DeleteOnly)], &[Go(5, Absent)], &[Column("e")]];
-
-const G_TURNS_BACK: Path = &[
-    &[Required("g", Int, Whole(5), DeleteOnly)],
-    &[Go(7, WriteOnly)],
-    &[Turn(7)],
-    &[Go(7, Public)],
-];
-
-const G_COMES_AND_GOES: Path = &[
-    &[Required("g", Int, Whole(5), DeleteOnly)],
-    &[Go(7, WriteOnly)],
-    &[Go(7, Public)],
-    &[Go(7, WriteOnly)],
-    &[Go(7, DeleteOnly)],
-    &[Go(7, Absent)],
-];
-
-const J_STANDS_OVER_G: Path = &[
-    &[Required("g", Int, Whole(5), DeleteOnly)],
-    &[Go(7, WriteOnly)],
-    &[Go(7, Public)],
-    &[Index("j", &[7], DeleteOnly)],
-    &[Go(7, WriteOnly)],
-];
 
 static REFUSED: [Case; 24] = [
     (
@@ -399,7 +351,7 @@ fn holds_once(alloc: Global, case: &Case) -> Answer {
 fn holds(alloc: Global, case: &Case) -> bool {
     match holds_once(alloc, case) {
         Err(AllocError) => holds_once(alloc, case) == Ok(true),
-        told => told == Ok(true),
+        reported => reported == Ok(true),
     }
 }
 

@@ -17,11 +17,11 @@ use Rattle.schema_version.specs.declared.element.NewElement.{NewElement}
 use Rattle.schema_version.specs.declared.step.Move.{Move}
 use Rattle.schema_version.specs.declared.step.Move.TheVariants.{Enter, Go, Turn}
 use Rattle.schema_version.specs.declared.step.StepFault.TheVariants.{Unknown, NotAdjacent, Dependent, NameTaken, Limit}
-use Rattle.schema_version.specs.Version.{Version, table_at, element_at, state_of, state_or_absent, live, is_index, is_like, is_public, listed, IsLiveColumn, IsPublicColumn, count_live, type_of_kind}
+use Rattle.schema_version.specs.Version.{Version, table_at, element_at, state_of, state_or_absent, live, is_index, is_like, is_public, indexed_columns, IsLiveColumn, IsPublicColumn, count_live, type_of_kind}
 use Rattle.schema_version.specs.Edges.{edge, HasEdge, edge_by, is_filled}
 use Rattle.schema_version.specs.Moves.{as_element, in_state, moved, turned_back, turned, after_move, after_step, is_move_of, moves_element, is_unready, is_entry, is_entry_like, count_like, IsFirstSuch, IsIndexOn, IsLeastIndexOn, IsWithinLimits, IsAllowed}
 use Rattle.schema_version.specs.Steps.{IsOrdered, in_state_or_none}
-use Rattle.schema_version.specs.Deciding.{Answer, step_check, lists, is_column_of, is_within_limits}
+use Rattle.schema_version.specs.Checks.{Answer, step_check, lists, is_column_of, is_within_limits}
 use Rattle.schema_version.specs.Sound.{IsSoundVersion}
 use Rattle.schema_version.proofs.Entries.{tells}
 use Rattle.schema_version.proofs.Lists.{here, some_same, not_both, any_from, find_first, none_in}
@@ -30,9 +30,9 @@ use Rattle.schema_version.proofs.Changes.{moved_here, moved_apart, moved_next, t
 use Rattle.schema_version.proofs.Decides.{AreNumbered, least, listing, column_is, within, column_depends}
 use Rattle.schema_version.proofs.Declared.{any_append}
 use Rattle.schema_version.proofs.Steps.{truly, step_allowed}
-use Rattle.schema_version.proofs.Stepping.{split_at, not_true, some_edge, adding_to_public, edge_to, is_live, clear, is_live_back, not_before, own_way, may_turn}
+use Rattle.schema_version.proofs.StepEffects.{split_at, not_true, some_edge, adding_to_public, edge_to, is_live, clear, is_live_back, not_before, own_way, may_turn}
 use Rattle.schema_version.proofs.Counts.{count_insert}
-use Rattle.schema_version.proofs.Keeping.{MayEnter, enter_sound, moved_sound, moved_count, turned_sound, turned_count}
+use Rattle.schema_version.proofs.Keeps.{MayEnter, enter_sound, moved_sound, moved_count, turned_sound, turned_count}
 
 or_false : (a b : Bool) → (a || b) ≡ false → (a ≡ false) × (b ≡ false)
 or_false false b e = (refl, e)
@@ -139,9 +139,9 @@ module _ (v : Version) (step : List Move) (sound : IsSoundVersion v) (allowed : 
       (or_false (moves_element earlier n) (moves_element rest n) (sym (any_append (is_move_of n) earlier rest) ∙ ap (λ l. moves_element l n) (sym split) ∙ still)).0
 
   -- the columns of an index that enters are public and don't move
-  pub ready : (earlier later : List Move) (fresh : NewElement) (to : ElementState) → step ≡ earlier ++ Enter fresh to ∷ later → (c : ℕ) → Contains (listed fresh.kind) c → (is_public (state_of v c) ≡ true) × (moves_element step c ≡ false)
+  pub ready : (earlier later : List Move) (fresh : NewElement) (to : ElementState) → step ≡ earlier ++ Enter fresh to ∷ later → (c : ℕ) → Contains (indexed_columns fresh.kind) c → (is_public (state_of v c) ≡ true) × (moves_element step c ≡ false)
   ready earlier later fresh to split c there =
-      let none = all_ready (is_unready v step) (listed fresh.kind) (λ on first. allowed earlier later (Enter fresh to) (Dependent on) split first) c there in
+      let none = all_ready (is_unready v step) (indexed_columns fresh.kind) (λ on first. allowed earlier later (Enter fresh to) (Dependent on) split first) c there in
       let both = or_false (not (is_public (state_of v c))) (moves_element step c) none in
       (not_not (is_public (state_of v c)) both.0, both.1)
     where
@@ -150,7 +150,7 @@ module _ (v : Version) (step : List Move) (sound : IsSoundVersion v) (allowed : 
       not_not false e = cc
 
   columns_public : (earlier later : List Move) (fresh : NewElement) (to : ElementState) → step ≡ earlier ++ Enter fresh to ∷ later → (u : Version) → Along v earlier u
-      → (c : ℕ) → Contains (listed fresh.kind) c → IsPublicColumn u fresh.table c
+      → (c : ℕ) → Contains (indexed_columns fresh.kind) c → IsPublicColumn u fresh.table c
   columns_public earlier later fresh to split u along c there =
       let is : IsLiveColumn v fresh.table c = truly (is_column_of fresh.table (element_at v c)) (column_is v fresh.table c) (λ strange. allowed earlier later (Enter fresh to) Unknown split (inr (c, there, strange))) in
       let r = ready earlier later fresh to split c there in (
@@ -214,7 +214,7 @@ module _ (v : Version) (step : List Move) (sound : IsSoundVersion v) (allowed : 
 
   -- no index lists a column that moves
   not_listed : (earlier later : List Move) (n : ℕ) (to : ElementState) (e : ElementDef) → step ≡ earlier ++ Go n to ∷ later → element_at v n ≡ Some e → (u : Version) → Along v earlier u → element_at u n ≡ Some e
-      → (m : ℕ) (index : ElementDef) → element_at u m ≡ Some index → ¬ (Contains (listed index.kind) n)
+      → (m : ℕ) (index : ElementDef) → element_at u m ≡ Some index → ¬ (Contains (indexed_columns index.kind) n)
   not_listed earlier later n to e split at u along now m x at_m there = by (along.from m x at_m)
     where
       column : IsPublicColumn u x.table n
@@ -225,12 +225,12 @@ module _ (v : Version) (step : List Move) (sound : IsSoundVersion v) (allowed : 
 
       by : From v earlier m x → ⊥
       by (Old d at_d table name kind) =
-          let least = least_there v n m numbered (d, at_d, subst (λ k. Contains (listed k) n) kind there) in
+          let least = least_there v n m numbered (d, at_d, subst (λ k. Contains (indexed_columns k) n) kind there) in
           clear v step allowed earlier later n to e (Dependent least.0) split at (column_depends v step n e.kind column.1 least.0 type least.1)
       by (New fresh t among table name kind) =
           let s = split_at earlier (Enter fresh t) among in
           let whole : step ≡ s.0 ++ Enter fresh t ∷ (s.1 ++ Go n to ∷ later) = split ∙ ap (λ l. l ++ Go n to ∷ later) s.2 ∙ append_assoc s.0 (Enter fresh t ∷ s.1) (Go n to ∷ later) in
-          let still = (ready s.0 (s.1 ++ Go n to ∷ later) fresh t whole n (subst (λ k. Contains (listed k) n) kind there)).1 in
+          let still = (ready s.0 (s.1 ++ Go n to ∷ later) fresh t whole n (subst (λ k. Contains (indexed_columns k) n) kind there)).1 in
           let moves : Contains step (Go n to) = subst (λ l. Contains l (Go n to)) (sym split) (Contains-append_right earlier (Go n to ∷ later) (Go n to) (here (Go n to) later)) in
           not_both (any_from (is_move_of n) step (Go n to) moves ((Decides-eqb n n).1 refl)) still
 
@@ -266,7 +266,7 @@ module _ (v : Version) (step : List Move) (sound : IsSoundVersion v) (allowed : 
   along_turned earlier later n e split at u along now =
       let private = (may_turn v step allowed earlier later n e split at).0 in
       let own : e.number ≡ n = (along.sound.elements n e now).own in
-      let unlisted : (m : ℕ) (index : ElementDef) → element_at u m ≡ Some index → ¬ (Contains (listed index.kind) n)
+      let unlisted : (m : ℕ) (index : ElementDef) → element_at u m ≡ Some index → ¬ (Contains (indexed_columns index.kind) n)
       = λ m index at_m there. (let column = (along.sound.elements m index at_m).columns n there in private (ap (λ (y : ElementDef). y.state) (some_same (sym now ∙ column.2)) ∙ column.5)) in
       record {
         sound = turned_sound u n e along.sound now unlisted private;

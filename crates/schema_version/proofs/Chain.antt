@@ -2,11 +2,11 @@
 use Rattle.std.proofs.Common.{◌≡◌, ℕ, ◌+◌, ◌<◌, Bool, true, false, Option, Some, None, Ok, Err, inl, inr, refl, arith, if◌then◌else◌}
 use Rattle.std.specs.Bool.{Decides}
 use Rattle.std.proofs.lemmas.Bool.Decides.{eqb_tells}
-use Rattle.listed.specs.Refusal.{IsFirst}
+use Rattle.collections.specs.Refusal.{IsFirst}
 use Rattle.schema_version.specs.declared.step.StepFault.{StepFault}
 use Rattle.schema_version.specs.declared.step.StepFault.TheVariants.{Unknown, NotAdjacent, WrongWay, Dependent, NameTaken, Limit, Memory}
 use Rattle.schema_version.specs.Moves.{rank}
-use Rattle.schema_version.specs.Deciding.{Answer, unless}
+use Rattle.schema_version.specs.Checks.{Answer, unless}
 
 -- a search that finds what there is
 abbrev pub Finds : Option ℕ → (ℕ → Type 0) → Type 0

@@ -27,10 +27,10 @@ use Rattle.schema_version.specs.declared.step.Move.TheVariants.{Enter, Go, Turn}
 use Rattle.schema_version.specs.declared.step.StepFault.{StepFault}
 use Rattle.schema_version.specs.declared.step.StepFault.TheVariants.{Unknown}
 use Rattle.schema_version.specs.Names.{IsName, is_name, is_letter, is_word_byte, max_listed, max_elements}
-use Rattle.schema_version.specs.Version.{Version, Table, table_at, element_at, live, is_index, is_public, is_column, is_named, listed, type_of_kind, IsLiveColumn}
+use Rattle.schema_version.specs.Version.{Version, Table, table_at, element_at, live, is_index, is_public, is_column, is_named, indexed_columns, type_of_kind, IsLiveColumn}
 use Rattle.schema_version.specs.Moves.{moves_element, HasNoEdge, is_unready, is_distinct, count_like, max_like, is_entry, DependsOn, IsFirstSuch, IsLeastIndexOn, IsTaken, Enters, IsFairKind, IsWithinLimits, GoFault, GoFaultAt, TurnFault, TurnFaultAt, MoveFault, rank}
 use Rattle.schema_version.specs.Edges.{edge}
-use Rattle.schema_version.specs.Deciding.{has_no_edge, lists, stands_against, go_check, go_check_at, is_dropping, turn_check, turn_check_at, enter_check, move_check, is_column_of, are_columns_of, has_key_column, is_entry_named, is_taken, is_fair_kind, is_within_limits}
+use Rattle.schema_version.specs.Checks.{has_no_edge, lists, stands_against, go_check, go_check_at, is_dropping, turn_check, turn_check_at, enter_check, move_check, is_column_of, are_columns_of, has_key_column, is_entry_named, is_taken, is_fair_kind, is_within_limits}
 use Rattle.schema_version.proofs.Lists.{any_says, any_from, all_says, all_fails, find_first, find_none, some_same, not_both}
 use Rattle.schema_version.proofs.Live.{IsLeast, first_is_least, none_passes, element_at-lookup, live_has, live_from}
 use Rattle.schema_version.proofs.Chain.{Finds, Says, chain_says}
@@ -135,7 +135,7 @@ word (c ∷ cs) =
     (λ (first, rest, short). (short, (first, rest)))
     (Decides-and (nat_le (length (c ∷ cs)) 32) (is_letter c && list_all is_word_byte cs) (at_most (length (c ∷ cs)) 32) (Decides-and (is_letter c) (list_all is_word_byte cs) (itself (is_letter c)) (itself (list_all is_word_byte cs))))
 
--- a value of the program is told by its test
+-- a value of the program is reported by its test
 in_word : (n : ℤ) → Decides (has_word n) (FitsSigned w64 n)
 in_word (pos n) = Decides-like (nat_lt n (2 ^ 63)) (λ lt. record { sfits = lt }) (λ f. f.sfits) (Decides-ltb n (2 ^ 63))
 in_word (negsuc n) = Decides-like (nat_lt n (2 ^ 63)) (λ lt. record { sfits = lt }) (λ f. f.sfits) (Decides-ltb n (2 ^ 63))
@@ -180,10 +180,10 @@ no_way (Some way) = (λ e. cc, λ e. cc)
 no_edge : (k : Kind) (from to : ElementState) → Decides (has_no_edge k from to) (HasNoEdge k from to)
 no_edge k from to = Decides-and (not (is_some (edge k Adding from to))) (not (is_some (edge k Dropping from to))) (no_way (edge k Adding from to)) (no_way (edge k Dropping from to))
 
-pub listing : (n : ℕ) (e : ElementDef) → Decides (lists n e) (Contains (listed e.kind) n)
+pub listing : (n : ℕ) (e : ElementDef) → Decides (lists n e) (Contains (indexed_columns e.kind) n)
 listing n e = (
-  λ p. (let r = any_says (◌==◌ n) (listed e.kind) p in subst (Contains (listed e.kind)) (sym ((Decides-eqb n r.0).0 r.2)) r.1),
-  λ there. any_from (◌==◌ n) (listed e.kind) n there ((Decides-eqb n n).1 refl),
+  λ p. (let r = any_says (◌==◌ n) (indexed_columns e.kind) p in subst (Contains (indexed_columns e.kind)) (sym ((Decides-eqb n r.0).0 r.2)) r.1),
+  λ there. any_from (◌==◌ n) (indexed_columns e.kind) n there ((Decides-eqb n n).1 refl),
 )
 
 pub least : (v : Version) (n : ℕ) → AreNumbered v → (o : Option ElementDef) → find (lists n) (live v) ≡ o → Finds (option_map (λ (e : ElementDef). e.number) o) (IsLeastIndexOn v n)
@@ -241,12 +241,12 @@ turn_says earlier n e =
 
 pub enter_says : (v : Version) (step earlier : List Move) (fresh : NewElement) (to : ElementState) → Says (MoveFault v step earlier (Enter fresh to)) (enter_check v step earlier fresh to)
 enter_says v step earlier fresh to =
-    chain_says (MoveFault v step earlier (Enter fresh to)) (not (is_some (table_at v fresh.table)) || not (are_columns_of v fresh.table (listed fresh.kind))) (has_no_edge fresh.kind Absent to) false (find (is_unready v step) (listed fresh.kind)) (is_taken v earlier fresh.table fresh.name) (not (is_within_limits v earlier fresh))
+    chain_says (MoveFault v step earlier (Enter fresh to)) (not (is_some (table_at v fresh.table)) || not (are_columns_of v fresh.table (indexed_columns fresh.kind))) (has_no_edge fresh.kind Absent to) false (find (is_unready v step) (indexed_columns fresh.kind)) (is_taken v earlier fresh.table fresh.name) (not (is_within_limits v earlier fresh))
     (record {
-      unknown = Decides-or (not (is_some (table_at v fresh.table))) (not (are_columns_of v fresh.table (listed fresh.kind))) (is_false (is_some (table_at v fresh.table))) (strange_column v fresh.table (listed fresh.kind));
+      unknown = Decides-or (not (is_some (table_at v fresh.table))) (not (are_columns_of v fresh.table (indexed_columns fresh.kind))) (is_false (is_some (table_at v fresh.table))) (strange_column v fresh.table (indexed_columns fresh.kind));
       not_adjacent = no_edge fresh.kind Absent to;
       wrong_way = never;
-      dependent = Finds-first (is_unready v step) (listed fresh.kind) (find (is_unready v step) (listed fresh.kind)) refl;
+      dependent = Finds-first (is_unready v step) (indexed_columns fresh.kind) (find (is_unready v step) (indexed_columns fresh.kind)) refl;
       taken = taken v earlier fresh.table fresh.name;
       limit = Decides-not (is_within_limits v earlier fresh) (within v earlier fresh);
       memory = λ h. h;

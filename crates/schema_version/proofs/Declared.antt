@@ -6,8 +6,8 @@ use Rattle.std.specs.List.{list_any, list_all, AllByRecursion}
 use Rattle.std.proofs.lemmas.Bool.Decides.{Decides-and}
 use Rattle.schema_version.specs.declared.table.TableDef.{TableDef}
 use Rattle.schema_version.specs.Names.{IsName, is_name, is_among, is_distinct, max_tables, max_key_columns, max_columns, max_indexes, max_listed}
-use Rattle.schema_version.specs.Declaring.{names_of, IsLawfulIndex, IsLawfulTable, IsLawful}
-use Rattle.schema_version.specs.Accepting.{names_in, are_apart, has_fair_sizes, has_names, has_own_names, has_names_apart, is_lawful_list, has_lawful_lists, is_lawful_table, table_names, are_lawful}
+use Rattle.schema_version.specs.Declare.{names_of, IsLawfulIndex, IsLawfulTable, IsLawful}
+use Rattle.schema_version.specs.inner.AcceptTables.{names_in, are_apart, has_fair_sizes, has_names, has_own_names, has_names_apart, is_lawful_list, has_lawful_lists, is_lawful_table, table_names, are_lawful}
 use Rattle.schema_version.proofs.Decides.{word, at_most, itself}
 use Rattle.schema_version.proofs.Lists.{not_both}
 

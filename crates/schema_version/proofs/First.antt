@@ -7,7 +7,7 @@ use Rattle.schema_version.specs.declared.element.ElementDef.{ElementDef}
 use Rattle.schema_version.specs.declared.table.TableDef.{TableDef}
 use Rattle.schema_version.specs.Version.{Version, Table}
 use Rattle.schema_version.specs.Held.{holding}
-use Rattle.schema_version.specs.Declaring.{table_of, enter_tables, declared}
+use Rattle.schema_version.specs.Declare.{table_of, enter_tables, declared}
 use Rattle.schema_version.proofs.Maps.{entries-empty}
 
 nothing : ◌≡◌ {A = map.FinMap nat_cmp ElementDef} (map.from_sorted []) map.empty

@@ -18,7 +18,7 @@ module _ {X : Type 0} where
   at_head : (q : ℕ) (e : ℕ × X) (es : List (ℕ × X)) (x : X) → nat_eq q e.0 ≡ true → lookup (nat_eq q) (e ∷ es) ≡ Some x → e.1 ≡ x
   at_head q e es x p found = some_same (sym (ap (λ b. cond b (Some e.1) (lookup (nat_eq q) es)) p) ∙ found)
 
-  -- what is above the head is found behind it
+  -- what is above the head is found after it
   behind : (q : ℕ) (e : ℕ × X) (es : List (ℕ × X)) (x : X) → e.0 < q → lookup (nat_eq q) es ≡ Some x → lookup (nat_eq q) (e ∷ es) ≡ Some x
   behind q e es x up found =
       elim (tells q e.0) [

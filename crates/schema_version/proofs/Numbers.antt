@@ -7,7 +7,7 @@ use Rattle.std.specs.Ordering.{nat_cmp}
 use Rattle.std.specs.Cmp.{nat_cmp_total}
 use Rattle.std.specs.FinMap.Entries.{find, put}
 use Rattle.std.proofs.lemmas.Bool.Decides.{eqb_tells, leb_tells}
-use Rattle.listed.specs.Refusal.{IsFirst}
+use Rattle.collections.specs.Refusal.{IsFirst}
 use Rattle.schema_version.specs.declared.element.ElementState.TheVariants.{DeleteOnly}
 use Rattle.schema_version.specs.declared.element.ElementDef.{ElementDef}
 use Rattle.schema_version.specs.declared.step.Move.{Move}
@@ -16,11 +16,11 @@ use Rattle.schema_version.specs.declared.step.StepFault.TheVariants.{Limit}
 use Rattle.schema_version.specs.Version.{Version, element_at, is_like}
 use Rattle.schema_version.specs.Sound.{IsSoundVersion}
 use Rattle.schema_version.specs.Moves.{MoveFault, IsAllowed, IsRefused, after_step, as_element, is_entry, rank}
-use Rattle.schema_version.specs.Deciding.{step_check}
+use Rattle.schema_version.specs.Checks.{step_check}
 use Rattle.schema_version.specs.Numbers.{bare, column_a, entry_of_a, LastIsGiven, NoneIsLeft, NumbersEnd}
 use Rattle.schema_version.proofs.Maps.{entries-empty}
 use Rattle.schema_version.proofs.Decides.{AreNumbered}
-use Rattle.schema_version.proofs.Beginning.{nothing_yet}
+use Rattle.schema_version.proofs.DeclaredSound.{nothing_yet}
 use Rattle.schema_version.proofs.Steps.{step_allowed, step_refused, step_numbers}
 
 get_element : (m : map.FinMap nat_cmp ElementDef) (q : ℕ) → map.get m q ≡ find nat_cmp q (map.entries m)

@@ -6,13 +6,13 @@ use Rattle.std.proofs.lemmas.List.Sums.{sum_by-cons, sum_by-append}
 use Rattle.schema_version.specs.declared.step.Move.TheVariants.{Enter, Go, Turn}
 use Rattle.schema_version.specs.declared.step.StepFault.TheVariants.{Limit}
 use Rattle.schema_version.specs.Names.{max_elements}
-use Rattle.listed.specs.Answers.{◌>>>=◌}
+use Rattle.collections.specs.Answers.{◌>>>=◌}
 use Rattle.schema_version.specs.declared.step.Move.{Move}
 use Rattle.schema_version.specs.declared.step.StepFault.{StepFault}
 use Rattle.schema_version.specs.Version.{Version}
 use Rattle.schema_version.specs.Moves.{MoveFault, IsAllowed, IsRefused, IsWithinLimits, is_entry, rank}
-use Rattle.listed.specs.Refusal.{IsFirst}
-use Rattle.schema_version.specs.Deciding.{Answer, move_check, moves_check, step_check, is_within_limits}
+use Rattle.collections.specs.Refusal.{IsFirst}
+use Rattle.schema_version.specs.Checks.{Answer, move_check, moves_check, step_check, is_within_limits}
 use Rattle.schema_version.proofs.Chain.{Says}
 use Rattle.schema_version.proofs.Decides.{AreNumbered, move_says, within}
 
@@ -21,14 +21,14 @@ pub truly : {P : Type 0} (b : Bool) → Decides b P → ¬ (¬ P) → P
 truly true d h = d.0 refl
 truly false d h = absurd (h (λ p. let wrong : false ≡ true = d.1 p in cc))
 
--- no move of a list has a fault, behind these earlier ones
+-- no move of a list has a fault, after these earlier ones
 NoneFaulty : Version → List Move → List Move → List Move → Type 0
 NoneFaulty v step earlier moves = (before after : List Move) (m : Move) (fault : StepFault) → moves ≡ before ++ m ∷ after → ¬ (MoveFault v step (earlier ++ before) m fault)
 
 heads : {X : Type 0} {x y : X} {xs ys : List X} → x ∷ xs ≡ y ∷ ys → (x ≡ y) × (xs ≡ ys)
 heads e = (cc, cc)
 
--- a move in front that has none either
+-- a move in start that has none either
 one_more : (v : Version) (step earlier moves : List Move) (m : Move) → ((fault : StepFault) → ¬ (MoveFault v step earlier m fault)) → NoneFaulty v step (earlier ++ m ∷ []) moves → NoneFaulty v step earlier (m ∷ moves)
 unfolding NoneFaulty
 one_more v step earlier moves m clear rest [] after a fault split h =
@@ -46,7 +46,7 @@ record IsRefusedBehind (v : Version) (step earlier moves : List Move) (fault : S
   first : NoneFaulty v step earlier before
   lowest : IsFirst rank (MoveFault v step (earlier ++ before) move) fault
 
--- what the tests answer of the moves behind these earlier ones
+-- what the tests answer of the moves after these earlier ones
 Outcome : Version → List Move → List Move → List Move → Answer → Type 0
 Outcome v step earlier moves (Ok done) = NoneFaulty v step earlier moves
 Outcome v step earlier moves (Err fault) = IsRefusedBehind v step earlier moves fault

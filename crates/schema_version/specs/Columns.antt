@@ -1,3 +1,4 @@
+-- Cited by the contracts of public_column_type.
 -- The columns that transactions read.
 use Rattle.std.specs.Prelude.{ℕ, List, Bool, ◌&&◌, ◌==◌, Option, Some, None}
 use Rattle.std.specs.List.{find}

@@ -1,3 +1,4 @@
+-- Cited by the definitions of Checks.
 -- Which values may be the default of a required column.
 use Rattle.std.specs.Prelude.{◌^◌, ℤ, pos, negsuc, Bool, true, nat_lt}
 use Rattle.std.specs.Str.{is_utf8}

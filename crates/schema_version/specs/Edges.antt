@@ -1,3 +1,4 @@
+-- Cited by the contracts of edge, needed_work, ElementDef::wanted_work, Kind::is_filled.
 -- The edges between the states of an element, and what a move along one of them needs.
 use Rattle.std.specs.Prelude.{◌≡◌, Bool, true, false, Option, Some, None, is_some, if◌then◌else◌}
 use Rattle.schema_version.specs.declared.element.ElementState.{ElementState}
@@ -16,7 +17,7 @@ is_filled (Index columns) = true
 is_filled (Optional type) = false
 is_filled (Required type fallback) = true
 
--- the way of an element behind an edge, by whether its kind is filled
+-- the way of an element after an edge, by whether its kind is filled
 abbrev pub edge_by : Bool → Way → ElementState → ElementState → Option Way
 edge_by true Adding Absent DeleteOnly = Some Adding
 edge_by true Adding DeleteOnly WriteOnly = Some Adding
@@ -30,7 +31,8 @@ edge_by false way Public DeleteOnly = Some Dropping
 edge_by false Dropping DeleteOnly Absent = Some Dropping
 edge_by filled way from to = None
 
--- The way of an element after it goes from one state to another; none where no edge of its way, nor one out of public, joins them.
+-- The way of an element after it goes from one state to another; none if no edge of its way, nor
+-- one out of public, joins them.
 abbrev pub edge : Kind → Way → ElementState → ElementState → Option Way
 edge kind way from to = edge_by (is_filled kind) way from to
 
@@ -53,16 +55,16 @@ needed_by filled Absent = Some Clear
 needed_by filled to = None
 
 -- what a move to a state needs to be finished: one to public its fill, where its kind is filled, every one to absent the clear
-abbrev pub needed : Kind → ElementState → Option Work
-needed kind to = needed_by (is_filled kind) to
+abbrev pub needed_work : Kind → ElementState → Option Work
+needed_work kind to = needed_by (is_filled kind) to
 
 -- what the next move on a way needs: one to public or to absent, for no other needs any
 abbrev pub work_by : Kind → Way → ElementState → Option Work
 work_by kind way from =
-    if is_some (edge kind way from Public) then needed kind Public
-    else (if is_some (edge kind way from Absent) then needed kind Absent
+    if is_some (edge kind way from Public) then needed_work kind Public
+    else (if is_some (edge kind way from Absent) then needed_work kind Absent
     else None)
 
 -- what an element wants: a fill for what is write-only and being added, a clear for what is delete-only and being dropped
-abbrev pub wanted : ElementDef → Option Work
-wanted element = work_by element.kind element.way element.state
+abbrev pub wanted_work : ElementDef → Option Work
+wanted_work element = work_by element.kind element.way element.state

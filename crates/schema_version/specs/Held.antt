@@ -1,3 +1,4 @@
+-- Cited by the contracts of Schema.
 -- What the fields of a Schema stand for, and what is true of them.
 use Rattle.std.specs.Prelude.{◌≡◌, ℕ, ◌+◌, ◌<◌, ◌≤◌, List, [], ◌∷◌, T, Option, Some, None, nat_eq, refl}
 use Rattle.std.specs.Map.{lookup, remove_entry}

@@ -1,3 +1,4 @@
+-- Cited by the contracts of numbers_end.
 -- The last number that an element may get.
 use Rattle.std.specs.Prelude.{◌≡◌, ℕ, List, [], ◌∷◌, Some, count_by}
 use Rattle.std.specs.FinMap as map
@@ -32,7 +33,8 @@ pub record LastIsGiven : Type 0 where
   pub given : element_at (after_step (bare 1000000) entry_of_a) 1000000 ≡ Some (as_element 1000000 column_a DeleteOnly)
   pub next : (after_step (bare 1000000) entry_of_a).next ≡ 1000001
 
--- Where it was given, the same step is refused with Limit and with nothing else, and no allowed step of any version enters an element.
+-- If it was given, the same step is refused with Limit and with nothing else, and no allowed step
+-- of any version enters an element.
 pub record NoneIsLeft : Type 0 where
   pub sound : IsSoundVersion (bare 1000001)
   pub refused : IsRefused (bare 1000001) entry_of_a Limit

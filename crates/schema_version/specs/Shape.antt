@@ -1,3 +1,4 @@
+-- Cited by the contracts of Schema::shape.
 -- The shape of a table as a version's public columns give it.
 use Rattle.std.specs.Prelude.{ℕ, List, Option, None, ◌==◌, ◌&&◌, option_map, if◌then◌else◌}
 use Rattle.std.specs.List.{filter_map}

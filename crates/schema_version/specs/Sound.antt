@@ -1,3 +1,4 @@
+-- Cited by the contracts of Schema::lemma_known, world::World::lemma_agrees.
 -- What is true of every version that a Schema stands for.
 use Rattle.std.specs.Prelude.{◌≡◌, ◌≢◌, ℕ, ◌+◌, ◌<◌, ◌≤◌, length, Bool, Some, IsTrue, Contains}
 use Rattle.std.specs.List.{AllByRecursion}
@@ -7,7 +8,7 @@ use Rattle.schema_version.specs.declared.element.Way.TheVariants.{Adding}
 use Rattle.schema_version.specs.declared.element.ElementDef.{ElementDef}
 use Rattle.schema_version.specs.Names.{IsName, is_distinct, max_tables, max_key_columns, max_elements}
 use Rattle.schema_version.specs.Edges.{has_state}
-use Rattle.schema_version.specs.Version.{Version, Table, table_at, element_at, listed, IsPublicColumn, IsKeyName, count_live}
+use Rattle.schema_version.specs.Version.{Version, Table, table_at, element_at, indexed_columns, IsPublicColumn, IsKeyName, count_live}
 use Rattle.schema_version.specs.Moves.{IsFairKind, max_like}
 
 -- a table whose key has 1 to 4 columns, each under a name of its own
@@ -30,7 +31,7 @@ pub record IsSoundElement (version : Version) (number : ℕ) (element : ElementD
   pub placed : (table : Table) × (table_at version element.table ≡ Some table)
   pub apart : ¬ (IsKeyName version element.table element.name)
   pub fair : IsFairKind element.kind
-  pub columns : (column : ℕ) → Contains (listed element.kind) column → IsPublicColumn version element.table column
+  pub columns : (column : ℕ) → Contains (indexed_columns element.kind) column → IsPublicColumn version element.table column
 
 -- two live elements of a table have two names
 abbrev pub HaveOwnNames : Version → Type 0

@@ -1,3 +1,4 @@
+-- Cited by the contracts of steps_keep_to_edges, steps_stay_sound, indexed_columns_stay.
 -- What a step does to each element.
 use Rattle.std.specs.Prelude.{◌≡◌, ◌≢◌, ℕ, ◌≤◌, ◌<◌, List, Option, None, Some, Contains, ◌⊎◌}
 use Rattle.schema_version.specs.declared.element.ElementState.{ElementState}
@@ -9,11 +10,11 @@ use Rattle.schema_version.specs.declared.element.NewElement.{NewElement}
 use Rattle.schema_version.specs.declared.step.Move.{Move}
 use Rattle.schema_version.specs.declared.step.Move.TheVariants.{Enter, Go, Turn}
 use Rattle.schema_version.specs.Edges.{edge, HasEdge}
-use Rattle.schema_version.specs.Version.{Version, element_at, listed}
+use Rattle.schema_version.specs.Version.{Version, element_at, indexed_columns}
 use Rattle.schema_version.specs.Sound.{IsSoundVersion}
 use Rattle.schema_version.specs.Moves.{as_element, in_state, turned_back, after_step, IsAllowed}
 
--- the element, or none where it is absent
+-- the element, or none if it is absent
 abbrev pub in_state_or_none : ElementDef → ElementState → Option ElementDef
 in_state_or_none element Absent = None
 in_state_or_none element to = Some (in_state element to)
@@ -50,5 +51,5 @@ StepsStaySound = (version : Version) (step : List Move) → IsSoundVersion versi
 abbrev pub IndexedColumnsStay : Type 0
 IndexedColumnsStay =
     (version : Version) (step : List Move) → IsSoundVersion version → IsAllowed version step → (n column : ℕ) (index : ElementDef)
-    → (element_at version n ≡ Some index) ⊎ (element_at (after_step version step) n ≡ Some index) → Contains (listed index.kind) column
+    → (element_at version n ≡ Some index) ⊎ (element_at (after_step version step) n ≡ Some index) → Contains (indexed_columns index.kind) column
     → element_at (after_step version step) column ≡ element_at version column

@@ -13,16 +13,16 @@ fn is_shown(element: &ElementDef, table: u32, number: u32) -> bool
     element.number == number && (element.table == table && element.state.is_public())
 }
 
-fn found(elements: &[ElementDef], table: u32, number: u32) -> Option<&ElementDef>
+fn find_column(elements: &[ElementDef], table: u32, number: u32) -> Option<&ElementDef>
     ensures { option_copied result ≡ find (is_shown_of table number) elements.now }
 {
     elements.iter().find(|e| is_shown(*e, table, number))
 }
 
-/// The type of the public column of this number in the table, among a version's elements; `None` where the table has no such column,
-/// or transactions do not read it.
+/// The type of the public column of this number in the table, among a version's elements; `None` if
+/// the table has no such column, or transactions do not read it.
 pub fn public_column_type(elements: &[ElementDef], table: u32, number: u32) -> Option<ColumnType>
     ensures { result ≡ column_type_of elements.now table number }
 {
-    found(elements, table, number)?.kind.column_type()
+    find_column(elements, table, number)?.kind.column_type()
 }

@@ -3,7 +3,7 @@ ghost use Rattle.std.specs.Prelude.{◌≡◌, not, bytes_eq};
 ghost use Rattle.std.specs.List.{list_all, list_any};
 ghost use Rattle.schema_version.specs.declared.table.TableDef.{TableDef as Declared};
 ghost use Rattle.schema_version.specs.Names.{is_name as is_name_of, is_among, is_distinct};
-ghost use Rattle.schema_version.specs.Accepting.{names_in, table_names, are_apart as are_apart_of, has_fair_sizes as has_fair_sizes_of, has_names as has_names_of, has_own_names as has_own_names_of, has_names_apart as has_names_apart_of, is_lawful_list as is_lawful_list_of, has_lawful_lists as has_lawful_lists_of, is_lawful_table as is_lawful_table_of, are_lawful as are_lawful_of};
+ghost use Rattle.schema_version.specs.inner.AcceptTables.{names_in, table_names, are_apart as are_apart_of, has_fair_sizes as has_fair_sizes_of, has_names as has_names_of, has_own_names as has_own_names_of, has_names_apart as has_names_apart_of, is_lawful_list as is_lawful_list_of, has_lawful_lists as has_lawful_lists_of, is_lawful_table as is_lawful_table_of, are_lawful as are_lawful_of};
 
 use crate::limits::{MAX_COLUMNS, MAX_INDEXES, MAX_KEY_COLUMNS, MAX_TABLES};
 use crate::names::{is_name, is_name_list};

@@ -3,7 +3,7 @@ ghost use Rattle.std.specs.Prelude.{◌≡◌, ◌==◌, ◌&&◌, count_by, byt
 ghost use Rattle.std.specs.List.{list_any, find};
 ghost use Rattle.schema_version.specs.Version.{is_like as is_like_of, is_named as is_named_of};
 ghost use Rattle.schema_version.specs.Moves.{moves_element as moves_element_of, is_move_of as is_move_of_number, is_entry as is_entry_of, is_entry_like as is_entry_like_of, is_distinct as is_distinct_of};
-ghost use Rattle.schema_version.specs.Deciding.{is_entry_named as is_entry_named_of, lists as lists_of, is_fair_kind as is_fair_kind_of};
+ghost use Rattle.schema_version.specs.Checks.{is_entry_named as is_entry_named_of, lists as lists_of, is_fair_kind as is_fair_kind_of};
 ghost use Rattle.schema_version.specs.declared.element.ElementDef.{ElementDef as ElementDefinition};
 
 use crate::element::{ElementDef, Kind};
@@ -63,7 +63,7 @@ pub(crate) fn first_listing(elements: &[ElementDef], column: u32) -> Option<u32>
 pub(crate) fn lists(element: &ElementDef, column: u32) -> bool
     ensures { result ≡ lists_of column element.now }
 {
-    contains(element.kind.listed(), column)
+    contains(element.kind.indexed_columns(), column)
 }
 
 fn is_entry(a: &Move) -> bool

@@ -8,12 +8,12 @@ ghost use Rattle.schema_version.specs.Held.{table_held};
 use crate::element::{ElementDef, Kind, NewElement};
 use crate::step::Move;
 use crate::table::Columns;
+use collections::List;
 use indexmap::IndexMap;
 use keycode::{Text, Value};
-use listed::Listed;
 use row_map::ColumnType;
 
-fn same_list(a: &Listed<u32>, b: &Listed<u32>) -> bool
+fn same_list(a: &List<u32>, b: &List<u32>) -> bool
     ensures { Decides result (a.now ≡ b.now) }
 {
     a == b

@@ -9,12 +9,12 @@ ghost use Rattle.std.specs.Prelude.{◌≤◌, ◌⊎◌, IfOk, IfErr, OnOk, cou
 ghost use Rattle.schema_version.specs.Moves.{after_step, IsAllowed, IsRefused, is_entry};
 ghost use Rattle.schema_version.specs.Names.{max_elements};
 ghost use Rattle.schema_version.specs.Sound.{IsSoundVersion};
-ghost use Rattle.schema_version.specs.Declaring.{declared as declared_of, IsLawful};
+ghost use Rattle.schema_version.specs.Declare.{declared as declared_of, IsLawful};
 ghost use Rattle.schema_version.specs.declared.table.DeclareFault.TheVariants as declare;
 ghost use Rattle.schema_version.specs.declared.step.StepFault.TheVariants.{Memory};
 
-use crate::applying::{copy_elements, copy_tables, make_all};
-use crate::declaring::{enter_tables, hold_tables};
+use crate::apply::{copy_elements, copy_tables, make_all};
+use crate::declare::{enter_tables, hold_tables};
 use crate::element::{ElementDef, ElementState};
 use crate::lawful::are_lawful;
 use crate::moves::is_named;
@@ -54,7 +54,7 @@ impl Model for Schema {
 
 impl Schema {
     /// What is true of every version, for a caller's proof. It does nothing and takes no memory.
-    pub fn known(&self)
+    pub fn lemma_known(&self)
         ensures { IsSoundVersion self.now }
     {
         let _own = &self.elements;
@@ -104,7 +104,8 @@ impl Schema {
         self.elements().get(place)
     }
 
-    /// The live element under this name in the table of this number; None where there is none, or no such table.
+    /// The live element under this name in the table of this number; None if there is none, or no
+    /// such table.
     pub fn by_name(&self, table: u32, name: &str) -> Option<&ElementDef>
         ensures { option_copied result ≡ find (is_named_of table name.now) (live self.now) }
     {
@@ -144,7 +145,7 @@ impl Schema {
         Some(name.as_str())
     }
 
-    /// The number, from 1, of the table of this name; None where no table has it.
+    /// The number, from 1, of the table of this name; None if no table has it.
     pub fn table(&self, name: &str) -> Option<u32>
         ensures { result ≡ option_map (λ place. place + 1) (position (λ (t : Table). bytes_eq name.now t.name) self.now.tables) }
     {
@@ -191,8 +192,9 @@ impl Schema {
     /// The version that a step gives. The moves are tried in order, each against this version and the whole step, and an empty step
     /// is allowed. Entered elements get the next numbers in the step's order.
     ///
-    /// The first faulty move decides by its lowest fault, in the order of `StepFault`. Memory comes last: the whole step is tried
-    /// before the first growth, so it never stands in place of another fault. A refused call leaves nothing behind.
+    /// The first faulty move decides by its lowest fault, in the order of `StepFault`. Memory comes
+    /// last: the whole step is tried before the first growth, so it never is in place of another
+    /// fault. A refused call leaves nothing behind.
     pub fn apply(&self, step: &Step) -> Result<Schema, StepFault>
         ensures allowed { OnOk result (IsAllowed self.now step.now) }
         ensures after { IfOk result (λ then. then ≡ after_step self.now step.now) }

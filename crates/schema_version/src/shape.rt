@@ -5,8 +5,8 @@ ghost use Rattle.schema_version.specs.Shape.{public_column as public_column_of, 
 
 use crate::element::ElementDef;
 use crate::schema::Schema;
+use collections::List;
 use keycode::Text;
-use listed::Listed;
 use row_map::{ColumnType, TableShape};
 use std::alloc::{AllocError, Global};
 
@@ -43,8 +43,9 @@ fn key_types(alloc: Global, key: &[(Text, ColumnType)]) -> Result<Vec<ColumnType
 }
 
 impl Schema {
-    /// The shape of the table of this number: its key's types, and its public columns with their types by rising number. None where
-    /// there is no such table. The only refusal is want of memory.
+    /// The shape of the table of this number: its key's types, and its public columns with their
+    /// types by rising number. None if there is no such table. The only refusal is running out of
+    /// memory.
     pub fn shape(&self, alloc: Global, table: u32) -> Result<Option<TableShape>, AllocError>
         ensures { IfOk result (λ shape. shape ≡ shape_of self.now table) }
     {
@@ -55,8 +56,8 @@ impl Schema {
         let columns = public_columns(alloc, self.elements(), table)?;
         Ok(Some(TableShape {
             number: table,
-            key: Listed::new(key),
-            columns: Listed::new(columns),
+            key: List::new(key),
+            columns: List::new(columns),
         }))
     }
 }

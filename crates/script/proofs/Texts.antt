@@ -40,15 +40,15 @@ counts_few p (b ∷ bs) = let h = counts_few p bs in grind (arith, common_steps)
 pub lines_few : (bs : List ℕ) → length (lines bs) ≤ length bs + 1
 lines_few bs = omega (arith, parts_few (slice_split (λ b. b == 10) bs), length-slice_split (λ b. b == 10) bs, counts_few (λ b. b == 10) bs)
 
-pub lines_fit : (bs : List ℕ) (front left : List (List ℕ)) → lines bs ≡ front ++ left → length bs ≤ limit → length front ≤ limit + 1
-lines_fit bs front left e l = omega (arith, lines_few bs, ap length e, length-append front left)
+pub lines_fit : (bs : List ℕ) (prefix left : List (List ℕ)) → lines bs ≡ prefix ++ left → length bs ≤ limit → length prefix ≤ limit + 1
+lines_fit bs prefix left e l = omega (arith, lines_few bs, ap length e, length-append prefix left)
 
-pub cut_before : (input : List ℕ) (front left : List (List ℕ)) (out : List ℕ) (bad : ℕ) (s : Session) → lines input ≡ front ++ left → Replies empty front out bad s → IsCutTextOf input out
-cut_before input front left out bad s e h = (front, left, out, bad, s, [], e, h, sym (append-nil out))
+pub cut_before : (input : List ℕ) (prefix left : List (List ℕ)) (out : List ℕ) (bad : ℕ) (s : Session) → lines input ≡ prefix ++ left → Replies empty prefix out bad s → IsCutTextOf input out
+cut_before input prefix left out bad s e h = (prefix, left, out, bad, s, [], e, h, sym (append-nil out))
 
-pub cut_within : (input : List ℕ) (front left : List (List ℕ)) (out : List ℕ) (bad : ℕ) (s : Session) (x : List ℕ) (more : List (List ℕ)) (reply : List ℕ) (b : Bool) (t : Session) (sent cut : List ℕ) → lines input ≡ front ++ left → left ≡ x ∷ more → Replies empty front out bad s → Reply s x reply b t → reply ≡ sent ++ cut → IsCutTextOf input (out ++ sent)
-cut_within input front left out bad s x more reply b t sent cut e l h r c =
-    (front ++ x ∷ [], more, out ++ reply, bad + cond b 1 0, t, cut, e ∙ ap (λ y. front ++ y) l ∙ sym (append_assoc {A = List ℕ} front (x ∷ []) more), one_more empty front out bad s x reply b t h r, ap (λ y. out ++ y) c ∙ sym (append_assoc {A = ℕ} out sent cut))
+pub cut_within : (input : List ℕ) (prefix left : List (List ℕ)) (out : List ℕ) (bad : ℕ) (s : Session) (x : List ℕ) (more : List (List ℕ)) (reply : List ℕ) (b : Bool) (t : Session) (sent cut : List ℕ) → lines input ≡ prefix ++ left → left ≡ x ∷ more → Replies empty prefix out bad s → Reply s x reply b t → reply ≡ sent ++ cut → IsCutTextOf input (out ++ sent)
+cut_within input prefix left out bad s x more reply b t sent cut e l h r c =
+    (prefix ++ x ∷ [], more, out ++ reply, bad + cond b 1 0, t, cut, e ∙ ap (λ y. prefix ++ y) l ∙ sym (append_assoc {A = List ℕ} prefix (x ∷ []) more), one_more empty prefix out bad s x reply b t h r, ap (λ y. out ++ y) c ∙ sym (append_assoc {A = ℕ} out sent cut))
 
 byte_is : (b : Bool) → bool_byte b ≡ cond b 1 0
 byte_is true = refl
@@ -61,5 +61,5 @@ byte_few false n e = omega arith
 pub one_more_counted : (s : Session) (ls : List (List ℕ)) (text : List ℕ) (bad : ℕ) (t : Session) (l reply : List ℕ) (b : Bool) (u : Session) (n : ℕ) → n ≡ bool_byte b → Replies s ls text bad t → Reply t l reply b u → Replies s (ls ++ l ∷ []) (text ++ reply) (bad + n) u
 one_more_counted s ls text bad t l reply b u n e h r = let P : ℕ → Type 0 = λ k. Replies s (ls ++ l ∷ []) (text ++ reply) (bad + k) u in subst P (sym (e ∙ byte_is b)) (one_more s ls text bad t l reply b u h r)
 
-pub goes_on : (front left : List (List ℕ)) (x : List ℕ) (more all : List (List ℕ)) → all ≡ front ++ left → left ≡ x ∷ more → all ≡ (front ++ x ∷ []) ++ more
-goes_on front left x more all e l = e ∙ ap (λ y. front ++ y) l ∙ sym (append_assoc {A = List ℕ} front (x ∷ []) more)
+pub goes_on : (prefix left : List (List ℕ)) (x : List ℕ) (more all : List (List ℕ)) → all ≡ prefix ++ left → left ≡ x ∷ more → all ≡ (prefix ++ x ∷ []) ++ more
+goes_on prefix left x more all e l = e ∙ ap (λ y. prefix ++ y) l ∙ sym (append_assoc {A = List ℕ} prefix (x ∷ []) more)

@@ -1,3 +1,4 @@
+-- Cited by the contracts of run_script.
 -- What is written for a script.
 use Rattle.std.specs.Prelude.{◌≡◌, ℕ, List, [], ◌∷◌, ◌++◌, ◌+◌, ◌<◌, ◌≤◌, length, Option, IfSome, Result, Ok, Err, Bool, cond}
 use Rattle.std.specs.Io.KnownBytes.{Appends}
@@ -33,19 +34,19 @@ ReadAs input (Err Memory) = Unit {0}
 abbrev pub IsRead : Option (List ℕ) → Result (Vec ℕ Global) ScriptFault → Type 0
 IsRead input result = IfSome input (λ bytes. ReadAs bytes result)
 
--- Known bytes grew by a front of the text.
-abbrev pub AppendsFront : Option (List ℕ) → Option (List ℕ) → List ℕ → Type 0
-AppendsFront old new text = (out : List ℕ) × (cut : List ℕ) × Appends old new out × (text ≡ out ++ cut)
+-- Known bytes grew by a start of the text.
+abbrev pub AppendsPrefix : Option (List ℕ) → Option (List ℕ) → List ℕ → Type 0
+AppendsPrefix old new text = (out : List ℕ) × (cut : List ℕ) × Appends old new out × (text ≡ out ++ cut)
 
 -- the text of replies to a script, with so many bad lines
 abbrev pub IsTextOf : List ℕ → List ℕ → ℕ → Type 0
 IsTextOf input text bad = (new : Session) × Replies empty (lines input) text bad new
 
--- What went out after a fault: a front of the replies to a front of the lines.
+-- What went out after a fault: a start of the replies to a start of the lines.
 abbrev pub IsCutTextOf : List ℕ → List ℕ → Type 0
 IsCutTextOf input out =
-    (front : List (List ℕ)) × (back : List (List ℕ)) × (text : List ℕ) × (bad : ℕ) × (new : Session) × (cut : List ℕ)
-    × (lines input ≡ front ++ back) × Replies empty front text bad new × (text ≡ out ++ cut)
+    (prefix : List (List ℕ)) × (back : List (List ℕ)) × (text : List ℕ) × (bad : ℕ) × (new : Session) × (cut : List ℕ)
+    × (lines input ≡ prefix ++ back) × Replies empty prefix text bad new × (text ≡ out ++ cut)
 
 -- What is written for an input that is a script, and how the call ends.
 abbrev pub Answered : List ℕ → List ℕ → Result Summary ScriptFault → Type 0
@@ -57,14 +58,14 @@ Answered input out (Err Write) = IsCutTextOf input out
 Answered input out (Err Memory) = IsCutTextOf input out
 
 -- The same for any input.
-abbrev pub Told : List ℕ → List ℕ → Result Summary ScriptFault → Type 0
-Told input out (Ok s) = (length input ≤ limit) × IsUtf8 input × IsTextOf input out s.bad × (s.lines ≡ length (lines input))
-Told input out (Err Read) = out ≡ []
-Told input out (Err TooLong) = (limit < length input) × (out ≡ [])
-Told input out (Err NotUtf8) = (length input ≤ limit) × (IsUtf8 input → ⊥) × (out ≡ [])
-Told input out (Err Write) = (length input ≤ limit) × IsUtf8 input × IsCutTextOf input out
-Told input out (Err Memory) = IsCutTextOf input out
+abbrev pub Reported : List ℕ → List ℕ → Result Summary ScriptFault → Type 0
+Reported input out (Ok s) = (length input ≤ limit) × IsUtf8 input × IsTextOf input out s.bad × (s.lines ≡ length (lines input))
+Reported input out (Err Read) = out ≡ []
+Reported input out (Err TooLong) = (limit < length input) × (out ≡ [])
+Reported input out (Err NotUtf8) = (length input ≤ limit) × (IsUtf8 input → ⊥) × (out ≡ [])
+Reported input out (Err Write) = (length input ≤ limit) × IsUtf8 input × IsCutTextOf input out
+Reported input out (Err Memory) = IsCutTextOf input out
 
 -- What was written is what Told says of the bytes that were left to read, where those are known.
 abbrev pub Ran : Option (List ℕ) → Option (List ℕ) → Option (List ℕ) → Result Summary ScriptFault → Type 0
-Ran input old new result = (out : List ℕ) × Appends old new out × IfSome input (λ bytes. Told bytes out result)
+Ran input old new result = (out : List ℕ) × Appends old new out × IfSome input (λ bytes. Reported bytes out result)

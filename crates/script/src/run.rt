@@ -1,7 +1,7 @@
 //! A script from its bytes to the bytes of its replies.
 ghost use Rattle.std.specs.Prelude.{◌≡◌, ◌++◌, ◌+◌, ◌<◌, ◌≤◌, List, ℕ, length, IfOk, IfErr, OnOk, OnErr};
 ghost use Rattle.std.specs.Io.KnownBytes.{Keeps, Appends};
-ghost use Rattle.script.specs.Script.{limit, Answered, Ran, IsRead, AppendsFront};
+ghost use Rattle.script.specs.Script.{limit, Answered, Ran, IsRead, AppendsPrefix};
 
 use script_session::Session;
 use std::alloc::Global;
@@ -29,10 +29,10 @@ pub enum ScriptFault {
     /// The script is no UTF-8; nothing was written.
     #[error("not utf-8")]
     NotUtf8,
-    /// The writer failed or took nothing; a front of the replies was written.
+    /// The writer failed or took nothing; a start of the replies was written.
     #[error("write")]
     Write,
-    /// Memory ran out; a front of the replies was written.
+    /// Memory ran out; a start of the replies was written.
     #[error("memory")]
     Memory,
 }
@@ -65,11 +65,12 @@ fn read_all<R: Read>(alloc: Global, reader: &mut R) -> Result<Vec<u8>, ScriptFau
     Err(ScriptFault::TooLong)
 }
 
-/// Writes all of the text. At an `Err` a front of it went out. That a writer failed is its own to say, as with a reader.
+/// Writes all of the text. At an `Err` a start of it went out. That a writer failed is its own to
+/// say, as with a reader.
 fn write_all<W: Write>(writer: &mut W, text: &[u8]) -> Result<(), ScriptFault>
     ensures ok { OnOk result (Appends (W.contents writer.old) (W.contents writer.new) text.now) }
     ensures err { IfErr result (λ fault. fault ≡ ScriptFault.Write) }
-    ensures cut { OnErr result (AppendsFront (W.contents writer.old) (W.contents writer.new) text.now) }
+    ensures cut { OnErr result (AppendsPrefix (W.contents writer.old) (W.contents writer.new) text.now) }
 {
     let mut rest = text;
     while !rest.is_empty() {
@@ -105,9 +106,9 @@ fn answer_lines<W: Write>(alloc: Global, text: &str, writer: &mut W) -> Result<S
 
 /// Reads a script to its end, and writes the reply to each line when the line is done.
 ///
-/// Refused where the reader fails (`Read`), and then where the script is too long (`TooLong`) or no UTF-8 (`NotUtf8`):
-/// nothing is written. Refused later where the writer fails (`Write`) or memory runs out (`Memory`): what was written
-/// is a front of the replies.
+/// Refused if the reader fails (`Read`), and then where the script is too long (`TooLong`) or no
+/// UTF-8 (`NotUtf8`): nothing is written. Refused later where the writer fails (`Write`) or memory
+/// runs out (`Memory`): what was written is a start of the replies.
 pub fn run_script<R: Read, W: Write>(
     alloc: Global,
     reader: &mut R,

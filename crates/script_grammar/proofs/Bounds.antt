@@ -6,7 +6,7 @@ use Rattle.script_tokens.specs.declared.token.Mark.{Mark}
 use Rattle.script_tokens.specs.declared.token.Mark.TheVariants as mark
 use Rattle.script_grammar.specs.declared.selection.Condition.{Condition}
 use Rattle.script_grammar.specs.declared.selection.Condition.TheVariants.{Key, Between}
-use Rattle.script_tokens.specs.Productions.{is_mark, is_word, first_by, after_first, name_in, value_in, cut_at, bracketed, each_between, value_of, ◌>>=◌}
+use Rattle.script_tokens.specs.Productions.{is_mark, is_word, first_by, after_first, name_in, value_in, cut_at, cut_brackets, each_between, value_of, ◌>>=◌}
 use Rattle.script_grammar.specs.Commands.{tuple_at, key_condition_at, compared, compared_at, between_at, comparison_at, column_condition_at, condition_at, and_more, conditions_within, conditions_of, IsJoined}
 
 -- what a production leaves of the tokens is shorter than n
@@ -38,7 +38,7 @@ after_leaves : (p : Token → Bool) (ts : List Token) → LeavesRest (length ts)
 after_leaves p [] = tt
 after_leaves p (t ∷ ts) = after_step (p t) t ts
 
--- one production behind another
+-- one production after another
 then_leaves : {A B : Type 0} (n : ℕ) (o : Option (A × List Token)) (f : A × List Token → Option (B × List Token)) → Leaves n o → ((x : A × List Token) → length x.1 < n → Leaves n (f x)) → Leaves n (o >>= f)
 then_leaves n None f h g = tt
 then_leaves n (Some x) f h g = g x h
@@ -73,13 +73,13 @@ unfolding cut_at
 cut_leaves m [] = tt
 cut_leaves m (t ∷ ts) = cut_step (is_mark m t) t ts (cut_at m ts) (cut_leaves m ts)
 
-bracketed_leaves : (ts : List Token) → Leaves (length ts) (bracketed ts)
-unfolding bracketed
+bracketed_leaves : (ts : List Token) → Leaves (length ts) (cut_brackets ts)
+unfolding cut_brackets
 bracketed_leaves ts = rest_then_leaves (length ts) (after_first (is_mark mark.Open) ts) (cut_at mark.Close) (after_leaves (is_mark mark.Open) ts) (λ inner lt. leaves_less (length inner) (length ts) (cut_at mark.Close inner) (omega (arith, lt)) (cut_leaves mark.Close inner))
 
 tuple_leaves : (ts : List Token) → Leaves (length ts) (tuple_at ts)
 unfolding tuple_at
-tuple_leaves ts = then_leaves (length ts) (bracketed ts) _ (bracketed_leaves ts) (λ x lt. any_then_leaves (length ts) (each_between mark.Comma value_of x.0) (λ values. Some (values, x.1)) (λ values. lt))
+tuple_leaves ts = then_leaves (length ts) (cut_brackets ts) _ (bracketed_leaves ts) (λ x lt. any_then_leaves (length ts) (each_between mark.Comma value_of x.0) (λ values. Some (values, x.1)) (λ values. lt))
 
 key_condition_leaves : (ts : List Token) → Leaves (length ts) (key_condition_at ts)
 unfolding key_condition_at
@@ -134,7 +134,7 @@ more_same : (f g : List Token → Conditions) (behind : List Token) → ((ts : L
 more_same f g [] h = refl
 more_same f g (t ∷ ts) h = ap (λ o. if is_word (codes "and") t then o else None) (h ts (omega arith))
 
--- a condition, and those behind it
+-- a condition, and those after it
 abbrev joined : (List Token → Conditions) → Option (Condition × List Token) → Conditions
 joined f o = o >>= λ x. option_map (λ more. x.0 ∷ more) (and_more f x.1)
 

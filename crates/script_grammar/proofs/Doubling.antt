@@ -1,7 +1,7 @@
 -- Steps of the loop that doubles the quotes of a text.
 use Rattle.std.proofs.Common.{◌≡◌, ℕ, suc, ◌+◌, ◌<◌, Bool, true, false, not, cond, List, [], ◌∷◌, ◌++◌, ◌∙◌, sym, ap, refl, arith, length, take, drop, append_assoc, if◌then◌else◌, eqb}
 use Rattle.std.specs.List.{position_or_len, before_first, after_first}
-use Rattle.script_grammar.specs.Printing.{doubled}
+use Rattle.script_grammar.specs.Print.{doubled}
 
 abbrev pub is_quote : ℕ → Bool
 is_quote b = eqb b 39

@@ -23,7 +23,7 @@ ahead before found = option_map (λ x. (before ++ x.0, x.1)) found
 abbrev with_column : List ℕ → Names → Names
 with_column column found = option_map (λ x. (column ∷ x.0, x.1)) found
 
--- a name, and the tokens behind it
+-- a name, and the tokens after it
 abbrev with_rest : List Token → Option (List ℕ) → Option (List ℕ × List Token)
 with_rest ts name = option_map (λ a. (a, ts)) name
 

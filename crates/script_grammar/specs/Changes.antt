@@ -1,3 +1,4 @@
+-- Cited by the contracts of NamedMove, NamedChange.
 -- The productions of changes to the schema: elements, what is to enter, named moves and named changes, read whole unless a name ends in `_at`.
 use Rattle.std.specs.Prelude.{ℕ, List, [], ◌∷◌, Option, Some, None, if◌then◌else◌, codes}
 use Rattle.std.specs.Option.{option_map}
@@ -13,9 +14,9 @@ use Rattle.script_grammar.specs.declared.named.NamedMove.{NamedMove}
 use Rattle.script_grammar.specs.declared.named.NamedMove.TheVariants.{Enter, Go, Turn}
 use Rattle.script_grammar.specs.declared.named.NamedChange.{NamedChange}
 use Rattle.script_grammar.specs.declared.named.NamedChange.TheVariants.{Add, DropIndex, DropColumn, Abandon}
-use Rattle.script_tokens.specs.Productions.{◌>>=◌, first_by, after_first, at_end, is_mark, is_word, name_in, type_in, value_in, state_in, bracketed, each_between, name_of}
+use Rattle.script_tokens.specs.Productions.{◌>>=◌, first_by, after_first, at_end, is_mark, is_word, name_in, type_in, value_in, state_in, cut_brackets, each_between, name_of}
 
--- `TABLE.NAME`, and the tokens behind it
+-- `TABLE.NAME`, and the tokens after it
 unfoldable pub element_at : List Token → Option (ElementName × List Token)
 element_at ts = do
   table ← first_by name_in ts
@@ -29,13 +30,13 @@ element_of ts = do
   element ← element_at ts
   at_end element.0 element.1
 
--- `on TABLE`, and the tokens behind it
+-- `on TABLE`, and the tokens after it
 unfoldable pub on_table_at : List Token → Option (List ℕ × List Token)
 on_table_at ts = do
   behind ← after_first (is_word (codes "on")) ts
   first_by name_in behind
 
--- `NAME on TABLE`, and the tokens behind it
+-- `NAME on TABLE`, and the tokens after it
 unfoldable pub named_on_at : List Token → Option (ElementName × List Token)
 named_on_at ts = do
   name ← first_by name_in ts
@@ -48,26 +49,26 @@ named_on ts = do
   element ← named_on_at ts
   at_end element.0 element.1
 
--- an index and its columns, `NAME on TABLE ( COLUMN {, COLUMN} )`, and the tokens behind it
+-- an index and its columns, `NAME on TABLE ( COLUMN {, COLUMN} )`, and the tokens after it
 unfoldable pub index_at : List Token → Option ((ElementName × List (List ℕ)) × List Token)
 index_at ts = do
   index ← named_on_at ts
-  inner ← bracketed index.1
+  inner ← cut_brackets index.1
   columns ← each_between mark.Comma name_of inner.0
   Some ((index.0, columns), inner.1)
 
--- an index, behind `index`, and the tokens behind it
+-- an index, after `index`, and the tokens after it
 unfoldable pub new_index_at : List Token → Option (New × List Token)
 new_index_at ts = do
   index ← index_at ts
   Some (Index index.0.0.name index.0.0.table index.0.1, index.1)
 
--- `[default VALUE]`, and the tokens behind it
+-- `[default VALUE]`, and the tokens after it
 unfoldable pub default_at : List Token → Option (Option Value × List Token)
 default_at [] = Some (None, [])
 default_at (t ∷ ts) = if is_word (codes "default") t then option_map (λ x. (Some x.0, x.1)) (first_by value_in ts) else Some (None, t ∷ ts)
 
--- `NAME TYPE [default VALUE] on TABLE`, behind `column`, and the tokens behind it
+-- `NAME TYPE [default VALUE] on TABLE`, after `column`, and the tokens after it
 unfoldable pub new_column_at : List Token → Option (New × List Token)
 new_column_at ts = do
   name ← first_by name_in ts
@@ -76,7 +77,7 @@ new_column_at ts = do
   table ← on_table_at fallback.1
   Some (Column name.0 type.0 fallback.0 table.0, table.1)
 
--- NEW, by its first word, and the tokens behind it
+-- NEW, by its first word, and the tokens after it
 unfoldable pub new_at : List Token → Option (New × List Token)
 new_at [] = None
 new_at (t ∷ ts) =
@@ -96,14 +97,14 @@ abbrev pub optional_to_state_of : List Token → Option ElementState
 optional_to_state_of [] = Some DeleteOnly
 optional_to_state_of (t ∷ ts) = to_state_of (t ∷ ts)
 
--- `NEW [to STATE]`, behind `add`
+-- `NEW [to STATE]`, after `add`
 unfoldable pub enter_of : List Token → Option NamedMove
 enter_of ts = do
   fresh ← new_at ts
   to ← optional_to_state_of fresh.1
   Some (Enter fresh.0 to)
 
--- `TABLE.NAME to STATE`, behind `move`
+-- `TABLE.NAME to STATE`, after `move`
 unfoldable pub go_of : List Token → Option NamedMove
 go_of ts = do
   element ← element_at ts
@@ -119,13 +120,13 @@ move_of (t ∷ ts) =
     else (if is_word (codes "turn") t then option_map Turn (element_of ts)
     else None))
 
--- `NEW`, behind `add`
+-- `NEW`, after `add`
 unfoldable pub add_of : List Token → Option NamedChange
 add_of ts = do
   fresh ← new_at ts
   at_end (Add fresh.0) fresh.1
 
--- `index NAME on TABLE` or `column NAME on TABLE`, behind `drop`, by its first word
+-- `index NAME on TABLE` or `column NAME on TABLE`, after `drop`, by its first word
 unfoldable pub drop_of : List Token → Option NamedChange
 drop_of [] = None
 drop_of (t ∷ ts) =

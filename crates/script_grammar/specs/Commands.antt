@@ -1,4 +1,6 @@
--- The productions of the grammar: what lists of tokens spell, read whole unless a name ends in `_at`.
+-- Cited by the contracts of Declared, keys_first, split, read_command and 2 more.
+-- The productions of the grammar: what lists of tokens parse to, read whole unless a name ends in
+-- `_at`.
 use Rattle.std.specs.Prelude.{◌≡◌, ℕ, List, [], ◌∷◌, Option, Some, None, Result, Ok, Err, Bool, true, false, not, ◌&&◌, ◌||◌, if◌then◌else◌, codes, map, filter}
 use Rattle.std.specs.Option.{option_map, option_and_then}
 use Rattle.keycode.specs.declared.value.Value.{Value}
@@ -17,7 +19,7 @@ use Rattle.script_grammar.specs.declared.element.ElementName.{ElementName}
 use Rattle.script_grammar.specs.declared.command.Command.{Command}
 use Rattle.script_grammar.specs.declared.command.Command.TheVariants as command
 use Rattle.script_tokens.specs.Tokens.{tokens_of}
-use Rattle.script_tokens.specs.Productions.{◌>>=◌, first_by, after_first, at_end, is_mark, is_word, name_in, count_in, small_count_in, type_in, value_in, bracketed, each_between, value_of, set_of}
+use Rattle.script_tokens.specs.Productions.{◌>>=◌, first_by, after_first, at_end, is_mark, is_word, name_in, count_in, small_count_in, type_in, value_in, cut_brackets, each_between, value_of, set_of}
 use Rattle.script_grammar.specs.Changes.{element_at, index_at, move_of, change_of}
 
 -- `[key]`
@@ -33,7 +35,7 @@ declared_of ts = do
   is_key ← key_of type.1
   Some (record { name = name.0; column_type = type.0; is_key = is_key })
 
--- whether no key column stands behind another column; before: whether the one before is a key column
+-- whether no key column stands after another column; before: whether the one before is a key column
 abbrev pub keys_lead : Bool → List Declared → Bool
 keys_lead before [] = true
 keys_lead before (d ∷ ds) = (before || not d.is_key) && keys_lead d.is_key ds
@@ -67,7 +69,7 @@ table_with name ds = if keys_first ds then Some (command.Table name (key_columns
 unfoldable pub table_of : List Token → Option Command
 table_of ts = do
   name ← first_by name_in ts
-  inner ← bracketed name.1
+  inner ← cut_brackets name.1
   end ← at_end (tt {0}) inner.1
   columns ← each_between mark.Comma declared_of inner.0
   table_with name.0 columns
@@ -78,7 +80,7 @@ index_of ts = do
   index ← index_at ts
   at_end (command.Index index.0.0.name index.0.0.table index.0.1) index.1
 
--- `NAME at M`, and the tokens behind it
+-- `NAME at M`, and the tokens after it
 unfoldable pub name_at_moment : List Token → Option ((List ℕ × ℕ) × List Token)
 name_at_moment ts = do
   name ← first_by name_in ts
@@ -92,10 +94,10 @@ lease_of ts = do
   server ← name_at_moment ts
   at_end (command.Lease server.0.0 server.0.1) server.1
 
--- `( VALUE {, VALUE} )`, and the tokens behind it
+-- `( VALUE {, VALUE} )`, and the tokens after it
 unfoldable pub tuple_at : List Token → Option (List Value × List Token)
 tuple_at ts = do
-  inner ← bracketed ts
+  inner ← cut_brackets ts
   values ← each_between mark.Comma value_of inner.0
   Some (values, inner.1)
 
@@ -171,7 +173,7 @@ abbrev pub begins_with : (Token → Bool) → List Token → Bool
 begins_with p [] = false
 begins_with p (t ∷ ts) = p t
 
--- `COLUMN {, COLUMN}`, and the tokens behind them
+-- `COLUMN {, COLUMN}`, and the tokens after them
 unfoldable pub columns_at : List Token → Option (List (List ℕ) × List Token)
 columns_at [] = None
 columns_at (t ∷ []) = do
@@ -186,14 +188,15 @@ abbrev pub selected_at : List Token → Option (Option (List (List ℕ)) × List
 selected_at [] = None
 selected_at (t ∷ ts) = if is_mark mark.Star t then Some (None, ts) else option_map (λ x. (Some x.0, x.1)) (columns_at (t ∷ ts))
 
--- `= TUPLE`, behind `key`, and the tokens behind it
+-- `= TUPLE`, after `key`, and the tokens after it
 unfoldable pub key_condition_at : List Token → Option (Condition × List Token)
 key_condition_at ts = do
   behind ← after_first (is_mark mark.Equal) ts
   key ← tuple_at behind
   Some (Key key.0, key.1)
 
--- the condition that a sign and the value behind it make of a COLUMN: `COLUMN = VALUE`, `COLUMN >= VALUE` or `COLUMN <= VALUE`
+-- the condition that a sign and the value after it make of a COLUMN: `COLUMN = VALUE`, `COLUMN >=
+-- VALUE` or `COLUMN <= VALUE`
 abbrev pub compared : Token → List ℕ → Value → Option Condition
 compared t column value =
     if is_mark mark.Equal t then Some (Equal column value)
@@ -201,14 +204,14 @@ compared t column value =
     else (if is_mark mark.AtMost t then Some (Between column None (Some value))
     else None))
 
--- `VALUE`, behind a COLUMN and this sign, and the tokens behind it
+-- `VALUE`, after a COLUMN and this sign, and the tokens after it
 unfoldable pub compared_at : Token → List ℕ → List Token → Option (Condition × List Token)
 compared_at t column ts = do
   value ← first_by value_in ts
   condition ← compared t column value.0
   Some (condition, value.1)
 
--- `VALUE and VALUE`, behind `COLUMN between`, and the tokens behind it
+-- `VALUE and VALUE`, after `COLUMN between`, and the tokens after it
 unfoldable pub between_at : List ℕ → List Token → Option (Condition × List Token)
 between_at column ts = do
   low ← first_by value_in ts
@@ -216,23 +219,23 @@ between_at column ts = do
   high ← first_by value_in behind
   Some (Between column (Some low.0) (Some high.0), high.1)
 
--- what follows a COLUMN in a condition, by its first token, and the tokens behind it
+-- what follows a COLUMN in a condition, by its first token, and the tokens after it
 unfoldable pub comparison_at : List ℕ → List Token → Option (Condition × List Token)
 comparison_at column [] = None
 comparison_at column (t ∷ ts) = if is_word (codes "between") t then between_at column ts else compared_at t column ts
 
--- a condition on a column, and the tokens behind it
+-- a condition on a column, and the tokens after it
 unfoldable pub column_condition_at : List Token → Option (Condition × List Token)
 column_condition_at ts = do
   column ← first_by name_in ts
   comparison_at column.0 column.1
 
--- `COND`, and the tokens behind it; `key` is always the primary key
+-- `COND`, and the tokens after it; `key` is always the primary key
 unfoldable pub condition_at : List Token → Option (Condition × List Token)
 condition_at [] = None
 condition_at (t ∷ ts) = if is_word (codes "key") t then key_condition_at ts else column_condition_at (t ∷ ts)
 
--- nothing, or what f makes of the tokens behind an `and`
+-- nothing, or what f makes of the tokens after an `and`
 abbrev pub and_more : {A : Type 0} → (List Token → Option (List A)) → List Token → Option (List A)
 and_more f [] = Some []
 and_more f (t ∷ ts) = if is_word (codes "and") t then f ts else None
@@ -248,7 +251,8 @@ conditions_within (b ∷ bs) ts = do
 abbrev pub conditions_of : List Token → Option (List Condition)
 conditions_of ts = conditions_within ts ts
 
--- that the bound leaves nothing out: behind a condition stands nothing, or an `and` and such a list again
+-- that the bound leaves nothing out: after a condition stands nothing, or an `and` and such a list
+-- again
 abbrev pub IsJoined : List Token → Type 0
 IsJoined ts = conditions_of ts ≡ (condition_at ts >>= λ x. option_map (λ more. x.0 ∷ more) (and_more conditions_of x.1))
 
@@ -298,7 +302,7 @@ piece_of ts = do
   limit ← first_by small_count_in limit_at
   at_end (command.Piece name.0 element.0 piece.0 limit.0) limit.1
 
--- `at M`, and the tokens behind it
+-- `at M`, and the tokens after it
 unfoldable pub moment_at : List Token → Option (ℕ × List Token)
 moment_at ts = do
   behind ← after_first (is_word (codes "at")) ts
@@ -325,7 +329,7 @@ next_of ts = do
   moment ← moment_at ts
   at_end (command.Next moment.0) moment.1
 
--- `TABLE.NAME at M`, and the tokens behind it
+-- `TABLE.NAME at M`, and the tokens after it
 unfoldable pub element_at_moment : List Token → Option ((ElementName × ℕ) × List Token)
 element_at_moment ts = do
   element ← element_at ts
@@ -380,11 +384,11 @@ command_of (t ∷ ts) =
     else (if is_word (codes "query") t then query_of ts
     else schema_command_of (t ∷ ts))))))))))))
 
--- what is spelled, or a bad line
+-- what is parsed, or a bad line
 abbrev pub or_malformed : {A : Type 0} → Option A → Result A LineFault
 or_malformed None = Err Malformed
 or_malformed (Some x) = Ok x
 
--- the command that the bytes of a line spell
+-- the command that the bytes of a line parse to
 abbrev pub command_at : List ℕ → Result Command LineFault
 command_at line = or_malformed (option_and_then command_of (tokens_of line))

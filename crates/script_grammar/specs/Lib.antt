@@ -1,4 +1,4 @@
 pub mod Silent
 pub mod Changes
 pub mod Commands
-pub mod Printing
+pub mod Print

@@ -1,3 +1,4 @@
+-- Cited by the contracts of is_silent.
 -- The lines that ask for nothing.
 use Rattle.std.specs.Prelude.{ℕ, List, [], ◌∷◌, Bool, true, false, ◌==◌, ◌||◌, ◌&&◌}
 

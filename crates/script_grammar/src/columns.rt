@@ -3,8 +3,8 @@ ghost use Rattle.std.specs.Prelude.{◌≡◌, true, IfOk};
 ghost use Rattle.script_tokens.specs.Productions.{Gives};
 ghost use Rattle.script_grammar.specs.Commands.{key_of, declared_of, keys_lead, keys_first, key_columns, other_columns};
 
+use collections::List;
 use keycode::Text;
-use listed::Listed;
 use row_map::ColumnType;
 use script_tokens::{LineFault, Production, Token, after_word, at_end, column_type, name};
 use std::alloc::{AllocError, Global};
@@ -18,7 +18,7 @@ pub struct Declared {
 }
 
 /// The names and types of columns.
-pub type Columns = Listed<(Text, ColumnType)>;
+pub type Columns = List<(Text, ColumnType)>;
 
 fn key(tokens: &[Token<'_>]) -> Result<bool, LineFault>
     ensures { Gives (λ x. x) result (key_of tokens.now) }
@@ -31,7 +31,7 @@ fn key(tokens: &[Token<'_>]) -> Result<bool, LineFault>
 }
 
 impl Production for Declared {
-    ghost spelled = { declared_of };
+    ghost parsed = { declared_of };
 
     #[tactic(auto, unfolding(crate::specs::Commands::declared_of))]
     fn read(alloc: Global, tokens: &[Token<'_>]) -> Result<Declared, LineFault> {
@@ -70,7 +70,7 @@ pub fn keys_first(columns: &[Declared]) -> bool
 }
 
 /// The key columns, and the others.
-pub fn split(alloc: Global, columns: Listed<Declared>) -> Result<(Columns, Columns), AllocError>
+pub fn split(alloc: Global, columns: List<Declared>) -> Result<(Columns, Columns), AllocError>
     ensures { IfOk result (λ x. x ≡ (key_columns columns, other_columns columns)) }
 {
     let mut keys = Vec::new(alloc);
@@ -87,5 +87,5 @@ pub fn split(alloc: Global, columns: Listed<Declared>) -> Result<(Columns, Colum
             others.push((name, column_type))?;
         }
     }
-    Ok((Listed::new(keys), Listed::new(others)))
+    Ok((List::new(keys), List::new(others)))
 }

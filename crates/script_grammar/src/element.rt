@@ -2,13 +2,13 @@
 ghost use Rattle.script_tokens.specs.Productions.{Gives};
 ghost use Rattle.script_grammar.specs.Changes.{element_at, element_of, on_table_at, named_on_at, named_on, index_at, new_index_at, default_at, new_column_at, new_at, to_state_of, optional_to_state_of};
 
+use collections::List;
 use keycode::{Text, Value};
-use listed::Listed;
 use row_map::ColumnType;
 use schema_version::ElementState;
 use script_tokens::{
-    LineFault, Mark, Token, after_mark, after_word, at_end, bracketed, column_type, is_word, name,
-    read_each, state, value,
+    LineFault, Mark, Token, after_mark, after_word, at_end, column_type, cut_brackets, is_word,
+    name, read_each, state, value,
 };
 use std::alloc::Global;
 
@@ -26,7 +26,7 @@ pub enum New {
     Index {
         name: Text,
         table: Text,
-        columns: Listed<Text>,
+        columns: List<Text>,
     },
     /// `column NAME TYPE [default VALUE] on TABLE`: with a default, each row has a value.
     Column {
@@ -37,7 +37,7 @@ pub enum New {
     },
 }
 
-/// `TABLE.NAME` at the front.
+/// `TABLE.NAME` at the start.
 #[tactic(auto, unfolding(crate::specs::Changes::element_at))]
 pub(crate) fn element<'t, 'a>(
     alloc: Global,
@@ -60,7 +60,7 @@ pub(crate) fn whole_element(alloc: Global, tokens: &[Token<'_>]) -> Result<Eleme
     at_end(element, rest)
 }
 
-/// `on TABLE` at the front.
+/// `on TABLE` at the start.
 #[tactic(auto, unfolding(crate::specs::Changes::on_table_at))]
 fn on_table<'t, 'a>(
     alloc: Global,
@@ -72,7 +72,7 @@ fn on_table<'t, 'a>(
     name(alloc, rest)
 }
 
-/// `NAME on TABLE` at the front.
+/// `NAME on TABLE` at the start.
 #[tactic(auto, unfolding(crate::specs::Changes::named_on_at))]
 fn named_on_at<'t, 'a>(
     alloc: Global,
@@ -94,16 +94,17 @@ pub(crate) fn named_on(alloc: Global, tokens: &[Token<'_>]) -> Result<ElementNam
     at_end(element, rest)
 }
 
-/// An index by its names, and the names of its columns: `NAME on TABLE ( COLUMN {, COLUMN} )` at the front.
+/// An index by its names, and the names of its columns: `NAME on TABLE ( COLUMN {, COLUMN} )` at
+/// the start.
 #[tactic(auto, unfolding(crate::specs::Changes::index_at))]
 pub(crate) fn index_on<'t, 'a>(
     alloc: Global,
     tokens: &'t [Token<'a>],
-) -> Result<((ElementName, Listed<Text>), &'t [Token<'a>]), LineFault>
+) -> Result<((ElementName, List<Text>), &'t [Token<'a>]), LineFault>
     ensures { Gives (λ x. (x.0, x.1.now)) result (index_at tokens.entry.now) }
 {
     let (index, rest) = named_on_at(alloc, tokens)?;
-    let (inner, rest) = bracketed(rest)?;
+    let (inner, rest) = cut_brackets(rest)?;
     let columns = read_each::<Text>(alloc, inner, Mark::Comma)?;
     Ok(((index, columns), rest))
 }
@@ -124,7 +125,7 @@ fn new_index<'t, 'a>(
     Ok((fresh, rest))
 }
 
-/// `default VALUE` at the front, or nothing.
+/// `default VALUE` at the start, or nothing.
 #[tactic(auto, unfolding(crate::specs::Changes::default_at))]
 fn optional_default<'t, 'a>(
     alloc: Global,
@@ -161,7 +162,7 @@ fn new_column<'t, 'a>(
     Ok((fresh, rest))
 }
 
-/// What is to enter, at the front.
+/// What is to enter, at the start.
 #[tactic(auto, unfolding(crate::specs::Changes::new_at))]
 pub(crate) fn fresh<'t, 'a>(
     alloc: Global,

@@ -60,7 +60,7 @@ fn go(alloc: Global, tokens: &[Token<'_>]) -> Result<NamedMove, LineFault>
 }
 
 impl Production for NamedMove {
-    ghost spelled = { move_of };
+    ghost parsed = { move_of };
 
     #[tactic(auto, unfolding(crate::specs::Changes::move_of))]
     fn read(alloc: Global, tokens: &[Token<'_>]) -> Result<NamedMove, LineFault> {
@@ -88,9 +88,9 @@ fn add(alloc: Global, tokens: &[Token<'_>]) -> Result<NamedChange, LineFault>
     at_end(NamedChange::Add(fresh), rest)
 }
 
-/// What is behind a `drop`.
+/// What is after a `drop`.
 #[tactic(auto, unfolding(crate::specs::Changes::drop_of))]
-fn dropped(alloc: Global, tokens: &[Token<'_>]) -> Result<NamedChange, LineFault>
+fn drop_change(alloc: Global, tokens: &[Token<'_>]) -> Result<NamedChange, LineFault>
     ensures { Gives (λ x. x) result (drop_of tokens.now) }
 {
     let [first, rest @ ..] = tokens else {
@@ -108,7 +108,7 @@ fn dropped(alloc: Global, tokens: &[Token<'_>]) -> Result<NamedChange, LineFault
 }
 
 impl Production for NamedChange {
-    ghost spelled = { change_of };
+    ghost parsed = { change_of };
 
     #[tactic(auto, unfolding(crate::specs::Changes::change_of))]
     fn read(alloc: Global, tokens: &[Token<'_>]) -> Result<NamedChange, LineFault> {
@@ -118,7 +118,7 @@ impl Production for NamedChange {
         if is_word(first, b"add") {
             add(alloc, rest)
         } else if is_word(first, b"drop") {
-            dropped(alloc, rest)
+            drop_change(alloc, rest)
         } else if is_word(first, b"abandon") {
             let element = whole_element(alloc, rest)?;
             Ok(NamedChange::Abandon(element))

@@ -2,10 +2,10 @@
 ghost use Rattle.script_tokens.specs.Productions.{Gives};
 ghost use Rattle.script_grammar.specs.Commands.{tuple_at, sets_of, optional_sets_of, insert_of, update_of, delete_of, operation_of};
 
+use collections::List;
 use keycode::{Text, Value, Values};
-use listed::Listed;
 use script_tokens::{
-    LineFault, Mark, Production, Token, after_word, at_end, bracketed, is_word, name, read_each,
+    LineFault, Mark, Production, Token, after_word, at_end, cut_brackets, is_word, name, read_each,
 };
 use std::alloc::Global;
 
@@ -16,13 +16,13 @@ pub enum Operation {
     Insert {
         table: Text,
         key: Values,
-        sets: Listed<(Text, Value)>,
+        sets: List<(Text, Value)>,
     },
     /// `update TABLE ( VALUE {, VALUE} ) set COLUMN = VALUE {, COLUMN = VALUE}`
     Update {
         table: Text,
         key: Values,
-        sets: Listed<(Text, Value)>,
+        sets: List<(Text, Value)>,
     },
     /// `delete TABLE ( VALUE {, VALUE} )`
     Delete {
@@ -31,7 +31,7 @@ pub enum Operation {
     },
 }
 
-/// The values in round brackets at the front.
+/// The values in round brackets at the start.
 #[tactic(auto, unfolding(crate::specs::Commands::tuple_at))]
 pub(crate) fn tuple<'t, 'a>(
     alloc: Global,
@@ -39,24 +39,24 @@ pub(crate) fn tuple<'t, 'a>(
 ) -> Result<(Values, &'t [Token<'a>]), LineFault>
     ensures { Gives (λ x. (x.0, x.1.now)) result (tuple_at tokens.entry.now) }
 {
-    let (inner, rest) = bracketed(tokens)?;
+    let (inner, rest) = cut_brackets(tokens)?;
     let values = read_each::<Value>(alloc, inner, Mark::Comma)?;
     Ok((values, rest))
 }
 
 #[tactic(auto, unfolding(crate::specs::Commands::sets_of))]
-fn sets(alloc: Global, tokens: &[Token<'_>]) -> Result<Listed<(Text, Value)>, LineFault>
+fn sets(alloc: Global, tokens: &[Token<'_>]) -> Result<List<(Text, Value)>, LineFault>
     ensures { Gives (λ x. x) result (sets_of tokens.now) }
 {
     let rest = after_word(tokens, b"set")?;
     read_each::<(Text, Value)>(alloc, rest, Mark::Comma)
 }
 
-fn optional_sets(alloc: Global, tokens: &[Token<'_>]) -> Result<Listed<(Text, Value)>, LineFault>
+fn optional_sets(alloc: Global, tokens: &[Token<'_>]) -> Result<List<(Text, Value)>, LineFault>
     ensures { Gives (λ x. x) result (optional_sets_of tokens.now) }
 {
     if tokens.is_empty() {
-        return Ok(Listed::new(Vec::new(alloc)));
+        return Ok(List::new(Vec::new(alloc)));
     }
     sets(alloc, tokens)
 }
@@ -91,7 +91,7 @@ fn delete(alloc: Global, tokens: &[Token<'_>]) -> Result<Operation, LineFault>
 }
 
 impl Production for Operation {
-    ghost spelled = { operation_of };
+    ghost parsed = { operation_of };
 
     #[tactic(auto, unfolding(crate::specs::Commands::operation_of))]
     fn read(alloc: Global, tokens: &[Token<'_>]) -> Result<Operation, LineFault> {

@@ -4,8 +4,8 @@ ghost use Rattle.script_tokens.specs.Productions.{Gives, is_mark};
 ghost use Rattle.script_grammar.specs.Commands.{begins_with, columns_at, selected_at, key_condition_at, compared, between_at, comparison_at, column_condition_at, condition_at, conditions_of, IsJoined, optional_conditions_of, selection_of};
 
 use crate::operation::tuple;
+use collections::List;
 use keycode::{Text, Value, Values};
-use listed::Listed;
 use script_tokens::{
     LineFault, Mark, Production, Token, after_mark, after_word, is_mark, is_word, name, value,
 };
@@ -34,8 +34,8 @@ pub enum Condition {
 pub struct Selection {
     pub table: Text,
     /// The columns in the order of the line, or `None` for `*`.
-    pub columns: Option<Listed<Text>>,
-    pub conditions: Listed<Condition>,
+    pub columns: Option<List<Text>>,
+    pub conditions: List<Condition>,
 }
 
 fn begins_with(tokens: &[Token<'_>], wanted: Mark) -> bool
@@ -47,7 +47,7 @@ fn begins_with(tokens: &[Token<'_>], wanted: Mark) -> bool
     }
 }
 
-/// The tokens behind the first.
+/// The tokens after the first.
 fn behind_first<'t, 'a>(tokens: &'t [Token<'a>]) -> &'t [Token<'a>]
     ensures { result.now ≡ drop 1 tokens.entry.now }
 {
@@ -57,11 +57,11 @@ fn behind_first<'t, 'a>(tokens: &'t [Token<'a>]) -> &'t [Token<'a>]
     }
 }
 
-/// The columns at the front, with commas between them.
+/// The columns at the start, with commas between them.
 fn columns<'t, 'a>(
     alloc: Global,
     tokens: &'t [Token<'a>],
-) -> Result<(Listed<Text>, &'t [Token<'a>]), LineFault>
+) -> Result<(List<Text>, &'t [Token<'a>]), LineFault>
     ensures { Gives (λ x. (x.0, x.1.now)) result (columns_at tokens.entry.now) }
 {
     let mut columns = Vec::new(alloc);
@@ -70,17 +70,17 @@ fn columns<'t, 'a>(
         let (column, behind) = name(alloc, rest)?;
         columns.push(column)?;
         if !begins_with(behind, Mark::Comma) {
-            return Ok((Listed::new(columns), behind));
+            return Ok((List::new(columns), behind));
         }
         rest = behind_first(behind);
     }
 }
 
-/// The columns at the front, or none for `*`.
-fn selected<'t, 'a>(
+/// The columns at the start, or none for `*`.
+fn read_columns<'t, 'a>(
     alloc: Global,
     tokens: &'t [Token<'a>],
-) -> Result<(Option<Listed<Text>>, &'t [Token<'a>]), LineFault>
+) -> Result<(Option<List<Text>>, &'t [Token<'a>]), LineFault>
     ensures { Gives (λ x. (x.0, x.1.now)) result (selected_at tokens.entry.now) }
 {
     let [first, rest @ ..] = tokens else {
@@ -105,8 +105,9 @@ fn key_condition<'t, 'a>(
     Ok((Condition::Key(key), rest))
 }
 
-/// The condition that a sign and the value behind it make of a column, where it is `=`, `>=` or `<=`.
-fn compared(sign: &Token<'_>, column: Text, value: Value) -> Option<Condition>
+/// The condition that a sign and the value after it make of a column, where it is `=`, `>=` or
+/// `<=`.
+fn condition_of(sign: &Token<'_>, column: Text, value: Value) -> Option<Condition>
     ensures { result ≡ compared sign.now column value }
 {
     if is_mark(sign, Mark::Equal) {
@@ -156,7 +157,7 @@ fn comparison<'t, 'a>(
         return between(alloc, column, rest);
     }
     let (value, rest) = value(alloc, rest)?;
-    match compared(first, column, value) {
+    match condition_of(first, column, value) {
         Some(condition) => Ok((condition, rest)),
         None => Err(LineFault::Malformed),
     }
@@ -173,7 +174,7 @@ fn column_condition<'t, 'a>(
     comparison(alloc, column, rest)
 }
 
-/// The condition at the front.
+/// The condition at the start.
 #[tactic(auto, unfolding(crate::specs::Commands::condition_at))]
 fn condition_at<'t, 'a>(
     alloc: Global,
@@ -193,7 +194,7 @@ fn condition_at<'t, 'a>(
 
 /// The conditions, with `and` between them, read to the end of the tokens.
 #[tactic(auto, using(crate::proofs::Bounds::unbounded))]
-fn conditions(alloc: Global, tokens: &[Token<'_>]) -> Result<Listed<Condition>, LineFault>
+fn conditions(alloc: Global, tokens: &[Token<'_>]) -> Result<List<Condition>, LineFault>
     ensures exact { Gives (λ x. x) result (conditions_of tokens.now) }
     // Their number has no bound of its own.
     ensures unbounded { IsJoined tokens.now }
@@ -205,7 +206,7 @@ fn conditions(alloc: Global, tokens: &[Token<'_>]) -> Result<Listed<Condition>, 
         let (condition, behind) = condition_at(alloc, rest)?;
         conditions.push(condition)?;
         if behind.is_empty() {
-            return Ok(Listed::new(conditions));
+            return Ok(List::new(conditions));
         }
         after_word(behind, b"and")?;
         rest = behind_first(behind);
@@ -213,23 +214,23 @@ fn conditions(alloc: Global, tokens: &[Token<'_>]) -> Result<Listed<Condition>, 
     Err(LineFault::Malformed)
 }
 
-fn optional_conditions(alloc: Global, tokens: &[Token<'_>]) -> Result<Listed<Condition>, LineFault>
+fn optional_conditions(alloc: Global, tokens: &[Token<'_>]) -> Result<List<Condition>, LineFault>
     ensures { Gives (λ x. x) result (optional_conditions_of tokens.now) }
 {
     if tokens.is_empty() {
-        return Ok(Listed::new(Vec::new(alloc)));
+        return Ok(List::new(Vec::new(alloc)));
     }
     let rest = after_word(tokens, b"where")?;
     conditions(alloc, rest)
 }
 
 impl Production for Selection {
-    ghost spelled = { selection_of };
+    ghost parsed = { selection_of };
 
     #[tactic(auto, unfolding(crate::specs::Commands::selection_of))]
     fn read(alloc: Global, tokens: &[Token<'_>]) -> Result<Selection, LineFault> {
         let rest = after_word(tokens, b"select")?;
-        let (columns, rest) = selected(alloc, rest)?;
+        let (columns, rest) = read_columns(alloc, rest)?;
         let rest = after_word(rest, b"from")?;
         let (table, rest) = name(alloc, rest)?;
         let conditions = optional_conditions(alloc, rest)?;

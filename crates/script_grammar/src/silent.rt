@@ -21,7 +21,7 @@ fn is_blank(line: &[u8]) -> bool
 
 /// Whether a line asks for nothing and has no reply: it is empty, holds spaces alone, or begins with `#`.
 ///
-/// `line` is the line without its ending. A `#` behind a space makes no remark.
+/// `line` is the line without its ending. A `#` after a space makes no remark.
 pub fn is_silent(line: &[u8]) -> bool
     ensures { result ≡ is_silent line.now }
 {

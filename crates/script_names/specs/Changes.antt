@@ -1,3 +1,4 @@
+-- Cited by the contracts of changes_of.
 -- What the names of a plan's changes stand for in a version of the schema.
 use Rattle.std.specs.Prelude.{List}
 use mathlib.Core.List.{map as each}

@@ -1,3 +1,4 @@
+-- Cited by the definitions of Changes, Moves.
 -- What kind of column a script's line adds.
 use Rattle.std.specs.Prelude.{Option, Some, None}
 use Rattle.keycode.specs.declared.value.Value.{Value}

@@ -1,3 +1,4 @@
+-- Cited by the contracts of step_of.
 -- What the names of a script's moves stand for in a version of the schema.
 use Rattle.std.specs.Prelude.{ℕ, List}
 use mathlib.Core.List.{map as each}

@@ -1,3 +1,4 @@
+-- Cited by the contracts of table_number, element_number, element_of, resolved_all and 1 more.
 -- What the names of a script stand for in a version of the schema. A name that isn't found becomes number 0, which names nothing.
 use Rattle.std.specs.Prelude.{ℕ, ◌+◌, List, Option, Some, None, option_map, unwrap_or, position, bytes_eq}
 use Rattle.std.specs.List.{find}

@@ -5,12 +5,12 @@ ghost use Rattle.script_names.specs.Changes.{added, changed, changes_of};
 use crate::kinds::column_kind;
 use crate::rows::table_number;
 use change_plan::Change;
-use listed::Listed;
+use collections::List;
 use schema_version::Schema;
 use script_grammar::{ElementName, NamedChange, New};
 use std::alloc::{AllocError, Global};
 
-fn added(schema: &Schema, fresh: New) -> Change
+fn addition_of(schema: &Schema, fresh: New) -> Change
     ensures { result ≡ added schema.now fresh }
 {
     match fresh {
@@ -39,11 +39,11 @@ fn added(schema: &Schema, fresh: New) -> Change
     }
 }
 
-fn changed(schema: &Schema, change: NamedChange) -> Change
+fn change_of(schema: &Schema, change: NamedChange) -> Change
     ensures { result ≡ changed schema.now change }
 {
     match change {
-        NamedChange::Add(fresh) => added(schema, fresh),
+        NamedChange::Add(fresh) => addition_of(schema, fresh),
         NamedChange::DropIndex(ElementName { table, name }) => {
             let table = table_number(schema, &table);
             Change::DropIndex { table, name }
@@ -59,18 +59,18 @@ fn changed(schema: &Schema, change: NamedChange) -> Change
     }
 }
 
-/// The changes of a plan, with their tables looked up; elements keep their names, which the batch itself may add.
-/// Refused for want of memory alone.
+/// The changes of a plan, with their tables looked up; elements keep their names, which the batch
+/// itself may add. Refused only when out of memory.
 pub fn changes_of(
     alloc: Global,
     schema: &Schema,
-    changes: Listed<NamedChange>,
+    changes: List<NamedChange>,
 ) -> Result<Vec<Change>, AllocError>
     ensures { IfOk result (λ found. found.items ≡ changes_of schema.now changes) }
 {
     let mut found = Vec::new(alloc);
     for change in changes.into_vec() {
-        found.push(changed(schema, change))?;
+        found.push(change_of(schema, change))?;
     }
     Ok(found)
 }

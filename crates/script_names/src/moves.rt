@@ -4,8 +4,8 @@ ghost use Rattle.script_names.specs.Moves.{element_numbers, entered, moved, step
 
 use crate::kinds::column_kind;
 use crate::rows::{element_number, element_of, table_number};
+use collections::List;
 use keycode::Text;
-use listed::Listed;
 use schema_version::{Kind, Move, NewElement, Schema, Step};
 use script_grammar::{NamedMove, New};
 use std::alloc::{AllocError, Global};
@@ -24,7 +24,7 @@ fn element_numbers(
         .collect(alloc)
 }
 
-fn entered(alloc: Global, schema: &Schema, fresh: New) -> Result<NewElement, AllocError>
+fn entry_of(alloc: Global, schema: &Schema, fresh: New) -> Result<NewElement, AllocError>
     ensures { IfOk result (λ element. element ≡ entered schema.now fresh) }
 {
     match fresh {
@@ -35,7 +35,7 @@ fn entered(alloc: Global, schema: &Schema, fresh: New) -> Result<NewElement, All
         } => {
             let table = table_number(schema, &table);
             let columns = element_numbers(alloc, schema, table, columns.as_slice())?;
-            let kind = Kind::Index(Listed::new(columns));
+            let kind = Kind::Index(List::new(columns));
             Ok(NewElement { table, name, kind })
         }
         New::Column {
@@ -51,12 +51,12 @@ fn entered(alloc: Global, schema: &Schema, fresh: New) -> Result<NewElement, All
     }
 }
 
-fn moved(alloc: Global, schema: &Schema, named: NamedMove) -> Result<Move, AllocError>
+fn move_of(alloc: Global, schema: &Schema, named: NamedMove) -> Result<Move, AllocError>
     ensures { IfOk result (λ found. found ≡ moved schema.now named) }
 {
     match named {
         NamedMove::Enter { fresh, to } => {
-            let fresh = entered(alloc, schema, fresh)?;
+            let fresh = entry_of(alloc, schema, fresh)?;
             Ok(Move::Enter { fresh, to })
         }
         NamedMove::Go { element, to } => {
@@ -70,14 +70,14 @@ fn moved(alloc: Global, schema: &Schema, named: NamedMove) -> Result<Move, Alloc
     }
 }
 
-/// The moves of a step with their names looked up. Refused for want of memory alone.
-pub fn step_of(alloc: Global, schema: &Schema, moves: Listed<NamedMove>) -> Result<Step, AllocError>
+/// The moves of a step with their names looked up. Refused only when out of memory.
+pub fn step_of(alloc: Global, schema: &Schema, moves: List<NamedMove>) -> Result<Step, AllocError>
     ensures { IfOk result (λ step. step ≡ step_of schema.now moves) }
 {
     let mut step = Vec::new(alloc);
     for named in moves.into_vec() {
-        let found = moved(alloc, schema, named)?;
+        let found = move_of(alloc, schema, named)?;
         step.push(found)?;
     }
-    Ok(Listed::new(step))
+    Ok(List::new(step))
 }

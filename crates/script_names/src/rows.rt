@@ -4,8 +4,8 @@ ghost use mathlib.Core.List.{map};
 ghost use Rattle.schema_version.specs.Version.{public_columns};
 ghost use Rattle.script_names.specs.Names.{table_number, element_number, numbered, named_cells, resolved, resolved_all, column_numbers, looked_up, asked};
 
+use collections::List;
 use keycode::{Text, Value};
-use listed::Listed;
 use row_query::{Cond, Query};
 use row_write::{RowOp, RowOps};
 use schema_version::Schema;
@@ -44,18 +44,22 @@ fn named_cells(
     alloc: Global,
     schema: &Schema,
     table: u32,
-    sets: Listed<(Text, Value)>,
-) -> Result<Listed<(u32, Value)>, AllocError>
+    sets: List<(Text, Value)>,
+) -> Result<List<(u32, Value)>, AllocError>
     ensures { IfOk result (λ cells. cells ≡ named_cells schema.now table sets) }
 {
     let mut cells = Vec::new(alloc);
     for (name, value) in sets.into_vec() {
         cells.push((element_number(schema, table, &name), value))?;
     }
-    Ok(Listed::new(cells))
+    Ok(List::new(cells))
 }
 
-fn resolved(alloc: Global, schema: &Schema, operation: Operation) -> Result<RowOp, AllocError>
+fn resolve_operation(
+    alloc: Global,
+    schema: &Schema,
+    operation: Operation,
+) -> Result<RowOp, AllocError>
     ensures { IfOk result (λ op. op ≡ resolved schema.now operation) }
 {
     match operation {
@@ -76,20 +80,20 @@ fn resolved(alloc: Global, schema: &Schema, operation: Operation) -> Result<RowO
     }
 }
 
-/// The operations with their names looked up. Refused for want of memory alone.
+/// The operations with their names looked up. Refused only when out of memory.
 pub fn resolved_all(
     alloc: Global,
     schema: &Schema,
-    operations: Listed<Operation>,
+    operations: List<Operation>,
 ) -> Result<RowOps, AllocError>
     ensures { IfOk result (λ ops. ops ≡ resolved_all schema.now operations) }
 {
     let mut ops = Vec::new(alloc);
     for operation in operations.into_vec() {
-        let op = resolved(alloc, schema, operation)?;
+        let op = resolve_operation(alloc, schema, operation)?;
         ops.push(op)?;
     }
-    Ok(Listed::new(ops))
+    Ok(List::new(ops))
 }
 
 fn all_columns(alloc: Global, schema: &Schema, table: u32) -> Result<Vec<u32>, AllocError>
@@ -107,7 +111,7 @@ fn column_numbers(
     alloc: Global,
     schema: &Schema,
     table: u32,
-    names: &Option<Listed<Text>>,
+    names: &Option<List<Text>>,
 ) -> Result<Vec<u32>, AllocError>
     ensures { IfOk result (λ columns. columns.items ≡ column_numbers schema.now table names.now) }
 {
@@ -141,7 +145,7 @@ fn all_looked_up(
     alloc: Global,
     schema: &Schema,
     table: u32,
-    conditions: Listed<Condition>,
+    conditions: List<Condition>,
 ) -> Result<Vec<Cond>, AllocError>
     ensures { IfOk result (λ conds. conds.items ≡ map (looked_up schema.now table) conditions) }
 {
@@ -152,7 +156,7 @@ fn all_looked_up(
     Ok(conds)
 }
 
-/// A selection with its names looked up. Refused for want of memory alone.
+/// A selection with its names looked up. Refused only when out of memory.
 pub fn asked(alloc: Global, schema: &Schema, selection: Selection) -> Result<Query, AllocError>
     ensures { IfOk result (λ query. query ≡ asked schema.now selection) }
 {
@@ -166,7 +170,7 @@ pub fn asked(alloc: Global, schema: &Schema, selection: Selection) -> Result<Que
     let conditions = all_looked_up(alloc, schema, table, conditions)?;
     Ok(Query {
         table,
-        columns: Listed::new(columns),
-        conditions: Listed::new(conditions),
+        columns: List::new(columns),
+        conditions: List::new(conditions),
     })
 }

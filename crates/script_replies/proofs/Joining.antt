@@ -1,4 +1,4 @@
--- Texts that stand in a row.
+-- Texts that are in a row.
 use Rattle.std.proofs.Common.{◌≡◌, ℕ, List, [], ◌∷◌, ◌++◌, Result, Ok, Err, IfOk, codes, ap, refl, ◌∙◌}
 use Rattle.std.specs.Prelude.{flat_map}
 use Rattle.std.specs.List.{join_by}

@@ -18,6 +18,6 @@ no_float s usable =
     λ i. none_in_list (element_data (facts_of s).newest) (λ e. refl) (live (facts_of s).newest) i || (none_in_list count_data (λ n. refl) usable i || false)
 
 -- what is written for the data is the line
-pub told : (s : State) (numbers usable : List ℕ) (value : Data) (text : List ℕ) → AreUsable (facts_of s) numbers → usable ≡ numbers → value ≡ status_data s usable → (has_float value ≡ false → text ≡ compact_text value) → IsStatus s text
-told s numbers usable value text are same is written =
+pub reported : (s : State) (numbers usable : List ℕ) (value : Data) (text : List ℕ) → AreUsable (facts_of s) numbers → usable ≡ numbers → value ≡ status_data s usable → (has_float value ≡ false → text ≡ compact_text value) → IsStatus s text
+reported s numbers usable value text are same is written =
     (usable, subst (AreUsable (facts_of s)) (sym same) are, written (ap has_float is ∙ no_float s usable) ∙ ap compact_text is)

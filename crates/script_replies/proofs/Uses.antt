@@ -40,8 +40,8 @@ newest_usable line now n valid past is = usable_from line n now valid past (inl 
 pub one_usable : (facts : Facts) (line : Timeline) (before last now : ℕ) (numbers : List ℕ)
     → line ≡ facts.line → now ≡ facts.moment → IsValid line → last_publication line ≤ now → last ≡ newest line → before + 1 ≡ last
     → (IsUsable line before now → ⊥) → numbers ≡ last ∷ [] → AreUsable facts numbers
-one_usable facts line before last now numbers same moment valid past is next not listed =
-    subst (AreUsable facts) (sym listed) (record { rising = one_rises last; usable = λ n. (within n, has n) })
+one_usable facts line before last now numbers same moment valid past is next not list =
+    subst (AreUsable facts) (sym list) (record { rising = one_rises last; usable = λ n. (within n, has n) })
   where
     within : (n : ℕ) → Contains (last ∷ []) n → IsUsable facts.line n facts.moment
     within n c = subst (λ (l : Timeline). IsUsable l n facts.moment) same (subst (IsUsable line n) moment (newest_usable line now n valid past (of_one last n c ∙ is)))
@@ -58,8 +58,8 @@ one_usable facts line before last now numbers same moment valid past is next not
 pub two_usable : (facts : Facts) (line : Timeline) (before last now : ℕ) (numbers : List ℕ)
     → line ≡ facts.line → now ≡ facts.moment → IsValid line → last_publication line ≤ now → last ≡ newest line → before + 1 ≡ last
     → IsUsable line before now → numbers ≡ before ∷ last ∷ [] → AreUsable facts numbers
-two_usable facts line before last now numbers same moment valid past is next used listed =
-    subst (AreUsable facts) (sym listed) (record { rising = two_rise before last (omega (arith, next)); usable = λ n. (within n, has n) })
+two_usable facts line before last now numbers same moment valid past is next used list =
+    subst (AreUsable facts) (sym list) (record { rising = two_rise before last (omega (arith, next)); usable = λ n. (within n, has n) })
   where
     usable : (n : ℕ) → Contains (before ∷ last ∷ []) n → IsUsable line n now
     usable n c = elim (of_two before last n c) [

@@ -1,14 +1,15 @@
+-- Cited by the contracts of unread_line, pieced_line, unpieced_line.
 -- What a script prints of a piece of a reorganisation.
 use Rattle.std.specs.Prelude.{ℕ, List, ◌++◌, cond, codes}
 use Rattle.std.specs.Fmt.{decimal}
-use Rattle.script_grammar.specs.Printing.{hex}
+use Rattle.script_grammar.specs.Print.{hex}
 use Rattle.reorganise.specs.declared.fault.ViewFault.{ViewFault}
 use Rattle.reorganise.specs.declared.fault.ViewFault.TheVariants as view_fault
 use Rattle.world.specs.declared.entry.PieceDone.{PieceDone}
-use Rattle.world.specs.declared.pieces.PieceFault.{PieceFault}
-use Rattle.world.specs.declared.pieces.PieceFault.TheVariants as piece_fault
-use Rattle.world.specs.declared.pieces.ReadFault.{ReadFault}
-use Rattle.world.specs.declared.pieces.ReadFault.TheVariants as read_fault
+use Rattle.world.specs.declared.piece.PieceFault.{PieceFault}
+use Rattle.world.specs.declared.piece.PieceFault.TheVariants as piece_fault
+use Rattle.world.specs.declared.piece.ReadFault.{ReadFault}
+use Rattle.world.specs.declared.piece.ReadFault.TheVariants as read_fault
 
 abbrev pub view_name : ViewFault → List ℕ
 view_name view_fault.BadPiece = codes "BadPiece"
@@ -16,7 +17,7 @@ view_name view_fault.Spent = codes "Spent"
 view_name view_fault.BadLimit = codes "BadLimit"
 view_name view_fault.Memory = codes "Memory"
 
--- why a piece can't be read is told by its own name
+-- why a piece can't be read is reported by its own name
 abbrev pub read_name : ReadFault → List ℕ
 read_name read_fault.NotWanted = codes "NotWanted"
 read_name (read_fault.View fault) = view_name fault

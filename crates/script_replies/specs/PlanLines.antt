@@ -1,9 +1,10 @@
+-- Cited by the definitions of Plans.
 -- How the steps of a plan are printed, a line each.
 use Rattle.std.specs.Prelude.{ℕ, ◌+◌, List, [], ◌∷◌, ◌++◌, Option, Some, None, codes}
 use Rattle.std.specs.Fmt.{decimal}
 use Rattle.std.specs.List.{join_by}
 use mathlib.Core.List.{map as each}
-use Rattle.script_grammar.specs.Printing.{state_word}
+use Rattle.script_grammar.specs.Print.{state_word}
 use Rattle.schema_version.specs.declared.element.ElementDef.{ElementDef}
 use Rattle.schema_version.specs.declared.step.Move.{Move}
 use Rattle.schema_version.specs.declared.step.Move.TheVariants.{Enter, Go, Turn}

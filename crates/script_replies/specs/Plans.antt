@@ -1,3 +1,4 @@
+-- Cited by the contracts of unplanned_line, steps_text.
 -- What a script prints of a plan.
 use Rattle.std.specs.Prelude.{ℕ, List, length, ◌++◌, Result, Ok, Err, codes}
 use Rattle.std.specs.Fmt.{decimal}

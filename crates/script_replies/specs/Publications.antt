@@ -1,11 +1,12 @@
+-- Cited by the contracts of published_line.
 -- What a script prints of a publication.
 use Rattle.std.specs.Prelude.{ℕ, List, Result, Ok, Err, codes, ◌++◌}
 use Rattle.std.specs.Fmt.{decimal}
 use Rattle.schema_version.specs.declared.step.StepFault.{StepFault}
 use Rattle.schema_version.specs.declared.step.StepFault.TheVariants as step_fault
 use Rattle.world.specs.declared.entry.Receipt.{Receipt}
-use Rattle.world.specs.declared.publishing.PublishFault.{PublishFault}
-use Rattle.world.specs.declared.publishing.PublishFault.TheVariants as publish_fault
+use Rattle.world.specs.declared.publish.PublishFault.{PublishFault}
+use Rattle.world.specs.declared.publish.PublishFault.TheVariants as publish_fault
 use Rattle.script_replies.specs.Texts.{refused}
 
 abbrev pub step_name : StepFault → List ℕ
@@ -17,7 +18,7 @@ step_name step_fault.NameTaken = codes "NameTaken"
 step_name step_fault.Limit = codes "Limit"
 step_name step_fault.Memory = codes "Memory"
 
--- a fault of the step is told by its own name
+-- a fault of the step is reported by its own name
 abbrev pub publish_name : PublishFault → List ℕ
 publish_name publish_fault.MomentTooLarge = codes "MomentTooLarge"
 publish_name (publish_fault.TooEarly earliest) = codes "TooEarly " ++ decimal earliest

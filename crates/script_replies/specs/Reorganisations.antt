@@ -1,15 +1,16 @@
--- What a script prints of the begin of a reorganisation, and of one that is worked off.
+-- Cited by the contracts of work_word, begun_line, worked_line.
+-- What a script prints of the begin of a reorganisation, and of one that is run to its end.
 use Rattle.std.specs.Prelude.{ℕ, List, ◌++◌, Option, Some, None, Result, Ok, Err, codes}
 use Rattle.std.specs.Option.{option_and_then}
 use Rattle.std.specs.Fmt.{decimal}
 use Rattle.schema_version.specs.declared.element.ElementDef.{ElementDef}
 use Rattle.schema_version.specs.declared.element.Work.{Work}
 use Rattle.schema_version.specs.declared.element.Work.TheVariants.{Fill, Clear}
-use Rattle.schema_version.specs.Edges.{wanted}
+use Rattle.schema_version.specs.Edges.{wanted_work}
 use Rattle.schema_version.specs.Version.{Version, element_at}
 use Rattle.world.specs.declared.entry.Receipt.{Receipt}
-use Rattle.world.specs.declared.beginning.BeginFault.{BeginFault}
-use Rattle.world.specs.declared.beginning.BeginFault.TheVariants as begin_fault
+use Rattle.world.specs.declared.begin_reorg.BeginFault.{BeginFault}
+use Rattle.world.specs.declared.begin_reorg.BeginFault.TheVariants as begin_fault
 use Rattle.piece_work.specs.declared.fault.WorkFault.{WorkFault}
 use Rattle.piece_work.specs.declared.fault.WorkFault.TheVariants as work_fault
 use Rattle.script_replies.specs.Pieces.{read_name, piece_name}
@@ -30,7 +31,7 @@ want_word (Some Clear) = codes "clear"
 want_word None = codes "clear"
 
 abbrev pub work_word : Option ElementDef → List ℕ
-work_word element = want_word (option_and_then wanted element)
+work_word element = want_word (option_and_then wanted_work element)
 
 -- `ok begun fill PIECES` or `ok begun clear PIECES`
 abbrev pub begun_words : List ℕ → ℕ → Result Receipt BeginFault → List ℕ
@@ -42,7 +43,7 @@ begun_text version number = begun_words (work_word (element_at version number))
 
 -- ---- working it off
 
--- a refusal of a piece is told by its own name
+-- a refusal of a piece is reported by its own name
 abbrev pub work_name : WorkFault → List ℕ
 work_name (work_fault.Read fault) = read_name fault
 work_name (work_fault.Commit fault) = piece_name fault

@@ -1,9 +1,10 @@
+-- Cited by the contracts of unanswered_line, rows_text.
 -- The rows of a query as a script prints them.
 use Rattle.std.specs.Prelude.{ℕ, List, [], ◌∷◌, ◌++◌, length, Option, Some, None, Result, Ok, Err, Bool, ◌&&◌, ◌==◌, filter, codes}
 use Rattle.std.specs.Fmt.{decimal}
 use Rattle.std.specs.List.{flat_map, find}
 use mathlib.Core.List.{map as each}
-use Rattle.script_grammar.specs.Printing.{value_text}
+use Rattle.script_grammar.specs.Print.{value_text}
 use Rattle.keycode.specs.declared.value.Value.{Value}
 use Rattle.keycode.specs.declared.value.Value.TheVariants.{Null}
 use Rattle.row_map.specs.declared.shape.Row.{Row}
@@ -13,8 +14,8 @@ use Rattle.row_query.specs.declared.query.Query.{Query}
 use Rattle.row_query.specs.Answer.{is_named}
 use Rattle.schema_version.specs.declared.element.ElementDef.{ElementDef}
 use Rattle.schema_version.specs.Version.{Version, live, is_public_column}
-use Rattle.world.specs.declared.querying.QueryRefusal.{QueryRefusal}
-use Rattle.world.specs.declared.querying.QueryRefusal.TheVariants as refusal
+use Rattle.world.specs.declared.query.QueryRefusal.{QueryRefusal}
+use Rattle.world.specs.declared.query.QueryRefusal.TheVariants as refusal
 use Rattle.script_replies.specs.Texts.{line, refused}
 
 -- the public columns that a query names, each once, by rising number
@@ -49,7 +50,7 @@ cells_text (text ∷ texts) = codes " " ++ joined (text ∷ texts)
 abbrev pub row_line : List (ℕ × List ℕ) → Row → List ℕ
 row_line columns row = line (codes "row (" ++ joined (each value_text row.key) ++ codes ")" ++ cells_text (each (cell_text row) columns))
 
--- a fault of the query is told by its own name
+-- a fault of the query is reported by its own name
 abbrev pub fault_name : QueryFault → List ℕ
 fault_name query_fault.NoTable = codes "NoTable"
 fault_name (query_fault.NotPublic column) = codes "NotPublic " ++ decimal column

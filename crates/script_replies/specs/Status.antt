@@ -1,8 +1,9 @@
+-- Cited by the contracts of status_line.
 -- What a world's status line says.
 use Rattle.std.specs.Prelude.{◌≡◌, ◌↔◌, ℕ, List, [], length, Option, Some, None, Contains, codes}
 use Rattle.std.specs.List.Sorted.{IsStrictlyIncreasing}
 use mathlib.Core.List.{map as each}
-use Rattle.script_grammar.specs.Printing.{state_word}
+use Rattle.script_grammar.specs.Print.{state_word}
 use Rattle.lease.specs.Timeline.{IsUsable, newest as newest_number}
 use Rattle.replay.specs.Replay.{Facts}
 use Rattle.schema_version.specs.declared.element.ElementDef.{ElementDef}

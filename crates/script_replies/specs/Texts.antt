@@ -1,15 +1,16 @@
+-- Cited by the contracts of open_refusal, grant_refusal, lease_line, push_numbered and 14 more.
 -- The words of replies.
 use Rattle.std.specs.Prelude.{ℕ, List, [], ◌∷◌, ◌++◌, codes, length}
 use Rattle.std.specs.Fmt.{decimal}
 use Rattle.std.specs.List.{flat_map}
 use Rattle.audit.specs.declared.report.CheckReport.{CheckReport}
-use Rattle.script_grammar.specs.Printing.{hex}
+use Rattle.script_grammar.specs.Print.{hex}
 use Rattle.lease.specs.declared.lease.Lease.{Lease}
 use Rattle.row_map.specs.Rows.{Bytes}
-use Rattle.world.specs.declared.opening.OpenFault.{OpenFault}
-use Rattle.world.specs.declared.opening.OpenFault.TheVariants as open_fault
-use Rattle.world.specs.declared.leasing.GrantFault.{GrantFault}
-use Rattle.world.specs.declared.leasing.GrantFault.TheVariants as grant_fault
+use Rattle.world.specs.declared.open.OpenFault.{OpenFault}
+use Rattle.world.specs.declared.open.OpenFault.TheVariants as open_fault
+use Rattle.world.specs.declared.grant.GrantFault.{GrantFault}
+use Rattle.world.specs.declared.grant.GrantFault.TheVariants as grant_fault
 
 -- a line of a reply
 abbrev pub line : List ℕ → List ℕ
@@ -35,7 +36,7 @@ grant_name grant_fault.Memory = codes "Memory"
 abbrev pub leased : Lease → List ℕ
 leased lease = codes "ok lease " ++ decimal lease.version ++ codes " " ++ decimal lease.granted ++ codes " " ++ decimal lease.until
 
--- a value that isn't empty stands behind its key
+-- a value that isn't empty stands after its key
 abbrev pub value_behind : Bytes → List ℕ
 value_behind [] = []
 value_behind (b ∷ bs) = codes " = " ++ hex (b ∷ bs)

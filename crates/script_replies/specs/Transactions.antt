@@ -1,15 +1,16 @@
+-- Cited by the contracts of unprepared_line, committed_line, rejected_line.
 -- What a script prints of a transaction.
 use Rattle.std.specs.Prelude.{ℕ, List, codes, ◌++◌}
 use Rattle.std.specs.Fmt.{decimal}
-use Rattle.script_grammar.specs.Printing.{hex}
+use Rattle.script_grammar.specs.Print.{hex}
 use Rattle.row_write.specs.declared.fault.PrepareFault.{PrepareFault}
 use Rattle.row_write.specs.declared.fault.PrepareFault.TheVariants as prepare
 use Rattle.row_write.specs.declared.fault.RowFault.{RowFault}
 use Rattle.row_write.specs.declared.fault.RowFault.TheVariants.{Duplicate, NoRow}
 use Rattle.world.specs.declared.committed.Committed.{Committed}
 use Rattle.world.specs.declared.committed.Committed.TheVariants as committed
-use Rattle.world.specs.declared.committing.CommitFault.{CommitFault}
-use Rattle.world.specs.declared.committing.CommitFault.TheVariants as commit
+use Rattle.world.specs.declared.commit.CommitFault.{CommitFault}
+use Rattle.world.specs.declared.commit.CommitFault.TheVariants as commit
 
 abbrev pub prepare_name : PrepareFault → List ℕ
 prepare_name prepare.NoTable = codes "NoTable"

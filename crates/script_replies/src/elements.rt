@@ -37,7 +37,7 @@ fn element_value(alloc: Global, schema: &Schema, element: &ElementDef) -> Result
     json!(in alloc; {"name": name, "number": element.number, "state": state, "table": table, "way": way})
 }
 
-/// All live elements of a version, by rising number. Refused for want of memory alone.
+/// All live elements of a version, by rising number. Refused only when out of memory.
 pub(crate) fn elements_value(alloc: Global, schema: &Schema) -> Result<Value, AllocError>
     ensures { IfOk result (λ value. view value ≡ elements_data schema.now) }
 {

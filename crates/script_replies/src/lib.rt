@@ -1,6 +1,7 @@
-//! What a script prints of each answer of the core, with its line ends, and how a world stands, as one line of JSON. A refusal is `refused` and the fault's name, behind it the
-//! numbers or the key in hexadecimal that the fault has; a fault within a fault is told by its own name. The calls themselves are
-//! refused for want of memory alone.
+//! What a script prints of each answer of the core, with its line ends, and how a world stands, as
+//! one line of JSON. A refusal is `refused` and the fault's name, after it the numbers or the key
+//! in hexadecimal that the fault has; a fault within a fault is reported by its own name. The calls
+//! themselves are refused only when out of memory.
 #![tactic(auto)]
 
 mod elements;

@@ -17,13 +17,13 @@ fn push_value(text: &mut String, value: &[u8]) -> Result<(), AllocError>
     push_hex(text, value)
 }
 
-/// Adds the line of a pair: `KEY = VALUE` in hexadecimal, or `KEY` where the value is empty.
+/// Adds the line of a pair: `KEY = VALUE` in hexadecimal, or `KEY` if the value is empty.
 ///
-/// - `text`: the text behind which the line is put.
+/// - `text`: the text after which the line is put.
 /// - `key`: the key of the pair.
 /// - `value`: its value.
 ///
-/// The only refusal is want of memory; it may leave a part of the line behind the text.
+/// The only refusal is running out of memory; it may leave a part of the line after the text.
 pub fn push_pair(text: &mut String, key: &[u8], value: &[u8]) -> Result<(), AllocError>
     ensures { OnOk result (string_bytes text.new ≡ string_bytes text.old ++ pair_line (key.now, value.now)) }
 {

@@ -116,7 +116,11 @@ fn item_texts(alloc: Global, schema: &Schema, step: &PlanStep) -> Result<Vec<Str
 }
 
 /// The items of a step in a row, with a comma between each two.
-pub(crate) fn joined(alloc: Global, schema: &Schema, step: &PlanStep) -> Result<String, AllocError>
+pub(crate) fn join_items(
+    alloc: Global,
+    schema: &Schema,
+    step: &PlanStep,
+) -> Result<String, AllocError>
     ensures { IfOk result (λ text. string_bytes text ≡ joined (item_texts schema.now step.now)) }
 {
     let texts = item_texts(alloc, schema, step)?;

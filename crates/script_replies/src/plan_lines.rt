@@ -4,7 +4,7 @@ ghost use Rattle.schema_version.specs.Moves.{IsAllowed, after_step};
 ghost use Rattle.change_plan.specs.Plans.{AreAllowed};
 ghost use Rattle.script_replies.specs.PlanLines.{step_line, plan_lines};
 
-use crate::plan_items::joined;
+use crate::plan_items::join_items;
 use change_plan::PlanStep;
 use schema_version::{Schema, Step, StepFault};
 use std::alloc::{AllocError, Global};
@@ -18,11 +18,11 @@ fn push_line(
 ) -> Result<(), AllocError>
     ensures { OnOk result (string_bytes out.new ≡ string_bytes out.old ++ step_line schema.now number step.now) }
 {
-    let items = joined(alloc, schema, step)?;
+    let items = join_items(alloc, schema, step)?;
     write!(out, "step {number}: {items}\n")
 }
 
-// The version that an allowed step gives: no fault but want of memory can come of it.
+// The version that an allowed step gives: no fault but out of memory can come of it.
 fn after(schema: &Schema, step: &Step) -> Result<Schema, AllocError>
     requires { IsAllowed schema.now step.now }
     ensures { IfOk result (λ next. next ≡ after_step schema.now step.now) }
@@ -34,7 +34,7 @@ fn after(schema: &Schema, step: &Step) -> Result<Schema, AllocError>
     }
 }
 
-// The lines of the steps behind the first, which gave this version.
+// The lines of the steps after the first, which gave this version.
 fn push_later(
     alloc: Global,
     out: &mut String,
@@ -53,15 +53,16 @@ fn push_later(
     Ok(())
 }
 
-/// The steps of a plan, a line each, numbered from 1: `step 3: fill t.i, t.i public`. In a line stand first the fills and the clears
-/// that must end before the step, and then its moves, each in its order: a table's name, a dot, the element's name, and of a move the
-/// state that it leads to, or `dropping` where it turns. No step is the empty text.
+/// The steps of a plan, a line each, numbered from 1: `step 3: fill t.i, t.i public`. In a line
+/// stand first the fills and the clears that must end before the step, and then its moves, each in
+/// its order: a table's name, a dot, the element's name, and of a move the state that it leads to,
+/// or `dropping` if it turns. No step is the empty text.
 ///
 /// - `schema`: the version from which the plan starts.
-/// - `steps`: the plan, each of whose steps is allowed behind those before it. Elements are named as the version has them that the
-///   steps before give.
+/// - `steps`: the plan, each of whose steps is allowed after those before it. Elements are named as
+///   the version has them that the steps before give.
 ///
-/// Refused for want of memory alone, and nothing is left then.
+/// Refused only when out of memory, and nothing is left then.
 ///
 /// After the schema changes of "Online, Asynchronous Schema Change in F1" (Rae et al., 2013).
 pub(crate) fn plan_text(

@@ -39,7 +39,7 @@ pub fn unplanned_line(alloc: Global, fault: PlanFault) -> Result<String, AllocEr
 /// A plan: a line for each step, as `plan_text` has it, and then `ok plan STEPS`.
 ///
 /// - `schema`: the version from which the plan starts.
-/// - `steps`: the plan, each of whose steps is allowed behind those before it.
+/// - `steps`: the plan, each of whose steps is allowed after those before it.
 pub fn steps_text(alloc: Global, schema: &Schema, steps: &[PlanStep]) -> Result<String, AllocError>
     requires allowed { AreAllowed schema.now steps.now }
     ensures { IfOk result (λ text. string_bytes text ≡ steps_text schema.now steps.now) }

@@ -2,7 +2,7 @@
 ghost use Rattle.std.specs.Prelude.{◌≡◌, ◌++◌, IfOk, OnOk, codes, string_bytes};
 ghost use Rattle.std.specs.Fmt.{decimal};
 ghost use Rattle.std.specs.Option.{option_and_then};
-ghost use Rattle.schema_version.specs.Edges.{wanted};
+ghost use Rattle.schema_version.specs.Edges.{wanted_work};
 ghost use Rattle.schema_version.specs.Version.{element_at};
 ghost use Rattle.script_replies.specs.Reorganisations.{begin_name, begun_words, want_word, work_word, work_name, worked_text};
 ghost use Rattle.script_replies.specs.Texts.{line};
@@ -41,10 +41,10 @@ fn want_word(work: Option<Work>) -> &'static str
 }
 
 // What the live element of this number wants.
-fn wanted(schema: &Schema, number: u32) -> Option<Work>
-    ensures { result ≡ option_and_then wanted (element_at schema.now number) }
+fn find_wanted(schema: &Schema, number: u32) -> Option<Work>
+    ensures { result ≡ option_and_then wanted_work (element_at schema.now number) }
 {
-    schema.element(number)?.wanted()
+    schema.element(number)?.wanted_work()
 }
 
 /// The word for what an element wants: `fill` or `clear`.
@@ -54,7 +54,7 @@ fn wanted(schema: &Schema, number: u32) -> Option<Work>
 pub fn work_word(schema: &Schema, number: u32) -> &'static str
     ensures { result.now ≡ work_word (element_at schema.now number) }
 {
-    want_word(wanted(schema, number))
+    want_word(find_wanted(schema, number))
 }
 
 fn push_begun(out: &mut String, word: &str, pieces: u32) -> Result<(), AllocError>
@@ -116,9 +116,10 @@ fn push_worked(out: &mut String, worked: &Result<u64, WorkFault>) -> Result<(), 
     }
 }
 
-/// The reply to a reorganisation that is worked off: `ok work COMMITS`, or a refusal as `refused NotWanted`.
+/// The reply to a reorganisation that is run to its end: `ok work COMMITS`, or a refusal as
+/// `refused NotWanted`.
 ///
-/// - `worked`: the number of commits, or why it was not worked off.
+/// - `worked`: the number of commits, or why it was not run to its end.
 pub fn worked_line(alloc: Global, worked: &Result<u64, WorkFault>) -> Result<String, AllocError>
     ensures { IfOk result (λ text. string_bytes text ≡ line (worked_text worked.now)) }
 {

@@ -3,7 +3,7 @@ ghost use Rattle.std.specs.Prelude.{◌≡◌, ◌==◌, ◌++◌, IfOk, OnOk, c
 ghost use Rattle.std.specs.List.{find, flat_map};
 ghost use Rattle.std.specs.Option.{option_copied};
 ghost use mathlib.Core.List.{map};
-ghost use Rattle.script_grammar.specs.Printing.{value_text};
+ghost use Rattle.script_grammar.specs.Print.{value_text};
 ghost use Rattle.row_query.specs.Answer.{is_named};
 ghost use Rattle.script_replies.specs.Rows.{is_shown, shown, joined, value_or_null, cell_text, cells_text, row_line, rows_text};
 
@@ -28,7 +28,11 @@ fn is_shown(query: &Query, element: &ElementDef) -> bool
 }
 
 // The columns that a query shows, by rising number, each with its name.
-fn shown(alloc: Global, schema: &Schema, query: &Query) -> Result<Vec<(u32, Text)>, AllocError>
+fn shown_columns(
+    alloc: Global,
+    schema: &Schema,
+    query: &Query,
+) -> Result<Vec<(u32, Text)>, AllocError>
     ensures { IfOk result (λ columns. columns.items ≡ shown schema.now query.now) }
 {
     let mut columns = Vec::new(alloc);
@@ -61,7 +65,7 @@ fn push_key(out: &mut String, key: &[Value]) -> Result<(), AllocError>
     push_more_values(out, others)
 }
 
-fn found(cells: &[(u32, Value)], number: u32) -> Option<&(u32, Value)>
+fn find_cell(cells: &[(u32, Value)], number: u32) -> Option<&(u32, Value)>
     ensures { option_copied result ≡ find (λ cell. cell.0 == number) cells.now }
 {
     cells.iter().find(|cell| cell.0 == number)
@@ -79,7 +83,7 @@ fn push_found(out: &mut String, cell: Option<&(u32, Value)>) -> Result<(), Alloc
 fn push_cell(out: &mut String, row: &Row, column: &(u32, Text)) -> Result<(), AllocError>
     ensures { OnOk result (string_bytes out.new ≡ string_bytes out.old ++ cell_text row.now column.now) }
 {
-    let cell = found(row.cells.as_slice(), column.0);
+    let cell = find_cell(row.cells.as_slice(), column.0);
     out.push_str(column.1.as_str())?;
     out.push_str(" = ")?;
     push_found(out, cell)?;
@@ -127,9 +131,9 @@ fn push_rows(out: &mut String, rows: &[Row], columns: &[(u32, Text)]) -> Result<
     Ok(())
 }
 
-/// The rows of a query: a line `row (KEY) COLUMN = VALUE, ..` for each, and then `ok rows ROWS`. The line of a row has the public
-/// columns of the table that the query names, by rising number, `null` where the row has no value; it is `row (KEY)` where there
-/// is none.
+/// The rows of a query: a line `row (KEY) COLUMN = VALUE, ..` for each, and then `ok rows ROWS`.
+/// The line of a row has the public columns of the table that the query names, by rising number,
+/// `null` if the row has no value; it is `row (KEY)` where there is none.
 ///
 /// - `schema`: the version under which the query was asked, which has the columns' names.
 /// - `query`: the query.
@@ -142,7 +146,7 @@ pub fn rows_text(
 ) -> Result<String, AllocError>
     ensures { IfOk result (λ text. string_bytes text ≡ rows_text (shown schema.now query.now) rows.now) }
 {
-    let columns = shown(alloc, schema, query)?;
+    let columns = shown_columns(alloc, schema, query)?;
     let mut text = String::new(alloc);
     push_rows(&mut text, rows, columns.as_slice())?;
     push_numbered(&mut text, "ok rows ", rows.len() as u64)?;

@@ -30,7 +30,7 @@ fn status_value(alloc: Global, world: &World, usable: &[u64]) -> Result<Value, A
 /// - `usable`: the versions that a lease may still use at that moment, rising;
 /// - `version`: the newest version's number.
 ///
-/// `world` is only read. Refused for want of memory alone.
+/// `world` is only read. Refused only when out of memory.
 pub fn status_line(alloc: Global, world: &World) -> Result<String, AllocError>
     ensures { IfOk result (λ text. IsStatus world.now (string_bytes text)) }
 {

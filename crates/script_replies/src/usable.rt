@@ -9,8 +9,8 @@ use serde_json::Value;
 use std::alloc::{AllocError, Global};
 use world::World;
 
-/// The versions that a lease may still use at the moment of the last entry, rising: no other than the newest and the one
-/// before it. Refused for want of memory alone.
+/// The versions that a lease may still use at the moment of the last entry, rising: no other than
+/// the newest and the one before it. Refused only when out of memory.
 pub(crate) fn usable_versions(alloc: Global, world: &World) -> Result<Vec<u64>, AllocError>
     ensures { IfOk result (λ numbers. AreUsable (facts_of world.now) numbers.items) }
 {
@@ -24,7 +24,7 @@ pub(crate) fn usable_versions(alloc: Global, world: &World) -> Result<Vec<u64>, 
     Ok(vec![in alloc; newest]?)
 }
 
-/// These numbers as a list in JSON. Refused for want of memory alone.
+/// These numbers as a list in JSON. Refused only when out of memory.
 pub(crate) fn numbers_value(alloc: Global, numbers: &[u64]) -> Result<Value, AllocError>
     ensures { IfOk result (λ value. view value ≡ list_data (map count_data numbers.now)) }
 {

@@ -1,4 +1,4 @@
-pub mod Indexing
+pub mod Indexes
 pub mod Transactions
 pub mod Pairs
 pub mod UnderLease

@@ -6,15 +6,15 @@ use Rattle.std.specs.FinMap as map
 use Rattle.row_map.specs.Rows.{Bytes, Pairs}
 use Rattle.script_replies.specs.Texts.{pair_line}
 
-pub told_more : (text more : List ℕ) (pair : Bytes × Bytes) (here next : List (Bytes × Bytes)) (all : List ℕ) → here ≡ pair ∷ next → text ++ flat_map pair_line here ≡ all → more ≡ text ++ pair_line pair → more ++ flat_map pair_line next ≡ all
-told_more text more pair here next all cut told grown =
+pub reported_more : (text more : List ℕ) (pair : Bytes × Bytes) (here next : List (Bytes × Bytes)) (all : List ℕ) → here ≡ pair ∷ next → text ++ flat_map pair_line here ≡ all → more ≡ text ++ pair_line pair → more ++ flat_map pair_line next ≡ all
+reported_more text more pair here next all cut reported grown =
     ap (λ (t : List ℕ). t ++ flat_map pair_line next) grown
     ∙ append_assoc {A = ℕ} text (pair_line pair) (flat_map pair_line next)
     ∙ ap (λ (l : List (Bytes × Bytes)). text ++ flat_map pair_line l) (sym cut)
-    ∙ told
+    ∙ reported
 
-pub told_all : (text : List ℕ) (here : List (Bytes × Bytes)) (all : List ℕ) → here ≡ [] → text ++ flat_map pair_line here ≡ all → text ≡ all
-told_all text here all none told = sym (append-nil text) ∙ ap (λ (l : List (Bytes × Bytes)). text ++ flat_map pair_line l) (sym none) ∙ told
+pub reported_all : (text : List ℕ) (here : List (Bytes × Bytes)) (all : List ℕ) → here ≡ [] → text ++ flat_map pair_line here ≡ all → text ≡ all
+reported_all text here all none reported = sym (append-nil text) ∙ ap (λ (l : List (Bytes × Bytes)). text ++ flat_map pair_line l) (sym none) ∙ reported
 
 pub counted_more : (n m all : ℕ) (pair : Bytes × Bytes) (here next : List (Bytes × Bytes)) → here ≡ pair ∷ next → n + length here ≡ all → m ≡ n + 1 → m + length next ≡ all
 counted_more n m all pair here next cut counted more = omega (arith, more, counted, ap length cut)

@@ -8,19 +8,19 @@ use Rattle.byte_map.specs.Order.{bytes_cmp}
 use Rattle.byte_map.proofs.Order.{bytes_cmp_total, bytes_cmp-IsAntisymmetric}
 use Rattle.row_write.specs.Made.{PreparedTxn}
 use Rattle.world.specs.Calls.{CommitStep}
-use Rattle.world.specs.Piecework.{PieceStep}
+use Rattle.world.specs.Piece.{PieceStep}
 use Rattle.world.specs.State.{State}
 use Rattle.world.specs.declared.committed.Committed.{Committed}
 use Rattle.world.specs.declared.entry.PieceDone.{PieceDone}
-use Rattle.world.specs.declared.committing.CommitFault.{CommitFault}
-use Rattle.world.specs.declared.pieces.PieceFault.{PieceFault}
+use Rattle.world.specs.declared.commit.CommitFault.{CommitFault}
+use Rattle.world.specs.declared.piece.PieceFault.{PieceFault}
 use Rattle.script_session.specs.declared.session.Opened.{Opened}
 use Rattle.script_session.specs.declared.session.Pending.{Pending}
 use Rattle.script_session.specs.declared.session.Pending.TheVariants.{Txn, Piece}
 use Rattle.script_session.specs.declared.session.Session.TheVariants.{Running}
-use Rattle.reorganise.specs.declared.reading.Reading.{Reading}
+use Rattle.reorganise.specs.declared.read.Reading.{Reading}
 use Rattle.script_replies.specs.Pieces.{piece_name, piece_text}
-use Rattle.script_session.specs.Answering.{CommitOf, Ends, kept, left_in, taken}
+use Rattle.script_session.specs.Answer.{CommitOf, Ends, kept, left_in, taken}
 use Rattle.script_session.specs.Session.{Session}
 use Rattle.script_replies.specs.Texts.{line, refused}
 use Rattle.script_replies.specs.Transactions.{committed_text, commit_name}
@@ -57,10 +57,10 @@ stays old name p q world found same unmoved =
 pub nothing_prepared : (old : Opened) (rest : map.FinMap bytes_cmp Pending) (name key : List ℕ) (moment : ℕ) (text : List ℕ) (bad : Bool) (new : Session)
     → key ≡ name → None ≡ map.get old.pending key → rest ≡ map.remove old.pending key → new ≡ Running (record old { pending = rest }) → text ≡ line (refused (codes "NoWork")) → bad ≡ false
     → CommitOf old (map.get old.pending name) name moment text bad new
-nothing_prepared old rest name key moment text bad new key_is found rest_is next told good =
+nothing_prepared old rest name key moment text bad new key_is found rest_is next reported good =
     let none : map.get old.pending name ≡ None = ap (map.get old.pending) (sym key_is) ∙ sym found in
     subst (λ (o : Option Pending). CommitOf old o name moment text bad new) (sym none)
-    ((told, good), next ∙ ap (λ (m : map.FinMap bytes_cmp Pending). let s : Session = Running (record old { pending = m }) in s) (rest_is ∙ ap (map.remove old.pending) key_is ∙ none_taken old.pending name none))
+    ((reported, good), next ∙ ap (λ (m : map.FinMap bytes_cmp Pending). let s : Session = Running (record old { pending = m }) in s) (rest_is ∙ ap (map.remove old.pending) key_is ∙ none_taken old.pending name none))
 
 -- what was taken out and committed
 ended : (old : Opened) (name : List ℕ) (moment : ℕ) (p : Pending) (text : List ℕ) (left : Option Pending) (world : State) (bad : Bool)
@@ -92,11 +92,11 @@ pub commits : (old next : Opened) (rest : map.FinMap bytes_cmp Pending) (name ke
     → key ≡ name → Some p ≡ map.get old.pending key → rest ≡ map.remove old.pending key → Ends old.world moment p text left world → reply ≡ text → bad ≡ false
     → next ≡ left_in (record old { world = world; pending = rest }) name left
     → CommitOf old (map.get old.pending name) name moment reply bad (Running next)
-commits old next rest name key moment p text reply left world bad key_is found rest_is done told good next_is =
+commits old next rest name key moment p text reply left world bad key_is found rest_is done reported good next_is =
     let here : map.get old.pending name ≡ Some p = ap (map.get old.pending) (sym key_is) ∙ sym found in
     let gone : rest ≡ map.remove old.pending name = rest_is ∙ ap (map.remove old.pending) key_is in
     let after : next ≡ left_in (record (taken old name) { world = world }) name left = next_is ∙ ap (λ (m : map.FinMap bytes_cmp Pending). left_in (record old { world = world; pending = m }) name left) gone in
     subst (λ (o : Option Pending). CommitOf old o name moment reply bad (Running next)) (sym here)
     (subst (λ (n : Opened). CommitOf old (Some p) name moment reply bad (Running n)) (sym after)
-    (subst (λ (t : List ℕ). CommitOf old (Some p) name moment t bad (Running (left_in (record (taken old name) { world = world }) name left))) (sym told)
+    (subst (λ (t : List ℕ). CommitOf old (Some p) name moment t bad (Running (left_in (record (taken old name) { world = world }) name left))) (sym reported)
     (ended old name moment p text left world bad here done good)))

@@ -3,7 +3,7 @@ use Rattle.std.proofs.Common.{◌≡◌, List, Some, subst, ◌∙◌}
 use Rattle.std.specs.Prelude.{◌↔◌}
 use Rattle.std.specs.FinMap as map
 use Rattle.keycode.specs.Order.{bytes_cmp}
-use Rattle.listed.specs.Refusal.{IsRefusal, IsClear}
+use Rattle.collections.specs.Refusal.{IsRefusal, IsClear}
 use Rattle.row_map.specs.Rows.{Bytes}
 use Rattle.row_map.specs.Expect.{View}
 use Rattle.schema_version.specs.Version.{Version}
@@ -16,7 +16,7 @@ use Rattle.row_write.specs.Reads.{IsRead}
 use Rattle.world.specs.Calls.{IsReadView}
 use Rattle.world.specs.State.{State}
 use Rattle.script_session.specs.declared.session.ServerLease.{ServerLease}
-use Rattle.script_session.specs.Preparing.{IsReadOf, IsPreparedFor}
+use Rattle.script_session.specs.Prepare.{IsReadOf, IsPreparedFor}
 
 module _ (w : State) (held : ServerLease) (s : Version) (ops given : List RowOp) (same : s ≡ held.schema) (named : ops ≡ given) where
   pub read_of : (keys : map.FinMap bytes_cmp (Unit {0})) (view : View) → ((key : Bytes) → (map.get keys key ≡ Some tt) ↔ IsRead s ops key) → IsReadView w keys view → IsReadOf w held.schema given view
@@ -34,7 +34,7 @@ module _ (w : State) (held : ServerLease) (s : Version) (ops given : List RowOp)
       subst (λ (o : List RowOp). IsRefusal rank (Condition held.schema o view) prepare.Memory fault) named
       (subst (λ (v : Version). IsRefusal rank (Condition v ops view) prepare.Memory fault) same refusal)
 
-  pub prepared_for : (view : View) (p : PreparedTxn) → IsReadOf w held.schema given view → (p.schema ≡ s) × (p.lease ≡ held.lease) × (p.ops ≡ ops) × (p.expect ≡ expects view) → IsClear (Condition s ops view) → IsPrepared s ops view p.told p.batch → IsPreparedFor w held given p
+  pub prepared_for : (view : View) (p : PreparedTxn) → IsReadOf w held.schema given view → (p.schema ≡ s) × (p.lease ≡ held.lease) × (p.ops ≡ ops) × (p.expect ≡ expects view) → IsClear (Condition s ops view) → IsPrepared s ops view p.reported p.batch → IsPreparedFor w held given p
   prepared_for view p read holds clear so = record {
     schema = holds.0 ∙ same;
     lease_is = holds.1;
@@ -46,6 +46,6 @@ module _ (w : State) (held : ServerLease) (s : Version) (ops given : List RowOp)
         subst (λ (o : List RowOp). IsClear (Condition held.schema o view)) named
         (subst (λ (v : Version). IsClear (Condition v ops view)) same clear);
     prepared_so =
-        subst (λ (o : List RowOp). IsPrepared held.schema o view p.told p.batch) named
-        (subst (λ (v : Version). IsPrepared v ops view p.told p.batch) same so);
+        subst (λ (o : List RowOp). IsPrepared held.schema o view p.reported p.batch) named
+        (subst (λ (v : Version). IsPrepared v ops view p.reported p.batch) same so);
   }

@@ -1,10 +1,10 @@
 pub mod Session
-pub mod Declaring
-pub mod Preparing
-pub mod Transacting
-pub mod Querying
-pub mod Forging
+pub mod Declare
+pub mod Prepare
+pub mod Txn
+pub mod Query
+pub mod Forge
 pub mod Pieces
-pub mod Planning
-pub mod Answering
+pub mod Plan
+pub mod Answer
 pub mod Replies

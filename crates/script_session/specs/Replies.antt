@@ -1,3 +1,4 @@
+-- Cited by the contracts of Session::reply_to.
 -- The reply to a line.
 use Rattle.std.specs.Prelude.{◌≡◌, ℕ, List, [], length, Result, Ok, Err, Bool, false, nat_lt}
 use Rattle.std.specs.Bool.{MatchBool}
@@ -7,17 +8,17 @@ use Rattle.script_grammar.specs.Commands.{command_at}
 use Rattle.script_grammar.specs.Silent.{is_silent}
 use Rattle.script_session.specs.declared.session.Session.TheVariants.{Declaring, Running}
 use Rattle.script_session.specs.Session.{Session}
-use Rattle.script_session.specs.Declaring.{IsBad, Declares}
-use Rattle.script_session.specs.Answering.{Answers}
+use Rattle.script_session.specs.Declare.{IsBad, Declares}
+use Rattle.script_session.specs.Answer.{Answers}
 
 -- `Performs old command reply bad new`: the command may give this reply, which says whether the line is bad, and leave new
 abbrev pub Performs : Session → Command → List ℕ → Bool → Session → Type 0
 Performs (Declaring d) command reply bad new = Declares d command reply bad new
 Performs (Running r) command reply bad new = Answers r command reply bad new
 
-abbrev pub Spelled : Session → Result Command LineFault → List ℕ → Bool → Session → Type 0
-Spelled old (Err fault) reply bad new = IsBad old reply bad new
-Spelled old (Ok command) reply bad new = Performs old command reply bad new
+abbrev pub Parsed : Session → Result Command LineFault → List ℕ → Bool → Session → Type 0
+Parsed old (Err fault) reply bad new = IsBad old reply bad new
+Parsed old (Ok command) reply bad new = Performs old command reply bad new
 
 abbrev pub max_line : ℕ
 max_line = 65536
@@ -26,4 +27,4 @@ max_line = 65536
 abbrev pub Reply : Session → List ℕ → List ℕ → Bool → Session → Type 0
 Reply old text reply bad new =
     MatchBool (nat_lt max_line (length text)) (IsBad old reply bad new)
-    (MatchBool (is_silent text) ((reply ≡ []) × (bad ≡ false) × (new ≡ old)) (Spelled old (command_at text) reply bad new))
+    (MatchBool (is_silent text) ((reply ≡ []) × (bad ≡ false) × (new ≡ old)) (Parsed old (command_at text) reply bad new))

@@ -1,3 +1,4 @@
+-- Cited by the contracts of Session::new.
 -- What stands between two lines of a script.
 use Rattle.std.specs.Prelude.{ℕ, []}
 use Rattle.script_session.specs.declared.session.Session.{Session as TheSession}

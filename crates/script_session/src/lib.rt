@@ -1,17 +1,17 @@
 //! What a line of a script means: what it is answered, and what stands between two lines.
 #![tactic(auto)]
 
-mod answering;
-mod declaring;
-mod forging;
+mod answer;
+mod begin_reorg;
+mod declare;
+mod forge;
 mod pending;
 mod pieces;
-mod planning;
-mod preparing;
-mod publishing;
-mod querying;
-mod reorganising;
+mod plan;
+mod prepare;
+mod publish;
+mod query;
 mod session;
-mod transacting;
+mod txn;
 
 pub use session::{Answer, Declarations, Opened, Pending, ServerLease, Session};

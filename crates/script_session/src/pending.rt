@@ -1,13 +1,13 @@
 //! What is prepared in one line and committed in another.
 ghost use Rattle.std.specs.Prelude.{◌≡◌, IfOk, string_bytes};
 ghost use Rattle.script_grammar.specs.declared.command.Command.TheVariants as command;
-ghost use Rattle.script_session.specs.Answering.{Answers, Ends, kept, left_in};
+ghost use Rattle.script_session.specs.Answer.{Answers, Ends, kept, left_in};
 ghost use Rattle.script_session.specs.declared.session.Session.TheVariants.{Running};
 
-use crate::preparing::{Preparation, prepare_for, prepared_line};
+use crate::prepare::{Preparation, prepare_for, prepared_line};
 use crate::session::{Answer, Opened, Pending, key_of, refusal, reply};
+use collections::List;
 use keycode::Text;
-use listed::Listed;
 use script_grammar::Operation;
 use script_replies::{committed_line, pieced_line, rejected_line, unpieced_line};
 use std::alloc::{AllocError, Global};
@@ -28,7 +28,7 @@ pub(crate) fn prepare(
     opened: &mut Opened,
     name: Text,
     server: &Text,
-    operations: Listed<Operation>,
+    operations: List<Operation>,
 ) -> Result<Answer, AllocError>
     ensures { IfOk result (λ a. Answers opened.old (command.Prepare name server.now operations) (string_bytes a.text) a.is_bad (Running opened.new)) }
 {
@@ -44,7 +44,7 @@ pub(crate) fn prepare(
 }
 
 // What the world answers to the commit of what was prepared, and what is left of that.
-fn committed(
+fn commit_pending(
     alloc: Global,
     world: &mut World,
     moment: u64,
@@ -92,7 +92,7 @@ pub(crate) fn commit(
     match opened.pending.take(name.as_bytes()) {
         None => refusal(alloc, "NoWork"),
         Some(pending) => {
-            let (text, left) = committed(alloc, &mut opened.world, moment, pending)?;
+            let (text, left) = commit_pending(alloc, &mut opened.world, moment, pending)?;
             put_back(opened, name, left)?;
             Ok(reply(text))
         }

@@ -4,7 +4,7 @@ ghost use Rattle.script_grammar.specs.declared.command.Command.TheVariants as co
 ghost use Rattle.script_replies.specs.Texts.{line};
 ghost use Rattle.script_session.specs.Pieces.{ReadsPiece, read_text};
 ghost use Rattle.script_session.specs.declared.session.Session.TheVariants.{Running};
-ghost use Rattle.script_session.specs.Answering.{Answers, piece_kept};
+ghost use Rattle.script_session.specs.Answer.{Answers, piece_kept};
 
 use crate::pending::keep;
 use crate::session::{Answer, Opened, Pending, reply};

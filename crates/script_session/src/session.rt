@@ -4,12 +4,12 @@ ghost use Rattle.script_replies.specs.Texts.{bad_line, line, refused};
 ghost use Rattle.script_session.specs.Session.{empty, nothing_declared};
 ghost use Rattle.script_session.specs.Replies.{Performs, Reply};
 
-use crate::answering::answer;
-use crate::declaring::declare;
+use crate::answer::answer;
+use crate::declare::declare;
 use byte_map::{Bytes, KeyMap};
+use collections::{ArcValue, List};
 use keycode::Text;
 use lease::Lease;
-use listed::{Counted, Listed};
 use reorganise::PreparedPiece;
 use row_write::Prepared;
 use schema_version::{Schema, Step, TableDef};
@@ -28,7 +28,7 @@ const MAX_LINE: usize = 65_536;
 #[derive(Drop)]
 pub struct Declarations {
     /// The tables, each with its indexes.
-    pub tables: Listed<TableDef>,
+    pub tables: List<TableDef>,
     /// For how long a lease is granted, in moments.
     pub length: u64,
 }
@@ -39,7 +39,7 @@ pub struct ServerLease {
     /// The lease.
     pub lease: Lease,
     /// The schema of the lease's version, by which the server's names are looked up.
-    pub schema: Counted<Schema>,
+    pub schema: ArcValue<Schema>,
 }
 
 /// What one line of a script prepares and another commits.
@@ -61,7 +61,7 @@ pub struct Opened {
     /// What was prepared and is not committed yet, by its name.
     pub pending: KeyMap<Pending>,
     /// The steps of the last plan that were not accepted yet, the next one first.
-    pub plan: Listed<Step>,
+    pub plan: List<Step>,
 }
 
 /// What stands between two lines of a script.
@@ -122,18 +122,18 @@ pub(crate) fn key_of(name: Text) -> Result<Bytes, AllocError>
     Bytes::new(name.into_string().into_bytes())
 }
 
-/// Where a script begins: nothing is declared.
+/// If a script begins: nothing is declared.
 pub(crate) fn nothing_declared(alloc: Global) -> Declarations
     ensures { result ≡ nothing_declared }
 {
     Declarations {
-        tables: Listed::new(Vec::new(alloc)),
+        tables: List::new(Vec::new(alloc)),
         length: USUAL_LENGTH,
     }
 }
 
 impl Session {
-    /// Where a script begins.
+    /// If a script begins.
     pub fn new(alloc: Global) -> Session
         ensures { result ≡ empty }
     {
@@ -155,8 +155,8 @@ impl Session {
         }
     }
 
-    /// The reply to a line, which is given without its ending. At an `Err`, which is want of memory, the session is
-    /// not to be used again.
+    /// The reply to a line, which is given without its ending. After `Err` (out of memory), the
+    /// session is not to be used again.
     pub fn reply_to(&mut self, alloc: Global, line: &str) -> Result<Answer, AllocError>
         ensures { IfOk result (λ r. Reply self.old line.now (string_bytes r.text) r.is_bad self.new) }
     {

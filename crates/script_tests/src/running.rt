@@ -87,7 +87,7 @@ fn longest_line(rt: HostRuntime) {
     }
 }
 
-// What comes of an input that fails behind a good line or at once, and how many bytes are written.
+// What comes of an input that fails after a good line or at once, and how many bytes are written.
 fn unread(alloc: Global) -> [(Result<Summary, ScriptFault>, usize); 2] {
     let mut no_text: &[u8] = b"length 5\n\xff";
     let mut output = Vec::new(alloc);
@@ -109,8 +109,8 @@ fn is_cut(alloc: Global, room: usize) -> bool {
     let bytes = Vec::new(alloc);
     let mut output = Limited { bytes, room };
     let outcome = run_script(alloc, &mut input, &mut output);
-    let front = FIRST_REPLIES.as_bytes().get(..room);
-    outcome == Err(ScriptFault::Write) && front == Some(output.bytes.as_slice())
+    let prefix = FIRST_REPLIES.as_bytes().get(..room);
+    outcome == Err(ScriptFault::Write) && prefix == Some(output.bytes.as_slice())
 }
 
 #[test]

@@ -1,4 +1,5 @@
--- What tokens spell: the words by which each production is said.
+-- Cited by the contracts of read_each, is_mark, is_word, name and 13 more.
+-- What tokens parse to: the words by which each production is said.
 use Rattle.std.specs.Prelude.{◌≡◌, ℕ, ◌^◌, ℤ, pos, negsuc, zero, suc, List, [], ◌∷◌, Option, Some, None, Result, Ok, Err, Bool, true, false, nat_lt, ◌==◌, if◌then◌else◌, codes}
 use Rattle.std.specs.Option.{option_map}
 use Rattle.std.specs.Str.{bytes_eq, is_utf8}
@@ -21,22 +22,22 @@ abbrev pub ◌>>=◌ : {A B : Type 0} → Option A → (A → Option B) → Opti
 None >>= f = None
 (Some x) >>= f = f x
 
--- Want of memory says nothing of what was to be read, and a bad line is one that spells nothing.
+-- Out of memory says nothing of what was to be read, and a bad line is one that parses to nothing.
 abbrev pub Fails : {Y : Type 0} → LineFault → Option Y → Type 0
 Fails fault.Memory meant = Unit {0}
 Fails fault.Malformed meant = meant ≡ None
 
--- What a function answered, seen by view, is what the tokens spell, unless memory ran out.
+-- What a function answered, seen by view, is what the tokens parse to, unless memory ran out.
 abbrev pub Gives : {X Y : Type 0} → (X → Y) → Result X LineFault → Option Y → Type 0
 Gives view (Ok x) meant = meant ≡ Some (view x)
 Gives view (Err e) meant = Fails e meant
 
--- what f makes of the first token, and the tokens behind it
+-- what f makes of the first token, and the tokens after it
 abbrev pub first_by : {A : Type 0} → (Token → Option A) → List Token → Option (A × List Token)
 first_by f [] = None
 first_by f (t ∷ ts) = option_map (λ a. (a, ts)) (f t)
 
--- the tokens behind the first, where p is true of it
+-- the tokens after the first, where p is true of it
 abbrev pub after_first : (Token → Bool) → List Token → Option (List Token)
 after_first p [] = None
 after_first p (t ∷ ts) = if p t then Some ts else None
@@ -134,14 +135,14 @@ constant_of w =
     else (if bytes_eq w (codes "null") then Some value.Null
     else None))
 
--- the value that one token spells
+-- the value that one token parses to
 abbrev pub value_in : Token → Option Value
 value_in (token.Number is_negative n) = option_map value.Int (int_of is_negative n)
 value_in (token.Text t) = option_map value.Text (text_of (undoubled t))
 value_in (token.Word w) = constant_of w
 value_in (token.Mark m) = None
 
--- the tokens before the first such mark, and those behind it
+-- the tokens before the first such mark, and those after it
 unfoldable pub cut_at : Mark → List Token → Option (List Token × List Token)
 cut_at m [] = None
 cut_at m (t ∷ ts) = if is_mark m t then Some ([], ts) else option_map (λ x. (t ∷ x.0, x.1)) (cut_at m ts)
@@ -165,9 +166,9 @@ each f (p ∷ ps) = f p >>= λ x. option_map (λ xs. x ∷ xs) (each f ps)
 abbrev pub each_between : {A : Type 0} → Mark → (List Token → Option A) → List Token → Option (List A)
 each_between m f ts = each f (parts m ts)
 
--- what stands in round brackets at the front, and the tokens behind them
-unfoldable pub bracketed : List Token → Option (List Token × List Token)
-bracketed ts = do
+-- what is in round brackets at the start, and the tokens after them
+unfoldable pub cut_brackets : List Token → Option (List Token × List Token)
+cut_brackets ts = do
   inner ← after_first (is_mark mark.Open) ts
   cut_at mark.Close inner
 

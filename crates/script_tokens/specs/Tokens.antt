@@ -1,3 +1,4 @@
+-- Cited by the contracts of tokens_of.
 -- The tokens of a line.
 use Rattle.std.specs.Prelude.{ℕ, zero, suc, List, [], ◌∷◌, ◌+◌, ◌*◌, ◌-◌, ◌^◌, take, Option, Some, None, Bool, true, false, nat_lt, ◌==◌, ◌||◌, if◌then◌else◌}
 use Rattle.std.specs.Option.{option_map, option_and_then}
@@ -11,7 +12,7 @@ use Rattle.script_tokens.specs.declared.token.Mark.TheVariants as mark
 abbrev pub is_word_byte : ℕ → Bool
 is_word_byte b = is_ascii_alphabetic b || is_ascii_digit b || (b == 95)
 
--- how many bytes at the front a word could have
+-- how many bytes at the start a word could have
 abbrev pub word_len : List ℕ → ℕ
 word_len [] = 0
 word_len (b ∷ bs) = if is_word_byte b then word_len bs + 1 else 0
@@ -21,7 +22,7 @@ abbrev pub read_on : ℕ → List ℕ → Option ℕ
 read_on n [] = Some n
 read_on n (c ∷ cs) = if is_ascii_digit c then (if nat_lt (n * 10 + (c - 48)) (2 ^ 64) then read_on (n * 10 + (c - 48)) cs else None) else None
 
--- the number that digits spell
+-- the number that digits parse to
 abbrev pub number_of : List ℕ → Option ℕ
 number_of [] = None
 number_of (c ∷ cs) = read_on 0 (c ∷ cs)
@@ -65,7 +66,8 @@ token_at b bs =
     else (if b == 39 then option_map (λ n. (token.Text (take n bs), n + 1)) (text_len bs)
     else mark_at b bs)))
 
--- The tokens past the first skip bytes, or None where no token can begin. Spaces may stand between them.
+-- The tokens past the first skip bytes, or None if no token can begin. Spaces may stand between
+-- them.
 unfoldable pub tokens_from : ℕ → List ℕ → Option (List Token)
 tokens_from skip [] = Some []
 tokens_from (suc skip) (b ∷ bs) = tokens_from skip bs

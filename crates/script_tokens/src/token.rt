@@ -11,7 +11,7 @@ use std::alloc::{AllocError, Global};
 pub enum Token<'a> {
     /// A letter, and then letters, digits and `_`.
     Word(Part<'a>),
-    /// Digits, behind a `-` or not, and the number that they spell.
+    /// Digits, after a `-` or not, and the number that they parse to.
     Number { is_negative: bool, size: u64 },
     /// What stands between the quotes, a quote in it still doubled.
     Text(Part<'a>),
@@ -140,11 +140,13 @@ fn token_at<'a>(bytes: &'a [u8], first: u8, rest: &'a [u8]) -> Option<(Token<'a>
     }
 }
 
-/// The tokens of a line, in its order, with any number of spaces between them; or `None` where a part of the line is no token: a byte that
-/// begins none, a text that nothing closes, digits with letters or `_` behind them, a number of 2^64 or more.
+/// The tokens of a line, in its order, with any number of spaces between them; or `None` if a part
+/// of the line is no token: a byte that begins none, a text that nothing closes, digits with
+/// letters or `_` after them, a number of 2^64 or more.
 ///
-/// `line` is the bytes of the line without its ending, and `alloc` is where the list of tokens is made; their words and texts stay in the line.
-/// The only refusal is want of memory, and it leaves nothing behind.
+/// `line` is the bytes of the line without its ending, and `alloc` is where the list of tokens is
+/// made; their words and texts stay in the line. The only refusal is running out of memory, and it
+/// leaves nothing behind.
 pub fn tokens_of<'a>(alloc: Global, line: &'a [u8]) -> Result<Option<Vec<Token<'a>>>, AllocError>
     ensures { IfOk result (λ found. option_map (λ tokens. tokens.items) found ≡ tokens_of line.entry.now) }
 {

@@ -1,17 +1,17 @@
-//! The tokens and lists of tokens that spell values and names.
+//! The tokens and lists of tokens that parse to values and names.
 ghost use Rattle.std.specs.Prelude.{◌≡◌, IfOk};
 ghost use Rattle.script_tokens.specs.Productions.{Gives, first_by, undoubled, int_of, constant_of, value_in, name_of, value_of, set_of};
 
 use crate::fault::LineFault;
 use crate::production::Production;
-use crate::reading::{after_mark, at_end, name};
+use crate::read::{after_mark, at_end, name};
 use crate::token::{Mark, Token};
 use keycode::{Text, Value};
 use std::alloc::{AllocError, Global};
 
 /// The content of a text in quotes, where each quote is doubled.
 #[tactic(auto, unfolding(crate::specs::Productions::undoubled))]
-fn undoubled(alloc: Global, quoted: &[u8]) -> Result<Vec<u8>, AllocError>
+fn undouble_quotes(alloc: Global, quoted: &[u8]) -> Result<Vec<u8>, AllocError>
     ensures { IfOk result (λ content. content.items ≡ undoubled quoted.now) }
 {
     let mut content = Vec::new(alloc);
@@ -68,7 +68,7 @@ fn value_in(alloc: Global, token: &Token<'_>) -> Result<Option<Value>, AllocErro
     match token {
         Token::Number { is_negative, size } => Ok(int_of(*is_negative, *size).map(Value::Int)),
         Token::Text(quoted) => {
-            let content = undoubled(alloc, quoted.as_slice())?;
+            let content = undouble_quotes(alloc, quoted.as_slice())?;
             Ok(Text::from_utf8(content).map(Value::Text))
         }
         Token::Word(word) => Ok(constant_of(word.as_slice())),
@@ -76,11 +76,12 @@ fn value_in(alloc: Global, token: &Token<'_>) -> Result<Option<Value>, AllocErro
     }
 }
 
-/// The value at the front of `tokens`, and the tokens behind it: a number of 64 bits with its sign, a text in quotes, or one of the words `true`, `false`
-/// and `null`.
+/// The value at the start of `tokens`, and the tokens after it: a number of 64 bits with its sign,
+/// a text in quotes, or one of the words `true`, `false` and `null`.
 ///
-/// `alloc` is where a text is made. The refusals: `Malformed` where the first token is none of these, a number from 2^63 on or below -2^63 or a text that is not
-/// UTF-8, or where there is no token, and `Memory`, in place of either answer, where memory ran out. A refusal leaves nothing behind.
+/// `alloc` is where a text is made. The refusals: `Malformed` if the first token is none of these,
+/// a number from 2^63 on or below -2^63 or a text that is not UTF-8, or where there is no token,
+/// and `Memory`, in place of either answer, where memory ran out. A refusal leaves nothing behind.
 pub fn value<'t, 'a>(
     alloc: Global,
     tokens: &'t [Token<'a>],
@@ -97,7 +98,7 @@ pub fn value<'t, 'a>(
 }
 
 impl Production for Value {
-    ghost spelled = { value_of };
+    ghost parsed = { value_of };
 
     #[tactic(auto, unfolding(crate::specs::Productions::value_of))]
     fn read(alloc: Global, tokens: &[Token<'_>]) -> Result<Value, LineFault> {
@@ -107,7 +108,7 @@ impl Production for Value {
 }
 
 impl Production for Text {
-    ghost spelled = { name_of };
+    ghost parsed = { name_of };
 
     #[tactic(auto, unfolding(crate::specs::Productions::name_of))]
     fn read(alloc: Global, tokens: &[Token<'_>]) -> Result<Text, LineFault> {
@@ -117,7 +118,7 @@ impl Production for Text {
 }
 
 impl Production for (Text, Value) {
-    ghost spelled = { set_of };
+    ghost parsed = { set_of };
 
     #[tactic(auto, unfolding(crate::specs::Productions::set_of))]
     fn read(alloc: Global, tokens: &[Token<'_>]) -> Result<(Text, Value), LineFault> {

@@ -3,7 +3,7 @@ use Rattle.std.proofs.Common.{◌≡◌, ℕ, ◌+◌, List, [], ◌∷◌, ◌+
 use Rattle.std.specs.Prelude.{◌↔◌, Some, Result, Ok, Err}
 use Rattle.std.specs.FinMap as map
 use Rattle.std.proofs.lemmas.List.Elements.{All-append, All-cons, All-nil, All-same}
-use Rattle.listed.specs.Refusal.{IsFirst, IsRefusal}
+use Rattle.collections.specs.Refusal.{IsFirst, IsRefusal}
 use Rattle.row_map.specs.Expect.{View}
 use Rattle.row_map.specs.Rows.{Bytes}
 use Rattle.row_write.specs.declared.op.RowOp.{RowOp}
@@ -14,7 +14,7 @@ use Rattle.row_write.specs.Reads.{IsRead}
 use Rattle.lease.specs.declared.lease.Lease.{Lease}
 use Rattle.schema_version.specs.Version.{Version}
 use Rattle.world.specs.declared.entry.Receipt.{Receipt}
-use Rattle.world.specs.declared.leasing.GrantFault.{GrantFault}
+use Rattle.world.specs.declared.grant.GrantFault.{GrantFault}
 use Rattle.locked_store.specs.declared.fault.SharedFault.{SharedFault}
 use Rattle.server.specs.declared.request.Outcome.{Outcome}
 use Rattle.server.specs.declared.request.Outcome.TheVariants as outcome
@@ -22,7 +22,7 @@ use Rattle.server.specs.declared.tally.Tally.{Tally}
 use Rattle.server.specs.declared.tally.Last.{Last}
 use Rattle.server.specs.declared.tally.Last.TheVariants as last
 use Rattle.server.specs.Outcomes.{Said, Keys, Keeps, IsEnd, IsServed, IsTrueOf, IsFailedTry, FailedSoOften, unprepared_by, receipts_of}
-use Rattle.server.specs.Tries.{HasFailed, StayLogged}
+use Rattle.server.specs.inner.Tries.{HasFailed, StayLogged}
 
 -- a refusal that is not for memory has its condition
 with_condition : {F : Type 0} (number : F → ℕ) (C : F → Type 0) (memory fault : F) → ¬ (fault ≡ memory) → IsRefusal number C memory fault → IsFirst number C fault

@@ -1,5 +1,5 @@
 pub mod Ends
 pub mod Says
-pub mod Desks
+pub mod HandlePorts
 pub mod Serves
 pub mod Works

@@ -7,10 +7,10 @@ use Rattle.row_write.specs.declared.fault.RowFault.{RowFault}
 use Rattle.world.specs.declared.entry.Receipt.{Receipt}
 use Rattle.world.specs.declared.committed.Committed.{Committed}
 use Rattle.world.specs.declared.committed.Committed.TheVariants as committed
-use Rattle.world.specs.declared.committing.CommitFault.{CommitFault}
-use Rattle.world.specs.declared.committing.CommitFault.TheVariants as commit_fault
-use Rattle.world.specs.declared.leasing.GrantFault.{GrantFault}
-use Rattle.world.specs.declared.leasing.GrantFault.TheVariants as grant_fault
+use Rattle.world.specs.declared.commit.CommitFault.{CommitFault}
+use Rattle.world.specs.declared.commit.CommitFault.TheVariants as commit_fault
+use Rattle.world.specs.declared.grant.GrantFault.{GrantFault}
+use Rattle.world.specs.declared.grant.GrantFault.TheVariants as grant_fault
 use Rattle.locked_store.specs.declared.fault.SharedFault.{SharedFault}
 use Rattle.locked_store.specs.declared.fault.SharedFault.TheVariants as shared
 use Rattle.server.specs.declared.tally.Tally.{Tally}
@@ -48,11 +48,11 @@ pub back_says : (may : Said → Type 0) (moment : ℕ) (these : List RowOp) (ref
     → RefusalSays may moment these refusal → may (Said.went_back seen)
 back_says may moment these refusal seen is says = subst (λ (x : SharedFault CommitFault). RefusalSays may moment these x) is says
 
-pub fault_says : (may : Said → Type 0) (moment : ℕ) (these ops : List RowOp) → these ≡ ops → (refusal : SharedFault CommitFault) (told fault : CommitFault) → refusal ≡ shared.World told → told ≡ fault
+pub fault_says : (may : Said → Type 0) (moment : ℕ) (these ops : List RowOp) → these ≡ ops → (refusal : SharedFault CommitFault) (reported fault : CommitFault) → refusal ≡ shared.World reported → reported ≡ fault
     → RefusalSays may moment these refusal → FaultSays may moment ops fault
-fault_says may moment these ops own refusal told fault is told_is says =
-    subst (λ (os : List RowOp). FaultSays may moment os fault) own (subst (λ (x : CommitFault). FaultSays may moment these x) told_is (subst (λ (x : SharedFault CommitFault). RefusalSays may moment these x) is says))
+fault_says may moment these ops own refusal reported fault is reported_is says =
+    subst (λ (os : List RowOp). FaultSays may moment os fault) own (subst (λ (x : CommitFault). FaultSays may moment these x) reported_is (subst (λ (x : SharedFault CommitFault). RefusalSays may moment these x) is says))
 
-pub ended_last : (t : Tally) (retries : ℕ) (refusal : SharedFault CommitFault) (told : CommitFault) (until now : ℕ) → refusal ≡ shared.World told → told ≡ commit_fault.LeaseEnded until now
+pub ended_last : (t : Tally) (retries : ℕ) (refusal : SharedFault CommitFault) (reported : CommitFault) (until now : ℕ) → refusal ≡ shared.World reported → reported ≡ commit_fault.LeaseEnded until now
     → t ≡ tally retries (last_by refusal) → IsAgain false t.last
-ended_last t retries refusal told until now is told_is tallied = (until, now, ap (λ (x : Tally). x.last) tallied ∙ ap last_by is ∙ ap last_of_fault told_is)
+ended_last t retries refusal reported until now is reported_is tallied = (until, now, ap (λ (x : Tally). x.last) tallied ∙ ap last_by is ∙ ap last_of_fault reported_is)

@@ -2,7 +2,7 @@
 use Rattle.std.proofs.Common.{◌≡◌, ℕ, ◌+◌, List, length, map, reverse, sum_by, All, sym, ap, ◌∙◌, arith}
 use Rattle.std.proofs.lemmas.List.{reverse-reverse}
 use Rattle.std.proofs.lemmas.List.Sums.{sum_by-le}
-use Rattle.tasks.proofs.Handing.{map_reverse, map_map, sum_reverse, sum_map}
+use Rattle.tasks.proofs.Handed.{map_reverse, map_map, sum_reverse, sum_map}
 use Rattle.tasks.specs.Outcomes.{IsRow, held_in}
 use Rattle.replay.specs.Replay.{Opening}
 use Rattle.world.specs.declared.entry.Receipt.{Receipt}
@@ -10,7 +10,7 @@ use Rattle.locked_store.specs.Known.{Known, total_count, IsLeastFront}
 use Rattle.locked_store.specs.Receipts.{IsLogged}
 use Rattle.server.specs.Outcomes.{receipts_of}
 use Rattle.server.specs.Works.{Orders, Serving, AreIdle, IsOutcomeAt}
-use Rattle.server.specs.Served.{Serves}
+use Rattle.server.specs.Serve.{Serves}
 use Rattle.server.specs.declared.request.Request.{Request}
 use Rattle.server.specs.declared.request.Outcome.{Outcome}
 
@@ -19,8 +19,8 @@ pub given_back : (handles : List Known) (ws : List Serving) → map (λ w. w.han
 given_back handles ws staff = ap reverse staff ∙ reverse-reverse handles
 
 -- idle servers keep nothing
-idle_none : (orders : Orders) (ws : List Serving) → AreIdle orders ws → sum_by (λ w. length w.kept) ws ≡ 0
-idle_none orders ws idle = omega (arith, sum_by-le (λ (w : Serving). length w.kept) 0 ws (λ i d lt. omega (arith, ap (λ (rs : List Receipt). length rs) (idle i d lt).0)))
+idle_none : (orders : Orders) (ws : List Serving) → AreIdle orders ws → sum_by (λ w. length w.kept_receipts) ws ≡ 0
+idle_none orders ws idle = omega (arith, sum_by-le (λ (w : Serving). length w.kept_receipts) 0 ws (λ i d lt. omega (arith, ap (λ (rs : List Receipt). length rs) (idle i d lt).0)))
 
 -- each server has all requests before it
 pub planned : (orders : Orders) (ws : List Serving) (total : ℕ) → AreIdle orders ws → total ≡ length orders.requests → All (λ w. length w.orders.requests ≡ total) ws
@@ -38,11 +38,11 @@ pub serves : (opening : Opening) (requests : List Request) (tries front : ℕ) (
     → ((orders : Orders) → All (λ w. w.orders ≡ orders) ws → All (λ o. IsOutcomeAt opening orders o.0 o.1) outcomes)
     → map (λ w. w.handle.id) ps ≡ map (λ w. w.handle.id) ws
     → ((orders : Orders) → All (λ w. w.orders ≡ orders) ws → All (λ w. w.orders ≡ orders) ps)
-    → sum_by (λ w. w.handle.count) ps + sum_by (λ w. length w.kept) ws ≡ sum_by (λ w. w.handle.count) ws + sum_by (λ w. length w.kept) ps + held_in receipts_of outcomes
-    → back ≡ reverse (map (λ w. w.handle) ps) → sum_by length receipts ≡ sum_by (λ w. length w.kept) ps
+    → sum_by (λ w. w.handle.count) ps + sum_by (λ w. length w.kept_receipts) ws ≡ sum_by (λ w. w.handle.count) ws + sum_by (λ w. length w.kept_receipts) ps + held_in receipts_of outcomes
+    → back ≡ reverse (map (λ w. w.handle) ps) → sum_by length receipts ≡ sum_by (λ w. length w.kept_receipts) ps
     → ((orders : Orders) → All (λ w. w.orders ≡ orders) ps → All (All (IsLogged opening orders.front)) receipts)
     → Serves opening requests tries handles outcomes back receipts
-serves opening requests tries front handles ws ps outcomes back receipts least staff idle row fits ids plans counted back_is kept logged =
+serves opening requests tries front handles ws ps outcomes back receipts least staff idle row fits ids plans counted back_is kept_receipts logged =
     let orders : Orders = record { requests = requests; tries = tries; front = front } in
     let on_plan : All (λ (w : Serving). w.orders ≡ orders) ws = λ i d lt. (idle i d lt).1 in
     let first : handles ≡ reverse (map (λ (w : Serving). w.handle) ws) = sym (given_back handles ws staff) in
@@ -53,6 +53,6 @@ serves opening requests tries front handles ws ps outcomes back receipts least s
       each = row;
       own = fits orders on_plan;
       same = numbers back ps back_is ∙ ap reverse ids ∙ sym (numbers handles ws first);
-      counted = omega (arith, counted, idle_none orders ws idle, shares handles ws staff, shares back ps staff_back, kept);
+      counted = omega (arith, counted, idle_none orders ws idle, shares handles ws staff, shares back ps staff_back, kept_receipts);
       logged = logged orders (plans orders on_plan);
     }

@@ -1,4 +1,4 @@
--- What becomes of one request at a desk.
+-- What becomes of one request at a port.
 use Rattle.std.proofs.Common.{◌≡◌, ℕ, List, [], ◌∷◌, ◌++◌, subst, sym, ap, ◌∙◌}
 use Rattle.std.specs.Prelude.{All, Some, slice_index_or}
 use Rattle.std.proofs.lemmas.List.{get_or_default}
@@ -16,16 +16,16 @@ pub outcome_at : (opening : Opening) (orders : Orders) (number : ℕ) (e : Reque
 outcome_at opening orders number e o own d lt = subst (λ (r : Request). IsOutcomeOf opening orders.front r orders.tries o) (get_or_default orders.requests number e d lt) own
 
 -- the receipts that a server of these orders keeps
-kept_logged : (opening : Opening) (orders : Orders) (w : Serving) → IsAtWork opening w → w.orders ≡ orders → All (IsLogged opening orders.front) w.kept
-kept_logged opening orders w at is = subst (λ (o : Orders). All (IsLogged opening o.front) w.kept) is at.logged
+kept_logged : (opening : Opening) (orders : Orders) (w : Serving) → IsAtWork opening w → w.orders ≡ orders → All (IsLogged opening orders.front) w.kept_receipts
+kept_logged opening orders w at is = subst (λ (o : Orders). All (IsLogged opening o.front) w.kept_receipts) is at.logged
 
 -- a server leaves, the last one of all, and its receipts are put beside those of the others
-pub one_more_logged : (opening : Opening) (orders : Orders) (ws rest : List Serving) (w v : Serving) (rs qs : List (List Receipt)) (kept : List Receipt)
-    → ws ≡ rest ++ w ∷ [] → v ≡ w → kept ≡ v.kept → qs ≡ rs ++ kept ∷ [] → IsAtWork opening v
+pub one_more_logged : (opening : Opening) (orders : Orders) (ws rest : List Serving) (w v : Serving) (rs qs : List (List Receipt)) (kept_receipts : List Receipt)
+    → ws ≡ rest ++ w ∷ [] → v ≡ w → kept_receipts ≡ v.kept_receipts → qs ≡ rs ++ kept_receipts ∷ [] → IsAtWork opening v
     → All (λ (x : Serving). x.orders ≡ orders) ws × All (All (IsLogged opening orders.front)) rs → All (λ (x : Serving). x.orders ≡ orders) rest × All (All (IsLogged opening orders.front)) qs
-one_more_logged opening orders ws rest w v rs qs kept ws_is w_is kept_is qs_is at was =
+one_more_logged opening orders ws rest w v rs qs kept_receipts ws_is w_is kept_is qs_is at was =
     let on_plan : All (λ (x : Serving). x.orders ≡ orders) rest × (w.orders ≡ orders) = All-pop (λ (x : Serving). x.orders ≡ orders) ws rest (Some w) ws_is was.0 in (
       on_plan.0,
-      All-same (All (IsLogged opening orders.front)) qs (rs ++ kept ∷ []) qs_is
-          (All-push (All (IsLogged opening orders.front)) rs kept was.1 (subst (λ (x : List Receipt). All (IsLogged opening orders.front) x) (sym kept_is) (kept_logged opening orders v at (ap (λ (x : Serving). x.orders) w_is ∙ on_plan.1)))),
+      All-same (All (IsLogged opening orders.front)) qs (rs ++ kept_receipts ∷ []) qs_is
+          (All-push (All (IsLogged opening orders.front)) rs kept_receipts was.1 (subst (λ (x : List Receipt). All (IsLogged opening orders.front) x) (sym kept_is) (kept_logged opening orders v at (ap (λ (x : Serving). x.orders) w_is ∙ on_plan.1)))),
     )

@@ -1,6 +1,6 @@
 pub mod Tallies
 pub mod Outcomes
-pub mod Tries
-pub mod Desks
+pub mod HandlePorts
 pub mod Works
-pub mod Served
+pub mod Serve
+pub mod inner

@@ -1,8 +1,9 @@
+-- Cited by the contracts of serve_one, Port, RequestWorker.
 -- What becomes of one request.
 use Rattle.std.specs.Prelude.{◌≡◌, ℕ, ◌+◌, ◌⊎◌, List, [], ◌∷◌, ◌++◌, length, All, Result, Ok, Err, Some, ◌↔◌, Bool, true, false}
 use Rattle.std.specs.FinMap as map
 use Rattle.keycode.specs.Order.{bytes_cmp}
-use Rattle.listed.specs.Refusal.{IsFirst}
+use Rattle.collections.specs.Refusal.{IsFirst}
 use Rattle.row_map.specs.Expect.{View}
 use Rattle.row_map.specs.Rows.{Bytes}
 use Rattle.row_write.specs.declared.op.RowOp.{RowOp}
@@ -17,10 +18,10 @@ use Rattle.replay.specs.declared.entry.What.TheVariants.{Lease as Granted, Txn}
 use Rattle.world.specs.declared.entry.Receipt.{Receipt}
 use Rattle.world.specs.declared.committed.Committed.{Committed}
 use Rattle.world.specs.declared.committed.Committed.TheVariants as committed
-use Rattle.world.specs.declared.committing.CommitFault.{CommitFault}
-use Rattle.world.specs.declared.committing.CommitFault.TheVariants as commit_fault
-use Rattle.world.specs.declared.leasing.GrantFault.{GrantFault}
-use Rattle.world.specs.declared.leasing.GrantFault.TheVariants as grant_fault
+use Rattle.world.specs.declared.commit.CommitFault.{CommitFault}
+use Rattle.world.specs.declared.commit.CommitFault.TheVariants as commit_fault
+use Rattle.world.specs.declared.grant.GrantFault.{GrantFault}
+use Rattle.world.specs.declared.grant.GrantFault.TheVariants as grant_fault
 use Rattle.locked_store.specs.declared.fault.SharedFault.{SharedFault}
 use Rattle.locked_store.specs.declared.fault.SharedFault.TheVariants as shared
 use Rattle.row_write.specs.Made.{PreparedTxn}
@@ -105,7 +106,7 @@ pub record IsUnprepared (may : Said → Type 0) (moment : ℕ) (ops : List RowOp
   pub viewed : may (Said.viewed keys view)
   pub first : IsFirst rank (Condition schema ops view) fault
 
--- what is told of a request that is not prepared
+-- what is reported of a request that is not prepared
 abbrev pub unprepared_by : PrepareFault → Outcome
 unprepared_by prepare_fault.NoTable = outcome.Unprepared prepare_fault.NoTable
 unprepared_by (prepare_fault.NotPublic column) = outcome.Unprepared (prepare_fault.NotPublic column)

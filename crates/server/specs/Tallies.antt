@@ -1,3 +1,4 @@
+-- Cited by the contracts of Tally::note, last_of_grant, last_of_read, last_of_commit.
 -- What a port keeps of its answers.
 use Rattle.std.specs.Prelude.{ℕ, Result, Ok, Err}
 use Rattle.std.specs.declared.alloc.AllocError.{AllocError}
@@ -7,10 +8,10 @@ use Rattle.lease.specs.declared.lease.Lease.{Lease}
 use Rattle.schema_version.specs.Version.{Version}
 use Rattle.world.specs.declared.committed.Committed.{Committed}
 use Rattle.world.specs.declared.committed.Committed.TheVariants as committed
-use Rattle.world.specs.declared.committing.CommitFault.{CommitFault}
-use Rattle.world.specs.declared.committing.CommitFault.TheVariants as commit_fault
-use Rattle.world.specs.declared.leasing.GrantFault.{GrantFault}
-use Rattle.world.specs.declared.leasing.GrantFault.TheVariants as grant_fault
+use Rattle.world.specs.declared.commit.CommitFault.{CommitFault}
+use Rattle.world.specs.declared.commit.CommitFault.TheVariants as commit_fault
+use Rattle.world.specs.declared.grant.GrantFault.{GrantFault}
+use Rattle.world.specs.declared.grant.GrantFault.TheVariants as grant_fault
 use Rattle.locked_store.specs.declared.fault.SharedFault.{SharedFault}
 use Rattle.locked_store.specs.declared.fault.SharedFault.TheVariants as shared
 use Rattle.server.specs.declared.tally.Tally.{Tally}

@@ -1,3 +1,4 @@
+-- Cited by the contracts of RequestWorker.
 -- What workers do.
 use Rattle.std.specs.Prelude.{◌≡◌, ℕ, ◌<◌, ◌≤◌, List, [], length, All, slice_index_or}
 use Rattle.replay.specs.Replay.{Opening}
@@ -6,7 +7,7 @@ use Rattle.locked_store.specs.Known.{Known}
 use Rattle.locked_store.specs.Receipts.{IsLogged}
 use Rattle.server.specs.declared.request.Request.{Request}
 use Rattle.server.specs.declared.request.Outcome.{Outcome}
-use Rattle.server.specs.Desks.{SaidByCore}
+use Rattle.server.specs.HandlePorts.{SaidByCore}
 use Rattle.server.specs.Outcomes.{IsTrueOf}
 
 -- what all servers share: the requests, how often each is tried at most, and how many entries all their handles had seen
@@ -30,7 +31,7 @@ AreOutcomes opening orders os = All (λ o. IsOutcomeAt opening orders o.0 o.1) o
 -- a worker, as contracts see it: its handle, the receipts of leases that it keeps, and its orders
 pub record Serving : Type 0 where
   pub handle : Known
-  pub kept : List Receipt
+  pub kept_receipts : List Receipt
   pub orders : Orders
 
 -- it has so many tries; its handle has seen at least what the orders say that all handles had seen, and each receipt is of an entry that
@@ -39,8 +40,8 @@ pub record IsAtWork (opening : Opening) (w : Serving) : Type 0 where
   pub some_tries : 1 ≤ w.orders.tries
   pub few_tries : w.orders.tries ≤ 1000
   pub seen : w.orders.front ≤ w.handle.front
-  pub logged : All (IsLogged opening w.orders.front) w.kept
+  pub logged : All (IsLogged opening w.orders.front) w.kept_receipts
 
 -- servers with these orders that have served no request yet
 abbrev pub AreIdle : Orders → List Serving → Type 0
-AreIdle orders ws = All (λ w. (w.kept ≡ []) × (w.orders ≡ orders)) ws
+AreIdle orders ws = All (λ w. (w.kept_receipts ≡ []) × (w.orders ≡ orders)) ws

@@ -4,17 +4,17 @@
 //! Asynchronous Schema Change in F1", Rae et al., PVLDB 6(11), 2013).
 #![tactic(auto)]
 
-mod desk;
+mod handle_port;
+mod one_request;
 mod port;
 mod request;
-mod serving;
-mod staff;
+mod serve_all;
 mod tally;
 mod worker;
 
+pub use one_request::serve_one;
 pub use port::Port;
 pub use request::{Outcome, Request};
-pub use serving::serve_one;
-pub use staff::{ServeFault, Served, serve};
+pub use serve_all::{ServeFault, Served, serve};
 pub use tally::{Last, Tally, last_of_commit, last_of_grant, last_of_read};
 pub use tasks::{FreeGate, Gate};

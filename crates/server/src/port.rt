@@ -4,8 +4,8 @@ ghost use Rattle.server.specs.Tallies.{tally as tally_of, retried, last_of_grant
 ghost use Rattle.server.specs.Outcomes.{GrantSays, Keeps, ReadSays, CommitSays, given_by};
 
 use crate::tally::Tally;
+use collections::ArcValue;
 use lease::Lease;
-use listed::Counted;
 use locked_store::SharedFault;
 use row_map::{ReadSet, ReadView};
 use row_write::Prepared;
@@ -37,7 +37,7 @@ pub trait Port {
     ghost front: { Self → ℕ };
 
     // the receipts that it keeps
-    ghost kept: { Self → List Receipt };
+    ghost kept_receipts: { Self → List Receipt };
 
     // what it may say of the world that it calls, after so many entries of the log
     ghost may: { ℕ → Said → Type 0 };
@@ -50,13 +50,13 @@ pub trait Port {
         &mut self,
         alloc: Global,
         moment: u64,
-    ) -> Result<(Lease, Counted<Schema>), SharedFault<GrantFault>>
+    ) -> Result<(Lease, ArcValue<Schema>), SharedFault<GrantFault>>
         requires { (tally self.old).retries < 2 ^ 63 }
         ensures tallied { tally self.new ≡ tally_of (tally self.old).retries (last_of_grant result) }
         ensures own_handle { id self.new ≡ id self.old }
         ensures rises { front self.old ≤ front self.new }
-        ensures counted { count self.new + length (kept self.old) ≡ count self.old + length (kept self.new) }
-        ensures keeps { (f : ℕ) → f ≤ front self.old → Keeps (may f) (kept self.old) result (kept self.new) }
+        ensures counted { count self.new + length (kept_receipts self.old) ≡ count self.old + length (kept_receipts self.new) }
+        ensures keeps { (f : ℕ) → f ≤ front self.old → Keeps (may f) (kept_receipts self.old) result (kept_receipts self.new) }
         ensures says { (f : ℕ) → f ≤ front self.old → GrantSays (may f) moment result };
 
     /// The pairs of these keys. Refused as `Shared::read` is.
@@ -64,7 +64,7 @@ pub trait Port {
         requires { (tally self.old).retries < 2 ^ 63 }
         ensures tallied { tally self.new ≡ tally_of (tally self.old).retries (last_of_read result) }
         ensures own_handle { id self.new ≡ id self.old }
-        ensures same { (count self.new ≡ count self.old) × (kept self.new ≡ kept self.old) }
+        ensures same { (count self.new ≡ count self.old) × (kept_receipts self.new ≡ kept_receipts self.old) }
         ensures rises { front self.old ≤ front self.new }
         ensures says { (f : ℕ) → f ≤ front self.old → ReadSays (may f) keys.now result };
 
@@ -79,7 +79,7 @@ pub trait Port {
         requires { (tally self.old).retries < 2 ^ 63 }
         ensures tallied { tally self.new ≡ tally_of ((tally self.old).retries + retried (last_of_commit result)) (last_of_commit result) }
         ensures own_handle { id self.new ≡ id self.old }
-        ensures counted { (count self.new ≡ count self.old + given_by result) × (kept self.new ≡ kept self.old) }
+        ensures counted { (count self.new ≡ count self.old + given_by result) × (kept_receipts self.new ≡ kept_receipts self.old) }
         ensures rises { front self.old ≤ front self.new }
         ensures says { (f : ℕ) → f ≤ front self.old → CommitSays (may f) moment prepared.ops result };
 

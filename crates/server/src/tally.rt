@@ -2,8 +2,8 @@
 ghost use Rattle.std.specs.Prelude.{◌≡◌, ◌+◌, ◌<◌, ◌^◌};
 ghost use Rattle.server.specs.Tallies.{tally, retried, last_of_grant, last_of_read, last_of_fault, last_of_commit};
 
+use collections::ArcValue;
 use lease::Lease;
-use listed::Counted;
 use locked_store::SharedFault;
 use row_map::ReadView;
 use row_write::{Prepared, RowFault};
@@ -77,7 +77,7 @@ impl Tally {
 }
 
 /// The name of what a lease was answered with.
-pub fn last_of_grant(answer: &Result<(Lease, Counted<Schema>), SharedFault<GrantFault>>) -> Last
+pub fn last_of_grant(answer: &Result<(Lease, ArcValue<Schema>), SharedFault<GrantFault>>) -> Last
     ensures { result ≡ last_of_grant answer.now }
 {
     match answer {

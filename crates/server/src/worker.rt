@@ -5,58 +5,59 @@ ghost use Rattle.server.specs.Outcomes.{IsServed, receipts_of};
 ghost use Rattle.server.specs.Tallies.{tally};
 ghost use Rattle.server.specs.Works.{Orders, IsOutcomeOf, IsOutcomeAt};
 
-use crate::desk::Desk;
+use crate::handle_port::HandlePort;
+use crate::one_request::serve_one;
 use crate::request::{Outcome, Request};
-use crate::serving::serve_one;
 use crate::tally::{Last, Tally};
-use locked_store::Room;
+use locked_store::SharedLedger;
 use std::alloc::Global;
 use std::marker::Model;
 use std::sync::Wait;
 use tasks::Worker;
 
-/// A server at its desk, the requests that all servers share, and the length of the log that all their handles had seen.
+/// A server at its port, the requests that all servers share, and the length of the log that all
+/// their handles had seen.
 #[derive(Drop)]
-pub(crate) struct RequestWorker<'a, L: Room, R: Wait> {
-    pub(crate) desk: Desk<'a, L, R>,
+pub(crate) struct RequestWorker<'a, L: SharedLedger, R: Wait> {
+    pub(crate) port: HandlePort<'a, L, R>,
     pub(crate) requests: &'a [Request],
     pub(crate) tries: u32,
     pub(crate) front: u64,
 }
 
-impl<'a, L: Room, R: Wait> Model for RequestWorker<'a, L, R> {
+impl<'a, L: SharedLedger, R: Wait> Model for RequestWorker<'a, L, R> {
     ghost use Rattle.server.specs.Works.{Serving, IsAtWork};
 
     ghost Value = { Serving };
 
-    ghost view = { λ w. record { handle = w.desk.handle; kept = w.desk.kept.items; orders = record { requests = w.requests.now; tries = w.tries; front = w.front } } };
+    ghost view = { λ w. record { handle = w.port.handle; kept_receipts = w.port.kept_receipts.items; orders = record { requests = w.requests.now; tries = w.tries; front = w.front } } };
 
-    ghost invariant = { λ w. IsAtWork L.opening (record { handle = w.desk.handle; kept = w.desk.kept.items; orders = record { requests = w.requests.now; tries = w.tries; front = w.front } }) };
+    ghost invariant = { λ w. IsAtWork L.opening (record { handle = w.port.handle; kept_receipts = w.port.kept_receipts.items; orders = record { requests = w.requests.now; tries = w.tries; front = w.front } }) };
 }
 
 // The outcome of one request, by a tally of its own.
-fn outcome_of<L: Room, R: Wait>(
+fn outcome_of<L: SharedLedger, R: Wait>(
     alloc: Global,
-    desk: &mut Desk<L, R>,
+    port: &mut HandlePort<L, R>,
     request: &Request,
     tries: u32,
 ) -> Outcome
     requires tries { (1 ≤ tries) × (tries ≤ 1000) }
-    ensures served { IsServed tries (tally 0 Last.Nothing) result desk.new.tally }
-    ensures own { (f : ℕ) → f ≤ desk.old.handle.front → IsOutcomeOf L.opening f request.now tries result }
-    ensures logged { (f : ℕ) → f ≤ desk.old.handle.front → All (IsLogged L.opening f) desk.old.kept.items → All (IsLogged L.opening f) desk.new.kept.items }
-    ensures rises { desk.old.handle.front ≤ desk.new.handle.front }
-    ensures same { desk.new.handle.id ≡ desk.old.handle.id }
-    ensures counted { desk.new.handle.count + length desk.old.kept.items ≡ desk.old.handle.count + length desk.new.kept.items + receipts_of result }
+    ensures served { IsServed tries (tally 0 Last.Nothing) result port.new.tally }
+    ensures own { (f : ℕ) → f ≤ port.old.handle.front → IsOutcomeOf L.opening f request.now tries result }
+    ensures logged { (f : ℕ) → f ≤ port.old.handle.front → All (IsLogged L.opening f) port.old.kept_receipts.items → All (IsLogged L.opening f) port.new.kept_receipts.items }
+    ensures rises { port.old.handle.front ≤ port.new.handle.front }
+    ensures same { port.new.handle.id ≡ port.old.handle.id }
+    ensures counted { port.new.handle.count + length port.old.kept_receipts.items ≡ port.old.handle.count + length port.new.kept_receipts.items + receipts_of result }
 {
-    desk.tally = Tally {
+    port.tally = Tally {
         retries: 0,
         last: Last::Nothing,
     };
-    serve_one(alloc, desk, request, tries)
+    serve_one(alloc, port, request, tries)
 }
 
-impl<'a, L: Room, R: Wait> Worker for RequestWorker<'a, L, R> {
+impl<'a, L: SharedLedger, R: Wait> Worker for RequestWorker<'a, L, R> {
     ghost use Rattle.std.specs.Prelude.{length};
     ghost use Rattle.server.specs.Outcomes.{receipts_of};
     ghost use Rattle.server.specs.Works.{Orders, IsOutcomeAt};
@@ -73,7 +74,7 @@ impl<'a, L: Room, R: Wait> Worker for RequestWorker<'a, L, R> {
 
     ghost count = { λ w. w.handle.count };
 
-    ghost kept = { λ w. length w.kept };
+    ghost kept_receipts = { λ w. length w.kept_receipts };
 
     ghost held = { receipts_of };
 
@@ -81,12 +82,12 @@ impl<'a, L: Room, R: Wait> Worker for RequestWorker<'a, L, R> {
 
     fn perform(&mut self, alloc: Global, number: usize) -> Outcome {
         let RequestWorker {
-            desk,
+            port,
             requests,
             tries,
             ..
         } = self;
-        outcome_of(alloc, desk, &requests[number], *tries)
+        outcome_of(alloc, port, &requests[number], *tries)
     }
 
     fn held_back() -> Outcome

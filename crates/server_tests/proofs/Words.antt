@@ -6,10 +6,10 @@ use Rattle.row_map.specs.Expect.{View}
 use Rattle.row_write.specs.declared.op.RowOp.{RowOp}
 use Rattle.lease.specs.declared.lease.Lease.{Lease}
 use Rattle.schema_version.specs.Version.{Version}
-use Rattle.world.specs.declared.committing.CommitFault.{CommitFault}
-use Rattle.world.specs.declared.committing.CommitFault.TheVariants as commit_fault
-use Rattle.world.specs.declared.leasing.GrantFault.{GrantFault}
-use Rattle.world.specs.declared.leasing.GrantFault.TheVariants as grant_fault
+use Rattle.world.specs.declared.commit.CommitFault.{CommitFault}
+use Rattle.world.specs.declared.commit.CommitFault.TheVariants as commit_fault
+use Rattle.world.specs.declared.grant.GrantFault.{GrantFault}
+use Rattle.world.specs.declared.grant.GrantFault.TheVariants as grant_fault
 use Rattle.locked_store.specs.declared.fault.SharedFault.{SharedFault}
 use Rattle.locked_store.specs.declared.fault.SharedFault.TheVariants as shared
 use Rattle.server.specs.Outcomes.{Keys, GrantSays, ReadSays, RefusalSays}

@@ -3,7 +3,7 @@ ghost use Rattle.std.specs.Prelude.{◌≡◌, length};
 
 use crate::fills::filling;
 use crate::table::update;
-use locked_store::{Handle, Room, Shared};
+use locked_store::{Handle, Shared, SharedLedger};
 use reorganise_workers::{PieceEnd, Reorganised, reorganise_all};
 use server::{Request, Served, serve};
 use std::alloc::Global;
@@ -33,7 +33,7 @@ impl Gate for Contest {
 }
 
 // Updates rows, one for each request, until the piece has its end.
-fn updated<L: Room + Send + Sync, R: Threads + Wait + Sync>(
+fn updated<L: SharedLedger + Send + Sync, R: Threads + Wait + Sync>(
     rt: &R,
     alloc: Global,
     shared: &Shared<L>,
@@ -54,7 +54,7 @@ fn updated<L: Room + Send + Sync, R: Threads + Wait + Sync>(
 }
 
 // Whether the piece was given up, or finished, which takes a commit; None for any other end.
-fn is_given_up<L: Room>(done: &Reorganised<L>, tries: u32) -> Option<bool> {
+fn is_given_up<L: SharedLedger>(done: &Reorganised<L>, tries: u32) -> Option<bool> {
     let [receipts] = done.receipts.as_slice() else {
         return None;
     };
@@ -69,7 +69,7 @@ fn is_given_up<L: Room>(done: &Reorganised<L>, tries: u32) -> Option<bool> {
 }
 
 // One handle updates rows, while the other works on the piece.
-fn at_once<L: Room + Send + Sync, R: Threads + Wait + Sync>(
+fn at_once<L: SharedLedger + Send + Sync, R: Threads + Wait + Sync>(
     rt: &R,
     alloc: Global,
     shared: &Shared<L>,
@@ -95,7 +95,7 @@ fn at_once<L: Room + Send + Sync, R: Threads + Wait + Sync>(
     Some((handles, is_busy))
 }
 
-fn contended<L: Room + Send + Sync, R: Threads + Wait + Sync>(
+fn contended<L: SharedLedger + Send + Sync, R: Threads + Wait + Sync>(
     rt: &R,
     alloc: Global,
     blank: Blank,

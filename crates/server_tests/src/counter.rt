@@ -36,7 +36,7 @@ fn drawn_once(alloc: Global) -> Result<[Option<usize>; 4], ClaimFault> {
 fn drawn(alloc: Global) -> Result<[Option<usize>; 4], ClaimFault> {
     match drawn_once(alloc) {
         Err(ClaimFault::Memory) => drawn_once(alloc),
-        told => told,
+        reported => reported,
     }
 }
 

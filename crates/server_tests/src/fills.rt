@@ -2,7 +2,7 @@
 
 use crate::one_request::{Stubborn, outcome_of, port};
 use crate::table::{insert, named, opened};
-use listed::Listed;
+use collections::List;
 use schema_version::{ElementState, Kind, Move, NewElement, Step};
 use server::Outcome;
 use std::alloc::{AllocError, Global};
@@ -13,27 +13,27 @@ fn entering(alloc: Global) -> Result<Step, AllocError> {
     let fresh = NewElement {
         table: 1,
         name: named(alloc, "i")?,
-        kind: Kind::Index(Listed::new(vec![in alloc; 1u32]?)),
+        kind: Kind::Index(List::new(vec![in alloc; 1u32]?)),
     };
     let to = ElementState::DeleteOnly;
-    Ok(Listed::new(vec![in alloc; Move::Enter { fresh, to }]?))
+    Ok(List::new(vec![in alloc; Move::Enter { fresh, to }]?))
 }
 
 // move t.i to write_only
 fn writing(alloc: Global) -> Result<Step, AllocError> {
     let to = ElementState::WriteOnly;
-    Ok(Listed::new(vec![in alloc; Move::Go { element: 2, to }]?))
+    Ok(List::new(vec![in alloc; Move::Go { element: 2, to }]?))
 }
 
 /// move t.i to delete_only
 pub(crate) fn dropping(alloc: Global) -> Result<Step, AllocError> {
     let to = ElementState::DeleteOnly;
-    Ok(Listed::new(vec![in alloc; Move::Go { element: 2, to }]?))
+    Ok(List::new(vec![in alloc; Move::Go { element: 2, to }]?))
 }
 
 /// turn t.i
 pub(crate) fn turning(alloc: Global) -> Result<Step, AllocError> {
-    Ok(Listed::new(vec![in alloc; Move::Turn { element: 2 }]?))
+    Ok(List::new(vec![in alloc; Move::Turn { element: 2 }]?))
 }
 
 // Whether a row is inserted.
@@ -44,7 +44,7 @@ fn is_inserted(alloc: Global, port: &mut Stubborn, id: i64) -> bool {
     }
 }
 
-// A world with the rows from 0 on, each behind a lease of its own.
+// A world with the rows from 0 on, each after a lease of its own.
 fn with_rows(alloc: Global, rows: i64) -> Option<World> {
     let mut port = port(alloc, opened(alloc).ok()?, &[]);
     for id in 0..rows {

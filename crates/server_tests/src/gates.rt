@@ -2,7 +2,7 @@
 ghost use Rattle.std.specs.Prelude.{◌≡◌, length};
 
 use crate::table::{insert, opened};
-use locked_store::{Room, Shared};
+use locked_store::{Shared, SharedLedger};
 use server::{Gate, Outcome, Request, Served, serve};
 use std::alloc::Global;
 use std::marker::Brand;
@@ -19,7 +19,7 @@ pub(crate) struct Behind {
 }
 
 impl Behind {
-    /// Where none is answered yet.
+    /// If none is answered yet.
     pub(crate) fn new() -> Behind {
         Behind {
             answered: AtomicU64::new(0),
@@ -46,7 +46,7 @@ pub(crate) struct Together {
 }
 
 impl Together {
-    /// Where none was entered yet.
+    /// If none was entered yet.
     pub(crate) fn new() -> Together {
         Together {
             entered: AtomicU64::new(0),
@@ -86,7 +86,7 @@ fn counted(alloc: Global, served: &[(usize, Outcome)], world: &World) -> Option<
 }
 
 // Two inserts by two servers through a gate: committed outcomes, rows, entries of the log.
-fn serves<L: Room + Send + Sync, G: Gate + Sync, R: Threads + Wait + Sync>(
+fn serves<L: SharedLedger + Send + Sync, G: Gate + Sync, R: Threads + Wait + Sync>(
     rt: &R,
     alloc: Global,
     blank: Blank,

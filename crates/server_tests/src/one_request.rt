@@ -5,8 +5,8 @@ ghost use Rattle.server.specs.Outcomes.{CommitSays, Keeps, given_by};
 use crate::table::{insert, mark, opened};
 use Answer::{Conflict, LeaseEnded, Memory};
 use byte_map::Bytes;
+use collections::ArcValue;
 use lease::Lease;
-use listed::Counted;
 use locked_store::SharedFault;
 use row_map::{ReadSet, ReadView};
 use row_write::Prepared;
@@ -36,7 +36,7 @@ pub(crate) struct Stubborn {
     world: World,
     answers: Answers,
     calls: u32,
-    kept: Vec<Receipt>,
+    kept_receipts: Vec<Receipt>,
     committed: Vec<()>,
     used: u64,
     tally: Tally,
@@ -103,19 +103,19 @@ fn commits(
 fn leases(
     alloc: Global,
     world: &mut World,
-    kept: &mut Vec<Receipt>,
+    kept_receipts: &mut Vec<Receipt>,
     moment: u64,
-) -> Result<(Lease, Counted<Schema>), SharedFault<GrantFault>>
-    ensures keeps { Keeps (λ said. Unit {0}) kept.old.items result kept.new.items }
+) -> Result<(Lease, ArcValue<Schema>), SharedFault<GrantFault>>
+    ensures keeps { Keeps (λ said. Unit {0}) kept_receipts.old.items result kept_receipts.new.items }
 {
-    if kept.reserve(1).is_err() {
+    if kept_receipts.reserve(1).is_err() {
         return Err(SharedFault::World(GrantFault::Memory));
     }
     // the first at 0, the second at 1, and so on, so that each tells which it is
-    let later = moment.max((kept.len() as u64).min(9));
+    let later = moment.max((kept_receipts.len() as u64).min(9));
     match world.lease(alloc, later) {
         Ok(grant) => {
-            kept.push_reserved(grant.receipt);
+            kept_receipts.push_reserved(grant.receipt);
             Ok((grant.lease, grant.schema))
         }
         Err(fault) => Err(SharedFault::World(fault)),
@@ -136,11 +136,11 @@ impl Port for Stubborn {
 
     ghost tally = { λ p. p.tally };
 
-    ghost count = { λ p. length p.committed.items + length p.kept.items };
+    ghost count = { λ p. length p.committed.items + length p.kept_receipts.items };
 
     ghost front = { λ p. 0 };
 
-    ghost kept = { λ p. p.kept.items };
+    ghost kept_receipts = { λ p. p.kept_receipts.items };
 
     ghost may = { λ f said. Unit {0} };
 
@@ -149,10 +149,10 @@ impl Port for Stubborn {
         &mut self,
         alloc: Global,
         moment: u64,
-    ) -> Result<(Lease, Counted<Schema>), SharedFault<GrantFault>> {
+    ) -> Result<(Lease, ArcValue<Schema>), SharedFault<GrantFault>> {
         let answer = match next_answer(self.answers, &mut self.calls) {
             Answer::Memory => Err(SharedFault::World(GrantFault::Memory)),
-            _ => leases(alloc, &mut self.world, &mut self.kept, moment),
+            _ => leases(alloc, &mut self.world, &mut self.kept_receipts, moment),
         };
         self.tally.note(last_of_grant(&answer));
         answer
@@ -209,7 +209,7 @@ pub(crate) fn port(alloc: Global, world: World, answers: Answers) -> Stubborn {
         world,
         answers,
         calls: 0,
-        kept: Vec::new(alloc),
+        kept_receipts: Vec::new(alloc),
         committed: Vec::new(alloc),
         used: 0,
         tally: Tally {
@@ -226,7 +226,7 @@ impl Stubborn {
             world,
             answers: _,
             calls: _,
-            kept: _,
+            kept_receipts: _,
             committed: _,
             used: _,
             tally: _,

@@ -1,11 +1,12 @@
-//! Two handles fill an index and then serve two requests, twice, behind gates that only servers on threads of their own can pass: where
-//! memory was short, each number has its outcome all the same, the handles come back, and what is left is done by a second call.
+//! Two handles fill an index and then serve two requests, twice, after gates that only servers on
+//! threads of their own can pass: where memory was short, each number has its outcome all the same,
+//! the handles come back, and what is left is done by a second call.
 ghost use Rattle.std.specs.Prelude.{◌≡◌, length};
 
 use crate::fills::filling;
 use crate::gates::{Behind, Together};
 use crate::table::{insert, mark};
-use locked_store::{Handle, Room, Shared};
+use locked_store::{Handle, Shared, SharedLedger};
 use reorganise::Work;
 use reorganise_workers::{PieceEnd, ReorganiseFault, Reorganised, reorganise_all};
 use server::{FreeGate, Gate, Outcome, Request, ServeFault, Served, serve};
@@ -35,8 +36,8 @@ fn dones(outcomes: &[(usize, Outcome)]) -> Option<u64> {
     }
 }
 
-// Serves the requests behind a gate: how many were committed.
-fn served<L: Room + Send + Sync, G: Gate + Sync, R: Threads + Wait + Sync>(
+// Serves the requests after a gate: how many were committed.
+fn served<L: SharedLedger + Send + Sync, G: Gate + Sync, R: Threads + Wait + Sync>(
     rt: &R,
     alloc: Global,
     shared: &Shared<L>,
@@ -58,8 +59,8 @@ fn served<L: Room + Send + Sync, G: Gate + Sync, R: Threads + Wait + Sync>(
     }
 }
 
-// Serves them behind the gate and then with none. Each is committed once.
-fn all_served<L: Room + Send + Sync, G: Gate + Sync, R: Threads + Wait + Sync>(
+// Serves them after the gate and then with none. Each is committed once.
+fn all_served<L: SharedLedger + Send + Sync, G: Gate + Sync, R: Threads + Wait + Sync>(
     rt: &R,
     alloc: Global,
     shared: &Shared<L>,
@@ -96,7 +97,7 @@ fn are_finished(ends: &[(usize, PieceEnd)]) -> Option<bool> {
 }
 
 // Works the pieces off: whether both have ended.
-fn filled<L: Room + Send + Sync, R: Threads + Wait + Sync>(
+fn filled<L: SharedLedger + Send + Sync, R: Threads + Wait + Sync>(
     rt: &R,
     alloc: Global,
     shared: &Shared<L>,
@@ -117,7 +118,7 @@ fn filled<L: Room + Send + Sync, R: Threads + Wait + Sync>(
 }
 
 // The same, once more where memory was short.
-fn all_filled<L: Room + Send + Sync, R: Threads + Wait + Sync>(
+fn all_filled<L: SharedLedger + Send + Sync, R: Threads + Wait + Sync>(
     rt: &R,
     alloc: Global,
     shared: &Shared<L>,
@@ -132,7 +133,7 @@ fn all_filled<L: Room + Send + Sync, R: Threads + Wait + Sync>(
 }
 
 // Behind the mark the handles fill the index and serve the requests. The world comes back, so both handles did.
-fn works<L: Room + Send + Sync, R: Threads + Wait + Sync + Print>(
+fn works<L: SharedLedger + Send + Sync, R: Threads + Wait + Sync + Print>(
     rt: &R,
     alloc: Global,
     blank: Blank,
@@ -163,11 +164,11 @@ fn inserts(alloc: Global, first: i64, second: i64) -> Result<Vec<Request>, Alloc
 
 // Whether all six rows have their pairs, and the fill has ended.
 fn is_filled(alloc: Global, world: &World) -> bool {
-    let told = match world.check(alloc) {
+    let reported = match world.check(alloc) {
         Err(AllocError) => world.check(alloc),
-        told => told,
+        reported => reported,
     };
-    match told {
+    match reported {
         Ok(found) => {
             (found.rows, found.missing, found.extra) == (6, 0, 0)
                 && world.progress(2) == Some((Work::Fill, 2, true))

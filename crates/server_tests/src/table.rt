@@ -1,7 +1,7 @@
 //! The worked table, a request on it, and a world that has it.
 
+use collections::List;
 use keycode::{Text, Value};
-use listed::Listed;
 use row_map::ColumnType;
 use row_write::RowOp;
 use schema_version::TableDef;
@@ -23,11 +23,11 @@ pub(crate) fn named(alloc: Global, name: &str) -> Result<Text, AllocError> {
 fn config(alloc: Global) -> Result<Config, AllocError> {
     let table = TableDef {
         name: named(alloc, "t")?,
-        key: Listed::new(vec![in alloc; (named(alloc, "id")?, ColumnType::Int)]?),
-        columns: Listed::new(vec![in alloc; (named(alloc, "a")?, ColumnType::Int)]?),
-        indexes: Listed::new(Vec::new(alloc)),
+        key: List::new(vec![in alloc; (named(alloc, "id")?, ColumnType::Int)]?),
+        columns: List::new(vec![in alloc; (named(alloc, "a")?, ColumnType::Int)]?),
+        indexes: List::new(Vec::new(alloc)),
     };
-    let tables = Listed::new(vec![in alloc; table]?);
+    let tables = List::new(vec![in alloc; table]?);
     Ok(Config { length: 10, tables })
 }
 
@@ -40,10 +40,10 @@ pub(crate) fn opened(alloc: Global) -> Result<World, OpenFault> {
 pub(crate) fn insert(alloc: Global, id: i64) -> Result<Request, AllocError> {
     let insert = RowOp::Insert {
         table: 1,
-        key: Listed::new(vec![in alloc; Value::Int(id)]?),
-        cells: Listed::new(vec![in alloc; (1, Value::Int(7))]?),
+        key: List::new(vec![in alloc; Value::Int(id)]?),
+        cells: List::new(vec![in alloc; (1, Value::Int(7))]?),
     };
-    let ops = Listed::new(vec![in alloc; insert]?);
+    let ops = List::new(vec![in alloc; insert]?);
     Ok(Request { moment: 0, ops })
 }
 
@@ -51,9 +51,9 @@ pub(crate) fn insert(alloc: Global, id: i64) -> Result<Request, AllocError> {
 pub(crate) fn update(alloc: Global, id: i64, value: i64) -> Result<Request, AllocError> {
     let update = RowOp::Update {
         table: 1,
-        key: Listed::new(vec![in alloc; Value::Int(id)]?),
-        cells: Listed::new(vec![in alloc; (1, Value::Int(value))]?),
+        key: List::new(vec![in alloc; Value::Int(id)]?),
+        cells: List::new(vec![in alloc; (1, Value::Int(value))]?),
     };
-    let ops = Listed::new(vec![in alloc; update]?);
+    let ops = List::new(vec![in alloc; update]?);
     Ok(Request { moment: 30, ops })
 }

@@ -3,7 +3,7 @@
 ghost use Rattle.std.specs.Prelude.{◌≡◌, length};
 
 use crate::fills::{dropping, filling, turning};
-use locked_store::{Handle, Room, Shared};
+use locked_store::{Handle, Shared, SharedLedger};
 use reorganise::Work;
 use reorganise_workers::{PieceEnd, Reorganised, reorganise_all};
 use schema_version::ElementState::{DeleteOnly, WriteOnly};
@@ -25,13 +25,13 @@ struct Steps {
 
 // A handle by which they are published, and once they were, the version that the turn gave and the place of its entry.
 #[derive(Drop)]
-struct Turner<L: Room> {
+struct Turner<L: SharedLedger> {
     me: Handle<L>,
     given: Option<(u64, u64)>,
 }
 
 // The index goes to delete-only at 40, and its clear begins at 50 in three pieces.
-fn has_begun<L: Room, R: Wait>(
+fn has_begun<L: SharedLedger, R: Wait>(
     rt: &R,
     alloc: Global,
     shared: &Shared<L>,
@@ -43,7 +43,7 @@ fn has_begun<L: Room, R: Wait>(
 }
 
 // Publishes the turn at 30, and what comes after it, if it was not yet.
-fn turn<L: Room, R: Wait>(
+fn turn<L: SharedLedger, R: Wait>(
     rt: &R,
     alloc: Global,
     shared: &Shared<L>,
@@ -67,7 +67,7 @@ fn turn<L: Room, R: Wait>(
 
 // Holds each piece, whoever asks first, until all is published.
 #[derive(Drop)]
-struct Held<'a, L: Room, R: Wait> {
+struct Held<'a, L: SharedLedger, R: Wait> {
     rt: &'a R,
     alloc: Global,
     shared: &'a Shared<L>,
@@ -75,7 +75,7 @@ struct Held<'a, L: Room, R: Wait> {
     turner: Mutex<Turner<L>>,
 }
 
-impl<'a, L: Room, R: Wait> Gate for Held<'a, L, R> {
+impl<'a, L: SharedLedger, R: Wait> Gate for Held<'a, L, R> {
     fn may_start(&self, _number: usize, _turn: u64) -> bool {
         let mut turner = self.turner.lock(self.rt);
         turn(self.rt, self.alloc, self.shared, &mut *turner, &self.steps);
@@ -103,7 +103,7 @@ fn is_wanted(end: &PieceEnd, wanted: Wanted) -> bool {
 }
 
 // Each of the three pieces ended so, both handles are back, and together they gave so many receipts.
-fn are_ended<L: Room>(done: &Reorganised<L>, wanted: Wanted, given: usize) -> bool {
+fn are_ended<L: SharedLedger>(done: &Reorganised<L>, wanted: Wanted, given: usize) -> bool {
     let each = match done.ends.as_slice() {
         [(one, first), (two, second), (three, third)] => {
             (*one, *two, *three) == (0, 1, 2)
@@ -121,7 +121,7 @@ fn are_ended<L: Room>(done: &Reorganised<L>, wanted: Wanted, given: usize) -> bo
 }
 
 // All pieces by two handles through a gate, which come back if the pieces ended so.
-fn worked<L: Room + Send + Sync, G: Gate + Sync, R: Threads + Wait + Sync>(
+fn worked<L: SharedLedger + Send + Sync, G: Gate + Sync, R: Threads + Wait + Sync>(
     rt: &R,
     alloc: Global,
     shared: &Shared<L>,
@@ -142,7 +142,7 @@ fn worked<L: Room + Send + Sync, G: Gate + Sync, R: Threads + Wait + Sync>(
 }
 
 // The clear is as it was begun, and then a second call finishes it: one piece has all items, the other two had ended at the begin.
-fn cleared<L: Room + Send + Sync, R: Threads + Wait + Sync>(
+fn cleared<L: SharedLedger + Send + Sync, R: Threads + Wait + Sync>(
     rt: &R,
     alloc: Global,
     shared: &Shared<L>,
@@ -156,7 +156,7 @@ fn cleared<L: Room + Send + Sync, R: Threads + Wait + Sync>(
 }
 
 // The pieces of the fill, held by a gate with the third handle, and then those of the clear, if one has begun.
-fn worked_and_back<L: Room + Send + Sync, R: Threads + Wait + Sync>(
+fn worked_and_back<L: SharedLedger + Send + Sync, R: Threads + Wait + Sync>(
     rt: &R,
     alloc: Global,
     shared: &Shared<L>,
@@ -194,7 +194,7 @@ fn worked_and_back<L: Room + Send + Sync, R: Threads + Wait + Sync>(
 }
 
 // What the turn gave, and the world, which comes back with all three handles alone.
-fn turned<L: Room + Send + Sync, R: Threads + Wait + Sync>(
+fn turned<L: SharedLedger + Send + Sync, R: Threads + Wait + Sync>(
     rt: &R,
     alloc: Global,
     blank: Blank,

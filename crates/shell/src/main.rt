@@ -37,8 +37,8 @@ fn tell_fault(rt: &HostRuntime, status: u8) {
     let _ = eprintln!(rt; "fault: {fault}");
 }
 
-/// The words of the command line, the program's own name first. If they cannot be had, standard error is told why, and the `Err` is
-/// the exit status.
+/// The words of the command line, the program's own name first. If they cannot be had, standard
+/// error is reported why, and the `Err` is the exit status.
 fn words_of(rt: &HostRuntime) -> Result<Vec<String>, u8> {
     match std::env::args(rt) {
         Ok(words) => {

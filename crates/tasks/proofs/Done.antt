@@ -29,15 +29,15 @@ early_same t xs x le = early_push t xs x ∙ ap (λ l. early t xs ++ l) (grind (
 
 pub one_more : {O : Type 0} (t : ℕ) (os now : List (ℕ × O)) (o : O) (v w : Drawer) (n : ℕ) → numbers_of os ≡ early t v.drawn → now ≡ os ++ (n, o) ∷ [] → Claimed t v (Some n) w
     → numbers_of now ≡ early t w.drawn
-one_more t os now o v w n kept is k =
-    ap numbers_of is ∙ numbers_of_push os (n, o) ∙ ap (λ l. l ++ n ∷ []) kept ∙ sym (early_more t v.drawn n k.1) ∙ ap (λ (d : Drawer). early t d.drawn) (sym k.2)
+one_more t os now o v w n kept_receipts is k =
+    ap numbers_of is ∙ numbers_of_push os (n, o) ∙ ap (λ l. l ++ n ∷ []) kept_receipts ∙ sym (early_more t v.drawn n k.1) ∙ ap (λ (d : Drawer). early t d.drawn) (sym k.2)
 
 pub none_more : {O : Type 0} (t : ℕ) (os : List (ℕ × O)) (v w : Drawer) → numbers_of os ≡ early t v.drawn → Claimed t v None w → numbers_of os ≡ early t w.drawn
-none_more t os v w kept k = go v.done refl
+none_more t os v w kept_receipts k = go v.done refl
   where
     go : (b : Bool) → v.done ≡ b → numbers_of os ≡ early t w.drawn
-    go true e = kept ∙ ap (λ (d : Drawer). early t d.drawn) (sym (k.0 e))
-    go false e = let m = k.1 e in kept ∙ sym (early_same t v.drawn m.0 m.1) ∙ ap (λ (d : Drawer). early t d.drawn) (sym m.2)
+    go true e = kept_receipts ∙ ap (λ (d : Drawer). early t d.drawn) (sym (k.0 e))
+    go false e = let m = k.1 e in kept_receipts ∙ sym (early_same t v.drawn m.0 m.1) ∙ ap (λ (d : Drawer). early t d.drawn) (sym m.2)
 
 pub fit_more : {O : Type 0} (fits : ℕ → O → Type 0) (os now : List (ℕ × O)) (n : ℕ) (o : O) → now ≡ os ++ (n, o) ∷ [] → AreFit fits os → fits n o → AreFit fits now
 fit_more {O = O} fits os now n o is all one = All-same (λ (x : ℕ × O). fits x.0 x.1) now (os ++ (n, o) ∷ []) is (All-push (λ (x : ℕ × O). fits x.0 x.1) os (n, o) all one)

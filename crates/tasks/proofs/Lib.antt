@@ -1,5 +1,5 @@
 pub mod Done
 pub mod Runs
-pub mod Placing
-pub mod Seating
-pub mod Handing
+pub mod Places
+pub mod Seats
+pub mod Handed

@@ -1,3 +1,4 @@
+-- Cited by the contracts of perform_all.
 -- Outcomes of numbered tasks.
 use Rattle.std.specs.Prelude.{◌≡◌, ℕ, ◌+◌, ◌<◌, ◌≤◌, List, [], ◌∷◌, length, All, slice_index_or, nat_lt, if◌then◌else◌}
 use Rattle.claims.specs.Draws.{times}

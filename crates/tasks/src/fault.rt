@@ -1,13 +1,13 @@
 //! Why no task is performed.
 use thiserror::Error;
 
-/// Why no task was performed. Of several reasons the first in this order is told.
+/// Why no task was performed. Of several reasons the first in this order is reported.
 #[derive(Clone, Copy, Debug, PartialEq, Eq, Error)]
 pub enum TaskFault {
     /// There are more than 1,000,000 tasks, or the number of workers is not from 1 to 64.
     #[error("more than 1,000,000 tasks, or not from 1 to 64 workers")]
     BadCount,
-    /// Want of memory.
+    /// Out of memory.
     #[error("out of memory")]
     Memory,
 }

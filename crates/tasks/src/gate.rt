@@ -27,7 +27,7 @@ impl Gate for FreeGate {
 /// How often a gate is asked before a task is held back for good.
 const MAX_TURNS: u64 = 10_000_000;
 
-/// Asks the gate until it lets pass; false where it never does.
+/// Asks the gate until it lets pass; false if it never does.
 pub(crate) fn has_passed<G: Gate>(gate: &G, number: usize) -> bool {
     for turn in 0..MAX_TURNS {
         if gate.may_start(number, turn) {

@@ -5,8 +5,8 @@ mod fault;
 mod gate;
 mod perform;
 mod place;
-mod station;
 mod worker;
+mod worker_slot;
 
 pub use fault::TaskFault;
 pub use gate::{FreeGate, Gate};

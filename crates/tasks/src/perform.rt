@@ -9,8 +9,8 @@ ghost use Rattle.tasks.specs.Outcomes.{held_in, held_all, IsOnPlan, IsRow};
 use crate::fault::TaskFault;
 use crate::gate::Gate;
 use crate::place::{blank_row, collect};
-use crate::station::{Station, seated, work_all};
 use crate::worker::Worker;
+use crate::worker_slot::{WorkerSlot, seat_workers, work_all};
 use claims::{ClaimFault, ClaimSeat, Claims, Drawing, Opened};
 use std::alloc::Global;
 use std::marker::Brand;
@@ -32,8 +32,9 @@ pub struct Performed<W: Worker> {
 ///
 /// Workers that share a plan still have it when they come back.
 ///
-/// Refused in this order, with the workers: `BadCount` where there are more than 1,000,000 tasks, or where the number of workers is
-/// not from 1 to 64; `Memory`. All room is made before the first task, and nothing is refused from then on.
+/// Refused in this order, with the workers: `BadCount` if there are more than 1,000,000 tasks, or
+/// where the number of workers is not from 1 to 64; `Memory`. All room is made before the first
+/// task, and nothing is refused from then on.
 pub fn perform_all<W: Worker + Send, G: Gate + Sync, R: Threads + Sync>(
     rt: &R,
     alloc: Global,
@@ -46,7 +47,7 @@ pub fn perform_all<W: Worker + Send, G: Gate + Sync, R: Threads + Sync>(
     ensures fits { (plan : W.Plan) → All (λ w. W.plan w ≡ plan) workers.items → IfOk result (λ p. All (λ o. W.fits plan o.0 o.1) p.outcomes.items) }
     ensures back { IfOk result (λ p. map W.id p.workers.items ≡ map W.id workers.items) }
     ensures plans { (plan : W.Plan) → All (λ w. W.plan w ≡ plan) workers.items → IfOk result (λ p. All (λ w. W.plan w ≡ plan) p.workers.items) }
-    ensures counted { IfOk result (λ p. sum_by W.count p.workers.items + sum_by W.kept workers.items ≡ sum_by W.count workers.items + sum_by W.kept p.workers.items + held_in W.held p.outcomes.items) }
+    ensures counted { IfOk result (λ p. sum_by W.count p.workers.items + sum_by W.kept_receipts workers.items ≡ sum_by W.count workers.items + sum_by W.kept_receipts p.workers.items + held_in W.held p.outcomes.items) }
     ensures counts { IfOk result (λ _. IsCount total (vec_len workers)) }
     ensures refused { IfErr result (λ r. IsRefused total (vec_len workers) r.0) }
     ensures unchanged { IfErr result (λ r. r.1.items ≡ workers.items) }
@@ -74,7 +75,7 @@ fn perform_in<W: Worker + Send, T: Drawing + Send + Sync, G: Gate + Sync, R: Thr
     ensures fits { (plan : W.Plan) → All (λ w. W.plan w ≡ plan) workers.items → IfOk result (λ p. All (λ o. W.fits plan o.0 o.1) p.outcomes.items) }
     ensures back { IfOk result (λ p. map W.id p.workers.items ≡ map W.id workers.items) }
     ensures plans { (plan : W.Plan) → All (λ w. W.plan w ≡ plan) workers.items → IfOk result (λ p. All (λ w. W.plan w ≡ plan) p.workers.items) }
-    ensures counted { IfOk result (λ p. sum_by W.count p.workers.items + sum_by W.kept workers.items ≡ sum_by W.count workers.items + sum_by W.kept p.workers.items + held_in W.held p.outcomes.items) }
+    ensures counted { IfOk result (λ p. sum_by W.count p.workers.items + sum_by W.kept_receipts workers.items ≡ sum_by W.count workers.items + sum_by W.kept_receipts p.workers.items + held_in W.held p.outcomes.items) }
     ensures memory { IfErr result (λ r. IsRefused total (vec_len workers) r.0) }
     ensures unchanged { IfErr result (λ r. r.1.items ≡ workers.items) }
 {
@@ -100,7 +101,7 @@ fn run<W: Worker + Send, T: Drawing + Send + Sync, G: Gate + Sync, R: Threads + 
     claims: Claims<T>,
     workers: Vec<W>,
     seats: Vec<ClaimSeat<T>>,
-    room: Vec<Station<W, T>>,
+    room: Vec<WorkerSlot<W, T>>,
     outcomes: Vec<(usize, W::Outcome)>,
     total: usize,
     gate: &G,
@@ -115,14 +116,14 @@ fn run<W: Worker + Send, T: Drawing + Send + Sync, G: Gate + Sync, R: Threads + 
     ensures fits { (plan : W.Plan) → All (λ w. W.plan w ≡ plan) workers.items → All (λ o. W.fits plan o.0 o.1) result.outcomes.items }
     ensures back { map W.id result.workers.items ≡ map W.id workers.items }
     ensures plans { (plan : W.Plan) → All (λ w. W.plan w ≡ plan) workers.items → All (λ w. W.plan w ≡ plan) result.workers.items }
-    ensures counted { sum_by W.count result.workers.items + sum_by W.kept workers.items ≡ sum_by W.count workers.items + sum_by W.kept result.workers.items + held_in W.held result.outcomes.items }
+    ensures counted { sum_by W.count result.workers.items + sum_by W.kept_receipts workers.items ≡ sum_by W.count workers.items + sum_by W.kept_receipts result.workers.items + held_in W.held result.outcomes.items }
 {
     let mut workers = workers;
     let mut seats = seats;
     let mut outcomes = outcomes;
-    let mut stations = seated(alloc, room, &mut workers, &mut seats);
-    work_all(rt, alloc, gate, &claims, total, &mut stations);
-    collect(stations, &mut workers, &mut seats, &mut outcomes);
+    let mut worker_slots = seat_workers(alloc, room, &mut workers, &mut seats);
+    work_all(rt, alloc, gate, &claims, total, &mut worker_slots);
+    collect(worker_slots, &mut workers, &mut seats, &mut outcomes);
     let _next = claims.finish(seats);
     Performed { outcomes, workers }
 }

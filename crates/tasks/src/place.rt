@@ -1,11 +1,11 @@
-//! Where outcomes go: each to the place of its number.
+//! If outcomes go: each to the place of its number.
 ghost use Rattle.std.specs.Prelude.{◌≡◌, ◌+◌, ◌<◌, ◌≤◌, ℕ, [], All, IfOk, map, reverse, slice_index_or, vec_len, vec_capacity};
 ghost use Rattle.claims.specs.Draws.{times};
 ghost use Rattle.claims.specs.Seats.{all_drawn};
 ghost use Rattle.tasks.specs.Outcomes.{held_in, held_all, numbers_of, AreFree, AreOnce, IsOnPlan, IsRow};
 
-use crate::station::Station;
 use crate::worker::Worker;
+use crate::worker_slot::WorkerSlot;
 use claims::{ClaimSeat, Drawing};
 use std::alloc::{AllocError, Global};
 
@@ -40,25 +40,26 @@ fn place<W: Worker>(outcomes: &mut Vec<(usize, W::Outcome)>, done: Vec<(usize, W
     }
 }
 
-/// Takes the stations apart: the workers and the seats go back where they came from, and the outcomes into their places.
+/// Takes the worker slots apart: the workers and the seats go back where they came from, and the
+/// outcomes into their places.
 pub(crate) fn collect<W: Worker, T: Drawing>(
-    stations: Vec<Station<W, T>>,
+    worker_slots: Vec<WorkerSlot<W, T>>,
     workers: &mut Vec<W>,
     seats: &mut Vec<ClaimSeat<T>>,
     outcomes: &mut Vec<(usize, W::Outcome)>,
 )
-    requires workers { (workers.old.items ≡ []) × (vec_len stations ≤ vec_capacity workers.old) }
-    requires seats { (seats.old.items ≡ []) × (vec_len stations ≤ vec_capacity seats.old) }
+    requires workers { (workers.old.items ≡ []) × (vec_len worker_slots ≤ vec_capacity workers.old) }
+    requires seats { (seats.old.items ≡ []) × (vec_len worker_slots ≤ vec_capacity seats.old) }
     requires row { IsRow T.total outcomes.old.items × (held_in W.held outcomes.old.items ≡ 0) }
-    ensures workers { workers.new.items ≡ reverse (map (λ s. s.worker) stations.items) }
-    ensures seats { vec_len seats.new ≡ vec_len stations }
+    ensures workers { workers.new.items ≡ reverse (map (λ s. s.worker) worker_slots.items) }
+    ensures seats { vec_len seats.new ≡ vec_len worker_slots }
     ensures row { IsRow T.total outcomes.new.items }
-    ensures fits { (plan : W.Plan) → All (λ s. IsOnPlan W.plan W.fits plan s.worker s.done.items) stations.items → All (λ o. W.fits plan o.0 o.1) outcomes.old.items → All (λ o. W.fits plan o.0 o.1) outcomes.new.items }
-    ensures counted { AreOnce (all_drawn seats.new.items) → held_in W.held outcomes.new.items ≡ held_all W.held (map (λ s. s.done.items) stations.items) }
+    ensures fits { (plan : W.Plan) → All (λ s. IsOnPlan W.plan W.fits plan s.worker s.done.items) worker_slots.items → All (λ o. W.fits plan o.0 o.1) outcomes.old.items → All (λ o. W.fits plan o.0 o.1) outcomes.new.items }
+    ensures counted { AreOnce (all_drawn seats.new.items) → held_in W.held outcomes.new.items ≡ held_all W.held (map (λ s. s.done.items) worker_slots.items) }
 {
-    let mut stations = stations;
-    while let Some(station) = stations.pop() {
-        let Station { worker, seat, done } = station;
+    let mut worker_slots = worker_slots;
+    while let Some(worker_slot) = worker_slots.pop() {
+        let WorkerSlot { worker, seat, done } = worker_slot;
         workers.push_reserved(worker);
         seats.push_reserved(seat);
         place::<W>(outcomes, done);

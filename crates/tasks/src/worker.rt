@@ -27,7 +27,7 @@ pub trait Worker: Drop {
     ghost count: { Self → ℕ };
 
     // how many receipts it keeps itself
-    ghost kept: { Self → ℕ };
+    ghost kept_receipts: { Self → ℕ };
 
     // how many receipts an outcome holds
     ghost held: { Self.Outcome → ℕ };
@@ -39,7 +39,7 @@ pub trait Worker: Drop {
     fn perform(&mut self, alloc: Global, number: usize) -> Self::Outcome
         requires inside { number < total (plan self.old) }
         ensures same { (plan self.new ≡ plan self.old) × (id self.new ≡ id self.old) }
-        ensures counted { count self.new + kept self.old ≡ count self.old + kept self.new + held result }
+        ensures counted { count self.new + kept_receipts self.old ≡ count self.old + kept_receipts self.new + held result }
         ensures fits { fits (plan self.old) number result };
 
     /// What becomes of a task that the gate did not let start.
@@ -47,7 +47,7 @@ pub trait Worker: Drop {
         ensures none { held result ≡ 0 }
         ensures fits { (plan : Self.Plan) (number : ℕ) → fits plan number result };
 
-    /// What becomes of a task that nobody drew for want of memory.
+    /// What becomes of a task that nobody drew when out of memory.
     fn undrawn() -> Self::Outcome
         ensures none { held result ≡ 0 }
         ensures fits { (plan : Self.Plan) (number : ℕ) → fits plan number result };

@@ -35,7 +35,7 @@ impl Worker for Squarer {
 
     ghost count = { λ _. 0 };
 
-    ghost kept = { λ _. 0 };
+    ghost kept_receipts = { λ _. 0 };
 
     ghost held = { λ _. 0 };
 

@@ -35,7 +35,8 @@ fn are_values(values: &[Value], plain: &[Plain]) -> bool {
     values.len() == plain.len()
 }
 
-/// How many bytes the values take that so many are read of, where they are these and are spelled so again, or the fault.
+/// How many bytes the values take that so many are read of, where they are these and are encoded so
+/// again, or the fault.
 fn taken(
     alloc: Global,
     bytes: &[u8],
@@ -55,7 +56,7 @@ fn taken(
 }
 
 /// The same, asked once more where memory was short.
-fn told(
+fn reported(
     alloc: Global,
     bytes: &[u8],
     count: usize,
@@ -63,11 +64,11 @@ fn told(
 ) -> Result<Option<usize>, KeyFault> {
     match taken(alloc, bytes, count, plain) {
         Err(KeyFault::Memory) => taken(alloc, bytes, count, plain),
-        told => told,
+        reported => reported,
     }
 }
 
-/// Bytes, how many values are read of their front, these, and how many bytes they take.
+/// Bytes, how many values are read of their start, these, and how many bytes they take.
 const LISTS: &[(&[u8], usize, &[Plain], Result<Option<usize>, KeyFault>)] = &[
     (
         b"\x02\x7f\xff\xff\xff\xff\xff\xff\xff\x02\x80\0\0\0\0\0\0\0",
@@ -99,7 +100,7 @@ const LISTS: &[(&[u8], usize, &[Plain], Result<Option<usize>, KeyFault>)] = &[
     (b"\x03\xff\0\x01", 1, &[], Err(KeyFault::NotUtf8)),
 ];
 
-// What is told of a text of so many letters, which is spelled whatever its length.
+// What is reported of a text of so many letters, which is encoded whatever its length.
 fn letters_read(alloc: Global, count: usize) -> Result<usize, KeyFault> {
     let text = Value::Text(keycode::Text::new("x".repeat(alloc, count)?));
     let bytes = encode(alloc, &[text])?;
@@ -108,21 +109,21 @@ fn letters_read(alloc: Global, count: usize) -> Result<usize, KeyFault> {
 }
 
 /// The same, asked once more where memory was short.
-fn letters_told(alloc: Global, count: usize) -> Result<usize, KeyFault> {
+fn letters_reported(alloc: Global, count: usize) -> Result<usize, KeyFault> {
     match letters_read(alloc, count) {
         Err(KeyFault::Memory) => letters_read(alloc, count),
-        told => told,
+        reported => reported,
     }
 }
 
 #[test]
-fn under_refusal_lists_are_read_and_spelled_so(rt: HostRuntime) {
+fn under_refusal_lists_are_read_and_encoded_so(rt: HostRuntime) {
     assert!(rt; mark(&rt));
-    assert!(rt; letters_told(rt.alloc(), 1_024) == Ok(1_027));
-    assert!(rt; letters_told(rt.alloc(), 1_025) == Err(KeyFault::TextTooLong));
+    assert!(rt; letters_reported(rt.alloc(), 1_024) == Ok(1_027));
+    assert!(rt; letters_reported(rt.alloc(), 1_025) == Err(KeyFault::TextTooLong));
     for (bytes, count, plain, want) in LISTS {
         assert!(rt;
-            told(rt.alloc(), bytes, *count, plain) == *want,
+            reported(rt.alloc(), bytes, *count, plain) == *want,
             "{count} of {bytes:?}"
         );
     }
@@ -136,27 +137,27 @@ fn is_found(found: &Option<Value>, plain: Option<Plain>) -> bool {
     }
 }
 
-/// Bytes, the one value that they spell, a type, and the value where it is of this type.
-type Spelling = (&'static [u8], Option<Plain>, ColumnType, Option<Plain>);
+/// Bytes, the one value that they encode, a type, and the value where it is of this type.
+type Encoding = (&'static [u8], Option<Plain>, ColumnType, Option<Plain>);
 
-fn is_read(alloc: Global, spelling: &Spelling) -> Result<bool, AllocError> {
-    let (bytes, plain, kind, typed) = *spelling;
+fn is_read(alloc: Global, encoding: &Encoding) -> Result<bool, AllocError> {
+    let (bytes, plain, kind, typed) = *encoding;
     let one = read_only_value(alloc, bytes)?;
     let other = read_typed_value(alloc, kind, bytes)?;
     Ok(is_found(&one, plain) && is_found(&other, typed))
 }
 
 /// The same, asked once more where memory was short.
-fn is_read_at_last(alloc: Global, spelling: &Spelling) -> Result<bool, AllocError> {
-    match is_read(alloc, spelling) {
-        Err(AllocError) => is_read(alloc, spelling),
-        told => told,
+fn is_read_at_last(alloc: Global, encoding: &Encoding) -> Result<bool, AllocError> {
+    match is_read(alloc, encoding) {
+        Err(AllocError) => is_read(alloc, encoding),
+        reported => reported,
     }
 }
 
 const FIVE: &[u8] = b"\x02\x80\0\0\0\0\0\0\x05";
 
-const SPELLINGS: &[Spelling] = &[
+const SPELLINGS: &[Encoding] = &[
     (FIVE, Some(Int(5)), ColumnType::Int, Some(Int(5))),
     (FIVE, Some(Int(5)), ColumnType::Bool, None),
     (
@@ -171,12 +172,12 @@ const SPELLINGS: &[Spelling] = &[
 ];
 
 #[test]
-fn under_refusal_bytes_spell_one_value(rt: HostRuntime) {
+fn under_refusal_bytes_encode_one_value(rt: HostRuntime) {
     assert!(rt; mark(&rt));
-    for spelling in SPELLINGS {
-        let (bytes, _, _, _) = *spelling;
+    for encoding in SPELLINGS {
+        let (bytes, _, _, _) = *encoding;
         assert!(rt;
-            is_read_at_last(rt.alloc(), spelling) == Ok(true),
+            is_read_at_last(rt.alloc(), encoding) == Ok(true),
             "{bytes:?}"
         );
     }

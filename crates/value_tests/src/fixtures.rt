@@ -77,6 +77,6 @@ pub fn set(
         Err(SetFault::Memory) if sum_of(store) == before => {
             store.test_and_set(alloc, expected, batch)
         }
-        told => told,
+        reported => reported,
     }
 }

@@ -6,7 +6,8 @@ use std::alloc::Global;
 /// The greatest moment, 2^62.
 const GREATEST: u64 = 4611686018427387904;
 
-/// The number of the version that is published at a moment, where one may be; none where the moment is too great, or memory is short.
+/// The number of the version that is published at a moment, where one may be; none if the moment is
+/// too great, or memory is short.
 fn published_once(line: &mut Timeline, moment: u64) -> Result<Option<u64>, TooEarly> {
     line.may_publish(moment)?;
     if moment > MAX_MOMENT {
@@ -22,7 +23,7 @@ fn published(line: &mut Timeline, moment: u64) -> Result<Option<u64>, TooEarly> 
         Ok(None) if (line.newest(), line.last_publication()) == before => {
             published_once(line, moment)
         }
-        told => told,
+        reported => reported,
     }
 }
 
@@ -30,11 +31,11 @@ fn published(line: &mut Timeline, moment: u64) -> Result<Option<u64>, TooEarly> 
 fn bare(alloc: Global) -> Result<Timeline, TimelineFault> {
     match Timeline::new(alloc, 10) {
         Err(TimelineFault::Memory) => Timeline::new(alloc, 10),
-        told => told,
+        reported => reported,
     }
 }
 
-/// Such a timeline on which these versions came behind version 1.
+/// Such a timeline on which these versions came after version 1.
 fn timeline(alloc: Global, moments: &[u64]) -> Option<Timeline> {
     let mut line = bare(alloc).ok()?;
     for moment in moments {

@@ -1,13 +1,13 @@
 //! Lists, and a value of two owners.
 use crate::fixtures::mark;
-use listed::{Counted, Listed};
+use collections::{ArcValue, List};
 use std::alloc::{AllocError, Global};
 
-/// Whether a clone of a list, which two owners share, has what was put behind the list.
+/// Whether a clone of a list, which two owners share, has what was put after the list.
 fn is_kept_once(alloc: Global) -> Result<bool, AllocError> {
-    let mut list = Listed::new(vec![in alloc; 3, 1]?);
+    let mut list = List::new(vec![in alloc; 3, 1]?);
     list.push(2)?;
-    let first = Counted::new(alloc, list.clone()?)?;
+    let first = ArcValue::new(alloc, list.clone()?)?;
     let second = first.clone()?;
     Ok(second.get().as_slice() == [3, 1, 2].as_slice())
 }
@@ -16,7 +16,7 @@ fn is_kept_once(alloc: Global) -> Result<bool, AllocError> {
 fn is_kept(alloc: Global) -> Result<bool, AllocError> {
     match is_kept_once(alloc) {
         Err(AllocError) => is_kept_once(alloc),
-        told => told,
+        reported => reported,
     }
 }
 

@@ -61,12 +61,13 @@ fn is_set(alloc: Global, store: &mut Store, count: u16, is_put: bool) -> Result<
     let batch = batch(alloc, count, is_put)?;
     let nothing = Expect {
         points: KeyMap::new(alloc),
-        stretch: None,
+        key_range: None,
     };
     Ok(set(alloc, store, &nothing, &batch).is_ok())
 }
 
-/// How many pairs a walk over a snapshot finds once 45 keys were removed; none where a call could not be made.
+/// How many pairs a walk over a snapshot finds once 45 keys were removed; none if a call could not
+/// be made.
 fn found_behind(alloc: Global, store: &mut Store) -> Result<usize, AllocError> {
     let Some(snapshot) = snapshot(store) else {
         return Ok(0);
@@ -75,8 +76,8 @@ fn found_behind(alloc: Global, store: &mut Store) -> Result<usize, AllocError> {
     Ok(if is_removed { walked(&snapshot) } else { 0 })
 }
 
-/// Whether 45 keys could be put behind the first ones, how many pairs a range gives then, how many a snapshot has, and how many are left once
-/// they are removed.
+/// Whether 45 keys could be put after the first ones, how many pairs a range gives then, how many a
+/// snapshot has, and how many are left once they are removed.
 fn counts(alloc: Global, first: u16) -> Result<(bool, usize, usize, usize), AllocError> {
     let mut store = Store::new(alloc);
     let is_begun = is_set(alloc, &mut store, first, true)?;
@@ -90,11 +91,12 @@ fn counts(alloc: Global, first: u16) -> Result<(bool, usize, usize, usize), Allo
 fn counts_at_last(alloc: Global, first: u16) -> Result<(bool, usize, usize, usize), AllocError> {
     match counts(alloc, first) {
         Err(AllocError) => counts(alloc, first),
-        told => told,
+        reported => reported,
     }
 }
 
-/// A page is cut behind 44 pairs: 45 that are put at once take two, and a 45th that comes behind 44 cuts their page.
+/// A page is cut after 44 pairs: 45 that are put at once take two, and a 45th that comes after 44
+/// cuts their page.
 #[test]
 fn under_refusal_pages_are_cut_and_a_snapshot_stays(rt: HostRuntime) {
     assert!(rt; mark(&rt));

@@ -3,8 +3,8 @@
 //! is 58, the element, the value and the key. A number is 02 and its eight bytes with the highest bit flipped.
 use crate::fixtures::{bytes, mark};
 use byte_map::Bytes;
+use collections::List;
 use keycode::{KeyFault, Value};
-use listed::Listed;
 use row_map::{
     ColumnType, KeyOf, Row, ShapeFault, TableShape, column_key, exists_key, index_key, read_key,
     row_from_pairs,
@@ -45,8 +45,8 @@ fn two(values: &[Value]) -> Option<(i64, i64)> {
     }
 }
 
-/// The spelling of a key.
-fn spelled(alloc: Global, of: &KeyOf) -> Result<Bytes, AllocError> {
+/// The encoding of a key.
+fn encoded(alloc: Global, of: &KeyOf) -> Result<Bytes, AllocError> {
     match of {
         KeyOf::Exists { table, key } => exists_key(alloc, *table, key.as_slice()),
         KeyOf::Column {
@@ -61,20 +61,20 @@ fn spelled(alloc: Global, of: &KeyOf) -> Result<Bytes, AllocError> {
     }
 }
 
-/// What bytes are the key of, and whether that is spelled so.
+/// What bytes are the key of, and whether that is encoded so.
 type Read = Result<((u8, u32, u32, Option<(i64, i64)>), bool), KeyFault>;
 
 fn key_read(alloc: Global, bytes: &[u8]) -> Read {
     let of = read_key(alloc, bytes)?;
-    let again = spelled(alloc, &of)?;
+    let again = encoded(alloc, &of)?;
     Ok((parts(&of), again.as_slice() == bytes))
 }
 
 /// The same, asked once more where memory was short.
-fn key_told(alloc: Global, bytes: &[u8]) -> Read {
+fn key_reported(alloc: Global, bytes: &[u8]) -> Read {
     match key_read(alloc, bytes) {
         Err(KeyFault::Memory) => key_read(alloc, bytes),
-        told => told,
+        reported => reported,
     }
 }
 
@@ -99,18 +99,18 @@ const KEYS: &[(&[u8], Read)] = &[
 ];
 
 #[test]
-fn under_refusal_keys_are_read_and_spelled_so(rt: HostRuntime) {
+fn under_refusal_keys_are_read_and_encoded_so(rt: HostRuntime) {
     assert!(rt; mark(&rt));
     for (bytes, want) in KEYS {
-        assert!(rt; key_told(rt.alloc(), bytes) == *want, "{bytes:?}");
+        assert!(rt; key_reported(rt.alloc(), bytes) == *want, "{bytes:?}");
     }
 }
 
 fn shape(alloc: Global) -> Result<TableShape, AllocError> {
     Ok(TableShape {
         number: 1,
-        key: Listed::new(vec![in alloc; ColumnType::Int]?),
-        columns: Listed::new(vec![in alloc; (1, ColumnType::Int)]?),
+        key: List::new(vec![in alloc; ColumnType::Int]?),
+        columns: List::new(vec![in alloc; (1, ColumnType::Int)]?),
     })
 }
 
@@ -125,9 +125,9 @@ fn content(row: &Option<Row>) -> Option<(i64, u32, i64)> {
     }
 }
 
-fn pairs(alloc: Global, spelled: &[(&[u8], &[u8])]) -> Result<Vec<(Bytes, Bytes)>, AllocError> {
+fn pairs(alloc: Global, encoded: &[(&[u8], &[u8])]) -> Result<Vec<(Bytes, Bytes)>, AllocError> {
     let mut pairs = Vec::new(alloc);
-    for (key, value) in spelled {
+    for (key, value) in encoded {
         let key = bytes(alloc, key)?;
         pairs.push((key, bytes(alloc, value)?))?;
     }
@@ -135,25 +135,25 @@ fn pairs(alloc: Global, spelled: &[(&[u8], &[u8])]) -> Result<Vec<(Bytes, Bytes)
 }
 
 /// The key and the cell of a row, or what is wrong with its pairs.
-type Spelled = Result<Option<(i64, u32, i64)>, ShapeFault>;
+type Encoded = Result<Option<(i64, u32, i64)>, ShapeFault>;
 
-/// The row that these pairs spell.
-fn row_read(alloc: Global, spelled: &[(&[u8], &[u8])]) -> Spelled {
-    let pairs = pairs(alloc, spelled)?;
+/// The row that these pairs encode.
+fn row_read(alloc: Global, encoded: &[(&[u8], &[u8])]) -> Encoded {
+    let pairs = pairs(alloc, encoded)?;
     let shape = shape(alloc)?;
     let row = row_from_pairs(alloc, &shape, pairs.as_slice())?;
     Ok(content(&row))
 }
 
 /// The same, asked once more where memory was short.
-fn row_told(alloc: Global, spelled: &[(&[u8], &[u8])]) -> Spelled {
-    match row_read(alloc, spelled) {
-        Err(ShapeFault::Memory) => row_read(alloc, spelled),
-        told => told,
+fn row_reported(alloc: Global, encoded: &[(&[u8], &[u8])]) -> Encoded {
+    match row_read(alloc, encoded) {
+        Err(ShapeFault::Memory) => row_read(alloc, encoded),
+        reported => reported,
     }
 }
 
-const PAIRS: &[(&[(&[u8], &[u8])], Spelled)] = &[
+const PAIRS: &[(&[(&[u8], &[u8])], Encoded)] = &[
     (&[(EXISTS, b""), (COLUMN, FIVE)], Ok(Some((1, 1, 5)))),
     (&[(COLUMN, FIVE)], Ok(None)),
     (&[(INDEX, b"")], Err(ShapeFault::WrongArity)),
@@ -165,7 +165,7 @@ const PAIRS: &[(&[(&[u8], &[u8])], Spelled)] = &[
 #[test]
 fn under_refusal_rows_are_read_of_their_pairs(rt: HostRuntime) {
     assert!(rt; mark(&rt));
-    for (spelled, want) in PAIRS {
-        assert!(rt; row_told(rt.alloc(), spelled) == *want, "{spelled:?}");
+    for (encoded, want) in PAIRS {
+        assert!(rt; row_reported(rt.alloc(), encoded) == *want, "{encoded:?}");
     }
 }

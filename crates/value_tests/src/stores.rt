@@ -1,7 +1,7 @@
 //! What a store writes, and what it refuses.
 use crate::fixtures::{byte, byte_or_none, mark, set, writes, written};
 use byte_map::KeyMap;
-use row_map::{Batch, Expect, ReadView, Stretch};
+use row_map::{Batch, Expect, KeyRange, ReadView};
 use std::alloc::{AllocError, Global};
 use txn_store::{Range, SetFault, Store};
 
@@ -16,14 +16,14 @@ const NO_RANGE: (u8, u8, &[(u8, Option<u8>)]) = (0, 0, &[]);
 /// 1, 3 and 5, with ten times the key.
 const THREE: &[(u8, Option<u8>)] = &[(5, Some(50)), (1, Some(10)), (3, Some(30))];
 
-fn stretch(alloc: Global, (low, high, wanted): Within) -> Result<Option<Stretch>, AllocError> {
+fn key_range(alloc: Global, (low, high, wanted): Within) -> Result<Option<KeyRange>, AllocError> {
     if low == high {
         return Ok(None);
     }
     let low = byte(alloc, low)?;
     let high = byte(alloc, high)?;
     let pairs = written(alloc, wanted)?;
-    Ok(Some(Stretch { low, high, pairs }))
+    Ok(Some(KeyRange { low, high, pairs }))
 }
 
 fn points(alloc: Global, wanted: Writes) -> Result<ReadView, AllocError> {
@@ -37,8 +37,8 @@ fn points(alloc: Global, wanted: Writes) -> Result<ReadView, AllocError> {
 
 fn expect(alloc: Global, wanted: Writes, within: Within) -> Result<Expect, AllocError> {
     let points = points(alloc, wanted)?;
-    let stretch = stretch(alloc, within)?;
-    Ok(Expect { points, stretch })
+    let key_range = key_range(alloc, within)?;
+    Ok(Expect { points, key_range })
 }
 
 fn batch(alloc: Global, made: Writes) -> Result<Batch, AllocError> {
@@ -48,7 +48,7 @@ fn batch(alloc: Global, made: Writes) -> Result<Batch, AllocError> {
 }
 
 /// Sets a store, and gives the key of the conflict, or none; 0 where a call that found no memory changed something.
-fn told(alloc: Global, store: &mut Store, expected: &Expect, batch: &Batch) -> Option<u8> {
+fn reported(alloc: Global, store: &mut Store, expected: &Expect, batch: &Batch) -> Option<u8> {
     match set(alloc, store, expected, batch) {
         Ok(()) => None,
         Err(SetFault::Conflict { key }) => key.as_slice().first().copied(),
@@ -66,7 +66,7 @@ fn conflict_of(
 ) -> Result<Option<u8>, AllocError> {
     let expected = expect(alloc, wanted, within)?;
     let batch = batch(alloc, made)?;
-    Ok(told(alloc, store, &expected, &batch))
+    Ok(reported(alloc, store, &expected, &batch))
 }
 
 /// A store of the three pairs.
@@ -98,9 +98,9 @@ type Left = Result<(Option<u8>, usize, bool, bool), AllocError>;
 /// whether there is none, and whether these are they.
 fn sets(alloc: Global, wanted: Writes, within: Within, made: Writes, left: &[(u8, u8)]) -> Left {
     let mut store = three(alloc)?;
-    let told = conflict_of(alloc, &mut store, wanted, within, made)?;
+    let reported = conflict_of(alloc, &mut store, wanted, within, made)?;
     let are = go_over(store.range([0].as_slice(), [255].as_slice()), left);
-    Ok((told, store.len(), store.is_empty(), are))
+    Ok((reported, store.len(), store.is_empty(), are))
 }
 
 /// The same, once more where there was no memory for what is handed in.
@@ -113,7 +113,7 @@ fn sets_at_last(
 ) -> Left {
     match sets(alloc, wanted, within, made, left) {
         Err(AllocError) => sets(alloc, wanted, within, made, left),
-        told => told,
+        reported => reported,
     }
 }
 
@@ -192,10 +192,10 @@ const SETS: &[(
 ];
 
 #[test]
-fn under_refusal_writes_are_made_or_the_least_conflict_is_told(rt: HostRuntime) {
+fn under_refusal_writes_are_made_or_the_least_conflict_is_reported(rt: HostRuntime) {
     assert!(rt; mark(&rt));
-    for (wanted, within, made, told, left) in SETS {
-        let want = (*told, left.len(), left.is_empty(), true);
+    for (wanted, within, made, reported, left) in SETS {
+        let want = (*reported, left.len(), left.is_empty(), true);
         assert!(rt;
             sets_at_last(rt.alloc(), wanted, *within, made, left) == Ok(want),
             "{wanted:?} {within:?}"

@@ -7,16 +7,16 @@ use Rattle.schema_version.specs.declared.element.ElementState.{ElementState}
 use Rattle.schema_version.specs.declared.element.ElementDef.{ElementDef}
 use Rattle.schema_version.specs.declared.step.Move.{Move}
 use Rattle.schema_version.specs.declared.step.Move.TheVariants.{Enter, Go, Turn}
-use Rattle.schema_version.specs.Edges.{needed}
+use Rattle.schema_version.specs.Edges.{needed_work}
 use Rattle.schema_version.specs.Version.{element_at}
 use Rattle.schema_version.specs.declared.element.Work.{Work}
 use Rattle.replay.specs.Replay.{Facts}
 use Rattle.replay.specs.Laws.{IsDone, IsFinished, Needs, AreFinished}
-use Rattle.world.specs.Publishing.{IsReady, Lacks, IsUnfinished}
+use Rattle.world.specs.Publish.{IsReady, Lacks, IsUnfinished}
 
 -- ---- one move
 
-pub lacks_work : (facts : Facts) (move : Move) (number : ℕ) (to : ElementState) (element : ElementDef) (work : Work) → move ≡ Go number to → element_at facts.newest number ≡ Some element → needed element.kind to ≡ Some work → ¬ (IsDone facts number work) → Lacks facts move number
+pub lacks_work : (facts : Facts) (move : Move) (number : ℕ) (to : ElementState) (element : ElementDef) (work : Work) → move ≡ Go number to → element_at facts.newest number ≡ Some element → needed_work element.kind to ≡ Some work → ¬ (IsDone facts number work) → Lacks facts move number
 lacks_work facts move number to element work is there needs undone = subst (λ (m : Move). Lacks facts m number) (sym is) (refl, element, there, λ n. undone (subst (IsFinished facts number) needs n))
 
 -- ---- a step

@@ -2,7 +2,7 @@
 use Rattle.std.proofs.Common.{◌≡◌, ℕ, ◌≤◌, List, [], ◌∷◌, ◌++◌, Option, Some, None, refl, sym, ap, subst, ◌∙◌, Vec, Global}
 use Rattle.std.specs.Option.{option_and_then}
 use Rattle.schema_version.specs.declared.element.ElementDef.{ElementDef}
-use Rattle.schema_version.specs.Edges.{wanted}
+use Rattle.schema_version.specs.Edges.{wanted_work}
 use Rattle.schema_version.specs.Version.{element_at, state_of, state_or_absent}
 use Rattle.schema_version.specs.declared.element.Work.{Work}
 use Rattle.reorganise.specs.declared.work.Progress.{Progress}
@@ -14,10 +14,10 @@ use Rattle.replay.specs.Laws.{BeginsKeep}
 use Rattle.world.specs.declared.entry.Receipt.{Receipt}
 use Rattle.world.specs.declared.log.Log.{Log}
 use Rattle.world.specs.declared.world.World.TheInside.{Inside}
-use Rattle.world.specs.Beginning.{wanted_at, IsSettled, Begins}
+use Rattle.world.specs.BeginReorg.{wanted_at, IsSettled, Begins}
 use Rattle.world.specs.Inside.{state_of as state_in, IsHeld}
 use Rattle.world.specs.State.{State, facts_of, effect}
-use Rattle.world.proofs.Holding.{IsLogged, state_logged, held_after}
+use Rattle.world.proofs.Invariant.{IsLogged, state_logged, held_after}
 
 -- ---- what an element wants
 
@@ -27,8 +27,8 @@ none_some e = absurd cc
 some_one : {A : Type 0} {v w : A} → Some v ≡ (let o : Option A = Some w in o) → v ≡ w
 some_one e = cc
 
-wants_some : (facts : Facts) (number : ℕ) (element : ElementDef) (work : Work) → element_at facts.newest number ≡ Some element → wanted element ≡ Some work → wanted_at facts number ≡ Some work
-wants_some facts number element work there wants = ap (option_and_then wanted) there ∙ wants
+wants_some : (facts : Facts) (number : ℕ) (element : ElementDef) (work : Work) → element_at facts.newest number ≡ Some element → wanted_work element ≡ Some work → wanted_at facts number ≡ Some work
+wants_some facts number element work there wants = ap (option_and_then wanted_work) there ∙ wants
 
 -- ---- the fields after a begin
 

@@ -1,10 +1,10 @@
-pub mod Holding
-pub mod Calling
+pub mod Invariant
+pub mod CallSteps
 pub mod Queries
 pub mod Snapshots
-pub mod Viewing
+pub mod Views
 pub mod Awaited
 pub mod Publications
 pub mod Begins
 pub mod PieceSteps
-pub mod Happenings
+pub mod Runs

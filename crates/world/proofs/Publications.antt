@@ -1,7 +1,7 @@
 -- A publication over the fields of a World: the relation that it meets, and what is true of the fields afterwards.
 use Rattle.std.proofs.Common.{◌≡◌, ℕ, ◌+◌, ◌<◌, ◌≤◌, List, [], ◌∷◌, length, Option, Some, None, Ok, Err, refl, sym, ap, subst, ◌∙◌, inl, inr, Vec, Global, arith, filter}
 use Rattle.std.specs.List.{AllZip}
-use Rattle.listed.specs.Refusal.{IsClear, IsRefusal}
+use Rattle.collections.specs.Refusal.{IsClear, IsRefusal}
 use Rattle.schema_version.specs.contracts.step.MoveClone.TheImpl as MoveClone
 use Rattle.lease.specs.Timeline.{Timeline, earliest, max_moment, newest as newest_number, after_publication}
 use Rattle.schema_version.specs.declared.element.ElementState.{ElementState}
@@ -17,17 +17,17 @@ use Rattle.replay.specs.declared.entry.Entry.{Entry}
 use Rattle.replay.specs.declared.entry.What.TheVariants.{Publish}
 use Rattle.replay.specs.Replay.{stays}
 use Rattle.replay.specs.Laws.{AreFinished, PublicationsKeep}
-use Rattle.world.specs.declared.publishing.PublishFault.{PublishFault}
-use Rattle.world.specs.declared.publishing.PublishFault.TheVariants as publish_fault
+use Rattle.world.specs.declared.publish.PublishFault.{PublishFault}
+use Rattle.world.specs.declared.publish.PublishFault.TheVariants as publish_fault
 use Rattle.world.specs.declared.entry.Receipt.{Receipt}
 use Rattle.world.specs.declared.log.Log.{Log}
 use Rattle.world.specs.declared.world.World.TheInside.{Inside}
 use Rattle.world.specs.Calls.{Appends}
 use Rattle.world.specs.Inside.{state_of, Follow, IsHeld}
-use Rattle.world.specs.Publishing.{max_versions, publish_rank, PublishCondition, PublishAt, MayPublish, IsUnready}
+use Rattle.world.specs.Publish.{max_versions, publish_rank, PublishCondition, PublishAt, MayPublish, IsUnready}
 use Rattle.world.specs.State.{State, facts_of, effect}
 use Rattle.world.proofs.Awaited.{not_unfinished}
-use Rattle.world.proofs.Holding.{IsLogged, state_logged, appended, held_after, held_same, follow_of}
+use Rattle.world.proofs.Invariant.{IsLogged, state_logged, appended, held_after, held_same, follow_of}
 
 -- ---- the refusals
 
@@ -35,7 +35,7 @@ use Rattle.world.proofs.Holding.{IsLogged, state_logged, appended, held_after, h
 no_fault : (version : Version) (step : List Move) (fault : StepFault) → IsAllowed version step → ¬ (IsRefused version step fault)
 no_fault version step fault allowed r = allowed r.earlier r.later r.move fault r.split r.lowest.0
 
--- want of memory is no fault of a step
+-- out of memory is no fault of a step
 pub memory_is_none : (version : Version) (step : List Move) → ¬ (IsRefused version step StepMemory)
 memory_is_none version step r = by r.move r.lowest.0
   where
@@ -119,10 +119,10 @@ not_ready s now step (publish_fault.Step fault) within turn allowed why = absurd
 not_ready s now step publish_fault.Memory within turn allowed why = absurd why
 
 -- in the words of the call
-pub told_unready : (f : Inside) (s : State) (now : ℕ) (version : Version) (step moves : List Move) (fault told : PublishFault) → Follow f (facts_of s) → now ≤ max_moment → earliest f.line ≤ now → version ≡ f.newest → IsAllowed version step → moves ≡ step
-    → IsUnready (facts_of s) moves fault → told ≡ fault → IsRefusal publish_rank (PublishCondition s now step) publish_fault.Memory told
-told_unready f s now version step moves fault told w within turn is allowed same why told_so =
-    subst (IsRefusal publish_rank (PublishCondition s now step) publish_fault.Memory) (sym told_so)
+pub reported_unready : (f : Inside) (s : State) (now : ℕ) (version : Version) (step moves : List Move) (fault reported : PublishFault) → Follow f (facts_of s) → now ≤ max_moment → earliest f.line ≤ now → version ≡ f.newest → IsAllowed version step → moves ≡ step
+    → IsUnready (facts_of s) moves fault → reported ≡ fault → IsRefusal publish_rank (PublishCondition s now step) publish_fault.Memory reported
+reported_unready f s now version step moves fault reported w within turn is allowed same why reported_so =
+    subst (IsRefusal publish_rank (PublishCondition s now step) publish_fault.Memory) (sym reported_so)
     (not_ready s now step fault within (subst (λ (l : Timeline). earliest l ≤ now) w.line turn) (subst (λ (v : Version). IsAllowed v step) (is ∙ w.newest) allowed) (subst (λ (ms : List Move). IsUnready (facts_of s) ms fault) same why))
 
 pub may_be : (f : Inside) (s : State) (now : ℕ) (version : Version) (step moves : List Move) → Follow f (facts_of s) → now ≤ max_moment → earliest f.line ≤ now → version ≡ f.newest → IsAllowed version step → moves ≡ step → AreFinished (facts_of s) moves → newest_number (facts_of s).line < max_versions
@@ -135,12 +135,12 @@ may_be f s now version step moves w within turn is allowed same finished room = 
   room = room;
 }
 
--- want of memory, where nothing else stands against it
+-- out of memory, where nothing else stands against it
 pub short : (s : State) (now : ℕ) (step : List Move) → MayPublish (facts_of s) now step → IsRefusal publish_rank (PublishCondition s now step) publish_fault.Memory publish_fault.Memory
 short s now step may = (inl refl, λ other lt. may_clear s now step may other)
 
-pub short_step : (s g : State) (now : ℕ) (step : List Move) (told : PublishFault) → MayPublish (facts_of s) now step → g ≡ s → told ≡ publish_fault.Memory → PublishAt s now step (Err told) g
-short_step s g now step told may same is = (subst (IsRefusal publish_rank (PublishCondition s now step) publish_fault.Memory) (sym is) (short s now step may), same)
+pub short_step : (s g : State) (now : ℕ) (step : List Move) (reported : PublishFault) → MayPublish (facts_of s) now step → g ≡ s → reported ≡ publish_fault.Memory → PublishAt s now step (Err reported) g
+short_step s g now step reported may same is = (subst (IsRefusal publish_rank (PublishCondition s now step) publish_fault.Memory) (sym is) (short s now step may), same)
 
 -- ---- a copy of a step
 

@@ -1,6 +1,6 @@
 -- Each answer of a query under a lease, and what it says of the state.
 use Rattle.std.proofs.Common.{◌≡◌, ℕ, ◌<◌, ◌≤◌, List, Option, Some, Ok, Err, refl, sym, subst, ◌∙◌, ◌⊎◌, inl, inr, arith}
-use Rattle.listed.specs.Refusal.{IsClear, IsFirst}
+use Rattle.collections.specs.Refusal.{IsClear, IsFirst}
 use Rattle.lease.specs.declared.lease.Lease.{Lease}
 use Rattle.lease.specs.declared.fault.LeaseFault.{LeaseFault}
 use Rattle.lease.specs.declared.fault.LeaseFault.TheVariants as lease_fault
@@ -9,7 +9,7 @@ use Rattle.lease.specs.Timeline.{Timeline}
 use Rattle.row_map.specs.declared.shape.Row.{Row}
 use Rattle.row_map.specs.Rows.{Rows, Pairs}
 use Rattle.element_state.specs.Consistent.{IsConsistent}
-use Rattle.element_state.specs.Seen.{seen}
+use Rattle.element_state.specs.Visible.{visible_rows}
 use Rattle.row_query.specs.declared.fault.QueryFault.{QueryFault}
 use Rattle.row_query.specs.declared.fault.QueryFault.TheVariants.{NoTable, NotPublic, WrongType, Memory}
 use Rattle.row_query.specs.declared.query.Query.{Query as Asked}
@@ -22,15 +22,15 @@ use Rattle.replay.specs.declared.entry.What.TheVariants.{Lease as Granted}
 use Rattle.replay.specs.Replay.{Facts, version_at, after}
 use Rattle.replay.specs.Kept.{IsKept}
 use Rattle.replay.specs.Laws.{LeasesKeep, KeptAgrees}
-use Rattle.world.specs.declared.querying.QueryRefusal.{QueryRefusal}
-use Rattle.world.specs.declared.querying.QueryRefusal.TheVariants as refusal
+use Rattle.world.specs.declared.query.QueryRefusal.{QueryRefusal}
+use Rattle.world.specs.declared.query.QueryRefusal.TheVariants as refusal
 use Rattle.world.specs.declared.world.World.TheInside.{Inside}
-use Rattle.world.specs.Calls.{counted}
-use Rattle.world.specs.Querying.{query_rank, QueryCondition, QueryAt, QueryStep}
+use Rattle.world.specs.Calls.{effective_moment}
+use Rattle.world.specs.Query.{query_rank, QueryCondition, QueryAt, QueryStep}
 use Rattle.world.specs.Inside.{state_of, IsHeld}
 use Rattle.world.specs.State.{State, facts_of}
-use Rattle.world.specs.Told.{query_told}
-use Rattle.world.proofs.Holding.{follow_of, kept_of, later}
+use Rattle.world.specs.Faults.{query_reported}
+use Rattle.world.proofs.Invariant.{follow_of, kept_of, later}
 
 -- ---- a lease that does not serve
 
@@ -47,17 +47,17 @@ lease_lower s now lease query rank le none refusal.BadLease lt = none lease_faul
 lease_lower s now lease query rank le none (refusal.LeaseEnded until counted_at) lt = none (lease_fault.LeaseEnded until counted_at) lt
 lease_lower s now lease query rank le none (refusal.Query fault) lt = λ c. absurd (omega (arith, lt, le, last fault))
 
-unserved_at : (s : State) (now : ℕ) (lease : Lease) (query : Asked) (fault : LeaseFault) → IsFirst lease_rank (LeaseCondition (facts_of s).line lease now) fault → QueryAt s now lease query (Err (query_told fault))
+unserved_at : (s : State) (now : ℕ) (lease : Lease) (query : Asked) (fault : LeaseFault) → IsFirst lease_rank (LeaseCondition (facts_of s).line lease now) fault → QueryAt s now lease query (Err (query_reported fault))
 unserved_at s now lease query lease_fault.MomentTooLarge first = (inr first.0, lease_lower s now lease query 1 (omega arith) first.1)
 unserved_at s now lease query lease_fault.BadLease first = (inr first.0, lease_lower s now lease query 2 (omega arith) first.1)
 unserved_at s now lease query (lease_fault.LeaseEnded until at) first = (inr first.0, lease_lower s now lease query 3 (omega arith) first.1)
 
-pub query_unserved : (f : Inside) (s : State) (moment now : ℕ) (lease : Lease) (query : Asked) (fault : LeaseFault) (as_told : QueryRefusal) → IsHeld f → state_of f ≡ s → now ≡ counted s moment
-    → IsFirst lease_rank (LeaseCondition f.line lease now) fault → as_told ≡ query_told fault → QueryStep s moment lease query (Err as_told)
-query_unserved f s moment now lease query fault as_told h view counted_at first is =
+pub query_unserved : (f : Inside) (s : State) (moment now : ℕ) (lease : Lease) (query : Asked) (fault : LeaseFault) (as_reported : QueryRefusal) → IsHeld f → state_of f ≡ s → now ≡ effective_moment s moment
+    → IsFirst lease_rank (LeaseCondition f.line lease now) fault → as_reported ≡ query_reported fault → QueryStep s moment lease query (Err as_reported)
+query_unserved f s moment now lease query fault as_reported h view counted_at first is =
     let on_line : IsFirst lease_rank (LeaseCondition (facts_of s).line lease now) fault = subst (λ (l : Timeline). IsFirst lease_rank (LeaseCondition l lease now) fault) ((follow_of f s h view).line) first in
     subst (λ (r : QueryRefusal). QueryStep s moment lease query (Err r)) (sym is)
-    (subst (λ (n : ℕ). QueryAt s n lease query (Err (query_told fault))) counted_at (unserved_at s now lease query fault on_line))
+    (subst (λ (n : ℕ). QueryAt s n lease query (Err (query_reported fault))) counted_at (unserved_at s now lease query fault on_line))
 
 -- ---- a query that has a fault
 
@@ -114,14 +114,14 @@ faulty_at s now lease query version Memory lower at one (inr is) = absurd (no_me
 pub record IsServed (f : Inside) (s : State) (moment now : ℕ) (lease : Lease) (schema : Version) : Type 0 where
   pub held : IsHeld f
   pub view : state_of f ≡ s
-  pub counts : now ≡ counted s moment
+  pub counts : now ≡ effective_moment s moment
   pub serves : Serves (facts_of s).line lease now
   pub schema_is : version_at (facts_of s) lease.version ≡ Some schema
 
-pub query_faulty : (f : Inside) (s : State) (moment now : ℕ) (lease : Lease) (query : Asked) (schema : Version) (fault : QueryFault) (as_told : QueryRefusal) → IsServed f s moment now lease schema → HasOneRefusal
-    → ((fault ≡ Memory) × IsSound schema query) ⊎ IsRefused schema query fault → as_told ≡ refusal.Query fault → QueryStep s moment lease query (Err as_told)
-query_faulty f s moment now lease query schema fault as_told v one is told =
-    subst (λ (r : QueryRefusal). QueryStep s moment lease query (Err r)) (sym told)
+pub query_faulty : (f : Inside) (s : State) (moment now : ℕ) (lease : Lease) (query : Asked) (schema : Version) (fault : QueryFault) (as_reported : QueryRefusal) → IsServed f s moment now lease schema → HasOneRefusal
+    → ((fault ≡ Memory) × IsSound schema query) ⊎ IsRefused schema query fault → as_reported ≡ refusal.Query fault → QueryStep s moment lease query (Err as_reported)
+query_faulty f s moment now lease query schema fault as_reported v one is reported =
+    subst (λ (r : QueryRefusal). QueryStep s moment lease query (Err r)) (sym reported)
     (subst (λ (n : ℕ). QueryAt s n lease query (Err (refusal.Query fault))) v.counts (faulty_at s now lease query schema fault (served_lower s now lease query v.serves) v.schema_is one is))
 
 -- time goes by up to the moment that counts, and the lease's version still counts then
@@ -136,7 +136,7 @@ consistent_held f s moment now lease schema goes agrees v =
     (consistent_now (facts_of s) now lease schema goes agrees (kept_of f s v.held v.view) (later f s moment now v.counts) v.serves v.schema_is)
 
 pub query_answered : (f : Inside) (s : State) (moment now : ℕ) (lease : Lease) (query : Asked) (schema : Version) (found : List Row) → LeasesKeep → KeptAgrees → IsServed f s moment now lease schema → HasOneRefusal → IsSound schema query
-    → ((rows : Rows) → IsConsistent schema rows f.store → found ≡ plain_answer (seen schema rows) query) → QueryStep s moment lease query (Ok found)
+    → ((rows : Rows) → IsConsistent schema rows f.store → found ≡ plain_answer (visible_rows schema rows) query) → QueryStep s moment lease query (Ok found)
 query_answered f s moment now lease query schema found goes agrees v one sound answers =
     subst (λ (n : ℕ). QueryAt s n lease query (Ok found)) v.counts
     (clear s now lease query schema (served_lower s now lease query v.serves) v.schema_is sound one, (schema, v.schema_is, answers (facts_of s).rows (consistent_held f s moment now lease schema goes agrees v)))

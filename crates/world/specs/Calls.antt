@@ -1,14 +1,15 @@
+-- Cited by the contracts of World::check, World::commit, World::lease, World::open and 6 more.
 -- What each call of the core may answer, and the state that it leaves.
 use Rattle.std.specs.Prelude.{◌≡◌, ◌≢◌, ℕ, ◌+◌, ◌<◌, max, length, Option, Some, Result, Ok, Err, ◌↔◌}
 use Rattle.std.specs.FinMap as map
 use Rattle.audit.specs.declared.report.CheckReport.{CheckReport}
 use Rattle.audit.specs.Audit.{IsAudit}
 use Rattle.keycode.specs.Order.{bytes_cmp}
-use Rattle.listed.specs.Refusal.{IsRefusal, IsClear}
+use Rattle.collections.specs.Refusal.{IsRefusal, IsClear}
 use Rattle.lease.specs.Timeline.{IsHonest, IsInForce, granted_at, max_moment, IsLength}
 use Rattle.row_map.specs.Expect.{IsConflict, Holds, View}
 use Rattle.row_map.specs.Rows.{Bytes}
-use Rattle.schema_version.specs.Declaring.{declared, IsLawful}
+use Rattle.schema_version.specs.Declare.{declared, IsLawful}
 use Rattle.row_write.specs.declared.op.RowOutcome.TheVariants.{Done, Refused}
 use Rattle.row_write.specs.Plain.{outcome}
 use Rattle.row_write.specs.Made.{PreparedTxn}
@@ -20,17 +21,17 @@ use Rattle.world.specs.declared.committed.Committed.{Committed}
 use Rattle.world.specs.declared.committed.Committed.TheVariants as committed
 use Rattle.world.specs.declared.entry.Receipt.{Receipt}
 use Rattle.world.specs.declared.entry.Grant.{Grant}
-use Rattle.world.specs.declared.opening.OpenFault.{OpenFault}
-use Rattle.world.specs.declared.opening.OpenFault.TheVariants as open_fault
-use Rattle.world.specs.declared.leasing.GrantFault.{GrantFault}
-use Rattle.world.specs.declared.leasing.GrantFault.TheVariants as grant_fault
-use Rattle.world.specs.declared.committing.CommitFault.{CommitFault}
-use Rattle.world.specs.declared.committing.CommitFault.TheVariants as commit_fault
+use Rattle.world.specs.declared.open.OpenFault.{OpenFault}
+use Rattle.world.specs.declared.open.OpenFault.TheVariants as open_fault
+use Rattle.world.specs.declared.grant.GrantFault.{GrantFault}
+use Rattle.world.specs.declared.grant.GrantFault.TheVariants as grant_fault
+use Rattle.world.specs.declared.commit.CommitFault.{CommitFault}
+use Rattle.world.specs.declared.commit.CommitFault.TheVariants as commit_fault
 use Rattle.world.specs.State.{State, facts_of, effect, opened}
 
 -- the moment that counts: the greater of the one handed in and the last entry's
-abbrev pub counted : State → ℕ → ℕ
-counted state moment = max moment (facts_of state).moment
+abbrev pub effective_moment : State → ℕ → ℕ
+effective_moment state moment = max moment (facts_of state).moment
 
 -- one entry more, with the receipt for it
 pub record Appends (old : State) (now : ℕ) (what : What) (receipt : Receipt) (new : State) : Type 0 where
@@ -78,11 +79,11 @@ LeaseAt old now (Ok given) new =
 LeaseAt old now (Err fault) new = IsRefusal grant_rank (GrantCondition now) grant_fault.Memory fault × (new ≡ old)
 
 abbrev pub LeaseStep : State → ℕ → Result Grant GrantFault → State → Type 0
-LeaseStep old moment = LeaseAt old (counted old moment)
+LeaseStep old moment = LeaseAt old (effective_moment old moment)
 
 -- ---- commit
 
--- want of memory may come in place of a conflict
+-- out of memory may come in place of a conflict
 abbrev pub commit_rank : CommitFault → ℕ
 commit_rank commit_fault.MomentTooLarge = 1
 commit_rank commit_fault.BadLease = 2
@@ -94,7 +95,7 @@ commit_rank commit_fault.Memory = 5
 abbrev pub CommitCondition : State → ℕ → PreparedTxn → CommitFault → Type 0
 CommitCondition old now prepared commit_fault.MomentTooLarge = max_moment < now
 CommitCondition old now prepared commit_fault.BadLease = ¬ (IsHonest (facts_of old).line now prepared.lease)
-CommitCondition old now prepared (commit_fault.LeaseEnded until counted) = (until ≡ prepared.lease.until) × (counted ≡ now) × (¬ (IsInForce prepared.lease now))
+CommitCondition old now prepared (commit_fault.LeaseEnded until effective_moment) = (until ≡ prepared.lease.until) × (effective_moment ≡ now) × (¬ (IsInForce prepared.lease now))
 CommitCondition old now prepared commit_fault.WrongSchema = version_at (facts_of old) prepared.lease.version ≢ Some prepared.schema
 CommitCondition old now prepared (commit_fault.Conflict key) = IsConflict prepared.expect old.pairs key
 CommitCondition old now prepared commit_fault.Memory = ⊥
@@ -116,8 +117,8 @@ CommitAt old now prepared (Err fault) new = IsRefusal commit_rank (CommitConditi
 
 -- a refusal gives the prepared transaction back
 abbrev pub CommitStep : State → ℕ → PreparedTxn → Result Committed (CommitFault × PreparedTxn) → State → Type 0
-CommitStep old moment prepared (Ok done) new = CommitAt old (counted old moment) prepared (Ok done) new
-CommitStep old moment prepared (Err refusal) new = CommitAt old (counted old moment) prepared (Err refusal.0) new × (refusal.1 ≡ prepared)
+CommitStep old moment prepared (Ok done) new = CommitAt old (effective_moment old moment) prepared (Ok done) new
+CommitStep old moment prepared (Err refusal) new = CommitAt old (effective_moment old moment) prepared (Err refusal.0) new × (refusal.1 ≡ prepared)
 
 -- ---- the calls that change nothing
 

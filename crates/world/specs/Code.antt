@@ -1,4 +1,5 @@
--- How an entry, a state of the core, and what a snapshot is of, is told apart from another.
+-- Cited by the contracts of Draft, Snapshot, World, locked_store::Locked.
+-- How an entry, a state of the core, and what a snapshot is of, is distinguished from another.
 use Rattle.std.specs.Prelude.{List, refl}
 use Rattle.std.specs.FinMap as map
 use Rattle.std.specs.Coded.{Coded, code_by, coded×, coded_list, coded_ℕ}
@@ -10,7 +11,7 @@ use Rattle.replay.specs.Code.{opening_code}
 use Rattle.replay.specs.Replay.{Opening}
 use Rattle.replay.specs.declared.entry.Entry.{Entry}
 use Rattle.replay.specs.contracts.entry.Entry as entry
-use Rattle.world.specs.Snapshots.{Taken}
+use Rattle.world.specs.Snapshot.{Taken}
 use Rattle.world.specs.State.{State}
 
 abbrev pub entry_code : Coded Entry

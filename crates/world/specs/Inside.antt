@@ -1,3 +1,4 @@
+-- Cited by the contracts of World.
 -- What the fields of a World stand for, and what is true of them.
 use Rattle.std.specs.Prelude.{◌≡◌, slice_get}
 use Rattle.replay.specs.Replay.{Facts}

@@ -1,3 +1,4 @@
+-- Cited by the contracts of World::is_settled, World::progress, World::piece_progress, World::run and 11 more.
 -- The state of the core: what it was opened with, its log and its pairs; and what the log says of it.
 use Rattle.std.specs.Prelude.{◌≡◌, ℕ, ◌+◌, ◌==◌, ◌||◌, List, [], ◌∷◌, ◌++◌, Option, Some, None, if◌then◌else◌}
 use Rattle.std.specs.FinMap as map

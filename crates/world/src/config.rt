@@ -1,5 +1,5 @@
 //! With what a world is opened.
-use listed::Listed;
+use collections::List;
 use schema_version::TableDef;
 
 /// With what a world is opened.
@@ -8,5 +8,5 @@ pub struct Config {
     /// For how long a lease is granted, in moments.
     pub length: u64,
     /// The tables of version 1, in the order of their numbers.
-    pub tables: Listed<TableDef>,
+    pub tables: List<TableDef>,
 }

@@ -1,10 +1,10 @@
 //! What accepted calls give back: receipts, grants and ended pieces.
+use collections::ArcValue;
 use lease::Lease;
-use listed::Counted;
 use replay::Entry;
 use schema_version::Schema;
 
-/// The proof of an accepted call: where its entry stands in the log.
+/// The proof of an accepted call: where its entry is in the log.
 #[derive(Drop)]
 pub struct Receipt {
     /// The place of the entry, counted from 1.
@@ -19,7 +19,7 @@ pub struct Grant {
     /// The lease, on the newest version.
     pub lease: Lease,
     /// The schema of that version.
-    pub schema: Counted<Schema>,
+    pub schema: ArcValue<Schema>,
     /// The receipt for the lease's entry.
     pub receipt: Receipt,
 }

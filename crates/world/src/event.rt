@@ -1,14 +1,14 @@
 //! Calls as values: events and their replies.
-use crate::beginning::BeginFault;
+use crate::begin_reorg::BeginFault;
+use crate::commit::CommitFault;
 use crate::committed::Committed;
-use crate::committing::CommitFault;
 use crate::entry::{Grant, PieceDone, Receipt};
-use crate::leasing::GrantFault;
-use crate::pieces::PieceFault;
-use crate::publishing::PublishFault;
-use crate::querying::QueryRefusal;
+use crate::grant::GrantFault;
+use crate::piece::PieceFault;
+use crate::publish::PublishFault;
+use crate::query::QueryRefusal;
+use collections::List;
 use lease::Lease;
-use listed::Listed;
 use reorganise::PreparedPiece;
 use row_map::Row;
 use row_query::Query;
@@ -72,7 +72,7 @@ pub enum Reply {
     /// The answer of `World::commit`.
     Commit(Result<Committed, (CommitFault, Prepared)>),
     /// The answer of `World::query`.
-    Query(Result<Listed<Row>, QueryRefusal>),
+    Query(Result<List<Row>, QueryRefusal>),
     /// The answer of `World::publish`.
     Publish(Result<(u64, Receipt), PublishFault>),
     /// The answer of `World::begin_reorg`.

@@ -1,37 +1,37 @@
 //! The core of the engine: schema leases, transactions and the log, over one store of pairs.
 #![tactic(auto)]
 
-mod beginning;
-mod checking;
+mod begin_reorg;
+mod check;
+mod commit;
 mod committed;
-mod committing;
 mod config;
 mod entry;
 mod event;
-mod events;
-mod finishing;
-mod leasing;
+mod grant;
 mod log;
-mod opening;
-mod pieces;
-mod publishing;
-mod querying;
-mod reading;
+mod open;
+mod piece;
+mod publish;
+mod query;
+mod read;
+mod run;
 mod snapshot;
+mod unfinished;
 mod world;
 
 pub use audit::{CheckReport, audit};
-pub use beginning::BeginFault;
+pub use begin_reorg::BeginFault;
+pub use commit::CommitFault;
 pub use committed::Committed;
-pub use committing::CommitFault;
 pub use config::Config;
 pub use entry::{Grant, PieceDone, Receipt};
 pub use event::{Event, Reply};
-pub use leasing::GrantFault;
-pub use opening::OpenFault;
-pub use pieces::{PieceFault, ReadFault};
-pub use publishing::PublishFault;
-pub use querying::QueryRefusal;
+pub use grant::GrantFault;
+pub use open::OpenFault;
+pub use piece::{PieceFault, ReadFault};
+pub use publish::PublishFault;
+pub use query::QueryRefusal;
 pub use replay::{Entry, What};
 pub use snapshot::{Snapshot, SnapshotFault};
 pub use world::World;

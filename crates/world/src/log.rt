@@ -4,7 +4,7 @@ ghost use Rattle.std.specs.Prelude.{◌≡◌, ◌<◌, ◌+◌, ◌++◌, ◌�
 ghost use Rattle.std.specs.Vec.{vec_len, vec_capacity};
 
 use crate::entry::Receipt;
-use listed::Counted;
+use collections::ArcValue;
 use replay::{Entry, What};
 use std::alloc::{AllocError, Global};
 use std::marker::Model;
@@ -20,7 +20,7 @@ pub(crate) struct Log {
 #[derive(Drop)]
 pub(crate) struct Draft {
     entry: Entry,
-    told: Entry,
+    reported: Entry,
 }
 
 impl Model for Draft {
@@ -34,21 +34,21 @@ impl Model for Draft {
 
     ghost view = { λ d. d.entry };
 
-    ghost invariant = { λ d. d.told ≡ d.entry };
+    ghost invariant = { λ d. d.reported ≡ d.entry };
 }
 
 // An entry, and the same for its receipt.
-fn drafted(alloc: Global, moment: u64, what: What) -> Result<Draft, AllocError>
+fn make_draft(alloc: Global, moment: u64, what: What) -> Result<Draft, AllocError>
     ensures { IfOk result (λ draft. draft ≡ record { moment = moment; what = what }) }
 {
-    let what = Counted::new(alloc, what)?;
-    let told = Entry {
+    let what = ArcValue::new(alloc, what)?;
+    let reported = Entry {
         moment,
         what: what.clone()?,
     };
     Ok(Draft {
         entry: Entry { moment, what },
-        told,
+        reported,
     })
 }
 
@@ -78,7 +78,7 @@ impl Log {
         self.entries.as_slice()
     }
 
-    /// Makes an entry ready, and room for it; the entries stay. Refused for want of memory alone.
+    /// Makes an entry ready, and room for it; the entries stay. Refused only when out of memory.
     pub(crate) fn make_ready(
         &mut self,
         alloc: Global,
@@ -90,7 +90,7 @@ impl Log {
         ensures entries { self.new.entries.items ≡ self.old.entries.items }
         ensures moment { self.new.moment ≡ self.old.moment }
     {
-        let draft = drafted(alloc, moment, what)?;
+        let draft = make_draft(alloc, moment, what)?;
         self.entries.reserve(1)?;
         Ok(draft)
     }
@@ -102,10 +102,13 @@ impl Log {
         ensures moment { self.new.moment ≡ draft.moment }
         ensures receipt { result ≡ record { place = length self.old.entries.items + 1; entry = draft } }
     {
-        let Draft { entry, told } = draft;
+        let Draft { entry, reported } = draft;
         let place = self.entries.len() as u64 + 1;
         self.moment = entry.moment;
         self.entries.push_reserved(entry);
-        Receipt { place, entry: told }
+        Receipt {
+            place,
+            entry: reported,
+        }
     }
 }

@@ -1,18 +1,18 @@
 //! Snapshots of the core: what its rows were under the version of a lease, whatever is committed later.
 ghost use Rattle.std.specs.Prelude.{◌≡◌, ◌⊎◌, IfOk, IfErr, OnOk};
 ghost use Rattle.element_state.specs.Consistent.{IsConsistent};
-ghost use Rattle.element_state.specs.Seen.{seen};
+ghost use Rattle.element_state.specs.Visible.{visible_rows};
 ghost use Rattle.row_map.specs.Rows.{Rows};
 ghost use Rattle.row_query.specs.declared.fault.QueryFault.TheVariants.{Memory};
 ghost use Rattle.row_query.specs.Answer.{plain_answer};
 ghost use Rattle.row_query.specs.Refused.{IsRefused, IsSound};
-ghost use Rattle.world.specs.Snapshots.{IsSnapshotAnswer, SnapshotStep};
-ghost use Rattle.world.specs.Told.{snapshot_told};
+ghost use Rattle.world.specs.Snapshot.{IsSnapshotAnswer, SnapshotStep};
+ghost use Rattle.world.specs.Faults.{snapshot_reported};
 ghost use Rattle.world.specs.declared.snapshot.SnapshotFault.TheVariants as snapshot_fault;
 
 use crate::world::World;
+use collections::{ArcValue, List};
 use lease::{Lease, LeaseFault};
-use listed::{Counted, Listed};
 use replay::{kept_agrees, leases_keep};
 use row_map::Row;
 use row_query::{Query, QueryFault, answer};
@@ -22,7 +22,7 @@ use std::marker::Model;
 use thiserror::Error;
 use txn_store::PairSnapshot;
 
-/// Why no snapshot was taken. Of several reasons the first in this order is told.
+/// Why no snapshot was taken. Of several reasons the first in this order is reported.
 #[derive(Clone, Copy, Debug, PartialEq, Eq, Error)]
 pub enum SnapshotFault {
     /// The moment that counts is above 2^62.
@@ -39,16 +39,16 @@ pub enum SnapshotFault {
         /// The moment that counts.
         now: u64,
     },
-    /// Want of memory.
+    /// Out of memory.
     #[error("out of memory")]
     Memory,
 }
 
 impl From<LeaseFault> for SnapshotFault {
-    ghost from_gives = { λ told fault. fault ≡ snapshot_told told };
+    ghost from_gives = { λ reported fault. fault ≡ snapshot_reported reported };
 
-    fn from(told: LeaseFault) -> SnapshotFault {
-        match told {
+    fn from(reported: LeaseFault) -> SnapshotFault {
+        match reported {
             LeaseFault::MomentTooLarge => SnapshotFault::MomentTooLarge,
             LeaseFault::BadLease => SnapshotFault::BadLease,
             LeaseFault::LeaseEnded { until, now } => SnapshotFault::LeaseEnded { until, now },
@@ -70,14 +70,14 @@ impl From<AllocError> for SnapshotFault {
 #[derive(Drop)]
 pub struct Snapshot {
     /// The schema of the lease's version.
-    schema: Counted<Schema>,
+    schema: ArcValue<Schema>,
     /// The pairs of the store, shared with it.
     pairs: PairSnapshot,
 }
 
 impl Model for Snapshot {
     ghost use Rattle.world.specs.Code.{taken_code};
-    ghost use Rattle.world.specs.Snapshots.{Taken};
+    ghost use Rattle.world.specs.Snapshot.{Taken};
 
     ghost Value = { Taken };
 
@@ -90,22 +90,22 @@ impl Snapshot {
     /// The rows that a query asks for, as they were when the snapshot was taken: in the order of their primary keys, each
     /// with its values in the named columns, or the default of a required column where it has none.
     ///
-    /// `query` is asked under the schema of the version of the lease that the snapshot was taken under. It is answered as by
-    /// `row_query::answer`, and refused as there: `NoTable`; then of the named columns in their order and the conditions in
-    /// theirs, the first with a fault by its lowest, `NotPublic` and then `WrongType`; `Memory` last. A refusal leaves
-    /// nothing behind.
+    /// `query` is asked under the schema of the version of the lease that the snapshot was taken
+    /// under. It is answered as by `row_query::answer`, and refused as there: `NoTable`; then of
+    /// the named columns in their order and the conditions in theirs, the first with a fault by its
+    /// lowest, `NotPublic` and then `WrongType`; `Memory` last. A refusal leaves nothing behind.
     #[tactic(auto, using(crate::proofs::Snapshots::is_answer))]
-    pub fn query(&self, alloc: Global, query: &Query) -> Result<Listed<Row>, QueryFault>
+    pub fn query(&self, alloc: Global, query: &Query) -> Result<List<Row>, QueryFault>
         ensures { IsSnapshotAnswer self.now query.now result }
     {
         self.rows_of(alloc, query)
     }
 
     // The same, by the contract of `answer`.
-    fn rows_of(&self, alloc: Global, query: &Query) -> Result<Listed<Row>, QueryFault>
+    fn rows_of(&self, alloc: Global, query: &Query) -> Result<List<Row>, QueryFault>
         ensures refused { IfErr result (λ fault. ((fault ≡ Memory) × IsSound self.now.version query.now) ⊎ IsRefused self.now.version query.now fault) }
         ensures clear { OnOk result (IsSound self.now.version query.now) }
-        ensures rows { (rows : Rows) → IsConsistent self.now.version rows self.now.pairs → IfOk result (λ found. found ≡ plain_answer (seen self.now.version rows) query.now) }
+        ensures rows { (rows : Rows) → IsConsistent self.now.version rows self.now.pairs → IfOk result (λ found. found ≡ plain_answer (visible_rows self.now.version rows) query.now) }
     {
         answer(alloc, self.schema.get(), &self.pairs, query)
     }
@@ -115,15 +115,15 @@ impl World {
     /// A snapshot of what is committed now, to be queried later under the schema of the lease's version. The schema and
     /// the pairs are shared, and none is copied; nothing changes.
     ///
-    /// The moment that counts is the greater of `moment` and the moment of the last entry. Refused in this order:
-    /// `MomentTooLarge` where the moment that counts is above 2^62; `BadLease` where no grant could have given `lease`;
-    /// `LeaseEnded` where it is not in force any more; `Memory`.
+    /// The moment that counts is the greater of `moment` and the moment of the last entry. Refused
+    /// in this order: `MomentTooLarge` if the moment that counts is above 2^62; `BadLease` if no
+    /// grant could have given `lease`; `LeaseEnded` if it is not in force any more; `Memory`.
     pub fn snapshot(&self, moment: u64, lease: &Lease) -> Result<Snapshot, SnapshotFault>
         ensures { SnapshotStep self.now moment lease.now result }
     {
         kept_agrees();
         leases_keep();
-        let now = self.counted(moment);
+        let now = self.effective_moment(moment);
         self.line.standing(lease, now)?;
         let schema = self.under(lease, now);
         let schema = schema.clone()?;

@@ -6,12 +6,12 @@ ghost use Rattle.lease.specs.Timeline.{IsValid, last_publication};
 ghost use Rattle.replay.specs.Kept.{AreInPieces, IsKept};
 ghost use Rattle.replay.specs.Replay.{progress_of, version_at};
 ghost use Rattle.schema_version.specs.Sound.{IsSoundVersion};
-ghost use Rattle.world.specs.Calls.{counted};
+ghost use Rattle.world.specs.Calls.{effective_moment};
 ghost use Rattle.world.specs.State.{facts_of, recent, IsReplayed, Agrees};
 
 use crate::log::Log;
+use collections::ArcValue;
 use lease::{Lease, Timeline};
-use listed::Counted;
 use reorganise::Progress;
 use replay::{Entry, kept_agrees};
 use row_map::{Near, PairView, Walk};
@@ -24,10 +24,10 @@ use txn_store::Store;
 #[derive(Drop)]
 pub struct World {
     /// Version 1.
-    pub(crate) first: Counted<Schema>,
+    pub(crate) first: ArcValue<Schema>,
     /// The version before the newest.
-    pub(crate) before: Option<Counted<Schema>>,
-    pub(crate) newest: Counted<Schema>,
+    pub(crate) before: Option<ArcValue<Schema>>,
+    pub(crate) newest: ArcValue<Schema>,
     pub(crate) line: Timeline,
     /// The reorganisations that have begun and are not over.
     pub(crate) begun: Vec<Progress>,
@@ -52,7 +52,7 @@ impl Model for World {
 
 impl World {
     /// The schema of the newest version or of the one before, by its number; None for any other number.
-    pub fn schema(&self, version: u64) -> Option<&Counted<Schema>>
+    pub fn schema(&self, version: u64) -> Option<&ArcValue<Schema>>
         ensures { option_map (λ s. s.now) result ≡ recent (facts_of self.now) version }
     {
         let newest = self.line.newest();
@@ -66,7 +66,7 @@ impl World {
     }
 
     // The schema of the version of a lease that serves.
-    pub(crate) fn under(&self, lease: &Lease, now: u64) -> &Counted<Schema>
+    pub(crate) fn under(&self, lease: &Lease, now: u64) -> &ArcValue<Schema>
         requires later { (facts_of self.now).moment ≤ now }
         requires serves { Serves (facts_of self.now).line lease.now now }
         ensures { version_at (facts_of self.now) lease.now.version ≡ Some result.now }
@@ -81,7 +81,7 @@ impl World {
     }
 
     /// The schema of the newest version.
-    pub fn newest(&self) -> &Counted<Schema>
+    pub fn newest(&self) -> &ArcValue<Schema>
         ensures { result.now ≡ (facts_of self.now).newest }
     {
         &self.newest
@@ -102,12 +102,12 @@ impl World {
         ensures { result ≡ (facts_of self.now).moment }
     {
         // the field alone answers the same, since no moment is below 0
-        self.counted(0)
+        self.effective_moment(0)
     }
 
     // The moment that counts where this one is handed in: moments never go back.
-    pub(crate) fn counted(&self, moment: u64) -> u64
-        ensures { result ≡ counted self.now moment }
+    pub(crate) fn effective_moment(&self, moment: u64) -> u64
+        ensures { result ≡ effective_moment self.now moment }
     {
         moment.max(self.log.moment())
     }
@@ -131,7 +131,7 @@ impl World {
     /// publication is not after the moment of the last entry, and the newest version is sound. Begun reorganisations have
     /// at most 64 pieces, and no cursor is past its piece's end. All that the theorem rests on is kept, for instance that what
     /// is begun is what its element wants.
-    pub fn agrees(&self)
+    pub fn lemma_agrees(&self)
         ensures replayed { IsReplayed self.now }
         ensures agrees { Agrees self.now }
         ensures in_pieces { AreInPieces (facts_of self.now).progress }

@@ -15,7 +15,7 @@ use Rattle.replay.specs.declared.entry.Entry.{Entry}
 use Rattle.replay.specs.declared.entry.What.TheVariants.{Publish}
 use Rattle.replay.specs.Replay.{Facts, after}
 use Rattle.world.specs.State.{State, facts_of, effect}
-use Rattle.world.proofs.Holding.{facts_after}
+use Rattle.world.proofs.Invariant.{facts_after}
 use Rattle.world_laws.specs.Found.{FindsConsistent, FindsExact, FindsEmpty}
 use Rattle.world_laws.proofs.Newest.{consistent_newest}
 

@@ -3,8 +3,8 @@ mod Snapshots
 mod Newest
 mod Found
 mod Sums
-mod Spelled
-mod Counted
+mod Encoded
+mod ArcValue
 mod Missing
 mod Reasons
 mod Clean

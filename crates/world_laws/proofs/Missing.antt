@@ -16,7 +16,7 @@ use Rattle.std.specs.List.{AllByRecursion}
 use Rattle.std.specs.Ordering.{nat_cmp}
 use mathlib.Core.List.{map as each}
 use Rattle.audit.specs.Audit.{given, differs, is_absent, lacks, missing_by, missing_beside}
-use Rattle.audit.specs.Spelled.{row_at}
+use Rattle.audit.specs.Encoded.{row_at}
 use Rattle.keycode.specs.declared.value.Value.{Value}
 use Rattle.keycode.specs.Order.{bytes_cmp}
 use Rattle.keycode.proofs.Orders.{bytes_cmp_total, bytes_cmp-IsAntisymmetric}
@@ -32,8 +32,8 @@ use Rattle.schema_version.specs.Sound.{IsSoundVersion}
 use Rattle.schema_version.specs.Version.{Version, element_at, live, is_public}
 use Rattle.element_state.specs.Consistent.{IsConsistent, DemandOf}
 use Rattle.row_query.proofs.Columns.{both_true, public_is}
-use Rattle.world_laws.proofs.Counted.{read_again}
-use Rattle.world_laws.proofs.Spelled.{given_pair, given_value, given_none}
+use Rattle.world_laws.proofs.ArcValue.{read_again}
+use Rattle.world_laws.proofs.Encoded.{given_pair, given_value, given_none}
 use Rattle.world_laws.proofs.Sums.{sum_none, count_none}
 
 pub some_there : {A : Type 0} (o : Option A) → is_some o ≡ true → (a : A) × (o ≡ Some a)
@@ -94,14 +94,14 @@ module _ (version : Version) (sound : IsSoundVersion version) (rows : Rows) (pai
   beside : (x w : Bytes) → map.get pairs x ≡ Some w → missing_beside version pairs (x, w) ≡ 0
   beside x w there =
       let form = agree.forms x w there in
-      ap (missing_by version pairs) (read_again x form.key form.form form.spelled) ∙ by form.key form.form form.spelled
+      ap (missing_by version pairs) (read_again x form.key form.form form.encoded) ∙ by form.key form.form form.encoded
     where
       by : (k : KeyOf) → IsKey k → x ≡ key_code k → missing_by version pairs (Some k) ≡ 0
-      by (Exists table primary) form spelled =
-          let row = some_there (map.get rows (table, primary)) (reads.only_rows table primary w form (ap (map.get pairs) (sym spelled) ∙ there)) in
+      by (Exists table primary) form encoded =
+          let row = some_there (map.get rows (table, primary)) (reads.only_rows table primary w form (ap (map.get pairs) (sym encoded) ∙ there)) in
           none_lacks table primary row.0 row.1
-      by (Column table primary number) form spelled = refl
-      by (IndexKey number values) form spelled = refl
+      by (Column table primary number) form encoded = refl
+      by (IndexKey number values) form encoded = refl
 
   pub none_missing : sum_by (missing_beside version pairs) (map.entries pairs) ≡ 0
   none_missing = sum_none (missing_beside version pairs) (map.entries pairs) (each_entry bytes_cmp bytes_cmp_total bytes_cmp-IsAntisymmetric (λ x w. missing_beside version pairs (x, w) ≡ 0) pairs beside)

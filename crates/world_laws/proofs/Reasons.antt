@@ -4,15 +4,15 @@ use Rattle.row_query.proofs.Premise.{Reads}
 use Rattle.schema_version.specs.Moves.{IsFairKind}
 use Rattle.element_state.proofs.Sources.{lawful_source}
 use Rattle.element_state.specs.Required.{required_meaning}
-use Rattle.element_state.specs.Sources.{source_in, stand_in_at}
-use Rattle.audit.specs.Meaning.{with_stand_ins}
+use Rattle.element_state.specs.Sources.{source_in, default_value_at}
+use Rattle.audit.specs.Meaning.{with_default_values}
 use Rattle.std.specs.Prelude.{count_by, bytes_eq}
 use Rattle.std.specs.FinMap as map
 use Rattle.std.specs.List.{find}
 use Rattle.std.proofs.lemmas.List.{drop_at, length-map}
 use Rattle.std.proofs.lemmas.Slice.Eq.{bytes_eq-Decides}
 use Rattle.audit.specs.Audit.{Pair, given, numbered, is_column_of_row, is_same_pair, is_given, is_index_pair, reason_by, has_reason}
-use Rattle.audit.specs.Spelled.{key_read, is_exists, is_row, row_at}
+use Rattle.audit.specs.Encoded.{key_read, is_exists, is_row, row_at}
 use Rattle.keycode.specs.declared.value.Value.{Value}
 use Rattle.keycode.specs.Order.{bytes_cmp}
 use Rattle.keycode.proofs.Orders.{bytes_cmp_total, bytes_cmp-IsAntisymmetric}
@@ -28,21 +28,21 @@ use Rattle.schema_version.specs.declared.element.Kind.{Kind}
 use Rattle.schema_version.specs.declared.element.Kind.TheVariants.{Index, Optional, Required}
 use Rattle.schema_version.specs.declared.element.ElementDef.{ElementDef}
 use Rattle.schema_version.specs.Sound.{IsSoundVersion}
-use Rattle.schema_version.specs.Version.{Version, element_at, live, listed, is_column}
+use Rattle.schema_version.specs.Version.{Version, element_at, live, indexed_columns, is_column}
 use Rattle.schema_version.proofs.Live.{none_passes, element_at-lookup}
-use Rattle.element_state.specs.Apart.{not_none, some_one}
+use Rattle.element_state.specs.lemmas.Apart.{not_none, some_one}
 use Rattle.element_state.specs.Column.{column_meaning, IsLawfulColumn}
-use Rattle.element_state.specs.ColumnLaws.{column_is_key}
+use Rattle.element_state.specs.lemmas.ColumnLaws.{column_is_key}
 use Rattle.element_state.specs.Consistent.{IsConsistent, DemandOf}
 use Rattle.element_state.specs.Elements.{Meaning, Demand, IsFromScratch, owner, owner_named}
 use Rattle.element_state.specs.Exists.{exists_meaning}
 use Rattle.element_state.specs.Index.{indexed, index_meaning, IsLawfulIndex}
-use Rattle.element_state.specs.IndexLaws.{index_is_key, indexed_length}
+use Rattle.element_state.specs.lemmas.IndexLaws.{index_is_key, indexed_length}
 use Rattle.element_state.specs.Kinds.{kind_meaning, kind_numbered, IsLawfulKind}
 use Rattle.element_state.specs.Tables.{within, some_in}
 use Rattle.row_query.proofs.Columns.{find_says, found_at, and_true}
-use Rattle.world_laws.proofs.Counted.{read_again}
-use Rattle.world_laws.proofs.Spelled.{given_pair}
+use Rattle.world_laws.proofs.ArcValue.{read_again}
+use Rattle.world_laws.proofs.Encoded.{given_pair}
 use Rattle.world_laws.proofs.Sums.{count_none}
 
 -- ---- keys of two kinds differ
@@ -135,9 +135,9 @@ module _ (version : Version) (sound : IsSoundVersion version) (rows : Rows) (pai
   beside_row : (table : ℕ) (primary : List Value) (number : ℕ) (x : Bytes) → IsKey (Column table primary number) → x ≡ row_code table primary number
       → (element : ElementDef) (key : RowKey) (cells : Cells) → map.get rows key ≡ Some cells → IsLawfulColumn number → is_column element.kind ≡ true → eqb key.0 element.table ≡ true → row_code key.0 key.1 number ≡ x
       → is_column_of_row pairs table primary (Some element) ≡ true
-  beside_row table primary number x form spelled element key cells there column kind own key_is =
+  beside_row table primary number x form encoded element key cells there column kind own key_is =
       let same : Column key.0 key.1 number ≡ Column table primary number =
-      same_key (Column key.0 key.1 number) (Column table primary number) (column_is_key number column key cells (held key cells there)) form (key_is ∙ spelled) in
+      same_key (Column key.0 key.1 number) (Column table primary number) (column_is_key number column key cells (held key cells there)) form (key_is ∙ encoded) in
       let home : key.0 ≡ element.table = eqb-true key.0 element.table own in
       let here : map.get rows (table, primary) ≡ Some cells = ap (λ (k : KeyOf). map.get rows (table_in k, values_in k)) (sym same) ∙ there in
       and_true ((element.table == table) && is_column element.kind) (is_row pairs table primary)
@@ -146,30 +146,30 @@ module _ (version : Version) (sound : IsSoundVersion version) (rows : Rows) (pai
 
   column_reason : (table : ℕ) (primary : List Value) (number : ℕ) (x w : Bytes) → IsKey (Column table primary number) → x ≡ row_code table primary number → map.get pairs x ≡ Some w
       → is_column_of_row pairs table primary (numbered version number) ≡ true
-  column_reason table primary number x w form spelled there =
-      let own : owner x ≡ Some number = owner_named number x (record { key = Column table primary number; form = form; spelled = spelled; names = refl }) in
+  column_reason table primary number x w form encoded there =
+      let own : owner x ≡ Some number = owner_named number x (record { key = Column table primary number; form = form; encoded = encoded; names = refl }) in
       let g : Given number x w = given_by number x w form.2 own there in
       ap (is_column_of_row pairs table primary) (numbered_is number g.element g.at) ∙ by g.element g.at g.scratch g.element.kind refl
     where
       by : (element : ElementDef) → element_at version number ≡ Some element → IsFromScratch (within element.table (kind_meaning number (source_in version element.kind))) rows x w → (k : Kind) → element.kind ≡ k → is_column_of_row pairs table primary (Some element) ≡ true
       by element at s (Index columns) kind =
-          let sources = with_stand_ins version columns in
+          let sources = with_default_values version columns in
           let t : IsFromScratch (within element.table (index_meaning number sources)) rows x w = scratch_by number element x w s (Index columns) kind in
           let lists : IsLawfulIndex number sources = lawful_kind number element (Index columns) at kind in
           index_or_row (IndexKey number (indexed sources t.cells ++ t.key.1)) (Column table primary number) refl refl
-          (same_key (IndexKey number (indexed sources t.cells ++ t.key.1)) (Column table primary number) (index_is_key number sources lists t.key t.cells (held t.key t.cells t.there)) form (t.key_is ∙ spelled))
+          (same_key (IndexKey number (indexed sources t.cells ++ t.key.1)) (Column table primary number) (index_is_key number sources lists t.key t.cells (held t.key t.cells t.there)) form (t.key_is ∙ encoded))
       by element at s (Optional type) kind =
           let t : IsFromScratch (within element.table (column_meaning number)) rows x w = scratch_by number element x w s (Optional type) kind in
-          beside_row table primary number x form spelled element t.key t.cells t.there (lawful_kind number element (Optional type) at kind) (ap is_column kind) (some_in (eqb t.key.0 element.table) _ w t.value_is).0 t.key_is
+          beside_row table primary number x form encoded element t.key t.cells t.there (lawful_kind number element (Optional type) at kind) (ap is_column kind) (some_in (eqb t.key.0 element.table) _ w t.value_is).0 t.key_is
       by element at s (Required type fallback) kind =
           let t : IsFromScratch (within element.table (required_meaning number fallback)) rows x w = scratch_by number element x w s (Required type fallback) kind in
-          beside_row table primary number x form spelled element t.key t.cells t.there (lawful_kind number element (Required type fallback) at kind) (ap is_column kind) (some_in (eqb t.key.0 element.table) _ w t.value_is).0 t.key_is
+          beside_row table primary number x form encoded element t.key t.cells t.there (lawful_kind number element (Required type fallback) at kind) (ap is_column kind) (some_in (eqb t.key.0 element.table) _ w t.value_is).0 t.key_is
 
   -- ---- the pair of an index
 
-  -- the index gives it the row whose key stands behind the indexed values
+  -- the index gives it the row whose key stands after the indexed values
   given_so : (element : ElementDef) (columns : List ℕ) (number : ℕ) (values : List Value) (x w : Bytes) → element_at version number ≡ Some element → element.kind ≡ Index columns → (primary : List Value) (cells : Cells)
-      → map.get rows (element.table, primary) ≡ Some cells → values ≡ indexed (with_stand_ins version columns) cells ++ primary → index_code number (indexed (with_stand_ins version columns) cells ++ primary) ≡ x → [] ≡ w
+      → map.get rows (element.table, primary) ≡ Some cells → values ≡ indexed (with_default_values version columns) cells ++ primary → index_code number (indexed (with_default_values version columns) cells ++ primary) ≡ x → [] ≡ w
       → is_given version pairs values (x, w) element ≡ true
   given_so element columns number values x w at kind primary cells here values_are key_is empty =
       ap (λ (p : List Value). is_row pairs element.table p && is_same_pair (given version element (row_at version pairs element.table p)) (x, w)) behind
@@ -178,63 +178,63 @@ module _ (version : Version) (sound : IsSoundVersion version) (rows : Rows) (pai
       (ap (λ (o : Option Pair). is_same_pair o (x, w)) (given_pair version sound rows pairs agree reads number element columns at kind primary cells here ∙ ap Some pair_is)
       ∙ and_true (bytes_eq x x) (bytes_eq w w) (same_bytes x) (same_bytes w))
     where
-      behind : drop (length (listed element.kind)) values ≡ primary
+      behind : drop (length (indexed_columns element.kind)) values ≡ primary
       behind =
-          ap (λ (k : Kind). drop (length (listed k)) values) kind ∙ ap (drop (length columns)) values_are
-          ∙ drop_at (indexed (with_stand_ins version columns) cells) primary (length columns) (indexed_length (with_stand_ins version columns) cells ∙ length-map columns (λ (c : ℕ). (c, stand_in_at version c)))
+          ap (λ (k : Kind). drop (length (indexed_columns k)) values) kind ∙ ap (drop (length columns)) values_are
+          ∙ drop_at (indexed (with_default_values version columns) cells) primary (length columns) (indexed_length (with_default_values version columns) cells ∙ length-map columns (λ (c : ℕ). (c, default_value_at version c)))
 
-      pair_is : ◌≡◌ {A = Pair} (index_code number (indexed (with_stand_ins version columns) cells ++ primary), []) (x, w)
+      pair_is : ◌≡◌ {A = Pair} (index_code number (indexed (with_default_values version columns) cells ++ primary), []) (x, w)
       pair_is = ap (λ (b : Bytes). (b, [])) key_is ∙ ap (λ (v : Bytes). (x, v)) empty
 
   -- and no column has the key of an index
   no_column : {A : Type 0} (number : ℕ) (values : List Value) (x : Bytes) → IsKey (IndexKey number values) → x ≡ index_code number values → (key : RowKey) (cells : Cells) → map.get rows key ≡ Some cells → IsLawfulColumn number → row_code key.0 key.1 number ≡ x → A
-  no_column number values x form spelled key cells there column key_is =
+  no_column number values x form encoded key cells there column key_is =
       index_or_row (IndexKey number values) (Column key.0 key.1 number) refl refl
-      (same_key (IndexKey number values) (Column key.0 key.1 number) form (column_is_key number column key cells (held key cells there)) (sym spelled ∙ sym key_is))
+      (same_key (IndexKey number values) (Column key.0 key.1 number) form (column_is_key number column key cells (held key cells there)) (sym encoded ∙ sym key_is))
 
   index_reason : (number : ℕ) (values : List Value) (x w : Bytes) → 1 ≤ number → IsKey (IndexKey number values) → x ≡ index_code number values → map.get pairs x ≡ Some w → is_index_pair version pairs values (x, w) (numbered version number) ≡ true
-  index_reason number values x w above form spelled there =
-      let own : owner x ≡ Some number = owner_named number x (record { key = IndexKey number values; form = form; spelled = spelled; names = refl }) in
+  index_reason number values x w above form encoded there =
+      let own : owner x ≡ Some number = owner_named number x (record { key = IndexKey number values; form = form; encoded = encoded; names = refl }) in
       let g : Given number x w = given_by number x w above own there in
       ap (is_index_pair version pairs values (x, w)) (numbered_is number g.element g.at) ∙ by g.element g.at g.scratch g.element.kind refl
     where
       by : (element : ElementDef) → element_at version number ≡ Some element → IsFromScratch (within element.table (kind_meaning number (source_in version element.kind))) rows x w → (k : Kind) → element.kind ≡ k → is_given version pairs values (x, w) element ≡ true
       by element at s (Optional type) kind =
           let t : IsFromScratch (within element.table (column_meaning number)) rows x w = scratch_by number element x w s (Optional type) kind in
-          no_column number values x form spelled t.key t.cells t.there (lawful_kind number element (Optional type) at kind) t.key_is
+          no_column number values x form encoded t.key t.cells t.there (lawful_kind number element (Optional type) at kind) t.key_is
       by element at s (Required type fallback) kind =
           let t : IsFromScratch (within element.table (required_meaning number fallback)) rows x w = scratch_by number element x w s (Required type fallback) kind in
-          no_column number values x form spelled t.key t.cells t.there (lawful_kind number element (Required type fallback) at kind) t.key_is
+          no_column number values x form encoded t.key t.cells t.there (lawful_kind number element (Required type fallback) at kind) t.key_is
       by element at s (Index columns) kind =
-          let sources = with_stand_ins version columns in
+          let sources = with_default_values version columns in
           let t : IsFromScratch (within element.table (index_meaning number sources)) rows x w = scratch_by number element x w s (Index columns) kind in
           let lists : IsLawfulIndex number sources = lawful_kind number element (Index columns) at kind in
           let same : IndexKey number (indexed sources t.cells ++ t.key.1) ≡ IndexKey number values =
-          same_key (IndexKey number (indexed sources t.cells ++ t.key.1)) (IndexKey number values) (index_is_key number sources lists t.key t.cells (held t.key t.cells t.there)) form (t.key_is ∙ spelled) in
+          same_key (IndexKey number (indexed sources t.cells ++ t.key.1)) (IndexKey number values) (index_is_key number sources lists t.key t.cells (held t.key t.cells t.there)) form (t.key_is ∙ encoded) in
           let value = some_in (eqb t.key.0 element.table) (Some []) w t.value_is in
           let here : map.get rows (element.table, t.key.1) ≡ Some t.cells = ap (λ (n : ℕ). map.get rows (n, t.key.1)) (sym (eqb-true t.key.0 element.table value.0)) ∙ t.there in
           given_so element columns number values x w at kind t.key.1 t.cells here (sym (ap values_in same)) t.key_is (some_one [] w value.1)
 
   -- no index has the number of the `exists` pairs
   index_above : (number : ℕ) (values : List Value) (x w : Bytes) → IsKey (IndexKey number values) → x ≡ index_code number values → map.get pairs x ≡ Some w → 1 ≤ number
-  index_above zero values x w form spelled there =
-      let own : owner x ≡ Some 0 = owner_named 0 x (record { key = IndexKey 0 values; form = form; spelled = spelled; names = refl }) in
+  index_above zero values x w form encoded there =
+      let own : owner x ≡ Some 0 = owner_named 0 x (record { key = IndexKey 0 values; form = form; encoded = encoded; names = refl }) in
       let s : IsFromScratch exists_meaning rows x w = agree.exists.subset x w own there in
       let row = held s.key s.cells s.there in
-      index_or_row (IndexKey 0 values) (Exists s.key.0 s.key.1) refl refl (same_key (IndexKey 0 values) (Exists s.key.0 s.key.1) form (row.table, row.primary) (sym spelled ∙ sym s.key_is))
-  index_above (suc n) values x w form spelled there = omega arith
+      index_or_row (IndexKey 0 values) (Exists s.key.0 s.key.1) refl refl (same_key (IndexKey 0 values) (Exists s.key.0 s.key.1) form (row.table, row.primary) (sym encoded ∙ sym s.key_is))
+  index_above (suc n) values x w form encoded there = omega arith
 
   -- ---- any pair
 
   reason : (x w : Bytes) → map.get pairs x ≡ Some w → not (has_reason version pairs (x, w)) ≡ false
   reason x w there =
       let form = agree.forms x w there in
-      ap (λ (o : Option KeyOf). not (reason_by version pairs (x, w) o)) (read_again x form.key form.form form.spelled) ∙ ap not (by form.key form.form form.spelled)
+      ap (λ (o : Option KeyOf). not (reason_by version pairs (x, w) o)) (read_again x form.key form.form form.encoded) ∙ ap not (by form.key form.form form.encoded)
     where
       by : (k : KeyOf) → IsKey k → x ≡ key_code k → reason_by version pairs (x, w) (Some k) ≡ true
-      by (Exists table primary) form spelled = refl
-      by (Column table primary number) form spelled = column_reason table primary number x w form spelled there
-      by (IndexKey number values) form spelled = index_reason number values x w (index_above number values x w form spelled there) form spelled there
+      by (Exists table primary) form encoded = refl
+      by (Column table primary number) form encoded = column_reason table primary number x w form encoded there
+      by (IndexKey number values) form encoded = index_reason number values x w (index_above number values x w form encoded there) form encoded there
 
   pub none_extra : count_by (λ pair. not (has_reason version pairs pair)) (map.entries pairs) ≡ 0
   none_extra =

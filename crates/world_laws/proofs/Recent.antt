@@ -5,8 +5,8 @@ use Rattle.lease.specs.declared.lease.Lease.{Lease}
 use Rattle.lease.specs.Timeline.{Timeline, IsHonest, IsInForce, IsLastTwo, newest}
 use Rattle.lease.proofs.Uses.{usable_last}
 use Rattle.world.specs.declared.committed.Committed.TheVariants as committed
-use Rattle.world.specs.declared.committing.CommitFault.TheVariants as commit_fault
-use Rattle.world.specs.declared.querying.QueryRefusal.TheVariants as refusal
+use Rattle.world.specs.declared.commit.CommitFault.TheVariants as commit_fault
+use Rattle.world.specs.declared.query.QueryRefusal.TheVariants as refusal
 use Rattle.world.specs.State.{State, facts_of}
 use Rattle.world_laws.specs.Recent.{IsPublishedBy, CommitsAreRecent, QueriesAreRecent}
 

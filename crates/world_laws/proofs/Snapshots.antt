@@ -1,12 +1,12 @@
 -- What stands against no snapshot stands against no query under its lease; and the pairs that were taken agree with the rows.
 use Rattle.std.proofs.Common.{ℕ, Ok, Err, refl, arith}
 use Rattle.lease.specs.declared.lease.Lease.{Lease}
-use Rattle.listed.specs.Refusal.{IsClear}
+use Rattle.collections.specs.Refusal.{IsClear}
 use Rattle.row_query.specs.declared.query.Query.{Query}
 use Rattle.row_query.proofs.Unique.{sound_clear}
-use Rattle.world.specs.declared.querying.QueryRefusal.TheVariants as refusal
+use Rattle.world.specs.declared.query.QueryRefusal.TheVariants as refusal
 use Rattle.world.specs.declared.snapshot.SnapshotFault.TheVariants as snapshot_fault
-use Rattle.world.specs.Snapshots.{SnapshotCondition}
+use Rattle.world.specs.Snapshot.{SnapshotCondition}
 use Rattle.world.specs.State.{State, facts_of}
 use Rattle.world.proofs.Queries.{NoneBelow, last, clear, faulty_at}
 use Rattle.world_laws.specs.Snapshots.{SnapshotsAnswerTheirLog, SnapshotsAnswerAsQueries, SnapshotsAreRecent}

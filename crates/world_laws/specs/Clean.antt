@@ -1,3 +1,4 @@
+-- Cited by the contracts of checks_are_clean.
 -- What an audit of the core finds.
 use Rattle.std.specs.Prelude.{◌≡◌, length}
 use Rattle.std.specs.FinMap as map

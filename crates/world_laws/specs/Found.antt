@@ -1,3 +1,4 @@
+-- Cited by the contracts of publications_find_exact.
 -- What a publication finds: the pairs are already what the next version demands.
 use Rattle.std.specs.Prelude.{◌≡◌, ℕ, ◌≤◌, List, Some, Ok}
 use Rattle.lease.specs.Timeline.{IsValid}
@@ -11,7 +12,7 @@ use Rattle.element_state.specs.Kinds.{kind_meaning}
 use Rattle.element_state.specs.Sources.{source_in}
 use Rattle.element_state.specs.Tables.{within}
 use Rattle.world.specs.declared.entry.Receipt.{Receipt}
-use Rattle.world.specs.Publishing.{PublishAt}
+use Rattle.world.specs.Publish.{PublishAt}
 use Rattle.world.specs.State.{State, facts_of, Agrees}
 
 -- an accepted publication; the state after it has a valid timeline, and pairs that agree with the rows

@@ -1,3 +1,4 @@
+-- Cited by the contracts of commits_are_recent.
 -- What runs under a lease runs on one of the last two versions.
 use Rattle.std.specs.Prelude.{ℕ, ◌≤◌, List, Ok}
 use Rattle.lease.specs.declared.lease.Lease.{Lease}
@@ -7,7 +8,7 @@ use Rattle.row_query.specs.declared.query.Query.{Query}
 use Rattle.row_write.specs.Made.{PreparedTxn}
 use Rattle.world.specs.declared.committed.Committed.{Committed}
 use Rattle.world.specs.Calls.{CommitAt}
-use Rattle.world.specs.Querying.{QueryAt}
+use Rattle.world.specs.Query.{QueryAt}
 use Rattle.world.specs.State.{State, facts_of}
 
 -- the versions were published in turn, the newest one by this moment

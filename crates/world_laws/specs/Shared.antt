@@ -1,3 +1,4 @@
+-- Cited by the contracts of shared_answers_are_lawful.
 -- The laws of the core, of what is answered through the lock of a shared world: each speaks of the very state in which the call was answered.
 use Rattle.std.specs.Prelude.{◌≡◌, ℕ, ◌≤◌, List, Some, Result, Ok, IfOk}
 use Rattle.std.specs.declared.alloc.AllocError.{AllocError}
@@ -5,7 +6,7 @@ use Rattle.audit.specs.declared.report.CheckReport.{CheckReport}
 use Rattle.element_state.specs.Consistent.{IsConsistent}
 use Rattle.element_state.specs.Elements.{Empty, Exact}
 use Rattle.element_state.specs.Kinds.{kind_meaning}
-use Rattle.element_state.specs.Seen.{seen}
+use Rattle.element_state.specs.Visible.{visible_rows}
 use Rattle.element_state.specs.Sources.{source_in}
 use Rattle.element_state.specs.Tables.{within}
 use Rattle.lease.specs.declared.lease.Lease.{Lease}
@@ -19,15 +20,15 @@ use Rattle.schema_version.specs.declared.element.ElementState.TheVariants.{Absen
 use Rattle.schema_version.specs.declared.step.Move.{Move}
 use Rattle.schema_version.specs.Version.{element_at, state_of}
 use Rattle.world.specs.declared.committed.Committed.{Committed}
-use Rattle.world.specs.declared.committing.CommitFault.{CommitFault}
+use Rattle.world.specs.declared.commit.CommitFault.{CommitFault}
 use Rattle.world.specs.declared.entry.Receipt.{Receipt}
-use Rattle.world.specs.declared.publishing.PublishFault.{PublishFault}
-use Rattle.world.specs.declared.querying.QueryRefusal.{QueryRefusal}
+use Rattle.world.specs.declared.publish.PublishFault.{PublishFault}
+use Rattle.world.specs.declared.query.QueryRefusal.{QueryRefusal}
 use Rattle.world.specs.declared.snapshot.SnapshotFault.{SnapshotFault}
 use Rattle.world.specs.Calls.{CommitStep, IsCheck}
-use Rattle.world.specs.Publishing.{PublishStep}
-use Rattle.world.specs.Querying.{QueryStep}
-use Rattle.world.specs.Snapshots.{Taken, SnapshotStep, IsSnapshotAnswer}
+use Rattle.world.specs.Publish.{PublishStep}
+use Rattle.world.specs.Query.{QueryStep}
+use Rattle.world.specs.Snapshot.{Taken, SnapshotStep, IsSnapshotAnswer}
 use Rattle.world.specs.State.{State, facts_of}
 use Rattle.locked_store.specs.Answers.{Answers, AnswersBack, no_place, commit_place, publish_place}
 use Rattle.locked_store.specs.declared.fault.SharedFault.{SharedFault}
@@ -73,7 +74,7 @@ SharedSnapshotsAreRecent = (opening : Opening) (v w : Known) (moment : ℕ) (lea
 abbrev pub SharedSnapshotsAnswerTheirLog : Type 0
 SharedSnapshotsAnswerTheirLog =
     (opening : Opening) (v w : Known) (moment : ℕ) (lease : Lease) (taken : Taken) (query : Query) (found : List Row) (a : Taking opening v moment lease taken w)
-    → IsSnapshotAnswer taken query (Ok found) → found ≡ plain_answer (seen taken.version (facts_of a.0).rows) query
+    → IsSnapshotAnswer taken query (Ok found) → found ≡ plain_answer (visible_rows taken.version (facts_of a.0).rows) query
 
 -- an audit finds nothing missing and nothing without a reason, and counts the rows of the log
 abbrev pub SharedChecksAreClean : Type 0

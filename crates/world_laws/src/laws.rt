@@ -30,9 +30,9 @@ pub fn publications_find_exact()
 /// An audit finds the store clean: no pair is missing, none is there without a reason, and it counts as many rows as the
 /// log has.
 ///
-/// The premises are told of every World by `World::timeline` (a valid timeline, with the newest version published at the
-/// moment of the last entry or before), by `World::agrees` (the pairs agree with the rows), and by `Schema::known` of what
-/// `World::newest` gives (a sound version).
+/// The premises are reported of every World by `World::timeline` (a valid timeline, with the newest
+/// version published at the moment of the last entry or before), by `World::agrees` (the pairs
+/// agree with the rows), and by `Schema::known` of what `World::newest` gives (a sound version).
 pub fn checks_are_clean()
     ensures { ChecksAreClean }
 {}

@@ -2,7 +2,7 @@
 
 use crate::fixtures::{a_is_5, are_1_and_3, entering, going};
 use crate::pieces::{Refusal, begins, commits, piece, piece_by_hand};
-use crate::told::{Told, judged};
+use crate::reported::{Reported, judged};
 use crate::transactions::{inserts, lets_go};
 use lease::Lease;
 use reorganise::{PreparedPiece, Work};
@@ -45,7 +45,7 @@ pub(crate) enum Act {
     Commit(Result<(), Refusal>),
     /// How the reorganisation of the index stands.
     Stand(Option<(Work, usize, bool)>),
-    /// The state of the index in a version, none where the version is not to be had.
+    /// The state of the index in a version, none if the version is not to be had.
     State(u64, Option<ElementState>),
     /// So many rows, with no pair missing and none without a reason.
     Check(u64),
@@ -59,47 +59,47 @@ pub(crate) struct Kept {
     pub(crate) aside: Option<PreparedPiece>,
 }
 
-fn leases(alloc: Global, world: &mut World, lease: Lease) -> Told {
+fn leases(alloc: Global, world: &mut World, lease: Lease) -> Reported {
     match world.lease(alloc, lease.granted) {
         Ok(grant) => judged(grant.lease == lease),
-        Err(GrantFault::Memory) => Told::Short,
-        Err(_) => Told::Wrong,
+        Err(GrantFault::Memory) => Reported::Short,
+        Err(_) => Reported::Wrong,
     }
 }
 
-fn finds(alloc: Global, world: &World, lease: Lease) -> Told {
+fn finds(alloc: Global, world: &World, lease: Lease) -> Reported {
     let Ok(query) = a_is_5(alloc) else {
-        return Told::Short;
+        return Reported::Short;
     };
     match world.query(alloc, 9, &lease, &query) {
         Ok(rows) => judged(are_1_and_3(rows.as_slice())),
-        Err(QueryRefusal::Query(QueryFault::Memory)) => Told::Short,
-        Err(_) => Told::Wrong,
+        Err(QueryRefusal::Query(QueryFault::Memory)) => Reported::Short,
+        Err(_) => Reported::Wrong,
     }
 }
 
-fn keeps(world: &World, kept: &mut Option<Snapshot>, lease: Lease) -> Told {
+fn keeps(world: &World, kept: &mut Option<Snapshot>, lease: Lease) -> Reported {
     match world.snapshot(9, &lease) {
         Ok(snapshot) => {
             *kept = Some(snapshot);
-            Told::Right
+            Reported::Right
         }
-        Err(SnapshotFault::Memory) => Told::Short,
-        Err(_) => Told::Wrong,
+        Err(SnapshotFault::Memory) => Reported::Short,
+        Err(_) => Reported::Wrong,
     }
 }
 
-fn looks(alloc: Global, kept: &Option<Snapshot>) -> Told {
+fn looks(alloc: Global, kept: &Option<Snapshot>) -> Reported {
     let Some(snapshot) = kept else {
-        return Told::Wrong;
+        return Reported::Wrong;
     };
     let Ok(query) = a_is_5(alloc) else {
-        return Told::Short;
+        return Reported::Short;
     };
     match snapshot.query(alloc, &query) {
         Ok(rows) => judged(are_1_and_3(rows.as_slice())),
-        Err(QueryFault::Memory) => Told::Short,
-        Err(_) => Told::Wrong,
+        Err(QueryFault::Memory) => Reported::Short,
+        Err(_) => Reported::Wrong,
     }
 }
 
@@ -109,30 +109,33 @@ fn publishes(
     moment: u64,
     step: Result<Step, AllocError>,
     wanted: &Result<u64, PublishFault>,
-) -> Told {
+) -> Reported {
     let Ok(step) = step else {
-        return Told::Short;
+        return Reported::Short;
     };
     match world.publish(alloc, moment, &step) {
         Ok((version, _)) => judged(*wanted == Ok(version)),
-        Err(PublishFault::Memory) => Told::Short,
+        Err(PublishFault::Memory) => Reported::Short,
         Err(fault) => judged(*wanted == Err(fault)),
     }
 }
 
-fn keeps_piece(kept: &mut Option<PreparedPiece>, piece: Result<PreparedPiece, Told>) -> Told {
+fn keeps_piece(
+    kept: &mut Option<PreparedPiece>,
+    piece: Result<PreparedPiece, Reported>,
+) -> Reported {
     match piece {
         Ok(piece) => {
             *kept = Some(piece);
-            Told::Right
+            Reported::Right
         }
-        Err(told) => told,
+        Err(reported) => reported,
     }
 }
 
-fn swaps(kept: &mut Kept) -> Told {
+fn swaps(kept: &mut Kept) -> Reported {
     mem::swap(&mut kept.piece, &mut kept.aside);
-    Told::Right
+    Reported::Right
 }
 
 fn state_in(world: &World, version: u64) -> Option<ElementState> {
@@ -140,15 +143,15 @@ fn state_in(world: &World, version: u64) -> Option<ElementState> {
     Some(schema.get().state(2))
 }
 
-fn checks(alloc: Global, world: &World, rows: u64) -> Told {
+fn checks(alloc: Global, world: &World, rows: u64) -> Reported {
     match world.check(alloc) {
         Ok(found) => judged((found.rows, found.missing, found.extra) == (rows, 0, 0)),
-        Err(AllocError) => Told::Short,
+        Err(AllocError) => Reported::Short,
     }
 }
 
 /// What comes of an act.
-pub(crate) fn acted(alloc: Global, world: &mut World, kept: &mut Kept, act: &Act) -> Told {
+pub(crate) fn acted(alloc: Global, world: &mut World, kept: &mut Kept, act: &Act) -> Reported {
     match act {
         Act::Lease(lease) => leases(alloc, world, *lease),
         Act::Insert(lease, row) => inserts(alloc, world, lease.version, *lease, *row),

@@ -64,7 +64,8 @@ fn accepted(replies: &[Reply]) -> Option<usize> {
     if is_short { Some(accepted) } else { None }
 }
 
-// Whether there is one reply for each event, and three entries; none where memory was short and no event that was refused has an entry.
+// Whether there is one reply for each event, and three entries; none if memory was short and no
+// event that was refused has an entry.
 fn judged(world: &World, replies: &[Reply]) -> Option<bool> {
     let entries = world.log().len();
     if replies.len() == 4 && accepted(replies) == Some(entries) {

@@ -1,8 +1,8 @@
 //! The worked table, its operations, a query and its steps. Element 1 is the column a, element 2 the index that enters.
 
+use collections::List;
 use keycode::{Text, Value};
 use lease::Lease;
-use listed::Listed;
 use row_map::{ColumnType, Row};
 use row_query::{Cond, Query};
 use row_write::{RowOp, RowOps};
@@ -27,8 +27,8 @@ fn named(alloc: Global, name: &str) -> Result<Text, AllocError> {
 }
 
 // NAME int
-fn column(alloc: Global, name: &str) -> Result<Listed<(Text, ColumnType)>, AllocError> {
-    Ok(Listed::new(vec![in alloc; (named(alloc, name)?, ColumnType::Int)]?))
+fn column(alloc: Global, name: &str) -> Result<List<(Text, ColumnType)>, AllocError> {
+    Ok(List::new(vec![in alloc; (named(alloc, name)?, ColumnType::Int)]?))
 }
 
 // table t (id int key, a int)
@@ -37,13 +37,13 @@ fn table(alloc: Global) -> Result<TableDef, AllocError> {
         name: named(alloc, "t")?,
         key: column(alloc, "id")?,
         columns: column(alloc, "a")?,
-        indexes: Listed::new(Vec::new(alloc)),
+        indexes: List::new(Vec::new(alloc)),
     })
 }
 
 // That table, leases of ten moments.
 fn config(alloc: Global) -> Result<Config, AllocError> {
-    let tables = Listed::new(vec![in alloc; table(alloc)?]?);
+    let tables = List::new(vec![in alloc; table(alloc)?]?);
     Ok(Config { length: 10, tables })
 }
 
@@ -55,7 +55,7 @@ fn opened_once(alloc: Global) -> Result<World, OpenFault> {
 pub(crate) fn opened(alloc: Global) -> Result<World, OpenFault> {
     match opened_once(alloc) {
         Err(OpenFault::Memory) => opened_once(alloc),
-        told => told,
+        reported => reported,
     }
 }
 
@@ -63,10 +63,10 @@ pub(crate) fn opened(alloc: Global) -> Result<World, OpenFault> {
 pub(crate) fn insert(alloc: Global, id: i64, a: i64) -> Result<RowOps, AllocError> {
     let insert = RowOp::Insert {
         table: 1,
-        key: Listed::new(vec![in alloc; Value::Int(id)]?),
-        cells: Listed::new(vec![in alloc; (1, Value::Int(a))]?),
+        key: List::new(vec![in alloc; Value::Int(id)]?),
+        cells: List::new(vec![in alloc; (1, Value::Int(a))]?),
     };
-    Ok(Listed::new(vec![in alloc; insert]?))
+    Ok(List::new(vec![in alloc; insert]?))
 }
 
 /// select a from t where a = 5
@@ -74,8 +74,8 @@ pub(crate) fn a_is_5(alloc: Global) -> Result<Query, AllocError> {
     let value = Value::Int(5);
     Ok(Query {
         table: 1,
-        columns: Listed::new(vec![in alloc; 1]?),
-        conditions: Listed::new(vec![in alloc; Cond::Equal { column: 1, value }]?),
+        columns: List::new(vec![in alloc; 1]?),
+        conditions: List::new(vec![in alloc; Cond::Equal { column: 1, value }]?),
     })
 }
 
@@ -100,15 +100,15 @@ pub(crate) fn entering(alloc: Global, name: &str) -> Result<Step, AllocError> {
     let fresh = NewElement {
         table: 1,
         name: named(alloc, name)?,
-        kind: Kind::Index(Listed::new(vec![in alloc; 1u32]?)),
+        kind: Kind::Index(List::new(vec![in alloc; 1u32]?)),
     };
     let to = ElementState::DeleteOnly;
-    Ok(Listed::new(vec![in alloc; Move::Enter { fresh, to }]?))
+    Ok(List::new(vec![in alloc; Move::Enter { fresh, to }]?))
 }
 
 /// move ELEMENT to STATE
 pub(crate) fn going(alloc: Global, element: u32, to: ElementState) -> Result<Step, AllocError> {
-    Ok(Listed::new(vec![in alloc; Move::Go { element, to }]?))
+    Ok(List::new(vec![in alloc; Move::Go { element, to }]?))
 }
 
 /// Whether a step is published.

@@ -2,8 +2,8 @@
 
 use crate::fixtures::{entering, going, is_published, opened};
 use byte_map::KeyMap;
+use collections::{ArcValue, List};
 use lease::Lease;
-use listed::{Counted, Listed};
 use row_write::{Prepared, prepare};
 use schema_version::ElementState::WriteOnly;
 use schema_version::Schema;
@@ -31,9 +31,9 @@ fn is_honest(published: &[u64], now: u64, lease: Lease) -> bool {
 }
 
 // A transaction of no operations under the lease.
-fn nothing(alloc: Global, schema: &Counted<Schema>, lease: Lease) -> Option<Prepared> {
+fn nothing(alloc: Global, schema: &ArcValue<Schema>, lease: Lease) -> Option<Prepared> {
     let schema = schema.clone().ok()?;
-    let ops = Listed::new(Vec::new(alloc));
+    let ops = List::new(Vec::new(alloc));
     prepare(alloc, schema, lease, ops, KeyMap::new(alloc)).ok()
 }
 
@@ -54,9 +54,15 @@ fn is_right(
     match answer {
         Ok(Committed::Done(_)) => serves && newest,
         Err((CommitFault::WrongSchema, _)) => serves && !newest,
-        Err((CommitFault::LeaseEnded { until, now: told }, _)) => {
-            honest && !serves && *until == lease.until && *told == now
-        }
+        Err(
+            (
+                CommitFault::LeaseEnded {
+                    until,
+                    now: reported,
+                },
+                _,
+            ),
+        ) => { honest && !serves && *until == lease.until && *reported == now }
         Err((CommitFault::BadLease, _)) => !honest,
         _ => false,
     }
@@ -98,8 +104,9 @@ fn are_answered(alloc: Global, world: &mut World, published: &[u64], moments: (u
     true
 }
 
-// Version 1 alone, then the index delete-only from 10 on, then write-only from 20 on. How many entries there are is told by the
-// commits that are to be accepted: 1 at moment 0, 10 at 10, 1 behind the first publication, 10 at 20, 1 behind the second, 10 at 30.
+// Version 1 alone, then the index delete-only from 10 on, then write-only from 20 on. How many
+// entries there are is reported by the commits that are to be accepted: 1 at moment 0, 10 at 10, 1
+// after the first publication, 10 at 20, 1 after the second, 10 at 30.
 fn are_all_answered(alloc: Global, world: &mut World) -> bool {
     are_answered(alloc, world, &[0], (0, 0))
         && are_answered(alloc, world, &[0], (10, 10))

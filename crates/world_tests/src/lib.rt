@@ -12,7 +12,7 @@ mod leases;
 #[cfg(test)]
 mod pieces;
 #[cfg(test)]
-mod told;
+mod reported;
 #[cfg(test)]
 mod transactions;
 #[cfg(test)]

@@ -1,6 +1,6 @@
 //! Pieces of reorganisations: of a world's own, and made by hand.
 
-use crate::told::{Told, judged, seen};
+use crate::reported::{Reported, judged, seen};
 use reorganise::{PieceView, PreparedPiece, Progress, ViewFault, Work, prepare_piece};
 use std::alloc::{AllocError, Global};
 use world::{BeginFault, PieceDone, PieceFault, ReadFault, World};
@@ -20,40 +20,40 @@ pub(crate) fn begins(
     element: u32,
     pieces: u32,
     wanted: &Result<(), BeginFault>,
-) -> Told {
+) -> Reported {
     match world.begin_reorg(alloc, 30, element, pieces) {
         Ok(_) => judged(wanted.is_ok()),
-        Err(BeginFault::Memory) => Told::Short,
+        Err(BeginFault::Memory) => Reported::Short,
         Err(fault) => judged(*wanted == Err(fault)),
     }
 }
 
 // What is prepared of a piece that was read, which comes back where memory was short.
-fn piece_of(alloc: Global, view: PieceView) -> Result<PreparedPiece, Told> {
+fn piece_of(alloc: Global, view: PieceView) -> Result<PreparedPiece, Reported> {
     match prepare_piece(alloc, view) {
         Ok(piece) => Ok(piece),
         Err((AllocError, view)) => match prepare_piece(alloc, view) {
             Ok(piece) => Ok(piece),
-            Err(_) => Err(Told::Wrong),
+            Err(_) => Err(Reported::Wrong),
         },
     }
 }
 
 // What is prepared of what was read.
-fn prepared(alloc: Global, view: Result<PieceView, ViewFault>) -> Result<PreparedPiece, Told> {
+fn prepared(alloc: Global, view: Result<PieceView, ViewFault>) -> Result<PreparedPiece, Reported> {
     match view {
         Ok(view) => piece_of(alloc, view),
-        Err(ViewFault::Memory) => Err(Told::Short),
-        Err(_) => Err(Told::Wrong),
+        Err(ViewFault::Memory) => Err(Reported::Short),
+        Err(_) => Err(Reported::Wrong),
     }
 }
 
 /// The one piece of the fill of element 2, prepared.
-pub(crate) fn piece(alloc: Global, world: &World) -> Result<PreparedPiece, Told> {
+pub(crate) fn piece(alloc: Global, world: &World) -> Result<PreparedPiece, Reported> {
     match world.read_piece(alloc, 2, 0, 10) {
         Ok(view) => prepared(alloc, Ok(view)),
         Err(ReadFault::View(fault)) => prepared(alloc, Err(fault)),
-        Err(ReadFault::NotWanted) => Err(Told::Wrong),
+        Err(ReadFault::NotWanted) => Err(Reported::Wrong),
     }
 }
 
@@ -69,9 +69,9 @@ pub(crate) fn piece_by_hand(
     alloc: Global,
     world: &World,
     kind: Work,
-) -> Result<PreparedPiece, Told> {
+) -> Result<PreparedPiece, Reported> {
     let Ok(progress) = progress_by_hand(alloc, world, kind) else {
-        return Err(Told::Short);
+        return Err(Reported::Short);
     };
     let view = progress.read_piece(alloc, world, 0, 10);
     prepared(alloc, view)
@@ -91,7 +91,7 @@ fn committed(
             }
             world.commit_piece(alloc, 30, piece)
         }
-        told => told,
+        reported => reported,
     }
 }
 
@@ -110,9 +110,9 @@ pub(crate) fn commits(
     world: &mut World,
     kept: &mut Option<PreparedPiece>,
     wanted: &Result<(), Refusal>,
-) -> Told {
+) -> Reported {
     let Some(piece) = kept.take() else {
-        return Told::Wrong;
+        return Reported::Wrong;
     };
     match committed(alloc, world, piece) {
         Ok(done) => judged(done.ended && wanted.is_ok()),

@@ -1,9 +1,9 @@
 //! Transactions on one world.
 
 use crate::fixtures::insert;
-use crate::told::{Told, judged, seen};
+use crate::reported::{Reported, judged, seen};
+use collections::ArcValue;
 use lease::Lease;
-use listed::Counted;
 use row_map::ReadView;
 use row_write::{PrepareFault, Prepared, RowOps, prepare, reads_of};
 use schema_version::Schema;
@@ -25,20 +25,20 @@ fn view_of(
 fn work_of(
     alloc: Global,
     world: &World,
-    schema: &Counted<Schema>,
+    schema: &ArcValue<Schema>,
     lease: Lease,
     ops: RowOps,
-) -> Result<Prepared, Told> {
+) -> Result<Prepared, Reported> {
     let Ok(view) = view_of(alloc, world, schema.get(), &ops) else {
-        return Err(Told::Short);
+        return Err(Reported::Short);
     };
     let Ok(schema) = schema.clone() else {
-        return Err(Told::Short);
+        return Err(Reported::Short);
     };
     match prepare(alloc, schema, lease, ops, view) {
         Ok(work) => Ok(work),
-        Err((PrepareFault::Memory, _)) => Err(Told::Short),
-        Err(_) => Err(Told::Wrong),
+        Err((PrepareFault::Memory, _)) => Err(Reported::Short),
+        Err(_) => Err(Reported::Wrong),
     }
 }
 
@@ -49,12 +49,12 @@ fn prepared(
     version: u64,
     lease: Lease,
     row: (i64, i64),
-) -> Result<Prepared, Told> {
+) -> Result<Prepared, Reported> {
     let Some(schema) = world.schema(version) else {
-        return Err(Told::Wrong);
+        return Err(Reported::Wrong);
     };
     let Ok(ops) = insert(alloc, row.0, row.1) else {
-        return Err(Told::Short);
+        return Err(Reported::Short);
     };
     work_of(alloc, world, schema, lease, ops)
 }
@@ -73,12 +73,12 @@ fn committed(
             }
             world.commit(alloc, 0, work)
         }
-        told => told,
+        reported => reported,
     }
 }
 
 // A commit is done, but refused for its schema where it is strange.
-fn told_of(answer: &Result<Committed, (CommitFault, Prepared)>, is_strange: bool) -> Told {
+fn reported_of(answer: &Result<Committed, (CommitFault, Prepared)>, is_strange: bool) -> Reported {
     judged(match answer {
         Ok(Committed::Done(_)) => !is_strange,
         Err((CommitFault::WrongSchema, _)) => is_strange,
@@ -93,23 +93,23 @@ pub(crate) fn inserts(
     version: u64,
     lease: Lease,
     row: (i64, i64),
-) -> Told {
+) -> Reported {
     let work = match prepared(alloc, world, version, lease, row) {
         Ok(work) => work,
-        Err(told) => return told,
+        Err(reported) => return reported,
     };
     let answer = committed(alloc, world, work);
-    told_of(&answer, version != lease.version)
+    reported_of(&answer, version != lease.version)
 }
 
 /// An insert that is prepared and let go before it is committed: the world stands as before.
-pub(crate) fn lets_go(alloc: Global, world: &World, lease: Lease, row: (i64, i64)) -> Told {
+pub(crate) fn lets_go(alloc: Global, world: &World, lease: Lease, row: (i64, i64)) -> Reported {
     let before = seen(world);
     match prepared(alloc, world, lease.version, lease, row) {
         Ok(work) => {
             drop(work);
             judged(seen(world) == before)
         }
-        Err(told) => told,
+        Err(reported) => reported,
     }
 }

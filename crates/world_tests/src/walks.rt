@@ -4,7 +4,7 @@
 use crate::acts::{Act, Kept, acted};
 use crate::fixtures::{FIRST, mark, opened};
 use crate::pieces::Refusal::{Moved, NotWanted, WrongElement};
-use crate::told::{Told, seen};
+use crate::reported::{Reported, seen};
 use Act::{
     Begin, ByHand, Check, Commit, Enter, Find, Go, Insert, Keep, LetGo, Look, Read, Stand, State,
     Strange, Swap,
@@ -19,14 +19,15 @@ use world::{BeginFault, PublishFault, World};
 // An act, and how many entries there are then.
 type Row = (Act, usize);
 
-// Whether an act is answered as it has to be. Where memory was short the world stands as before, and it is asked once more.
+// Whether an act is answered as it has to be. If memory was short the world stands as before, and
+// it is asked once more.
 fn is_right(alloc: Global, world: &mut World, kept: &mut Kept, act: &Act) -> bool {
     let before = seen(world);
-    let told = match acted(alloc, world, kept, act) {
-        Told::Short if seen(world) == before => acted(alloc, world, kept, act),
-        told => told,
+    let reported = match acted(alloc, world, kept, act) {
+        Reported::Short if seen(world) == before => acted(alloc, world, kept, act),
+        reported => reported,
     };
-    matches!(told, Told::Right)
+    matches!(reported, Reported::Right)
 }
 
 // How many of the acts are, up to the first that is not.
@@ -130,9 +131,10 @@ static OTHER: [Row; 6] = [
     (Read, 5),
 ];
 
-// It is refused before a fill has begun and after. The refusals of a begin stand in their order: a bad count comes before a fill that
-// has begun only where none has. Of two readings of the world's own piece the second has moved when the first is committed. The fill
-// puts the row's pair, and only then may the index become public.
+// It is refused before a fill has begun and after. The refusals of a begin are in their order: a
+// bad count comes before a fill that has begun only if none has. Of two readings of the world's own
+// piece the second has moved when the first is committed. The fill puts the row's pair, and only
+// then may the index become public.
 static FILL: [Row; 23] = [
     (Commit(Err(NotWanted)), 0),
     (Act::Lease(FIRST), 1),

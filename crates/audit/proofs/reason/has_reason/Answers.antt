@@ -3,14 +3,14 @@ use Rattle.audit.proofs.Elements.{made_numbered}
 use Rattle.audit.proofs.reason.has_reason.Goals as goal
 
 pub is_index-requires-clause-made : goal.is_index-requires-clause-made
-is_index-requires-clause-made g c = (made_numbered c.args.schema.now c.args.elements.now c.requires.made c.in-Some-Index.element _ c.numbered-found-in-Some-Index.ensures).1
+is_index-requires-clause-made g c = (made_numbered c.args.schema.now c.args.elements.now c.requires.made c.in-Some-Index.element _ c.find_element-found-in-Some-Index.ensures).1
 
 pub returns-in-Some-Column : goal.returns-in-Some-Column
 returns-in-Some-Column g c =
-    let e = (made_numbered c.args.schema.now c.args.elements.now c.requires.made c.in-Some-Column.element _ c.numbered-found.ensures).0 in
+    let e = (made_numbered c.args.schema.now c.args.elements.now c.requires.made c.in-Some-Column.element _ c.find_element-found.ensures).0 in
     search rules
 
 pub returns-in-Some-Index : goal.returns-in-Some-Index
 returns-in-Some-Index g c =
-    let e = (made_numbered c.args.schema.now c.args.elements.now c.requires.made c.in-Some-Index.element _ c.numbered-found-in-Some-Index.ensures).0 in
+    let e = (made_numbered c.args.schema.now c.args.elements.now c.requires.made c.in-Some-Index.element _ c.find_element-found-in-Some-Index.ensures).0 in
     search rules

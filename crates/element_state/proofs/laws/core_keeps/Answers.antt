@@ -1,9 +1,9 @@
 use Rattle.element_state.proofs.Whole.{commit_all_kept, begin_kept}
-use Rattle.element_state.proofs.Publishing.{publish_kept}
+use Rattle.element_state.proofs.Publications.{publish_kept}
 use Rattle.element_state.proofs.Reaches.{fill_puts_kept}
 use Rattle.element_state.proofs.Opening.{opened_holds}
 use Rattle.element_state.specs.Versions.{the_kinds}
-use Rattle.element_state.proofs.Clearing.{clear_keeps}
+use Rattle.element_state.proofs.Clears.{clear_keeps}
 use Rattle.element_state.proofs.laws.core_keeps.Goals as goal
 
 pub returns-clause-opening : goal.returns-clause-opening

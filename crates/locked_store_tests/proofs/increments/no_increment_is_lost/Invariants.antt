@@ -4,5 +4,5 @@ use Rattle.locked_store_tests.proofs.increments.no_increment_is_lost.Given as go
 abbrev pub ghosts-both_at_once-L-Ledger : goal.ghosts-both_at_once-L-Ledger
 ghosts-both_at_once-L-Ledger g a = record { name = a.blank.name; parts = a.blank.parts }
 
-abbrev pub ghosts-both_at_once-L-Room : goal.ghosts-both_at_once-L-Room
-ghosts-both_at_once-L-Room g a = record { handles = a.blank.parts; opening = a.world.opening; since = length a.world.log }
+abbrev pub ghosts-both_at_once-L-SharedLedger : goal.ghosts-both_at_once-L-SharedLedger
+ghosts-both_at_once-L-SharedLedger g a = record { handles = a.blank.parts; opening = a.world.opening; since = length a.world.log }

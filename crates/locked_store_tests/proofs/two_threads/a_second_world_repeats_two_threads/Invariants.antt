@@ -4,5 +4,5 @@ use Rattle.locked_store_tests.proofs.two_threads.a_second_world_repeats_two_thre
 abbrev pub ghosts-two_at_once-L-Ledger : goal.ghosts-two_at_once-L-Ledger
 ghosts-two_at_once-L-Ledger g a = record { name = a.blank.name; parts = a.blank.parts }
 
-abbrev pub ghosts-two_at_once-L-Room : goal.ghosts-two_at_once-L-Room
-ghosts-two_at_once-L-Room g a = record { handles = a.blank.parts; opening = a.world.opening; since = length a.world.log }
+abbrev pub ghosts-two_at_once-L-SharedLedger : goal.ghosts-two_at_once-L-SharedLedger
+ghosts-two_at_once-L-SharedLedger g a = record { handles = a.blank.parts; opening = a.world.opening; since = length a.world.log }

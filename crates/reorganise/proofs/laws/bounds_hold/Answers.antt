@@ -1,4 +1,4 @@
-use Rattle.reorganise.proofs.Bounding.{begins_at_bounds, bounds_stay, comes_to_bound}
+use Rattle.reorganise.proofs.Bounds.{begins_at_bounds, bounds_stay, comes_to_bound}
 use Rattle.reorganise.proofs.laws.bounds_hold.Goals as goal
 
 pub returns-clause-begin : goal.returns-clause-begin

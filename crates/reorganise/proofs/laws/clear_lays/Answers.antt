@@ -1,4 +1,4 @@
-use Rattle.reorganise.proofs.Clearing.{clear_lays as law}
+use Rattle.reorganise.proofs.Clears.{clear_lays as law}
 use Rattle.reorganise.proofs.laws.clear_lays.Goals as goal
 
 pub returns : goal.returns

@@ -1,4 +1,4 @@
-use Rattle.reorganise.proofs.Bounding.{begins_fresh, cursor_stands, cursor_moves, join_stays}
+use Rattle.reorganise.proofs.Bounds.{begins_fresh, cursor_stands, cursor_moves, join_stays}
 use Rattle.reorganise.proofs.laws.cursors_pass.Goals as goal
 
 pub returns-clause-fresh : goal.returns-clause-fresh

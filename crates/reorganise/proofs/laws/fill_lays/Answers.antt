@@ -1,4 +1,4 @@
-use Rattle.reorganise.proofs.Filling.{fill_lays as law}
+use Rattle.reorganise.proofs.Fills.{fill_lays as law}
 use Rattle.reorganise.proofs.laws.fill_lays.Goals as goal
 
 pub returns : goal.returns

@@ -1,4 +1,4 @@
-use Rattle.reorganise.proofs.Bounding.{pieces_join, pieces_end}
+use Rattle.reorganise.proofs.Bounds.{pieces_join, pieces_end}
 use Rattle.reorganise.proofs.laws.pieces_share.Goals as goal
 
 pub returns-clause-join : goal.returns-clause-join

@@ -1,4 +1,4 @@
-use Rattle.reorganise.proofs.Bounding.{fill_range, clear_range, clear_is_of_kind}
+use Rattle.reorganise.proofs.Bounds.{fill_range, clear_range, clear_is_of_kind}
 use Rattle.reorganise.proofs.laws.ranges_are.Goals as goal
 
 pub returns-clause-fill : goal.returns-clause-fill

@@ -1,4 +1,4 @@
-use Rattle.replay.proofs.Piecework.{pieces_keep}
+use Rattle.replay.proofs.Pieces.{pieces_keep}
 use Rattle.replay.proofs.laws.pieces_keep.Goals as goal
 
 pub returns : goal.returns

@@ -4,7 +4,7 @@ use Rattle.schema_version.specs.Sound.{IsSoundVersion}
 use Rattle.schema_version.specs.Version.{live}
 use Rattle.world.specs.State.{facts_of}
 use Rattle.rollout.specs.Due.{MayBegin}
-use Rattle.rollout.proofs.Searching.{NoneIn, one_more, none_at_all, begin_there}
+use Rattle.rollout.proofs.Searches.{NoneIn, one_more, none_at_all, begin_there}
 use Rattle.rollout.proofs.candidates.find_begin.Goals as goal
 
 pub loop-element-preserved : goal.loop-element-preserved
@@ -15,5 +15,5 @@ loop-element-preserved c =
 pub returns : goal.returns
 returns c =
     let newest_is = c.get-schema.ensures ∙ c.newest.ensures in
-    none_at_all (facts_of c.args.world.now).newest (MayBegin (facts_of c.args.world.now) c.args.now) (subst IsSoundVersion newest_is c.known.ensures) (begin_there (facts_of c.args.world.now) c.args.now)
+    none_at_all (facts_of c.args.world.now).newest (MayBegin (facts_of c.args.world.now) c.args.now) (subst IsSoundVersion newest_is c.lemma_known.ensures) (begin_there (facts_of c.args.world.now) c.args.now)
     (subst (NoneIn (MayBegin (facts_of c.args.world.now) c.args.now)) (take_all c.loop-element.element-index c.elements-element-items.result.now c.loop-element-test.false ∙ c.elements-element-items.ensures ∙ ap live newest_is) c.loop-element.invariant)

@@ -1,7 +1,7 @@
 use Rattle.std.proofs.Common.{take}
 use Rattle.world.specs.State.{facts_of}
 use Rattle.rollout.specs.Due.{MayBegin}
-use Rattle.rollout.proofs.Searching.{NoneIn}
+use Rattle.rollout.proofs.Searches.{NoneIn}
 use Rattle.rollout.proofs.candidates.find_begin.Given as goal
 
 abbrev pub invariant-loop-element : goal.invariant-loop-element

@@ -2,7 +2,7 @@ use Rattle.std.proofs.Common.{◌∙◌, sym, ap}
 use Rattle.std.specs.Option.{option_copied}
 use Rattle.schema_version.specs.Version.{element_at}
 use Rattle.world.specs.State.{facts_of}
-use Rattle.rollout.proofs.Searching.{open_decides}
+use Rattle.rollout.proofs.Searches.{open_decides}
 use Rattle.rollout.proofs.candidates.is_open.Goals as goal
 
 pub returns-in-Some-progress : goal.returns-in-Some-progress

@@ -1,6 +1,6 @@
 use Rattle.std.proofs.Common.{◌∙◌, Err, ap, sym, subst, arith}
 use Rattle.std.proofs.lemmas.Result.{err_from_is_err_and}
-use Rattle.world.specs.Calls.{counted}
+use Rattle.world.specs.Calls.{effective_moment}
 use Rattle.world.specs.State.{facts_of}
 use Rattle.rollout.specs.Due.{IsDue}
 use Rattle.rollout.proofs.Carried.{IsCarried, begin_next, step_next, work_next, some_turns, complete_step, memory_step, refused_step, nothing_step}
@@ -31,11 +31,11 @@ returns-in_err-begin-in-Begin c =
 
 pub acts-smaller-in-Begin : goal.acts-smaller-in-Begin
 acts-smaller-in-Begin c =
-    (begin_next c.args.world.now c.acts.world c.begin.new.world c.acts.now c.in-Begin.element c.args.pieces c.in_ok-begin-in-Begin.field-0 c.in_ok-element.field-0 c.acts.invariant.carried c.agrees.ensures.kept c.acts.invariant.past c.in-Begin.is c.in_ok-element.ensures c.in_ok-begin-in-Begin.ensures.step).lower
+    (begin_next c.args.world.now c.acts.world c.begin.new.world c.acts.now c.in-Begin.element c.args.pieces c.in_ok-begin-in-Begin.field-0 c.in_ok-element.field-0 c.acts.invariant.carried c.lemma_agrees.ensures.kept c.acts.invariant.past c.in-Begin.is c.in_ok-element.ensures c.in_ok-begin-in-Begin.ensures.step).lower
 
 pub acts-preserved-in-Begin : goal.acts-preserved-in-Begin
 acts-preserved-in-Begin c =
-    let r = begin_next c.args.world.now c.acts.world c.begin.new.world c.acts.now c.in-Begin.element c.args.pieces c.in_ok-begin-in-Begin.field-0 c.in_ok-element.field-0 c.acts.invariant.carried c.agrees.ensures.kept c.acts.invariant.past c.in-Begin.is c.in_ok-element.ensures c.in_ok-begin-in-Begin.ensures.step in
+    let r = begin_next c.args.world.now c.acts.world c.begin.new.world c.acts.now c.in-Begin.element c.args.pieces c.in_ok-begin-in-Begin.field-0 c.in_ok-element.field-0 c.acts.invariant.carried c.lemma_agrees.ensures.kept c.acts.invariant.past c.in-Begin.is c.in_ok-element.ensures c.in_ok-begin-in-Begin.ensures.step in
     record { carried = r.carried; past = r.past; since = c.acts.invariant.since; late = λ lt. absurd (omega (arith, lt, c.if-now-gt-MAX_MOMENT.false)) }
 
 pub returns-in_err-publish-in-Publish : goal.returns-in_err-publish-in-Publish
@@ -43,25 +43,25 @@ returns-in_err-publish-in-Publish c =
     let p = err_from_is_err_and c.from_residual-in_err-publish-in-Publish.result c.from_residual-in_err-publish-in-Publish.ensures.1 in
     record {
       step = refused_step c.args.world.now c.acts.world c.publish.new.world c.args.moment c.args.pieces c.args.limit c.in_err-publish-in-Publish.field-0.0 c.from_residual-in_err-publish-in-Publish.result c.acts.invariant.carried c.in_err-publish-in-Publish.ensures.same
-          (c.are_counts.ensures.0 c.if-not-are_counts.false) (c.acts.now, (c.in-Publish.step, subst (IsDue (facts_of c.acts.world) (counted c.acts.world c.acts.now)) c.in-Publish.is c.in_ok-element.ensures)) c.in_err-publish-in-Publish.ensures.refused (p.1 ∙ ap Err p.2);
+          (c.are_counts.ensures.0 c.if-not-are_counts.false) (c.acts.now, (c.in-Publish.step, subst (IsDue (facts_of c.acts.world) (effective_moment c.acts.world c.acts.now)) c.in-Publish.is c.in_ok-element.ensures)) c.in_err-publish-in-Publish.ensures.refused (p.1 ∙ ap Err p.2);
     }
 
 pub acts-smaller-in-Publish : goal.acts-smaller-in-Publish
 acts-smaller-in-Publish c =
-    (step_next c.args.world.now c.acts.world c.publish.new.world c.acts.now c.in-Publish.step c.in_ok-publish-in-Publish.field-0 c.in_ok-element.field-0 c.acts.invariant.carried c.agrees.ensures.kept c.acts.invariant.past c.in-Publish.is c.in_ok-element.ensures c.in_ok-publish-in-Publish.ensures.step).lower
+    (step_next c.args.world.now c.acts.world c.publish.new.world c.acts.now c.in-Publish.step c.in_ok-publish-in-Publish.field-0 c.in_ok-element.field-0 c.acts.invariant.carried c.lemma_agrees.ensures.kept c.acts.invariant.past c.in-Publish.is c.in_ok-element.ensures c.in_ok-publish-in-Publish.ensures.step).lower
 
 pub acts-preserved-in-Publish : goal.acts-preserved-in-Publish
 acts-preserved-in-Publish c =
-    let r = step_next c.args.world.now c.acts.world c.publish.new.world c.acts.now c.in-Publish.step c.in_ok-publish-in-Publish.field-0 c.in_ok-element.field-0 c.acts.invariant.carried c.agrees.ensures.kept c.acts.invariant.past c.in-Publish.is c.in_ok-element.ensures c.in_ok-publish-in-Publish.ensures.step in
+    let r = step_next c.args.world.now c.acts.world c.publish.new.world c.acts.now c.in-Publish.step c.in_ok-publish-in-Publish.field-0 c.in_ok-element.field-0 c.acts.invariant.carried c.lemma_agrees.ensures.kept c.acts.invariant.past c.in-Publish.is c.in_ok-element.ensures c.in_ok-publish-in-Publish.ensures.step in
     record { carried = r.carried; past = r.past; since = c.acts.invariant.since; late = λ lt. absurd (omega (arith, lt, c.if-now-gt-MAX_MOMENT.false)) }
 
 pub acts-smaller-in-Continue-branch-5 : goal.acts-smaller-in-Continue-branch-5
 acts-smaller-in-Continue-branch-5 c =
-    (work_next c.args.world.now c.acts.world c.work_all.new.world c.acts.now c.in-Work.element c.args.limit c.in_ok-element.field-0 c.acts.invariant.carried c.agrees.ensures.kept c.acts.invariant.past c.in-Work.is c.in_ok-element.ensures c.in_ok-work_all-in-Work.ensures.turns c.in_ok-work_all-in-Work.ensures.ended).lower
+    (work_next c.args.world.now c.acts.world c.work_all.new.world c.acts.now c.in-Work.element c.args.limit c.in_ok-element.field-0 c.acts.invariant.carried c.lemma_agrees.ensures.kept c.acts.invariant.past c.in-Work.is c.in_ok-element.ensures c.in_ok-work_all-in-Work.ensures.turns c.in_ok-work_all-in-Work.ensures.ended).lower
 
 pub acts-preserved-in-Continue-branch-5 : goal.acts-preserved-in-Continue-branch-5
 acts-preserved-in-Continue-branch-5 c =
-    let r = work_next c.args.world.now c.acts.world c.work_all.new.world c.acts.now c.in-Work.element c.args.limit c.in_ok-element.field-0 c.acts.invariant.carried c.agrees.ensures.kept c.acts.invariant.past c.in-Work.is c.in_ok-element.ensures c.in_ok-work_all-in-Work.ensures.turns c.in_ok-work_all-in-Work.ensures.ended in
+    let r = work_next c.args.world.now c.acts.world c.work_all.new.world c.acts.now c.in-Work.element c.args.limit c.in_ok-element.field-0 c.acts.invariant.carried c.lemma_agrees.ensures.kept c.acts.invariant.past c.in-Work.is c.in_ok-element.ensures c.in_ok-work_all-in-Work.ensures.turns c.in_ok-work_all-in-Work.ensures.ended in
     record { carried = r.carried; past = r.past; since = c.acts.invariant.since; late = λ lt. absurd (omega (arith, lt, c.if-now-gt-MAX_MOMENT.false)) }
 
 pub returns-in_err-work_all-in-Work : goal.returns-in_err-work_all-in-Work
@@ -76,5 +76,5 @@ returns-in_err-work_all-in-Work c =
 pub returns-in-Nothing : goal.returns-in-Nothing
 returns-in-Nothing c = record {
   step = nothing_step c.args.world.now c.acts.world c.args.moment c.args.pieces c.args.limit c.acts.now c.in_ok-element.field-0 c.acts.invariant.carried
-      (c.are_counts.ensures.0 c.if-not-are_counts.false) c.agrees.ensures.kept c.in-Nothing.is c.in_ok-element.ensures c.acts.invariant.since c.acts.invariant.past (omega (arith, c.if-now-gt-MAX_MOMENT.false));
+      (c.are_counts.ensures.0 c.if-not-are_counts.false) c.lemma_agrees.ensures.kept c.in-Nothing.is c.in_ok-element.ensures c.acts.invariant.since c.acts.invariant.past (omega (arith, c.if-now-gt-MAX_MOMENT.false));
 }

@@ -1,6 +1,6 @@
 use Rattle.std.proofs.Common.{◌≤◌, ◌<◌}
 use Rattle.lease.specs.Timeline.{max_moment}
-use Rattle.world.specs.Calls.{counted}
+use Rattle.world.specs.Calls.{effective_moment}
 use Rattle.world.specs.State.{facts_of}
 use Rattle.rollout.specs.Complete.{IsTooLate}
 use Rattle.rollout.specs.Left.{all_left}
@@ -11,7 +11,7 @@ abbrev pub invariant-acts : goal.invariant-acts
 invariant-acts l = record {
   carried : IsCarried l.fn.world l.world;
   past : (facts_of l.world).moment ≤ l.now;
-  since : counted l.fn.world l.fn.moment ≤ l.now;
+  since : effective_moment l.fn.world l.fn.moment ≤ l.now;
   late : max_moment < l.now → IsTooLate l.fn.world l.fn.moment l.world;
 }
 

@@ -1,5 +1,5 @@
 use Rattle.std.proofs.Common.{◌≡◌, drop}
-use Rattle.row_query.specs.Bounds.{first_key}
+use Rattle.row_query.specs.inner.Bounds.{first_key}
 use Rattle.row_query.proofs.path.wanted_key.Given as goal
 
 abbrev pub invariant-loop-condition : goal.invariant-loop-condition

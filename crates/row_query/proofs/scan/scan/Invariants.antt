@@ -1,15 +1,15 @@
 use Rattle.std.proofs.Common.{◌≡◌, ◌++◌, length}
 use Rattle.row_map.specs.Ranges.{table_prefix}
-use Rattle.row_map.specs.Walk.{stretch}
-use Rattle.row_query.specs.Bounds.{table_end}
-use Rattle.row_query.specs.Found.{rows_at}
+use Rattle.row_map.specs.Walk.{key_range}
+use Rattle.row_query.specs.inner.Bounds.{table_end}
+use Rattle.row_query.specs.inner.Found.{rows_at}
 use Rattle.row_query.proofs.scan.scan.Given as goal
 
 -- the rows so far and those of the pairs that are left are all
 abbrev pub invariant-loop-key : goal.invariant-loop-key
 invariant-loop-key g l =
     l.rows.items ++ rows_at (g.V.PairView.pairs l.view) l.columns l.query l.walk
-    ≡ rows_at (g.V.PairView.pairs l.view) l.columns l.query (stretch (g.V.PairView.pairs l.view) (table_prefix l.query.table) (table_end l.query.table))
+    ≡ rows_at (g.V.PairView.pairs l.view) l.columns l.query (key_range (g.V.PairView.pairs l.view) (table_prefix l.query.table) (table_end l.query.table))
 
 abbrev pub decreases-loop-key : goal.decreases-loop-key
 decreases-loop-key g l = length l.walk

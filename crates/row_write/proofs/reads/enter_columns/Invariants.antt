@@ -1,5 +1,5 @@
 use Rattle.std.proofs.Common.{◌≡◌, drop}
-use Rattle.row_write.specs.Entering.{entered, column_keys}
+use Rattle.row_write.specs.inner.Enter.{entered, column_keys}
 use Rattle.row_write.proofs.reads.enter_columns.Given as goal
 
 abbrev pub invariant-loop-number : goal.invariant-loop-number

@@ -1,6 +1,6 @@
 use Rattle.std.proofs.Common.{◌≡◌, drop}
 use Rattle.std.specs.FinMap.{empty}
-use Rattle.row_write.specs.Entering.{entered_all}
+use Rattle.row_write.specs.inner.Enter.{entered_all}
 use Rattle.row_write.proofs.reads.read_set.Given as goal
 
 abbrev pub invariant-loop-op : goal.invariant-loop-op

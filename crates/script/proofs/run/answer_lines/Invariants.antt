@@ -11,10 +11,10 @@ abbrev pub invariant-loop-line : goal.invariant-loop-line
 invariant-loop-line g l = record {
   can_next : (goal.iterator-loop-line g).can_next l.line-iterator;
   is_finite : (goal.iterator-loop-line g).is_finite l.line-iterator;
-  done : (front : List (List ℕ)) × (left : List (List ℕ)) × (out : List ℕ)
+  done : (prefix : List (List ℕ)) × (left : List (List ℕ)) × (out : List ℕ)
       × YieldsList lines_steps (λ y. y.now) l.line-iterator left
-      × (lines l.text ≡ front ++ left) × (l.lines ≡ length front)
+      × (lines l.text ≡ prefix ++ left) × (l.lines ≡ length prefix)
       × Appends (g.W.Write.contents l.fn.writer) (g.W.Write.contents l.writer) out
-      × Replies empty front out l.bad l.session;
+      × Replies empty prefix out l.bad l.session;
   few : l.bad ≤ l.lines;
 }

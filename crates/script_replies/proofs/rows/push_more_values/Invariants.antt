@@ -2,7 +2,7 @@ use Rattle.std.proofs.Common.{◌≡◌, ◌++◌, take}
 use Rattle.std.specs.Prelude.{codes, string_bytes}
 use Rattle.std.specs.List.{flat_map}
 use mathlib.Core.List.{map}
-use Rattle.script_grammar.specs.Printing.{value_text}
+use Rattle.script_grammar.specs.Print.{value_text}
 use Rattle.script_replies.proofs.rows.push_more_values.Given as goal
 
 abbrev pub invariant-loop-value : goal.invariant-loop-value

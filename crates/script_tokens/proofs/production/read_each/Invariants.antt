@@ -5,7 +5,7 @@ use Rattle.script_tokens.proofs.production.read_each.Given as goal
 
 abbrev pub invariant-parts : goal.invariant-parts
 invariant-parts g l = record {
-  so_far : onto l.items.items (each g.T.Production.spelled (parts l.separator l.rest)) ≡ each g.T.Production.spelled (parts l.separator l.tokens);
+  so_far : onto l.items.items (each g.T.Production.parsed (parts l.separator l.rest)) ≡ each g.T.Production.parsed (parts l.separator l.tokens);
   shorter : length l.rest ≤ length l.tokens;
 }
 

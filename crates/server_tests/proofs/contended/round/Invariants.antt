@@ -4,5 +4,5 @@ use Rattle.server_tests.proofs.contended.round.Given as goal
 abbrev pub ghosts-contended-L-Ledger : goal.ghosts-contended-L-Ledger
 ghosts-contended-L-Ledger g a = record { name = a.blank.name; parts = a.blank.parts }
 
-abbrev pub ghosts-contended-L-Room : goal.ghosts-contended-L-Room
-ghosts-contended-L-Room g a = record { handles = a.blank.parts; opening = a.world.opening; since = length a.world.log }
+abbrev pub ghosts-contended-L-SharedLedger : goal.ghosts-contended-L-SharedLedger
+ghosts-contended-L-SharedLedger g a = record { handles = a.blank.parts; opening = a.world.opening; since = length a.world.log }

@@ -4,5 +4,5 @@ use Rattle.server_tests.proofs.refusals.is_worked_off.Given as goal
 abbrev pub ghosts-works-L-Ledger : goal.ghosts-works-L-Ledger
 ghosts-works-L-Ledger g a = record { name = a.blank.name; parts = a.blank.parts }
 
-abbrev pub ghosts-works-L-Room : goal.ghosts-works-L-Room
-ghosts-works-L-Room g a = record { handles = a.blank.parts; opening = a.world.opening; since = length a.world.log }
+abbrev pub ghosts-works-L-SharedLedger : goal.ghosts-works-L-SharedLedger
+ghosts-works-L-SharedLedger g a = record { handles = a.blank.parts; opening = a.world.opening; since = length a.world.log }

@@ -1,6 +1,6 @@
 use Rattle.std.proofs.Common.{rules}
 use Rattle.tasks.proofs.Done.{fit_more}
-use Rattle.tasks.proofs.Placing.{row_more, none_more}
+use Rattle.tasks.proofs.Places.{row_more, none_more}
 use Rattle.tasks.proofs.place.blank_row.Goals as goal
 
 pub loop-number-preserved : goal.loop-number-preserved

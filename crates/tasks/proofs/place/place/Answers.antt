@@ -3,7 +3,7 @@ use Rattle.std.specs.Prelude.{vec_len}
 use Rattle.std.proofs.lemmas.List.Elements.{All-set}
 use Rattle.tasks.specs.Outcomes.{numbers_of}
 use Rattle.tasks.proofs.Done.{held_more}
-use Rattle.tasks.proofs.Placing.{all_init, all_last, fewer_more, row_set, others_more, free_more}
+use Rattle.tasks.proofs.Places.{all_init, all_last, fewer_more, row_set, others_more, free_more}
 use Rattle.tasks.proofs.place.place.Goals as goal
 
 pub returns-clause-fits : goal.returns-clause-fits

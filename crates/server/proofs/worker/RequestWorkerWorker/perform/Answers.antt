@@ -15,5 +15,5 @@ invariant_of-self g c =
 pub returns-clause-fits : goal.returns-clause-fits
 returns-clause-fits g c =
     let orders : Orders = record { requests = c.self.inside.requests.now; tries = c.self.inside.tries; front = c.self.inside.front } in
-    subst (λ (w : Serving). IsOutcomeAt g.L.Room.opening w.orders c.args.number c.outcome_of.result) c.self.view_is
-    (outcome_at g.L.Room.opening orders c.args.number c.index-requests-number.result _ (c.outcome_of.ensures.own c.self.inside.front c.self.invariant.seen))
+    subst (λ (w : Serving). IsOutcomeAt g.L.SharedLedger.opening w.orders c.args.number c.outcome_of.result) c.self.view_is
+    (outcome_at g.L.SharedLedger.opening orders c.args.number c.index-requests-number.result _ (c.outcome_of.ensures.own c.self.inside.front c.self.invariant.seen))

@@ -1,5 +1,5 @@
 use Rattle.world.proofs.Begins.{begin_entry, begin_held}
-use Rattle.world.proofs.Holding.{logged}
+use Rattle.world.proofs.Invariant.{logged}
 use Rattle.world.proofs.world.World.add_begun.Goals as goal
 
 pub invariant_of-self-2 : goal.invariant_of-self-2

@@ -1,11 +1,11 @@
 use Rattle.std.proofs.Common.{refl, Err, ap, subst, ◌∙◌}
 use Rattle.std.proofs.lemmas.Result.{err_from_is_err_and}
-use Rattle.txn_store.specs.Setting.{Sets}
+use Rattle.txn_store.specs.TestAndSet.{Sets}
 use Rattle.replay.specs.declared.entry.What.{What}
 use Rattle.replay.specs.declared.entry.Entry.{Entry}
 use Rattle.replay.specs.Laws.{txn_entry}
-use Rattle.world.proofs.Holding.{IsLogged, logged}
-use Rattle.world.proofs.Calling.{served_by, same_state, step_short, step_failed, step_done, done_held}
+use Rattle.world.proofs.Invariant.{IsLogged, logged}
+use Rattle.world.proofs.CallSteps.{served_by, same_state, step_short, step_failed, step_done, done_held}
 use Rattle.world.proofs.world.World.add_txn.Goals as goal
 
 pub returns-in_err-what : goal.returns-in_err-what
@@ -21,7 +21,7 @@ returns-in_err-draft c =
 
 pub returns-in_err-test_and_set : goal.returns-in_err-test_and_set
 returns-in_err-test_and_set c =
-    let v = served_by c.self.inside c.args.self.now c.args.now c.args.prepared.now c.self.invariant c.self.view_is c.made.ensures c.requires.later c.requires.schema c.requires.serves in
+    let v = served_by c.self.inside c.args.self.now c.args.now c.args.prepared.now c.self.invariant c.self.view_is c.lemma_made.ensures c.requires.later c.requires.schema c.requires.serves in
     let p = err_from_is_err_and c.from_residual-in_err-test_and_set.result c.from_residual-in_err-test_and_set.ensures.1 in
     let s =
     subst (λ b. Sets c.args.prepared.now.expect b c.self.inside.store (Err c.in_err-test_and_set.field-0.0) c.test_and_set.new.self) c.batch-batch.ensures
@@ -30,7 +30,7 @@ returns-in_err-test_and_set c =
 
 pub invariant_of-self-2 : goal.invariant_of-self-2
 invariant_of-self-2 c =
-    let v = served_by c.self.inside c.args.self.now c.args.now c.args.prepared.now c.self.invariant c.self.view_is c.made.ensures c.requires.later c.requires.schema c.requires.serves in
+    let v = served_by c.self.inside c.args.self.now c.args.now c.args.prepared.now c.self.invariant c.self.view_is c.lemma_made.ensures c.requires.later c.requires.schema c.requires.serves in
     let s = rw (c.expect.ensures, c.batch-batch.ensures) at c.in_ok-test_and_set.ensures in
     let what = ap (λ (w : What). let e : Entry = record { moment = c.args.now; what = w } in e) c.in_ok-what.ensures in
     let entered : IsLogged c.self.inside.log (txn_entry c.args.now c.args.prepared.now) c.enter-receipt.result c.enter-receipt.new.self
@@ -40,7 +40,7 @@ invariant_of-self-2 c =
 
 pub returns : goal.returns
 returns c =
-    let v = served_by c.self.inside c.args.self.now c.args.now c.args.prepared.now c.self.invariant c.self.view_is c.made.ensures c.requires.later c.requires.schema c.requires.serves in
+    let v = served_by c.self.inside c.args.self.now c.args.now c.args.prepared.now c.self.invariant c.self.view_is c.lemma_made.ensures c.requires.later c.requires.schema c.requires.serves in
     let s = rw (c.expect.ensures, c.batch-batch.ensures) at c.in_ok-test_and_set.ensures in
     let what = ap (λ (w : What). let e : Entry = record { moment = c.args.now; what = w } in e) c.in_ok-what.ensures in
     let entered : IsLogged c.self.inside.log (txn_entry c.args.now c.args.prepared.now) c.enter-receipt.result c.enter-receipt.new.self

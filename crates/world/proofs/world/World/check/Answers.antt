@@ -2,7 +2,7 @@ use Rattle.std.proofs.Common.{subst, ◌∙◌}
 use Rattle.std.proofs.lemmas.Result.{IfOk-weaker}
 use Rattle.audit.specs.Audit.{IsAudit}
 use Rattle.world.specs.State.{State, facts_of}
-use Rattle.world.proofs.Holding.{follow_of}
+use Rattle.world.proofs.Invariant.{follow_of}
 use Rattle.world.proofs.world.World.check.Goals as goal
 
 pub returns : goal.returns

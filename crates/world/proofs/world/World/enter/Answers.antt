@@ -3,7 +3,7 @@ use Rattle.std.proofs.lemmas.Result.{err_from_is_err_and}
 use Rattle.std.proofs.lemmas.Fn.{filter_same}
 use Rattle.schema_version.specs.declared.step.Move.{Move}
 use Rattle.schema_version.specs.Moves.{after_step}
-use Rattle.world.proofs.Holding.{logged, follow_of}
+use Rattle.world.proofs.Invariant.{logged, follow_of}
 use Rattle.world.proofs.Publications.{IsEntered, publish_entry, same_moves, short_step, same_room, entered_held, entered_step}
 use Rattle.world.proofs.world.World.enter.Goals as goal
 

@@ -1,11 +1,11 @@
 use Rattle.std.proofs.Common.{◌≡◌, ◌∙◌, Err, ap, refl, sym, subst}
 use mathlib.Core.List.{map as each}
 use Rattle.std.proofs.lemmas.Result.{err_from_is_err_and}
-use Rattle.txn_store.specs.Setting.{Sets}
+use Rattle.txn_store.specs.TestAndSet.{Sets}
 use Rattle.reorganise.specs.Batches.{expect_of}
 use Rattle.replay.specs.Replay.{moved_to}
-use Rattle.world.proofs.Holding.{IsLogged, logged}
-use Rattle.world.proofs.Calling.{same_state}
+use Rattle.world.proofs.Invariant.{IsLogged, logged}
+use Rattle.world.proofs.CallSteps.{same_state}
 use Rattle.world.proofs.PieceSteps.{IsReady, entry_of, entry_of_parts, piece_short, piece_failed, piece_held, piece_done}
 use Rattle.world.proofs.world.World.move_on.Goals as goal
 
@@ -29,7 +29,7 @@ pub returns-in_err-test_and_set : goal.returns-in_err-test_and_set
 returns-in_err-test_and_set c =
     let p = err_from_is_err_and c.from_residual-in_err-test_and_set.result c.from_residual-in_err-test_and_set.ensures.1 in
     let set =
-    subst (λ b. Sets (expect_of c.args.prepared.now.stretch) b c.self.inside.store (Err c.in_err-test_and_set.field-0.0) c.test_and_set.new.self) c.batch.ensures
+    subst (λ b. Sets (expect_of c.args.prepared.now.key_range) b c.self.inside.store (Err c.in_err-test_and_set.field-0.0) c.test_and_set.new.self) c.batch.ensures
     (subst (λ e. Sets e c.batch.result.now c.self.inside.store (Err c.in_err-test_and_set.field-0.0) c.test_and_set.new.self) c.expect.ensures c.in_err-test_and_set.ensures) in
     record { step = rw p.1 (piece_failed c.self.inside c.args.self.now c.args.now c.args.prepared.now c.in_err-test_and_set.field-0.0 p.0 c.test_and_set.new.self c.make_ready.new.self c.self.view_is c.requires.current set c.in_ok-draft.ensures.entries p.2) }
 
@@ -39,7 +39,7 @@ invariant_of-self-2 c =
     let is : entry_of_parts c.args.now c.element.result.now c.piece-piece.result c.in_ok-cursor.cursor ≡ entry_of c.args.now c.args.prepared.now = λ i. entry_of_parts c.args.now (c.element.ensures i) (c.piece-piece.ensures i) (cursor i) in
     let set = rw (c.expect.ensures, c.batch.ensures) at c.in_ok-test_and_set.ensures in
     let ready : IsReady c.self.inside c.args.self.now c.args.now c.args.prepared.now c.test_and_set.new.self
-    = record { held = c.self.invariant; view = c.self.view_is; later = c.requires.later; current = c.requires.current; made = c.made.ensures; set = set } in
+    = record { held = c.self.invariant; view = c.self.view_is; later = c.requires.later; current = c.requires.current; made = c.lemma_made.ensures; set = set } in
     let entered : IsLogged c.self.inside.log (entry_of c.args.now c.args.prepared.now) c.enter-receipt.result c.enter-receipt.new.self
     = logged c.self.inside.log c.make_ready.new.self c.enter-receipt.new.self c.in_ok-draft.draft (entry_of c.args.now c.args.prepared.now) c.enter-receipt.result c.in_ok-draft.ensures.entries (c.in_ok-draft.ensures.draft ∙ is)
     c.enter-receipt.ensures.entries c.enter-receipt.ensures.moment c.enter-receipt.ensures.receipt in
@@ -52,7 +52,7 @@ returns c =
     let is : entry_of_parts c.args.now c.element.result.now c.piece-piece.result c.in_ok-cursor.cursor ≡ entry_of c.args.now c.args.prepared.now = λ i. entry_of_parts c.args.now (c.element.ensures i) (c.piece-piece.ensures i) (cursor i) in
     let set = rw (c.expect.ensures, c.batch.ensures) at c.in_ok-test_and_set.ensures in
     let ready : IsReady c.self.inside c.args.self.now c.args.now c.args.prepared.now c.test_and_set.new.self
-    = record { held = c.self.invariant; view = c.self.view_is; later = c.requires.later; current = c.requires.current; made = c.made.ensures; set = set } in
+    = record { held = c.self.invariant; view = c.self.view_is; later = c.requires.later; current = c.requires.current; made = c.lemma_made.ensures; set = set } in
     let entered : IsLogged c.self.inside.log (entry_of c.args.now c.args.prepared.now) c.enter-receipt.result c.enter-receipt.new.self
     = logged c.self.inside.log c.make_ready.new.self c.enter-receipt.new.self c.in_ok-draft.draft (entry_of c.args.now c.args.prepared.now) c.enter-receipt.result c.in_ok-draft.ensures.entries (c.in_ok-draft.ensures.draft ∙ is)
     c.enter-receipt.ensures.entries c.enter-receipt.ensures.moment c.enter-receipt.ensures.receipt in

@@ -1,4 +1,4 @@
-use Rattle.world.proofs.Holding.{follow_of}
+use Rattle.world.proofs.Invariant.{follow_of}
 use Rattle.world.proofs.world.World.newest.Goals as goal
 
 pub returns : goal.returns

@@ -1,9 +1,9 @@
 use Rattle.std.proofs.Common.{ap, ◌∙◌}
 use Rattle.std.specs.FinMap as map
 use Rattle.std.proofs.lemmas.Result.{IfOk-weaker}
-use Rattle.world.specs.Reading.{noted_reads}
+use Rattle.world.specs.inner.Read.{noted_reads}
 use Rattle.world.specs.State.{State}
-use Rattle.world.proofs.Viewing.{read_view}
+use Rattle.world.proofs.Views.{read_view}
 use Rattle.world.proofs.world.World.read.Goals as goal
 
 pub returns : goal.returns

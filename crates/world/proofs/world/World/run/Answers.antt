@@ -1,6 +1,6 @@
 use Rattle.std.proofs.Common.{◌≡◌, ◌++◌, ◌∷◌, [], ◌+◌, ◌∙◌, length, ap, sym, subst, rules, arith}
-use Rattle.world.specs.Events.{Runs}
-use Rattle.world.proofs.Happenings.{one_more, longer}
+use Rattle.world.specs.Run.{Runs}
+use Rattle.world.proofs.Runs.{one_more, longer}
 use Rattle.world.proofs.world.World.run.Goals as goal
 
 pub loop-event-preserved : goal.loop-event-preserved

@@ -1,7 +1,7 @@
 use Rattle.std.proofs.Common.{sym, ap, ◌∙◌, Some}
 use Rattle.lease.specs.Timeline.{newest}
 use Rattle.world.specs.State.{facts_of}
-use Rattle.world.proofs.Holding.{follow_of, kept_of, under_newest, under_before, some_before}
+use Rattle.world.proofs.Invariant.{follow_of, kept_of, under_newest, under_before, some_before}
 use Rattle.world.proofs.world.World.under.Goals as goal
 
 pub returns-then-lease-newest : goal.returns-then-lease-newest

@@ -1,0 +1,133 @@
+//! What the words of a command line choose.
+ghost use Rattle.std.specs.Prelude.{◌≡◌, ◌≤◌, IfOk};
+ghost use Rattle.clap.specs.Words.{kind_of};
+ghost use Rattle.command_line.specs.Choice.{IsChoiceOf, is_named};
+ghost use Rattle.command_line.specs.LoadSize.{IsLoadSize};
+ghost use Rattle.command_line.specs.Status.{status_after};
+
+use crate::help;
+use crate::load_size::{LoadSize, MAX_LIMIT, MAX_PIECES, MAX_ROWS, MAX_SERVERS, MAX_WORKERS};
+use crate::number::count_in;
+use clap::error::ErrorKind;
+use clap::{Arg, ArgMatches, Command, Error, value_parser};
+use std::alloc::{AllocError, Global};
+
+/// What the program is to do.
+#[derive(Clone, Copy, PartialEq, Eq)]
+pub enum Chosen {
+    /// Run the script on standard input.
+    Run,
+    /// Let threads write rows while an index is added.
+    Load(LoadSize),
+}
+
+// The option of a number from 1 to `most`.
+fn number<'a>(
+    alloc: Global,
+    name: &'a str,
+    most: u32,
+    default: &'a str,
+    about: &'a str,
+) -> Arg<'a> {
+    Arg::new(alloc, name)
+        .long(name)
+        .value_name("N")
+        .value_parser(value_parser!(u32).range(1..=i64::from(most)))
+        .default_value(default)
+        .help(about)
+}
+
+fn load_command<'a>(alloc: Global) -> Result<Command<'a>, AllocError> {
+    Command::new(alloc, "load")
+        .about(help::ABOUT_LOAD)
+        .after_help(help::LOADS)
+        .arg(number(alloc, "servers", MAX_SERVERS, "4", help::SERVERS))?
+        .arg(number(alloc, "rows", MAX_ROWS, "1000", help::ROWS))?
+        .arg(number(alloc, "pieces", MAX_PIECES, "6", help::PIECES))?
+        .arg(number(alloc, "workers", MAX_WORKERS, "3", help::WORKERS))?
+        .arg(number(alloc, "limit", MAX_LIMIT, "50", help::LIMIT))
+}
+
+// The number of an option, or else the name of that option.
+fn number_of(matches: &ArgMatches<'_>, name: &'static str, most: u32) -> Result<u32, &'static str>
+    ensures { IfOk result (λ n. (1 ≤ n) × (n ≤ most)) }
+{
+    match matches.get_str(name) {
+        Some(text) => count_in(text, most).ok_or(name),
+        None => Err(name),
+    }
+}
+
+// The size that a `load` asks for, or else the name of the first option that is no number in its range. That clap hands on
+// none but texts in the ranges above is said by no contract of a subcommand; and it takes a sign before a number.
+fn load_size(matches: &ArgMatches<'_>) -> Result<LoadSize, &'static str>
+    ensures { IfOk result IsLoadSize }
+{
+    Ok(LoadSize {
+        servers: number_of(matches, "servers", MAX_SERVERS)?,
+        rows: number_of(matches, "rows", MAX_ROWS)?,
+        pieces: number_of(matches, "pieces", MAX_PIECES)?,
+        workers: number_of(matches, "workers", MAX_WORKERS)?,
+        limit: number_of(matches, "limit", MAX_LIMIT)?,
+    })
+}
+
+// The refusal of an option's text that is no number in digits alone.
+fn refusal(alloc: Global, matches: &ArgMatches<'_>, name: &str) -> Result<Error, AllocError> {
+    let text = matches.get_str(name).unwrap_or("");
+    let message = format!(in alloc;
+        "invalid value '{text}' for '--{name} <N>': a number is written in digits alone"
+    )?;
+    let mut load = load_command(alloc)?.bin_name("shell load")?;
+    load.error(ErrorKind::ValueValidation, message.as_str())
+}
+
+// Whether the word after the program's own name is this one.
+fn names(words: &[String], name: &str) -> bool
+    ensures { result ≡ is_named words.now name.now }
+{
+    match words {
+        [_, word, ..] => word.as_str() == name,
+        _ => false,
+    }
+}
+
+/// What the words of a command line choose, the program's own name first. An `Err` is what to print: the help that was asked
+/// for, or why the words are refused. What clap makes of words is said by no contract, and shown by tests: hence the words
+/// themselves are asked for what they choose.
+pub fn options(alloc: Global, words: &[String]) -> Result<Chosen, Error>
+    ensures { IfOk result (IsChoiceOf words.now) }
+{
+    let run = Command::new(alloc, "run")
+        .about(help::ABOUT_RUN)
+        .after_help(help::SCRIPTS);
+    let mut command = Command::new(alloc, "shell")
+        .about(help::ABOUT)
+        .after_help(help::STATUSES)
+        .subcommand_required(true)
+        .subcommand(run)?
+        .subcommand(load_command(alloc)?)?;
+    let matches = command.try_get_matches_from_mut(words)?;
+    if names(words, "run") {
+        return Ok(Chosen::Run);
+    }
+    match matches.subcommand_matches("load") {
+        Some(load) if names(words, "load") => match load_size(load) {
+            Ok(size) => Ok(Chosen::Load(size)),
+            Err(name) => Err(refusal(alloc, load, name)?),
+        },
+        _ => Err(command.error(ErrorKind::InvalidSubcommand, "neither 'run' nor 'load'")?),
+    }
+}
+
+/// The exit status after a command line that chooses nothing: 0 where help was asked for, 2 where
+/// the words are refused, 5 when out of memory.
+pub fn status_of(error: &Error) -> u8
+    ensures { result ≡ status_after (kind_of error.now) }
+{
+    match error.kind() {
+        ErrorKind::OutOfMemory => 5,
+        ErrorKind::DisplayHelp | ErrorKind::DisplayVersion => 0,
+        _ => 2,
+    }
+}

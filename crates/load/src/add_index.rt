@@ -1,0 +1,193 @@
+//! The index is added, step by step, while servers write.
+
+use crate::fault::LoadFault;
+use crate::table::{INDEX, index_step, state_step};
+use collections::List;
+use command_line::LoadSize;
+use locked_store::{Handle, Shared, SharedFault, SharedLedger};
+use reorganise_workers::{PieceEnd, ReorganiseFault, Reorganised, reorganise_all};
+use schema_version::{ElementState, Step};
+use std::alloc::Global;
+use std::sync::Wait;
+use std::thread::Threads;
+use tasks::FreeGate;
+use world::{BeginFault, GrantFault, PublishFault, Receipt};
+
+/// What became of the index, and all that it was added with.
+#[derive(Drop)]
+pub(crate) struct Added<L: SharedLedger> {
+    /// The handle of the steps.
+    pub(crate) me: Handle<L>,
+    /// The handles of the workers.
+    pub(crate) fill_handles: Vec<Handle<L>>,
+    /// The receipts of the steps.
+    pub(crate) receipts: Vec<Receipt>,
+    /// The receipts of the pieces.
+    pub(crate) pieces: Vec<List<Receipt>>,
+    /// Whether all went well; after a step that did not the later ones are left out.
+    pub(crate) outcome: Result<(), LoadFault>,
+}
+
+// A lease at this moment.
+fn lease<L: SharedLedger, R: Wait>(
+    rt: &R,
+    alloc: Global,
+    shared: &Shared<L>,
+    me: &mut Handle<L>,
+    moment: u64,
+) -> Result<Receipt, LoadFault> {
+    match shared.lease(rt, alloc, me, moment) {
+        Ok(grant) => Ok(grant.receipt),
+        Err(SharedFault::World(GrantFault::Memory)) => Err(LoadFault::Memory),
+        Err(_) => Err(LoadFault::Refused),
+    }
+}
+
+// A step published at this moment.
+fn publish<L: SharedLedger, R: Wait>(
+    rt: &R,
+    alloc: Global,
+    shared: &Shared<L>,
+    me: &mut Handle<L>,
+    moment: u64,
+    step: &Step,
+) -> Result<Receipt, LoadFault> {
+    match shared.publish(rt, alloc, me, moment, step) {
+        Ok((_, receipt)) => Ok(receipt),
+        Err(SharedFault::World(PublishFault::Memory)) => Err(LoadFault::Memory),
+        Err(_) => Err(LoadFault::Refused),
+    }
+}
+
+// The fill begins.
+fn begin<L: SharedLedger, R: Wait>(
+    rt: &R,
+    alloc: Global,
+    shared: &Shared<L>,
+    me: &mut Handle<L>,
+    pieces: u32,
+) -> Result<Receipt, LoadFault> {
+    match shared.begin_reorg(rt, alloc, me, 30, INDEX, pieces) {
+        Ok(receipt) => Ok(receipt),
+        Err(SharedFault::World(BeginFault::Memory)) => Err(LoadFault::Memory),
+        Err(_) => Err(LoadFault::Refused),
+    }
+}
+
+// Up to the begin of the fill: the index enters at 10, is written from 20 on, and its fill begins
+// at 30, each after a lease.
+fn enter<L: SharedLedger, R: Wait>(
+    rt: &R,
+    alloc: Global,
+    shared: &Shared<L>,
+    me: &mut Handle<L>,
+    pieces: u32,
+    receipts: &mut Vec<Receipt>,
+) -> Result<(), LoadFault> {
+    receipts.push(lease(rt, alloc, shared, me, 9)?)?;
+    receipts.push(publish(rt, alloc, shared, me, 10, &index_step(alloc)?)?)?;
+    receipts.push(lease(rt, alloc, shared, me, 19)?)?;
+    let written = state_step(alloc, ElementState::WriteOnly)?;
+    receipts.push(publish(rt, alloc, shared, me, 20, &written)?)?;
+    receipts.push(lease(rt, alloc, shared, me, 29)?)?;
+    receipts.push(begin(rt, alloc, shared, me, pieces)?)?;
+    Ok(())
+}
+
+// The index goes public.
+fn open_up<L: SharedLedger, R: Wait>(
+    rt: &R,
+    alloc: Global,
+    shared: &Shared<L>,
+    me: &mut Handle<L>,
+    receipts: &mut Vec<Receipt>,
+) -> Result<(), LoadFault> {
+    let public = state_step(alloc, ElementState::Public)?;
+    receipts.push(publish(rt, alloc, shared, me, 30, &public)?)?;
+    Ok(())
+}
+
+// Whether every piece is finished.
+fn check_finished(ends: &[(usize, PieceEnd)]) -> Result<(), LoadFault> {
+    let mut outcome = Ok(());
+    for (_, end) in ends {
+        match end {
+            PieceEnd::Finished => {}
+            PieceEnd::Memory => return Err(LoadFault::Memory),
+            _ => outcome = Err(LoadFault::Refused),
+        }
+    }
+    outcome
+}
+
+// All pieces of the fill, run to its end by the workers.
+fn fill<L: SharedLedger + Send + Sync, R: Threads + Wait + Sync>(
+    rt: &R,
+    alloc: Global,
+    shared: &Shared<L>,
+    fill_handles: Vec<Handle<L>>,
+    size: LoadSize,
+) -> (Vec<Handle<L>>, Vec<List<Receipt>>, Result<(), LoadFault>) {
+    let (limit, tries) = (size.limit, size.rows.saturating_add(1));
+    match reorganise_all(
+        rt,
+        alloc,
+        shared,
+        fill_handles,
+        30,
+        INDEX,
+        limit,
+        tries,
+        &FreeGate,
+    ) {
+        Ok(
+            Reorganised {
+                ends,
+                handles,
+                receipts,
+            },
+        ) => {
+            let outcome = check_finished(ends.as_slice());
+            (handles, receipts, outcome)
+        }
+        Err((ReorganiseFault::Memory, handles)) => {
+            (handles, Vec::new(alloc), Err(LoadFault::Memory))
+        }
+        Err((_, handles)) => (handles, Vec::new(alloc), Err(LoadFault::Refused)),
+    }
+}
+
+/// Adds the index while others write.
+pub(crate) fn add_index<L: SharedLedger + Send + Sync, R: Threads + Wait + Sync>(
+    rt: &R,
+    alloc: Global,
+    shared: &Shared<L>,
+    me: Handle<L>,
+    fill_handles: Vec<Handle<L>>,
+    size: LoadSize,
+) -> Added<L> {
+    let mut me = me;
+    let mut receipts = Vec::new(alloc);
+    let entered = enter(rt, alloc, shared, &mut me, size.pieces, &mut receipts);
+    if entered.is_err() {
+        return Added {
+            me,
+            fill_handles,
+            receipts,
+            pieces: Vec::new(alloc),
+            outcome: entered,
+        };
+    }
+    let (fill_handles, pieces, filled) = fill(rt, alloc, shared, fill_handles, size);
+    let outcome = match filled {
+        Ok(()) => open_up(rt, alloc, shared, &mut me, &mut receipts),
+        Err(fault) => Err(fault),
+    };
+    Added {
+        me,
+        fill_handles,
+        receipts,
+        pieces,
+        outcome,
+    }
+}

@@ -1,0 +1,266 @@
+//! The run of a load.
+ghost use Rattle.std.specs.Prelude.{◌≡◌, length, IfOk, None, true};
+ghost use Rattle.command_line.specs.LoadSize.{IsLoadSize};
+ghost use Rattle.locked_store.specs.Receipts.{AreTheLog};
+
+use crate::add_index::{Added, add_index};
+use crate::fault::LoadFault;
+use crate::report::Report;
+use crate::table::{inserts, open_world};
+use collections::List;
+use command_line::LoadSize;
+use locked_store::{Handle, ReceiptFault, Shared, SharedLedger, receipts_are_the_log, reconcile};
+use server::{Outcome, Request, ServeFault, Served, serve};
+use std::alloc::{AllocError, Global};
+use std::io::Write;
+use std::marker::Brand;
+use std::sync::Wait;
+use std::sync::ledger::Blank;
+use std::thread::{Threads, join};
+use tasks::FreeGate;
+use world::{Receipt, World};
+
+/// How often a request is tried.
+const TRIES: u32 = 1_000;
+
+// What came back of both sides: all handles, all receipts, and whether all went well.
+#[derive(Drop)]
+struct Done<L: SharedLedger> {
+    handles: Vec<Handle<L>>,
+    receipts: Vec<Receipt>,
+    outcome: Result<(), LoadFault>,
+}
+
+// What became of a request, with its receipt kept.
+fn settle(outcome: Outcome, receipts: &mut Vec<Receipt>) -> Result<(), LoadFault> {
+    match outcome {
+        Outcome::Done(receipt) => Ok(receipts.push(receipt)?),
+        Outcome::Memory => Err(LoadFault::Memory),
+        _ => Err(LoadFault::Refused),
+    }
+}
+
+// All of them; out of memory is reported before another refusal.
+fn settle_all(
+    outcomes: Vec<(usize, Outcome)>,
+    receipts: &mut Vec<Receipt>,
+) -> Result<(), LoadFault> {
+    let mut all = Ok(());
+    for (_, outcome) in outcomes {
+        match settle(outcome, receipts) {
+            Ok(()) => {}
+            Err(LoadFault::Memory) => return Err(LoadFault::Memory),
+            Err(LoadFault::Refused) => all = Err(LoadFault::Refused),
+        }
+    }
+    all
+}
+
+// The receipts of all lists.
+fn gather(lists: Vec<List<Receipt>>, receipts: &mut Vec<Receipt>) -> Result<(), AllocError> {
+    for list in lists {
+        let mut list = list.into_vec();
+        receipts.append(&mut list)?;
+    }
+    Ok(())
+}
+
+// The first handles for the servers, then one for the steps of the schema, and the last ones for the workers.
+fn split_handles<L: SharedLedger>(
+    alloc: Global,
+    handles: &mut Vec<Handle<L>>,
+    workers: u32,
+) -> Result<(Handle<L>, Vec<Handle<L>>), LoadFault> {
+    let mut fill_handles = Vec::new(alloc);
+    for _ in 0..workers {
+        if let Some(handle) = handles.pop() {
+            fill_handles.push(handle)?;
+        }
+    }
+    match handles.pop() {
+        Some(me) => Ok((me, fill_handles)),
+        None => Err(LoadFault::Refused),
+    }
+}
+
+// The worse of two outcomes.
+fn worse(one: Result<(), LoadFault>, other: Result<(), LoadFault>) -> Result<(), LoadFault> {
+    match (one, other) {
+        (Err(LoadFault::Memory), _) | (_, Err(LoadFault::Memory)) => Err(LoadFault::Memory),
+        (Err(LoadFault::Refused), _) | (_, Err(LoadFault::Refused)) => Err(LoadFault::Refused),
+        (Ok(()), Ok(())) => Ok(()),
+    }
+}
+
+// Both sides put together.
+fn join_handles<L: SharedLedger>(
+    alloc: Global,
+    served: Result<Served<L>, (ServeFault, Vec<Handle<L>>)>,
+    added: Added<L>,
+) -> Result<Done<L>, AllocError> {
+    let Added {
+        me,
+        mut fill_handles,
+        mut receipts,
+        pieces,
+        outcome,
+    } = added;
+    gather(pieces, &mut receipts)?;
+    let (mut handles, settled) = match served {
+        Ok(
+            Served {
+                outcomes,
+                handles,
+                receipts: leases,
+            },
+        ) => {
+            gather(leases, &mut receipts)?;
+            (handles, settle_all(outcomes, &mut receipts))
+        }
+        Err((ServeFault::Memory, handles)) => (handles, Err(LoadFault::Memory)),
+        Err((ServeFault::BadCount, handles)) => (handles, Err(LoadFault::Refused)),
+    };
+    handles.push(me)?;
+    handles.append(&mut fill_handles)?;
+    Ok(Done {
+        handles,
+        receipts,
+        outcome: worse(settled, outcome),
+    })
+}
+
+// Both sides at once.
+fn at_once<L: SharedLedger + Send + Sync, R: Threads + Wait + Sync>(
+    rt: &R,
+    alloc: Global,
+    shared: &Shared<L>,
+    handles: Vec<Handle<L>>,
+    requests: &[Request],
+    size: LoadSize,
+) -> Result<Done<L>, LoadFault> {
+    let mut handles = handles;
+    let (me, fill_handles) = split_handles(alloc, &mut handles, size.workers)?;
+    let (served, added) = join(
+        rt,
+        move || serve(rt, alloc, shared, handles, requests, TRIES, &FreeGate),
+        move || add_index(rt, alloc, shared, me, fill_handles, size),
+    );
+    Ok(join_handles(alloc, served, added)?)
+}
+
+// Whether there are as many receipts as entries, and what is wrong with them, if anything is. If nothing is wrong with either, the receipts
+// are the log: each entry has its receipt, and no other.
+fn compare_counts(
+    alloc: Global,
+    world: &World,
+    receipts: &[Receipt],
+) -> Result<(bool, Option<ReceiptFault>), LoadFault>
+    ensures { IfOk result (λ r. r.0 ≡ true → r.1 ≡ None → AreTheLog world.now.log 0 receipts.now) }
+{
+    receipts_are_the_log();
+    let is_counted = receipts.len() == world.log().len();
+    match reconcile(alloc, world, receipts) {
+        Ok(()) => Ok((is_counted, None)),
+        Err(ReceiptFault::Memory) => Err(LoadFault::Memory),
+        Err(fault) => Ok((is_counted, Some(fault))),
+    }
+}
+
+// What the world has in the end, beside the receipts.
+fn check_receipts(
+    alloc: Global,
+    world: &World,
+    receipts: &[Receipt],
+    outcome: Result<(), LoadFault>,
+) -> Result<Report, LoadFault>
+    ensures { IfOk result (λ r. r.is_counted ≡ true → r.receipts ≡ None → AreTheLog world.now.log 0 receipts.now) }
+{
+    if outcome == Err(LoadFault::Memory) {
+        return Err(LoadFault::Memory);
+    }
+    let found = world.check(alloc)?;
+    let (is_counted, fault) = compare_counts(alloc, world, receipts)?;
+    Ok(Report {
+        rows: found.rows,
+        missing: found.missing,
+        extra: found.extra,
+        is_counted,
+        receipts: fault,
+        is_done: outcome.is_ok(),
+    })
+}
+
+// The whole load over a world that is shared among so many handles.
+fn load_in<L: SharedLedger + Send + Sync, R: Threads + Wait + Sync>(
+    rt: &R,
+    alloc: Global,
+    blank: Blank,
+    world: World,
+    count: u64,
+    size: LoadSize,
+) -> Result<Report, LoadFault>
+    requires name { blank.name ≡ L.name }
+    requires parts { blank.parts ≡ L.parts }
+    requires picked { (L.handles ≡ count) × (L.handles ≡ L.parts) × (L.opening ≡ world.opening) × (L.since ≡ length world.log) }
+{
+    let requests = inserts(alloc, size.rows)?;
+    let Ok((shared, handles)) = Shared::<L>::new(alloc, blank, world, count) else {
+        return Err(LoadFault::Memory);
+    };
+    let Done {
+        handles,
+        receipts,
+        outcome,
+    } = at_once(rt, alloc, &shared, handles, requests.as_slice(), size)?;
+    match shared.close(handles) {
+        Ok(world) => check_receipts(alloc, &world, receipts.as_slice(), outcome),
+        Err(_) => Err(LoadFault::Refused),
+    }
+}
+
+// What a load of this size finds.
+fn load<R: Threads + Wait + Sync>(
+    rt: &R,
+    alloc: Global,
+    size: LoadSize,
+) -> Result<Report, LoadFault>
+    requires { IsLoadSize size }
+{
+    let world = open_world(alloc)?;
+    let count = u64::from(size.servers + size.workers + 1);
+    load_in::<Brand, R>(rt, alloc, Blank::new(count), world, count, size)
+}
+
+/// Runs a load: it opens the table t (id int key, a int), has servers insert rows, each by a transaction of its own, while another
+/// thread adds the index i on (a) step by step and workers fill it; then it audits the store, compares all receipts with the log, and
+/// writes what it found in five lines.
+///
+/// - `size`: how many servers, rows, pieces of the fill, workers, and rows of a piece that are filled at a time.
+/// - `writer`: takes the lines.
+///
+/// The lines `counts equal` and `receipts ok` together mean that the receipts are the log: each entry has its receipt, and no other.
+///
+/// Answers the exit status: 0 if all is as it has to be; 6 if a difference was found, a call was refused for another reason than memory, or
+/// an outcome was another than a committed row or a finished piece; 4 if the lines could not be written; 5 if any call or outcome found no
+/// memory, and then nothing is written. Of several the first in the order 5, 4, 6 is answered.
+pub fn run_load<R: Threads + Wait + Sync, W: Write>(
+    rt: &R,
+    alloc: Global,
+    size: LoadSize,
+    writer: &mut W,
+) -> u8
+    requires { IsLoadSize size }
+{
+    let report = match load(rt, alloc, size) {
+        Ok(report) => report,
+        Err(LoadFault::Memory) => return 5,
+        Err(LoadFault::Refused) => return 6,
+    };
+    let Ok(text) = report.text(alloc) else {
+        return 5;
+    };
+    if writer.write_all(text.as_bytes()).is_err() {
+        return 4;
+    }
+    if report.is_good(size.rows) { 0 } else { 6 }
+}

@@ -1,0 +1,3 @@
+pub mod FlatPairs
+pub mod Prefix
+pub mod Plan

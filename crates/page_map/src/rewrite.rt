@@ -1,0 +1,315 @@
+//! Pages made anew where changes fall, and put into the place of the earlier ones.
+ghost use Rattle.std.specs.Prelude.{◌≡◌, ◌+◌, ◌-◌, ◌++◌, [], ◌≤◌, ◌<◌, List, ℕ, T, Option, IfOk, OnOk, length, take, drop, reverse};
+ghost use Rattle.std.specs.Vec.{vec_len, vec_capacity};
+ghost use Rattle.std.specs.FinMap.Entries.{below_all};
+ghost use Rattle.byte_map.specs.Order.{bytes_cmp};
+ghost use Rattle.byte_map.specs.Sorted.{IsSorted, all_below, changed_all};
+ghost use Rattle.page_map.specs.Pages.{joined, Stands};
+ghost use Rattle.page_map.specs.inner.Plan.{made, placed, IsPlan};
+
+use crate::cut::cut;
+use crate::flat_pairs::FlatPairs;
+use crate::page::Page;
+use crate::rest::count_up_to;
+use byte_map::{Bytes, sorted};
+use std::alloc::{AllocError, Global};
+
+/// Pages that are to take the place of one page.
+#[derive(Drop)]
+pub(crate) struct Piece {
+    at: usize,
+    pages: Vec<Page>,
+}
+
+/// All pages that a batch of changes makes anew, before the first of them takes its place.
+#[derive(Drop)]
+pub(crate) struct Plan {
+    /// In the order of their places.
+    pieces: Vec<Piece>,
+    /// The place after that of the last piece.
+    reach: usize,
+    /// How many pages they bring.
+    pub(crate) room: usize,
+    /// About how often the pages after a piece would move if each came to its place by itself: a
+    /// choice of speed alone.
+    pub(crate) shifts: usize,
+    /// How many pairs there will be in all.
+    pub(crate) len: usize,
+}
+
+impl Plan {
+    /// Makes the pages that `writes` need anew, where `pages` hold so many pairs. Refused only when
+    /// out of memory.
+    pub(crate) fn new(
+        alloc: Global,
+        pages: &[Page],
+        len: usize,
+        writes: &[(Bytes, Option<Bytes>)],
+    ) -> Result<Plan, AllocError>
+        requires pages { IsSorted (joined pages.now) }
+        requires counted { len ≡ length (joined pages.now) }
+        requires writes { IsSorted writes.now }
+        ensures plan { IfOk result (λ plan. IsPlan pages.now plan) }
+        ensures all { IfOk result (λ plan. joined (placed pages.now (reverse plan.pieces.items)) ≡ changed_all (joined pages.now) writes.now) }
+    {
+        let mut plan = Plan {
+            pieces: Vec::new(alloc),
+            reach: 0,
+            room: 0,
+            shifts: 0,
+            len,
+        };
+        let mut done = 0;
+        while done < writes.len() {
+            let at = place_of(pages, plan.reach, writes[done].0.as_slice());
+            let left = writes.split_at(done).1;
+            let count = count_before(left, pages, at + 1);
+            plan.add(alloc, pages, at, left.split_at(count).0)?;
+            done += count;
+        }
+        Ok(plan)
+    }
+
+    fn add(
+        &mut self,
+        alloc: Global,
+        pages: &[Page],
+        at: usize,
+        writes: &[(Bytes, Option<Bytes>)],
+    ) -> Result<(), AllocError>
+        requires sorted { IsSorted (joined pages.now) }
+        requires plan { IsPlan pages.now self.old }
+        requires ahead { self.old.reach ≤ at }
+        requires in_range { at ≤ length pages.now }
+        ensures plan { OnOk result (IsPlan pages.now self.new) }
+        ensures reach { OnOk result (self.new.reach ≡ at + 1) }
+        ensures made { OnOk result (joined (made pages.now (reverse self.new.pieces.items)) ≡ joined (made pages.now (reverse self.old.pieces.items)) ++ (joined (drop self.old.reach (take at pages.now)) ++ changed_all (joined (take 1 (drop at pages.now))) writes.now)) }
+    {
+        let others = self.len - len_at(pages, at);
+        let pairs = rewritten(alloc, pages, at, writes)?;
+        let len = sum(others, pairs.len())?;
+        let new = cut(alloc, pairs, is_behind(pages, at, writes))?;
+        let count = new.as_slice().len();
+        let room = sum(self.room, count)?;
+        self.pieces.push(Piece { at, pages: new })?;
+        self.reach = at + 1;
+        self.room = room;
+        self.shifts = self.shifts.saturating_add(shifts(count));
+        self.len = len;
+        Ok(())
+    }
+
+    /// Puts the pieces into their places, for which there is room, one by one: right where few of
+    /// them move the pages after.
+    pub(crate) fn place_each(self, pages: &mut Vec<Page>)
+        requires plan { IsPlan pages.old.items self }
+        requires room { vec_len pages.old + self.room ≤ vec_capacity pages.old }
+        ensures { pages.new.items ≡ placed pages.old.items (reverse self.pieces.items) }
+    {
+        let mut pieces = self.pieces;
+        while let Some(piece) = pieces.pop() {
+            put(pages, piece.at, piece.pages);
+        }
+    }
+
+    /// Puts the pieces into their places, for which there is room, in one pass over the pages after
+    /// the first of them, which go by way of `behind`.
+    pub(crate) fn place_all(self, pages: &mut Vec<Page>, mut behind: Vec<Page>)
+        requires plan { IsPlan pages.old.items self }
+        requires room { vec_len pages.old + self.room ≤ vec_capacity pages.old }
+        requires empty { behind.items ≡ [] }
+        requires spare { vec_len pages.old + self.room ≤ vec_capacity behind }
+        ensures { pages.new.items ≡ placed pages.old.items (reverse self.pieces.items) }
+    {
+        let mut pieces = self.pieces;
+        while let Some(mut piece) = pieces.pop() {
+            turn_over(pages, piece.at + 1, &mut behind);
+            pages.truncate(piece.at);
+            turn_over(&mut piece.pages, 0, &mut behind);
+        }
+        turn_over(&mut behind, 0, pages);
+    }
+}
+
+/// The page that `key` belongs to, of those from a place on: the last one that begins at or below it, or the first.
+fn place_of(pages: &[Page], from: usize, key: &[u8]) -> usize
+    requires sorted { IsSorted (joined pages.now) }
+    requires in_range { from ≤ length pages.now }
+    ensures ahead { from ≤ result }
+    ensures in_range { result ≤ length pages.now }
+    ensures before { T (all_below (joined (drop from (take result pages.now))) key.now) }
+    ensures after { T (below_all bytes_cmp key.now (joined (drop (result + 1) pages.now))) }
+{
+    let rest = pages.split_at(from).1;
+    let count = count_up_to(rest, key, usize::MAX);
+    if count == 0 { from } else { from + (count - 1) }
+}
+
+/// How many of the writes fall before the pages from a place on.
+fn count_before(writes: &[(Bytes, Option<Bytes>)], pages: &[Page], from: usize) -> usize
+    requires { IsSorted writes.now }
+    ensures in_range { result ≤ length writes.now }
+    ensures all { length pages.now ≤ from → result ≡ length writes.now }
+    ensures some { (w : List ℕ × Option (List ℕ)) → Stands writes.now 0 w → T (below_all bytes_cmp w.0 (joined (drop from pages.now))) → 0 < result }
+    ensures parted { (page : List (List ℕ × List ℕ)) → IsSorted (page ++ joined (drop from pages.now)) → changed_all (page ++ joined (drop from pages.now)) writes.now ≡ changed_all page (take result writes.now) ++ changed_all (joined (drop from pages.now)) (drop result writes.now) }
+{
+    if from < pages.len() {
+        sorted::first_from(writes, pages[from].pairs().pair(0).0)
+    } else {
+        writes.len()
+    }
+}
+
+/// How many pairs the page at a place has: none if there is no page.
+fn len_at(pages: &[Page], at: usize) -> usize
+    ensures { result ≡ length (joined (take 1 (drop at pages.now))) }
+{
+    if at < pages.len() {
+        pages[at].pairs().len()
+    } else {
+        0
+    }
+}
+
+/// The pairs of the page at a place, or none if there is no page, after these writes.
+fn rewritten(
+    alloc: Global,
+    pages: &[Page],
+    at: usize,
+    writes: &[(Bytes, Option<Bytes>)],
+) -> Result<FlatPairs, AllocError>
+    requires { IsSorted (joined pages.now) }
+    ensures { IfOk result (λ pairs. pairs ≡ changed_all (joined (take 1 (drop at pages.now))) writes.now) }
+{
+    let pairs = copy_of(alloc, pages, at, bytes_of(writes), writes.len())?;
+    write_all(pairs, writes)
+}
+
+fn copy_of(
+    alloc: Global,
+    pages: &[Page],
+    at: usize,
+    more_bytes: usize,
+    more_pairs: usize,
+) -> Result<FlatPairs, AllocError>
+    ensures { IfOk result (λ pairs. pairs ≡ joined (take 1 (drop at pages.now))) }
+{
+    if at < pages.len() {
+        pages[at].pairs().copied(alloc, more_bytes, more_pairs)
+    } else {
+        FlatPairs::with_capacity(alloc, more_bytes, more_pairs)
+    }
+}
+
+fn write_all(
+    mut pairs: FlatPairs,
+    writes: &[(Bytes, Option<Bytes>)],
+) -> Result<FlatPairs, AllocError>
+    requires { IsSorted pairs }
+    ensures { IfOk result (λ new. new ≡ changed_all pairs writes.now) }
+{
+    for (key, change) in writes {
+        pairs.write(key.as_slice(), change)?;
+    }
+    Ok(pairs)
+}
+
+// About how many bytes the writes put: how far to trust it shows in the speed alone.
+fn bytes_of(writes: &[(Bytes, Option<Bytes>)]) -> usize {
+    let mut total = 0usize;
+    for (key, change) in writes {
+        if let Some(value) = change {
+            total = total.saturating_add(key.len()).saturating_add(value.len());
+        }
+    }
+    total
+}
+
+/// Puts `new` into the place of the page at a place, or after all pages. There is room for them.
+fn put(pages: &mut Vec<Page>, at: usize, mut new: Vec<Page>)
+    requires in_range { at ≤ vec_len pages.old }
+    requires room { vec_len pages.old + vec_len new ≤ vec_capacity pages.old }
+    ensures items { pages.new.items ≡ take at pages.old.items ++ (new.items ++ drop (at + 1) pages.old.items) }
+    ensures len { vec_len pages.new ≤ vec_len pages.old + vec_len new }
+    ensures capacity { vec_capacity pages.old ≤ vec_capacity pages.new }
+{
+    if at < pages.len() {
+        match new.pop() {
+            Some(last) => pages[at] = last,
+            None => {
+                pages.remove(at);
+            }
+        }
+    }
+    insert_all(pages, at, new);
+}
+
+/// Puts `new` before the page at a place, or after all pages. There is room for them.
+fn insert_all(pages: &mut Vec<Page>, at: usize, mut new: Vec<Page>)
+    requires in_range { at ≤ vec_len pages.old }
+    requires room { vec_len pages.old + vec_len new ≤ vec_capacity pages.old }
+    ensures items { pages.new.items ≡ take at pages.old.items ++ (new.items ++ drop at pages.old.items) }
+    ensures len { vec_len pages.new ≡ vec_len pages.old + vec_len new }
+    ensures capacity { vec_capacity pages.old ≤ vec_capacity pages.new }
+{
+    while let Some(page) = new.pop() {
+        if pages.insert(at, page).is_err() {
+            unreachable!();
+        }
+    }
+}
+
+/// Moves the pages from a place on after those of `to`, for which there is room, the last one
+/// first.
+fn turn_over(from: &mut Vec<Page>, at: usize, to: &mut Vec<Page>)
+    requires room { vec_len to.old + (vec_len from.old - at) ≤ vec_capacity to.old }
+    ensures left { from.new.items ≡ take at from.old.items }
+    ensures moved { to.new.items ≡ to.old.items ++ reverse (drop at from.old.items) }
+    ensures total { vec_len from.new + vec_len to.new ≡ vec_len from.old + vec_len to.old }
+    ensures capacity { vec_capacity to.old ≤ vec_capacity to.new }
+    ensures from_capacity { vec_capacity from.old ≤ vec_capacity from.new }
+{
+    while from.len() > at {
+        match from.pop() {
+            Some(page) => {
+                if to.push(page).is_err() {
+                    unreachable!();
+                }
+            }
+            None => unreachable!(),
+        }
+    }
+}
+
+// Whether all writes fall after the last pair of the page at a place, as where keys rise. It says
+// how the page is cut, and so shows in the speed alone.
+fn is_behind(pages: &[Page], at: usize, writes: &[(Bytes, Option<Bytes>)]) -> bool {
+    if at >= pages.len() {
+        return true;
+    }
+    let pairs = pages[at].pairs();
+    let last = pairs.pair(pairs.len() - 1).0;
+    match writes.first() {
+        Some((key, _)) => last.cmp(key.as_slice()).is_lt(),
+        None => false,
+    }
+}
+
+// How often the pages after a place move where so many pages come there for one: a choice of speed
+// alone.
+fn shifts(count: usize) -> usize {
+    match count {
+        0 => 1,
+        1 => 0,
+        _ => count,
+    }
+}
+
+fn sum(one: usize, other: usize) -> Result<usize, AllocError>
+    ensures { IfOk result (λ n. n ≡ one + other) }
+{
+    match one.checked_add(other) {
+        Some(total) => Ok(total),
+        None => Err(AllocError),
+    }
+}

@@ -1,5 +1,0 @@
-use Rattle.std.proofs.Common.{length}
-use Rattle.row_write.proofs.checking.+is_distinct.Given as goal
-
-abbrev pub decreases-is_distinct : goal.decreases-is_distinct
-decreases-is_distinct l = length l.cells.now

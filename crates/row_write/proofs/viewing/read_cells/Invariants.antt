@@ -1,6 +1,0 @@
-use Rattle.std.proofs.Common.{take}
-use Rattle.row_write.specs.Viewing.{AreCells, seen_at}
-use Rattle.row_write.proofs.viewing.read_cells.Given as goal
-
-abbrev pub invariant-loop-number : goal.invariant-loop-number
-invariant-loop-number l = AreCells l.there (seen_at l.view l.op) (take l.number-index l.columns) l.cells.items

@@ -1,0 +1,7 @@
+pub mod IndexedColumns
+pub mod Checks
+pub mod Enter
+pub mod View
+pub mod WorkRows
+pub mod RowCode
+pub mod Run

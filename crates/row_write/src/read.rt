@@ -1,0 +1,194 @@
+//! The rows of a transaction, as its view encodes them.
+ghost use Rattle.std.specs.Prelude.{◌≡◌, ◌↔◌, ◌&&◌, ◌∷◌, [], IsTrue, Some, Option, Bool, List, ℕ, IfOk, IfErr, IfSome, OnOk, is_some};
+ghost use Rattle.std.specs.List.{AllByRecursion, list_all};
+ghost use Rattle.std.specs.FinMap as map;
+ghost use Rattle.keycode.specs.declared.value.Value.{Value};
+ghost use Rattle.row_map.specs.Rows.{Bytes as ByteString, Rows};
+ghost use Rattle.row_map.specs.Writes.{written};
+ghost use Rattle.row_write.specs.Plain.{row_of};
+ghost use Rattle.row_write.specs.Prepare.{IsEncodedRow, Encodes};
+ghost use Rattle.row_write.specs.Made.{IsSound};
+ghost use Rattle.row_write.specs.inner.View.{IsMissed, IsVisible, cells_there, keys_of, HaveSameKeys};
+
+use crate::edit::copy_key;
+use crate::fault::PrepareFault;
+use crate::lemmas::lemma_served;
+use crate::op::RowOp;
+use crate::public_columns::columns_of;
+use crate::reads::reads_of;
+use crate::view::{read_row, row_in_order};
+use crate::work_rows::WorkRows;
+use byte_map::{Bytes, KeyMap};
+use collections::List;
+use keycode::Value;
+use row_map::{ColumnType, ReadSet, ReadView, Row};
+use schema_version::Schema;
+use std::alloc::{AllocError, Global};
+
+/// Puts the operation's row, as it was read.
+fn put_row(
+    rows: &mut WorkRows,
+    op: &RowOp,
+    there: bool,
+    cells: List<(u32, Value)>,
+) -> Result<(), AllocError>
+    ensures { OnOk result (rows.new ≡ written rows.old (row_of op.now) (cells_there there cells)) }
+{
+    let key = copy_key(op.key())?;
+    rows.put(op.table(), Row { key, cells }, there)
+}
+
+/// Reads the row of an operation.
+fn read_op(
+    alloc: Global,
+    view: &ReadView,
+    rows: &mut WorkRows,
+    op: &RowOp,
+    columns: &[(u32, ColumnType)],
+) -> Result<(), PrepareFault>
+    ensures found { OnOk result ((there : Bool) × (cells : _) × IsVisible view.now op.now columns.now there cells × (rows.new ≡ written rows.old (row_of op.now) (cells_there there cells))) }
+    ensures missed { IfErr result (IsMissed ((there : Bool) (cells : _) → ¬ (IsVisible view.now op.now columns.now there cells))) }
+{
+    let (there, cells) = read_row(alloc, view, op, columns)?;
+    Ok(put_row(rows, op, there, cells)?)
+}
+
+/// Rows that the view encodes for these operations.
+fn read_rows(
+    alloc: Global,
+    schema: &Schema,
+    view: &ReadView,
+    ops: &[RowOp],
+) -> Result<WorkRows, PrepareFault>
+    ensures found { IfOk result (λ rows. AllByRecursion (IsEncodedRow schema.now view.now rows) ops.now) }
+    ensures missed { IfErr result (IsMissed ((rows : Rows) → ¬ (AllByRecursion (IsEncodedRow schema.now view.now rows) ops.now))) }
+{
+    lemma_served(schema);
+    let mut rows = WorkRows::new(alloc);
+    for op in ops {
+        let columns = columns_of(alloc, schema, op.table())?;
+        read_op(alloc, view, &mut rows, op, columns.as_slice())?;
+    }
+    Ok(rows)
+}
+
+/// Whether the keys are all in the map.
+fn all_in<V, W>(entries: &[(Bytes, V)], other: &KeyMap<W>) -> bool
+    ensures { result ≡ list_all (λ e. is_some (map.get other.now e.0)) entries.now }
+{
+    entries.iter().all(|e| other.get(e.0.as_slice()).is_some())
+}
+
+fn are_both(a: bool, b: bool) -> bool
+    ensures { result ≡ (a && b) }
+{
+    a && b
+}
+
+fn is_same_key(a: &Bytes, b: &Bytes) -> bool
+    ensures { IsTrue result → a.now ≡ b.now }
+{
+    a == b
+}
+
+/// Whether these have the same keys in the same order.
+fn are_same_keys(reads: &[(Bytes, ())], view: &[(Bytes, Option<Bytes>)]) -> bool
+    ensures { IsTrue result → keys_of reads.now ≡ keys_of view.now }
+{
+    if reads.len() != view.len() {
+        return false;
+    }
+    for i in 0..reads.len() {
+        if !is_same_key(&reads[i].0, &view[i].0) {
+            return false;
+        }
+    }
+    true
+}
+
+/// Whether the view has the keys that are read, and no other.
+fn has_keys(reads: &ReadSet, view: &ReadView) -> bool
+    ensures { IsTrue result ↔ HaveSameKeys reads.now view.now }
+{
+    // Keys are kept in their order, so most views are reported by one walk.
+    if are_same_keys(reads.entries(), view.entries()) {
+        return true;
+    }
+    let read = all_in(reads.entries(), view);
+    let visible = all_in(view.entries(), reads);
+    are_both(read, visible)
+}
+
+/// The operation's row and no other. One that isn't there needs no mention.
+fn one_row(
+    alloc: Global,
+    op: &RowOp,
+    there: bool,
+    cells: List<(u32, Value)>,
+) -> Result<WorkRows, AllocError>
+    ensures { IfOk result (λ rows. rows ≡ written map.empty (row_of op.now) (cells_there there cells)) }
+{
+    let mut rows = WorkRows::new(alloc);
+    if !there {
+        return Ok(rows);
+    }
+    put_row(&mut rows, op, there, cells)?;
+    Ok(rows)
+}
+
+/// The row that the view encodes for one operation. None of a view with other keys, or in another
+/// order.
+fn encoded_row(
+    alloc: Global,
+    schema: &Schema,
+    view: &ReadView,
+    op: &RowOp,
+) -> Result<Option<WorkRows>, PrepareFault>
+    requires { IsSound schema.now op.now }
+    ensures found { IfOk result (λ found. IfSome found (λ rows. Encodes schema.now (op.now ∷ []) view.now rows)) }
+    ensures missed { IfErr result (IsMissed ((rows : Rows) → ¬ (Encodes schema.now (op.now ∷ []) view.now rows))) }
+{
+    lemma_served(schema);
+    let columns = columns_of(alloc, schema, op.table())?;
+    let Some((there, cells)) = row_in_order(alloc, view, op, columns.as_slice())? else {
+        return Ok(None);
+    };
+    Ok(Some(one_row(alloc, op, there, cells)?))
+}
+
+/// Rows that the view encodes for any number of operations.
+fn all_encoded_rows(
+    alloc: Global,
+    schema: &Schema,
+    view: &ReadView,
+    ops: &[RowOp],
+) -> Result<WorkRows, PrepareFault>
+    ensures found { IfOk result (λ rows. Encodes schema.now ops.now view.now rows) }
+    ensures missed { IfErr result (IsMissed ((rows : Rows) → ¬ (Encodes schema.now ops.now view.now rows))) }
+{
+    let reads = reads_of(alloc, schema, ops)?;
+    if !has_keys(&reads, view) {
+        return Err(PrepareFault::ViewMismatch);
+    }
+    read_rows(alloc, schema, view, ops)
+}
+
+/// Rows that the view encodes.
+pub(crate) fn encoded_rows(
+    alloc: Global,
+    schema: &Schema,
+    view: &ReadView,
+    ops: &[RowOp],
+) -> Result<WorkRows, PrepareFault>
+    requires { AllByRecursion (IsSound schema.now) ops.now }
+    ensures found { IfOk result (λ rows. Encodes schema.now ops.now view.now rows) }
+    ensures missed { IfErr result (IsMissed ((rows : Rows) → ¬ (Encodes schema.now ops.now view.now rows))) }
+{
+    // Most transactions have one operation, and a view with its keys in their order.
+    if let [op] = ops {
+        if let Some(rows) = encoded_row(alloc, schema, view, op)? {
+            return Ok(rows);
+        }
+    }
+    all_encoded_rows(alloc, schema, view, ops)
+}

@@ -1,0 +1,128 @@
+//! What a change of one row writes.
+ghost use Rattle.std.specs.Prelude.{◌≡◌, Some, OnOk, IfSome, option_map};
+ghost use Rattle.row_map.specs.Writes.{noted};
+ghost use Rattle.schema_version.specs.Version.{live};
+ghost use Rattle.element_state.specs.Exists.{exists_by};
+ghost use Rattle.element_state.specs.Kinds.{kind_meaning};
+ghost use Rattle.element_state.specs.Sources.{source_in};
+ghost use Rattle.element_state.specs.Operations.{cells_of};
+ghost use Rattle.element_state.specs.Schemas.{version_writes};
+ghost use Rattle.element_state.specs.Versions.{the_kinds, schema_of};
+ghost use Rattle.row_write.specs.Plain.{key_of, row_of};
+ghost use Rattle.row_write.specs.inner.Run.{change_at, element_writes, live_writes};
+
+use crate::lemmas::lemma_served;
+use crate::op::RowOp;
+use byte_map::Bytes;
+use element_state::{AnyElement, Element};
+use row_map::{Batch, Row, exists_key};
+use schema_version::{ElementDef, Schema};
+use std::alloc::{AllocError, Global};
+
+/// Writes the row's `exists` pair.
+fn write_exists(
+    alloc: Global,
+    op: &RowOp,
+    old: Option<&Row>,
+    new: Option<&Row>,
+    batch: &mut Batch,
+) -> Result<(), AllocError>
+    ensures { OnOk result (batch.new ≡ noted batch.old (exists_by (row_of op.now) (option_map (λ r. cells_of r.now) old.entry) (option_map (λ r. cells_of r.now) new.entry))) }
+{
+    match (old, new) {
+        (None, Some(_)) => {
+            let key = exists_key(alloc, op.table(), op.key().as_slice())?;
+            batch.put(key, Bytes::new(Vec::new(alloc))?)
+        }
+        (Some(_), None) => {
+            let key = exists_key(alloc, op.table(), op.key().as_slice())?;
+            batch.remove(key)
+        }
+        _ => Ok(()),
+    }
+}
+
+/// Writes what an element asks for, as if the row were one of its table.
+fn write_own(
+    alloc: Global,
+    schema: &Schema,
+    definition: &ElementDef,
+    op: &RowOp,
+    old: Option<&Row>,
+    new: Option<&Row>,
+    batch: &mut Batch,
+) -> Result<(), AllocError>
+    requires old { IfSome old (λ r. r.now.key ≡ key_of op.now) }
+    requires new { IfSome new (λ r. r.now.key ≡ key_of op.now) }
+    ensures { OnOk result (batch.new ≡ noted batch.old ((kind_meaning definition.now.number (source_in schema.now definition.now.kind)).writes definition.now.state (change_at (definition.now.table, key_of op.now) (option_map (λ r. cells_of r.now) old.entry) (option_map (λ r. cells_of r.now) new.entry)))) }
+{
+    let element = AnyElement::of(alloc, schema, definition)?;
+    match old {
+        None => match new {
+            None => Ok(()),
+            Some(new) => element.on_insert(alloc, definition.state, new, batch),
+        },
+        Some(old) => match new {
+            None => element.on_delete(alloc, definition.state, old, batch),
+            Some(new) => element.on_update(alloc, definition.state, old, new, batch),
+        },
+    }
+}
+
+/// Writes what an element asks for. One of another table asks for nothing.
+fn write_element(
+    alloc: Global,
+    schema: &Schema,
+    definition: &ElementDef,
+    op: &RowOp,
+    old: Option<&Row>,
+    new: Option<&Row>,
+    batch: &mut Batch,
+) -> Result<(), AllocError>
+    requires old { IfSome old (λ r. r.now.key ≡ key_of op.now) }
+    requires new { IfSome new (λ r. r.now.key ≡ key_of op.now) }
+    ensures { OnOk result (batch.new ≡ noted batch.old (element_writes schema.now definition.now (change_at (row_of op.now) (option_map (λ r. cells_of r.now) old.entry) (option_map (λ r. cells_of r.now) new.entry)))) }
+{
+    if op.table() == definition.table {
+        write_own(alloc, schema, definition, op, old, new, batch)
+    } else {
+        Ok(())
+    }
+}
+
+fn write_elements(
+    alloc: Global,
+    schema: &Schema,
+    definitions: &[ElementDef],
+    op: &RowOp,
+    old: Option<&Row>,
+    new: Option<&Row>,
+    batch: &mut Batch,
+) -> Result<(), AllocError>
+    requires old { IfSome old (λ r. r.now.key ≡ key_of op.now) }
+    requires new { IfSome new (λ r. r.now.key ≡ key_of op.now) }
+    ensures { OnOk result (batch.new ≡ noted batch.old (live_writes schema.now definitions.now (change_at (row_of op.now) (option_map (λ r. cells_of r.now) old.entry) (option_map (λ r. cells_of r.now) new.entry)))) }
+{
+    for definition in definitions {
+        write_element(alloc, schema, definition, op, old, new, batch)?;
+    }
+    Ok(())
+}
+
+/// Writes what the operation's change asks for in the states of the schema.
+pub(crate) fn write_change(
+    alloc: Global,
+    schema: &Schema,
+    op: &RowOp,
+    old: Option<&Row>,
+    new: Option<&Row>,
+    batch: &mut Batch,
+) -> Result<(), AllocError>
+    requires old { IfSome old (λ r. r.now.key ≡ key_of op.now) }
+    requires new { IfSome new (λ r. r.now.key ≡ key_of op.now) }
+    ensures { OnOk result (batch.new ≡ noted batch.old (version_writes the_kinds (schema_of schema.now) (change_at (row_of op.now) (option_map (λ r. cells_of r.now) old.entry) (option_map (λ r. cells_of r.now) new.entry)))) }
+{
+    lemma_served(schema);
+    write_exists(alloc, op, old, new, batch)?;
+    write_elements(alloc, schema, schema.elements(), op, old, new, batch)
+}

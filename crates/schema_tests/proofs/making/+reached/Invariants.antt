@@ -1,5 +1,0 @@
-use Rattle.std.proofs.Common.{length}
-use Rattle.schema_tests.proofs.making.+reached.Given as goal
-
-abbrev pub decreases-reached : goal.decreases-reached
-decreases-reached l = length l.path.now

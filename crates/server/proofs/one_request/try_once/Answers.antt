@@ -1,0 +1,13 @@
+use Rattle.std.proofs.Common.{rules, arith}
+use Rattle.server.proofs.one_request.try_once.Goals as goal
+
+pub returns-in_err-lease-clause-own : goal.returns-in_err-lease-clause-own
+returns-in_err-lease-clause-own g c f n le held = let h = c.in_err-lease.ensures.own f n le in search rules
+
+pub returns-in_err-prepared-clause-own : goal.returns-in_err-prepared-clause-own
+returns-in_err-prepared-clause-own g c f n le held =
+    let h = c.in_err-prepared.ensures.own f n (omega (arith, le, c.in_ok-lease.ensures.rises)) (c.in_ok-lease.ensures.granted f le held) in search rules
+
+pub returns-in_err-committed_by-clause-own : goal.returns-in_err-committed_by-clause-own
+returns-in_err-committed_by-clause-own g c f n le held =
+    let h = c.in_err-committed_by.ensures.own f n (omega (arith, le, c.in_ok-lease.ensures.rises, c.in_ok-prepared.ensures.rises)) in search rules

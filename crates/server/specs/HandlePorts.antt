@@ -1,0 +1,50 @@
+-- Cited by the contracts of HandlePort.
+-- What a handle's server may be given.
+use Rattle.std.specs.Prelude.{◌≡◌, ℕ, ◌<◌, List, [], ◌∷◌, ◌++◌, Result, Ok, Err}
+use Rattle.row_write.specs.declared.op.RowOp.{RowOp}
+use Rattle.row_write.specs.declared.op.RowOutcome.TheVariants.{Refused}
+use Rattle.row_write.specs.Plain.{outcome}
+use Rattle.lease.specs.declared.lease.Lease.{Lease}
+use Rattle.lease.specs.Timeline.{granted_at, max_moment}
+use Rattle.schema_version.specs.Version.{Version}
+use Rattle.replay.specs.Replay.{Opening}
+use Rattle.world.specs.Calls.{CommitStep, IsReadView, effective_moment}
+use Rattle.world.specs.declared.commit.CommitFault.{CommitFault}
+use Rattle.row_write.specs.Made.{PreparedTxn}
+use Rattle.world.specs.declared.entry.Grant.{Grant}
+use Rattle.world.specs.declared.entry.Receipt.{Receipt}
+use Rattle.world.specs.State.{State, facts_of}
+use Rattle.locked_store.specs.Cores.{IsCoreSince, WasLength}
+use Rattle.locked_store.specs.Receipts.{IsLogged}
+use Rattle.server.specs.Outcomes.{Said}
+
+-- a core behind the lock refused to commit a prepared transaction of these operations, for this reason
+pub record WasUncommitted (opening : Opening) (front moment : ℕ) (ops : List RowOp) (fault : CommitFault) : Type 0 where
+  pub core : State
+  pub is_core : IsCoreSince opening front core
+  pub prepared : PreparedTxn
+  pub own : prepared.ops ≡ ops
+  pub back : PreparedTxn
+  pub left : State
+  pub refused : CommitStep core moment prepared (Err (fault, back)) left
+
+-- what a handle's server may say, each of a core behind the lock that has at least so many entries
+abbrev pub SaidByCore : Opening → ℕ → Said → Type 0
+SaidByCore opening front (Said.granted moment lease schema) =
+    (core : State) × IsCoreSince opening front core × (lease ≡ granted_at (facts_of core).line (effective_moment core moment)) × (schema ≡ (facts_of core).newest)
+SaidByCore opening front (Said.overdue moment) = (core : State) × IsCoreSince opening front core × (max_moment < effective_moment core moment)
+SaidByCore opening front (Said.viewed keys view) = (core : State) × IsCoreSince opening front core × IsReadView core keys view
+SaidByCore opening front (Said.logged receipt) = IsLogged opening front receipt
+SaidByCore opening front (Said.unfit ops op why) = (core : State) × IsCoreSince opening front core × (outcome (facts_of core).rows ops ≡ Refused op why)
+SaidByCore opening front (Said.uncommitted moment ops fault) = WasUncommitted opening front moment ops fault
+SaidByCore opening front (Said.went_back seen) = WasLength opening seen
+
+-- a lease and its schema, without the receipt
+abbrev pub lease_and_schema : {E : Type 0} → Result Grant E → Result (Lease × Version) E
+lease_and_schema (Ok given) = Ok (given.lease, given.schema)
+lease_and_schema (Err fault) = Err fault
+
+-- the receipts that are kept, with that of the lease
+abbrev pub kept_with : {E : Type 0} → List Receipt → Result Grant E → List Receipt
+kept_with before (Ok given) = before ++ given.receipt ∷ []
+kept_with before (Err fault) = before

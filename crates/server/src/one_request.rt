@@ -1,0 +1,200 @@
+//! One request, tried until a try ends otherwise than in a conflict or with the end of its lease.
+ghost use Rattle.std.specs.Prelude.{◌≡◌, ℕ, ◌+◌, ◌<◌, ◌≤◌, ◌^◌, length, All, IfOk, IfErr};
+ghost use Rattle.server.specs.Outcomes.{Said, IsAgain, IsEnd, IsServed, IsTrueOf, receipts_of, receipts_by, unprepared_by};
+ghost use Rattle.server.specs.inner.Tries.{HasFailed, IsHeld, IsNext, StayLogged};
+
+use crate::port::Port;
+use crate::request::{Outcome, Request};
+use collections::ArcValue;
+use lease::Lease;
+use locked_store::SharedFault;
+use row_write::{PrepareFault, Prepared, RowOps, prepare, reads_of};
+use schema_version::Schema;
+use std::alloc::{AllocError, Global};
+use world::{CommitFault, Committed, GrantFault};
+
+// The lease at hand, or else a new one.
+fn held_or_new<P: Port>(
+    alloc: Global,
+    port: &mut P,
+    request: &Request,
+    held: Option<(Lease, ArcValue<Schema>)>,
+) -> Result<(Lease, ArcValue<Schema>), Outcome>
+    requires room { (P.tally port.old).retries < 2 ^ 63 }
+    ensures granted { (f : ℕ) → f ≤ P.front port.old → IsHeld (P.may f) request.now.moment held → IfOk result (λ h. P.may f (Said.granted request.now.moment h.0 h.1)) }
+    ensures over { IfErr result (λ o. IsEnd o (P.tally port.new).last) }
+    ensures own { (f n : ℕ) → f ≤ P.front port.old → IfErr result (λ o. IsTrueOf (P.may f) request.now.moment request.now.ops n o) }
+    ensures retries { (P.tally port.new).retries ≡ (P.tally port.old).retries }
+    ensures own_handle { P.id port.new ≡ P.id port.old }
+    ensures rises { P.front port.old ≤ P.front port.new }
+    ensures counted { P.count port.new + length (P.kept_receipts port.old) ≡ P.count port.old + length (P.kept_receipts port.new) + receipts_by result }
+    ensures kept_receipts { (f : ℕ) → f ≤ P.front port.old → StayLogged (P.may f) (P.kept_receipts port.old) (P.kept_receipts port.new) }
+{
+    if let Some(held) = held {
+        return Ok(held);
+    }
+    match port.lease(alloc, request.moment) {
+        Ok(granted) => Ok(granted),
+        Err(SharedFault::WentBack { seen }) => Err(Outcome::WentBack { seen }),
+        Err(SharedFault::World(GrantFault::MomentTooLarge)) => {
+            Err(Outcome::Rejected(CommitFault::MomentTooLarge))
+        }
+        Err(SharedFault::World(GrantFault::Memory)) => Err(Outcome::Memory),
+    }
+}
+
+// The request's operations once more.
+fn ops_of(request: &Request) -> Result<RowOps, AllocError>
+    ensures { IfOk result (λ ops. ops ≡ request.now.ops) }
+{
+    request.ops.clone()
+}
+
+// What is reported of a request that is not prepared.
+fn unprepared_outcome(fault: PrepareFault) -> Outcome
+    ensures { result ≡ unprepared_by fault }
+{
+    match fault {
+        PrepareFault::Memory => Outcome::Memory,
+        fault => Outcome::Unprepared(fault),
+    }
+}
+
+// What is prepared of the request by what the port reads, outside of any lock.
+fn prepared_by<P: Port>(
+    alloc: Global,
+    port: &mut P,
+    request: &Request,
+    lease: Lease,
+    schema: &ArcValue<Schema>,
+) -> Result<Prepared, Outcome>
+    requires room { (P.tally port.old).retries < 2 ^ 63 }
+    ensures of_request { IfOk result (λ p. p.ops ≡ request.now.ops) }
+    ensures over { IfErr result (λ o. IsEnd o (P.tally port.new).last) }
+    ensures own { (f n : ℕ) → f ≤ P.front port.old → P.may f (Said.granted request.now.moment lease schema.now) → IfErr result (λ o. IsTrueOf (P.may f) request.now.moment request.now.ops n o) }
+    ensures retries { (P.tally port.new).retries ≡ (P.tally port.old).retries }
+    ensures own_handle { P.id port.new ≡ P.id port.old }
+    ensures rises { P.front port.old ≤ P.front port.new }
+    ensures counted { P.count port.new + length (P.kept_receipts port.old) ≡ P.count port.old + length (P.kept_receipts port.new) + receipts_by result }
+    ensures kept_receipts { P.kept_receipts port.new ≡ P.kept_receipts port.old }
+{
+    let Ok(keys) = reads_of(alloc, schema.get(), request.ops.as_slice()) else {
+        return Err(Outcome::Memory);
+    };
+    let view = match port.read(alloc, &keys) {
+        Ok(view) => view,
+        Err(SharedFault::WentBack { seen }) => return Err(Outcome::WentBack { seen }),
+        Err(SharedFault::World(_)) => return Err(Outcome::Memory),
+    };
+    let Ok(schema) = schema.clone() else {
+        return Err(Outcome::Memory);
+    };
+    let Ok(ops) = ops_of(request) else {
+        return Err(Outcome::Memory);
+    };
+    match prepare(alloc, schema, lease, ops, view) {
+        Ok(prepared) => Ok(prepared),
+        Err((fault, _)) => Err(unprepared_outcome(fault)),
+    }
+}
+
+// Commits what was prepared. If another try is to follow: whether the lease still serves.
+fn committed_by<P: Port>(
+    alloc: Global,
+    port: &mut P,
+    request: &Request,
+    prepared: Prepared,
+) -> Result<bool, Outcome>
+    requires room { (P.tally port.old).retries < 2 ^ 63 }
+    requires of_request { prepared.ops ≡ request.now.ops }
+    ensures again { IfOk result (λ serves. IsAgain serves (P.tally port.new).last) }
+    ensures failed { (f : ℕ) → f ≤ P.front port.old → IfOk result (λ _. HasFailed (P.may f) request.now.moment request.now.ops) }
+    ensures over { IfErr result (λ o. IsEnd o (P.tally port.new).last) }
+    ensures own { (f n : ℕ) → f ≤ P.front port.old → IfErr result (λ o. IsTrueOf (P.may f) request.now.moment request.now.ops n o) }
+    ensures more { IfOk result (λ _. (P.tally port.new).retries ≡ (P.tally port.old).retries + 1) }
+    ensures once { IfErr result (λ _. (P.tally port.new).retries ≡ (P.tally port.old).retries) }
+    ensures own_handle { P.id port.new ≡ P.id port.old }
+    ensures rises { P.front port.old ≤ P.front port.new }
+    ensures counted { P.count port.new + length (P.kept_receipts port.old) ≡ P.count port.old + length (P.kept_receipts port.new) + receipts_by result }
+    ensures kept_receipts { P.kept_receipts port.new ≡ P.kept_receipts port.old }
+{
+    match port.commit(alloc, request.moment, prepared) {
+        Ok(Committed::Done(receipt)) => Err(Outcome::Done(receipt)),
+        Ok(Committed::Refused { op, why }) => Err(Outcome::Row { op, why }),
+        Err((SharedFault::WentBack { seen }, _)) => Err(Outcome::WentBack { seen }),
+        Err((SharedFault::World(CommitFault::Conflict { key: _ }), _)) => Ok(true),
+        Err((SharedFault::World(CommitFault::LeaseEnded { .. }), _)) => Ok(false),
+        Err((SharedFault::World(CommitFault::MomentTooLarge), _)) => {
+            Err(Outcome::Rejected(CommitFault::MomentTooLarge))
+        }
+        Err((SharedFault::World(CommitFault::BadLease), _)) => {
+            Err(Outcome::Rejected(CommitFault::BadLease))
+        }
+        Err((SharedFault::World(CommitFault::WrongSchema), _)) => {
+            Err(Outcome::Rejected(CommitFault::WrongSchema))
+        }
+        Err((SharedFault::World(CommitFault::Memory), _)) => Err(Outcome::Memory),
+    }
+}
+
+// One try. If another is to follow: the lease, if it still serves.
+fn try_once<P: Port>(
+    alloc: Global,
+    port: &mut P,
+    request: &Request,
+    held: Option<(Lease, ArcValue<Schema>)>,
+) -> Result<Option<(Lease, ArcValue<Schema>)>, Outcome>
+    requires room { (P.tally port.old).retries < 2 ^ 63 }
+    ensures held { (f : ℕ) → f ≤ P.front port.old → IsHeld (P.may f) request.now.moment held → IfOk result (λ next. IsHeld (P.may f) request.now.moment next) }
+    ensures again { IfOk result (λ next. IsNext next (P.tally port.new).last) }
+    ensures failed { (f : ℕ) → f ≤ P.front port.old → IfOk result (λ _. HasFailed (P.may f) request.now.moment request.now.ops) }
+    ensures over { IfErr result (λ o. IsEnd o (P.tally port.new).last) }
+    ensures own { (f n : ℕ) → f ≤ P.front port.old → IsHeld (P.may f) request.now.moment held → IfErr result (λ o. IsTrueOf (P.may f) request.now.moment request.now.ops n o) }
+    ensures more { IfOk result (λ _. (P.tally port.new).retries ≡ (P.tally port.old).retries + 1) }
+    ensures once { IfErr result (λ _. (P.tally port.new).retries ≡ (P.tally port.old).retries) }
+    ensures own_handle { P.id port.new ≡ P.id port.old }
+    ensures rises { P.front port.old ≤ P.front port.new }
+    ensures counted { P.count port.new + length (P.kept_receipts port.old) ≡ P.count port.old + length (P.kept_receipts port.new) + receipts_by result }
+    ensures kept_receipts { (f : ℕ) → f ≤ P.front port.old → StayLogged (P.may f) (P.kept_receipts port.old) (P.kept_receipts port.new) }
+{
+    let (lease, schema) = held_or_new(alloc, port, request, held)?;
+    let prepared = prepared_by(alloc, port, request, lease, &schema)?;
+    if committed_by(alloc, port, request, prepared)? {
+        Ok(Some((lease, schema)))
+    } else {
+        Ok(None)
+    }
+}
+
+/// Serves one request through a port. A try is a lease if there is none at hand, a read, a preparation and a commit. One that
+/// ends in a conflict is followed by another under the same lease, and one whose lease has ended by another under a new one.
+///
+/// - `request`: the operations, and the moment of each lease and commit.
+/// - `tries`: how many such tries there are at most, from 1 to 1,000. After so many the outcome is `Busy`.
+///
+/// A lease that is refused with `MomentTooLarge` gives `Rejected` with it, and running out of memory `Memory`.
+///
+/// What the outcome tells is what the port said after all that it had seen when the call began: `Done` has a receipt whose entry is in
+/// the log, `Row` and `Rejected` have a refusal, `Unprepared` comes of a lease that was granted and of what was read under it, `WentBack`
+/// has a length of the log, and `Busy` comes after that many tries that ended in a conflict or with the end of their lease.
+#[tactic(auto, using(crate::proofs::Ends::served))]
+pub fn serve_one<P: Port>(alloc: Global, port: &mut P, request: &Request, tries: u32) -> Outcome
+    requires tries { (1 ≤ tries) × (tries ≤ 1000) }
+    requires room { (P.tally port.old).retries ≤ 2 ^ 62 }
+    ensures served { IsServed tries (P.tally port.old) result (P.tally port.new) }
+    ensures own { (f : ℕ) → f ≤ P.front port.old → IsTrueOf (P.may f) request.now.moment request.now.ops tries result }
+    ensures few { (P.tally port.new).retries ≤ (P.tally port.old).retries + tries }
+    ensures own_handle { P.id port.new ≡ P.id port.old }
+    ensures rises { P.front port.old ≤ P.front port.new }
+    ensures counted { P.count port.new + length (P.kept_receipts port.old) ≡ P.count port.old + length (P.kept_receipts port.new) + receipts_of result }
+    ensures kept_receipts { (f : ℕ) → f ≤ P.front port.old → All (λ r. P.may f (Said.logged r)) (P.kept_receipts port.old) → All (λ r. P.may f (Said.logged r)) (P.kept_receipts port.new) }
+{
+    let mut held = None;
+    for _i in 0..tries {
+        match try_once(alloc, port, request, held) {
+            Ok(again) => held = again,
+            Err(outcome) => return outcome,
+        }
+    }
+    Outcome::Busy { tries }
+}

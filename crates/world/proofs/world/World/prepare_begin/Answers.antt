@@ -1,0 +1,19 @@
+use Rattle.std.proofs.Common.{ap, ◌∙◌, rules}
+use Rattle.reorganise.specs.Pieces.{begun}
+use Rattle.world.proofs.Invariant.{follow_of}
+use Rattle.world.proofs.world.World.prepare_begin.Goals as goal
+
+pub returns-clause-begins : goal.returns-clause-begins
+returns-clause-begins c =
+    let w = follow_of c.self.inside c.args.self.now c.self.invariant c.self.view_is in
+    record {
+      element = c.in-Some.found.now;
+      work = c.in-Some.work;
+      moment = c.if-now-gt-MAX_MOMENT.false;
+      there = c.in-Some.ensures.found;
+      wants = c.in-Some.ensures.wants;
+      settled = search rules;
+      new = search rules;
+      count = search rules;
+      begun_so = c.in_ok-begin.ensures.begun ∙ ap (λ e. begun e c.in-Some.work c.self.inside.store c.args.pieces) c.in_ok-element.ensures ∙ ap (λ ps. begun c.in-Some.found.now c.in-Some.work ps c.args.pieces) w.pairs;
+    }

@@ -1,7 +1,0 @@
-use Rattle.std.proofs.Common.{take}
-use Rattle.replay.specs.Laws.{AreFinished}
-use Rattle.world.specs.State.{facts_of}
-use Rattle.world.proofs.world.World.unfinished.Given as goal
-
-abbrev pub invariant-loop-change : goal.invariant-loop-change
-invariant-loop-change l = AreFinished (facts_of l.self) (take l.change-index l.step)
