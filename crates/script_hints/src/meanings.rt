@@ -1,0 +1,49 @@
+//! What each refusal means.
+
+/// What a refusal means. `{1}` and `{2}` are its numbers, `{e}` is the element of the first, `{s}`
+/// the server or work of the line, `{t}` its element, and `{m}` the last moment.
+pub(crate) fn meaning_of(name: &str) -> &'static str {
+    match name {
+        "NoServer" => "{s} has no lease; lease {s} at {m} grants one",
+        "NoWork" => "nothing is prepared as {s}",
+        "NoPlan" => "no step of a plan is left; plan: .. makes one",
+        "MomentTooLarge" => "a moment is at most 4611686018427387904",
+        "BadLease" => "no such lease was granted; take a new lease: lease {s} at {m}",
+        "LeaseEnded" => {
+            "the lease ended at {1}, and it is {2}; take a new lease: lease {s} at {2}"
+        }
+        "WrongSchema" => "it was prepared by another schema than that of its lease",
+        "TooManyOps" => "a transaction has at most 64 operations",
+        "TooEarly" => "the newest version has to stay the newest until moment {1}",
+        "NotAdjacent" => {
+            "the states are absent, delete_only, write_only, public; a step moves by one of them, \
+            and a column without a default is never write_only"
+        }
+        "WrongWay" => "it is on its way in the other direction",
+        "Dependent" => "it depends on {e}, or {e} on it",
+        "NameTaken" => "the table has an element or a key column of that name",
+        "Limit" => {
+            "a table has at most 32 columns and 16 indexes, an index 1 to 4 columns and a name 1 \
+            to 32 bytes; a default is a value of the column's type"
+        }
+        "VersionsSpent" => "no version number is left",
+        "StillIndexed" => "an index has the column: drop that index first, or in the same plan",
+        "InChange" => "it is being added or dropped; progress shows it",
+        "NotWanted" => "it wants no such fill or clear now, or none has begun; progress shows it",
+        "StillUsed" => "a version that has it in another state may be in use until moment {1}",
+        "Begun" => "it has begun; work {t} at {m} limit 1000 ends it",
+        "BadCount" => "1 to 64 pieces",
+        "BadPiece" => "it has no such piece; pieces are counted from 0",
+        "Spent" => "the piece has ended",
+        "BadLimit" => "a limit is from 1 to 1000",
+        "WrongElement" => "it was prepared for another reorganisation",
+        "Moved" => "another commit moved the piece on; prepare it again",
+        "BadTable" => {
+            "1 to 16 tables, each with 1 to 4 key columns, at most 32 others and 16 indexes of 1 to 4 \
+            columns; names are of 1 to 32 bytes, and each is there once; all must be declared again"
+        }
+        "BadLength" => "a length is from 1 to 4294967296; all must be declared again",
+        "Memory" => "out of memory",
+        _ => "",
+    }
+}
