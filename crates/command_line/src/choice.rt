@@ -9,7 +9,7 @@ use crate::help;
 use crate::load_size::{LoadSize, MAX_LIMIT, MAX_PIECES, MAX_ROWS, MAX_SERVERS, MAX_WORKERS};
 use crate::number::count_in;
 use clap::error::ErrorKind;
-use clap::{Arg, ArgMatches, Command, Error, value_parser};
+use clap::{Arg, ArgAction, ArgMatches, Command, Error, value_parser};
 use std::alloc::{AllocError, Global};
 
 /// What the program is to do. A file is that of the script; without one it is on standard input.
@@ -19,6 +19,8 @@ pub enum Chosen<'a> {
     Run {
         /// The file of the script.
         file: Option<&'a str>,
+        /// Whether it ends at the first line that is bad or refused.
+        is_stopped: bool,
     },
     /// Answer each line as it comes.
     Prompt {
@@ -34,9 +36,15 @@ fn file_arg<'a>(alloc: Global) -> Arg<'a> {
 }
 
 fn run_command<'a>(alloc: Global) -> Result<Command<'a>, AllocError> {
+    let stop = Arg::new(alloc, "stop")
+        .short('s')
+        .long("stop")
+        .action(ArgAction::SetTrue)
+        .help(help::STOP);
     Command::new(alloc, "run")
         .about(help::ABOUT_RUN)
         .after_help(help::SCRIPTS)
+        .arg(stop)?
         .arg(file_arg(alloc))
 }
 
@@ -137,9 +145,11 @@ pub fn options<'a>(alloc: Global, words: &'a [String]) -> Result<Chosen<'a>, Err
         .subcommand(load_command(alloc)?)?;
     let matches = command.try_get_matches_from_mut(words)?;
     if names(words, "run") {
-        let run = matches.subcommand_matches("run");
-        let file = run.and_then(|run| run.get_str("FILE"));
-        return Ok(Chosen::Run { file });
+        let (file, is_stopped) = match matches.subcommand_matches("run") {
+            Some(run) => (run.get_str("FILE"), run.get_flag("stop")),
+            None => (None, false),
+        };
+        return Ok(Chosen::Run { file, is_stopped });
     }
     if names(words, "prompt") {
         let prompt = matches.subcommand_matches("prompt");

@@ -12,6 +12,8 @@ pub(crate) const ABOUT_PROMPT: &str =
 
 pub(crate) const FILE: &str = "The file of the lines; standard input if it is left out";
 
+pub(crate) const STOP: &str = "Ends at the first line that is bad (status 1) or refused (status 7)";
+
 /// What a prompt is, by examples, and its exit statuses.
 pub(crate) const PROMPTS: &str = "\
 It takes the lines of `shell run --help`, and answers each before it reads the next. Lines that begin with `# `
@@ -62,7 +64,8 @@ Exit status:
   4  a reply, or a line of `load`, could not be written
   5  out of memory
   6  `load`: a difference was found, a step was refused, or a thread came to another end than a
-     committed row or a finished piece";
+     committed row or a finished piece
+  7  `run --stop`: a line was refused";
 
 /// The script language in short, and the exit statuses of `run`.
 pub(crate) const SCRIPTS: &str = "\
@@ -104,7 +107,8 @@ Exit status:
   2  a wrong command line
   3  the script could not be read, is longer than 16 MiB, or is not UTF-8
   4  a reply could not be written
-  5  out of memory";
+  5  out of memory
+  7  with --stop: a line was refused";
 
 pub(crate) const SERVERS: &str = "Threads that insert rows, 1 to 16";
 

@@ -37,9 +37,35 @@ const LOADS: [(&str, [u32; 5]); 18] = [
 ];
 
 // Lines after the program's name that choose a script or a prompt.
-const SCRIPTS: [(&str, Chosen<'static>); 4] = [
-    ("run", Chosen::Run { file: None }),
-    ("run x", Chosen::Run { file: Some("x") }),
+const SCRIPTS: [(&str, Chosen<'static>); 6] = [
+    (
+        "run",
+        Chosen::Run {
+            file: None,
+            is_stopped: false,
+        },
+    ),
+    (
+        "run x",
+        Chosen::Run {
+            file: Some("x"),
+            is_stopped: false,
+        },
+    ),
+    (
+        "run --stop",
+        Chosen::Run {
+            file: None,
+            is_stopped: true,
+        },
+    ),
+    (
+        "run -s x",
+        Chosen::Run {
+            file: Some("x"),
+            is_stopped: true,
+        },
+    ),
     ("prompt", Chosen::Prompt { file: None }),
     ("prompt x", Chosen::Prompt { file: Some("x") }),
 ];

@@ -4,5 +4,5 @@
 mod run;
 mod status;
 
-pub use run::{ScriptFault, Summary, run_script};
+pub use run::{ScriptFault, Summary, read_all, run_script, write_all};
 pub use status::script_status;

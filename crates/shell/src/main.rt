@@ -4,8 +4,7 @@
 use clap::Error;
 use command_line::{Chosen, NOT_UTF8, options, status_of};
 use load::run_load;
-use prompt::{Streams, converse, prompt_status};
-use script::{run_script, script_status};
+use prompt::{Streams, Watch, converse, prompt_status, run_watched, watched_status};
 use std::fs::File;
 use std::io;
 use std::io::{BufRead, BufReader, ErrorKind, IsTerminal, Read};
@@ -20,23 +19,25 @@ const UNREAD: u8 = 3;
 /// The exit status when memory ran out.
 const NO_MEMORY: u8 = 5;
 
-/// Runs the script of a reader. What the process's own reader and writer do is said by no contract:
-/// it is shown by the stored run.
-fn run_lines<R: Read>(rt: &HostRuntime, input: &mut R) -> u8 {
+/// Runs the script of a reader, and tells standard error what is wrong with its lines. What the
+/// process's own reader and writer do is said by no contract: it is shown by the stored run.
+fn run_lines<R: Read>(rt: &HostRuntime, input: &mut R, is_stopped: bool) -> u8 {
     let mut output = io::writer(rt);
-    let outcome = run_script(rt.alloc(), input, &mut output);
+    let errors = rt.stderr();
+    let mut watch = Watch { errors, is_stopped };
+    let outcome = run_watched(rt.alloc(), input, &mut output, &mut watch);
     if let Err(fault) = &outcome {
         let _ = eprintln!(rt; "fault: {fault}");
     }
-    script_status(&outcome)
+    watched_status(&outcome)
 }
 
 /// Runs the script of a file, or that on standard input.
-fn run_input(rt: &HostRuntime, file: Option<&str>) -> u8 {
+fn run_input(rt: &HostRuntime, file: Option<&str>, is_stopped: bool) -> u8 {
     match file {
-        None => run_lines(rt, &mut rt.stdin()),
+        None => run_lines(rt, &mut rt.stdin(), is_stopped),
         Some(file) => match opened(rt, file) {
-            Ok(mut reader) => run_lines(rt, &mut reader),
+            Ok(mut reader) => run_lines(rt, &mut reader, is_stopped),
             Err(status) => status,
         },
     }
