@@ -6,7 +6,8 @@ use Rattle.std.specs.Ordering.{ordering_then, nat_cmp}
 use Rattle.std.proofs.lemmas.Bool.Decides.{nat_tests}
 use Rattle.byte_map.specs.Order.{bytes_cmp}
 use Rattle.byte_map.proofs.Order.{less_from_greater, greater_from_less}
-use Rattle.page_map.specs.inner.Prefix.{bytes_at, prefix_of}
+use Rattle.byte_map.specs.Sorted.{Entries}
+use Rattle.page_map.specs.inner.Prefix.{bytes_at, prefix_of, HasPrefix}
 
 -- no byte stands at this place, nor after it
 record IsEnd (at : ℕ) (key : List ℕ) : Type 0 where
@@ -106,3 +107,8 @@ prefix_less a b less = below 24 0 a b less
 
 pub prefix_greater : (a b : List ℕ) → bytes_cmp (prefix_of a) (prefix_of b) ≡ Greater → bytes_cmp a b ≡ Greater
 prefix_greater a b greater = greater_from_less b a (prefix_less b a (less_from_greater (prefix_of a) (prefix_of b) greater))
+
+-- the first key of the first pairs is the first of all
+pub prefix_part : (ys zs : Entries (List ℕ)) (p : List ℕ) → HasPrefix (ys ++ zs) p → HasPrefix ys p
+prefix_part [] zs p has first here = absurd (omega (arith, ap length here))
+prefix_part (y ∷ ys) zs p has first here = has first (ap (λ (e : List ℕ × List ℕ). e ∷ (ys ++ zs)) (ap (λ (l : Entries (List ℕ)). get_or l 0 first) here))

@@ -6,15 +6,15 @@ use crate::flat_pairs::FlatPairs;
 use crate::page::{PAGE_LIMIT, Page};
 use std::alloc::{AllocError, Global};
 
-/// The most bytes of the pairs of a page that has more than one: a page is copied at each change, so this bounds what a
-/// change costs. It shows in the speed alone.
+/// The most bytes of the pairs of a page that has more than one. A page that a snapshot shares is
+/// copied at its first change, so this bounds what a change costs. It only affects speed.
 const BYTES_LIMIT: usize = 16 * 1024;
 
 /// Cuts pairs into pages: one if it may hold them all, and none if there are none. If the keys are
 /// `rising`, the pages before the last are full; else the last two are about alike. Refused only
 /// when out of memory.
 pub(crate) fn cut(alloc: Global, pairs: FlatPairs, rising: bool) -> Result<Vec<Page>, AllocError>
-    ensures { IfOk result (λ pages. joined pages.items ≡ pairs) }
+    ensures { IfOk result (λ pages. joined pages.items ≡ pairs.pairs) }
 {
     let len = pairs.len();
     if len == 0 {
@@ -30,7 +30,7 @@ pub(crate) fn cut(alloc: Global, pairs: FlatPairs, rising: bool) -> Result<Vec<P
 
 /// Copies pairs into pages.
 fn parts(alloc: Global, pairs: &FlatPairs, rising: bool) -> Result<Vec<Page>, AllocError>
-    ensures { IfOk result (λ pages. joined pages.items ≡ pairs.now) }
+    ensures { IfOk result (λ pages. joined pages.items ≡ pairs.now.pairs) }
 {
     let mut pages = Vec::new(alloc);
     let len = pairs.len();
@@ -61,11 +61,11 @@ fn share(left: usize, most: usize, rising: bool) -> usize
     }
 }
 
-// How many of the pairs from a place on a page may hold. That more do not fit shows in the speed alone.
+// How many of the pairs from a place on a page may hold. Fewer than fit would only affect speed.
 fn count_fitting(pairs: &FlatPairs, at: usize) -> usize
-    requires { at < length pairs.now }
+    requires { at < length pairs.now.pairs }
     ensures some { 0 < result }
-    ensures in_range { at + result ≤ length pairs.now }
+    ensures in_range { at + result ≤ length pairs.now.pairs }
     ensures fits { result ≤ 64 }
 {
     let left = pairs.len() - at;

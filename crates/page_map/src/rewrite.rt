@@ -1,5 +1,5 @@
-//! Pages made anew where changes fall, and put into the place of the earlier ones.
-ghost use Rattle.std.specs.Prelude.{◌≡◌, ◌+◌, ◌-◌, ◌++◌, [], ◌≤◌, ◌<◌, List, ℕ, T, Option, IfOk, OnOk, length, take, drop, reverse};
+//! Pages that changes make anew, and that then take the place of the earlier ones.
+ghost use Rattle.std.specs.Prelude.{◌≡◌, ◌+◌, ◌-◌, ◌++◌, [], ◌≤◌, ◌<◌, List, ℕ, T, Option, IfOk, IfSome, OnOk, length, take, drop, reverse};
 ghost use Rattle.std.specs.Vec.{vec_len, vec_capacity};
 ghost use Rattle.std.specs.FinMap.Entries.{below_all};
 ghost use Rattle.byte_map.specs.Order.{bytes_cmp};
@@ -13,6 +13,10 @@ use crate::page::Page;
 use crate::rest::count_up_to;
 use byte_map::{Bytes, sorted};
 use std::alloc::{AllocError, Global};
+
+/// So often the pages after a place are moved at once, by the block, before one pass over them,
+/// page by page, is faster.
+const FEW_SHIFTS: usize = 8;
 
 /// Pages that are to take the place of one page.
 #[derive(Drop)]
@@ -33,13 +37,22 @@ pub(crate) struct Plan {
     /// About how often the pages after a piece would move if each came to its place by itself: a
     /// choice of speed alone.
     pub(crate) shifts: usize,
-    /// How many pairs there will be in all.
+    /// Of how many pairs those of the pages are a part.
+    pub(crate) base: usize,
+    /// How many there will be of those.
     pub(crate) len: usize,
 }
 
 impl Plan {
-    /// Makes the pages that `writes` need anew, where `pages` hold so many pairs. Refused only when
-    /// out of memory.
+    /// How many pairs there are once it is carried out.
+    pub(crate) fn total(&self) -> usize
+        ensures { result ≡ self.now.len }
+    {
+        self.len
+    }
+
+    /// Makes the pages that `writes` need anew, where `pages` hold some of so many pairs. Refused
+    /// only when out of memory.
     pub(crate) fn new(
         alloc: Global,
         pages: &[Page],
@@ -47,9 +60,10 @@ impl Plan {
         writes: &[(Bytes, Option<Bytes>)],
     ) -> Result<Plan, AllocError>
         requires pages { IsSorted (joined pages.now) }
-        requires counted { len ≡ length (joined pages.now) }
+        requires counted { length (joined pages.now) ≤ len }
         requires writes { IsSorted writes.now }
         ensures plan { IfOk result (λ plan. IsPlan pages.now plan) }
+        ensures base { IfOk result (λ plan. plan.base ≡ len) }
         ensures all { IfOk result (λ plan. joined (placed pages.now (reverse plan.pieces.items)) ≡ changed_all (joined pages.now) writes.now) }
     {
         let mut plan = Plan {
@@ -57,6 +71,7 @@ impl Plan {
             reach: 0,
             room: 0,
             shifts: 0,
+            base: len,
             len,
         };
         let mut done = 0;
@@ -82,6 +97,7 @@ impl Plan {
         requires ahead { self.old.reach ≤ at }
         requires in_range { at ≤ length pages.now }
         ensures plan { OnOk result (IsPlan pages.now self.new) }
+        ensures base { OnOk result (self.new.base ≡ self.old.base) }
         ensures reach { OnOk result (self.new.reach ≡ at + 1) }
         ensures made { OnOk result (joined (made pages.now (reverse self.new.pieces.items)) ≡ joined (made pages.now (reverse self.old.pieces.items)) ++ (joined (drop self.old.reach (take at pages.now)) ++ changed_all (joined (take 1 (drop at pages.now))) writes.now)) }
     {
@@ -99,9 +115,38 @@ impl Plan {
         Ok(())
     }
 
+    /// Room for the pages to go by way of, where one pass over them is faster than one for each
+    /// piece. Refused only when out of memory.
+    pub(crate) fn spare(
+        &self,
+        alloc: Global,
+        pages: &Vec<Page>,
+    ) -> Result<Option<Vec<Page>>, AllocError>
+        requires { vec_len pages.now + self.now.room ≤ vec_capacity pages.now }
+        ensures { IfOk result (λ spare. IfSome spare (λ behind. (behind.items ≡ []) × (vec_len pages.now + self.now.room ≤ vec_capacity behind))) }
+    {
+        if self.shifts <= FEW_SHIFTS {
+            return Ok(None);
+        }
+        Ok(Some(Vec::with_capacity(alloc, pages.len() + self.room)?))
+    }
+
+    /// Puts the pieces into their places, for which there is room.
+    pub(crate) fn place(self, pages: &mut Vec<Page>, spare: Option<Vec<Page>>)
+        requires plan { IsPlan pages.old.items self }
+        requires room { vec_len pages.old + self.room ≤ vec_capacity pages.old }
+        requires spare { IfSome spare (λ behind. (behind.items ≡ []) × (vec_len pages.old + self.room ≤ vec_capacity behind)) }
+        ensures { pages.new.items ≡ placed pages.old.items (reverse self.pieces.items) }
+    {
+        match spare {
+            None => self.place_each(pages),
+            Some(behind) => self.place_all(pages, behind),
+        }
+    }
+
     /// Puts the pieces into their places, for which there is room, one by one: right where few of
     /// them move the pages after.
-    pub(crate) fn place_each(self, pages: &mut Vec<Page>)
+    fn place_each(self, pages: &mut Vec<Page>)
         requires plan { IsPlan pages.old.items self }
         requires room { vec_len pages.old + self.room ≤ vec_capacity pages.old }
         ensures { pages.new.items ≡ placed pages.old.items (reverse self.pieces.items) }
@@ -114,7 +159,7 @@ impl Plan {
 
     /// Puts the pieces into their places, for which there is room, in one pass over the pages after
     /// the first of them, which go by way of `behind`.
-    pub(crate) fn place_all(self, pages: &mut Vec<Page>, mut behind: Vec<Page>)
+    fn place_all(self, pages: &mut Vec<Page>, mut behind: Vec<Page>)
         requires plan { IsPlan pages.old.items self }
         requires room { vec_len pages.old + self.room ≤ vec_capacity pages.old }
         requires empty { behind.items ≡ [] }
@@ -131,8 +176,9 @@ impl Plan {
     }
 }
 
-/// The page that `key` belongs to, of those from a place on: the last one that begins at or below it, or the first.
-fn place_of(pages: &[Page], from: usize, key: &[u8]) -> usize
+/// The page that `key` belongs to, of those from a place on: the last one that begins at or below
+/// it, or the first.
+pub(crate) fn place_of(pages: &[Page], from: usize, key: &[u8]) -> usize
     requires sorted { IsSorted (joined pages.now) }
     requires in_range { from ≤ length pages.now }
     ensures ahead { from ≤ result }
@@ -146,7 +192,7 @@ fn place_of(pages: &[Page], from: usize, key: &[u8]) -> usize
 }
 
 /// How many of the writes fall before the pages from a place on.
-fn count_before(writes: &[(Bytes, Option<Bytes>)], pages: &[Page], from: usize) -> usize
+pub(crate) fn count_before(writes: &[(Bytes, Option<Bytes>)], pages: &[Page], from: usize) -> usize
     requires { IsSorted writes.now }
     ensures in_range { result ≤ length writes.now }
     ensures all { length pages.now ≤ from → result ≡ length writes.now }
@@ -179,7 +225,7 @@ fn rewritten(
     writes: &[(Bytes, Option<Bytes>)],
 ) -> Result<FlatPairs, AllocError>
     requires { IsSorted (joined pages.now) }
-    ensures { IfOk result (λ pairs. pairs ≡ changed_all (joined (take 1 (drop at pages.now))) writes.now) }
+    ensures { IfOk result (λ pairs. pairs.pairs ≡ changed_all (joined (take 1 (drop at pages.now))) writes.now) }
 {
     let pairs = copy_of(alloc, pages, at, bytes_of(writes), writes.len())?;
     write_all(pairs, writes)
@@ -192,7 +238,7 @@ fn copy_of(
     more_bytes: usize,
     more_pairs: usize,
 ) -> Result<FlatPairs, AllocError>
-    ensures { IfOk result (λ pairs. pairs ≡ joined (take 1 (drop at pages.now))) }
+    ensures { IfOk result (λ pairs. pairs.pairs ≡ joined (take 1 (drop at pages.now))) }
 {
     if at < pages.len() {
         pages[at].pairs().copied(alloc, more_bytes, more_pairs)
@@ -205,8 +251,8 @@ fn write_all(
     mut pairs: FlatPairs,
     writes: &[(Bytes, Option<Bytes>)],
 ) -> Result<FlatPairs, AllocError>
-    requires { IsSorted pairs }
-    ensures { IfOk result (λ new. new ≡ changed_all pairs writes.now) }
+    requires { IsSorted pairs.pairs }
+    ensures { IfOk result (λ new. new.pairs ≡ changed_all pairs.pairs writes.now) }
 {
     for (key, change) in writes {
         pairs.write(key.as_slice(), change)?;
@@ -214,7 +260,7 @@ fn write_all(
     Ok(pairs)
 }
 
-// About how many bytes the writes put: how far to trust it shows in the speed alone.
+// About how many bytes the writes put. It only affects speed.
 fn bytes_of(writes: &[(Bytes, Option<Bytes>)]) -> usize {
     let mut total = 0usize;
     for (key, change) in writes {

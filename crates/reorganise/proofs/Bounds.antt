@@ -114,7 +114,7 @@ bounds_stay bounds (s ∷ ss) (suc place) to b all = (all.0, bounds_stay bounds 
 
 -- ---- ranges
 
-end_is : (tag n : ℕ) → n + 1 < 2 ^ 32 → prefix_end tag n ≡ prefix tag (n + 1)
+pub end_is : (tag n : ℕ) → n + 1 < 2 ^ 32 → prefix_end tag n ≡ prefix tag (n + 1)
 end_is tag n fits = ap (λ b. if b then prefix tag (n + 1) else (tag + 1) ∷ []) (lt-ltb _ _ fits)
 
 pub fill_range : FillRange

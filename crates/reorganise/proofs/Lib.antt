@@ -11,3 +11,6 @@ pub mod Columns
 pub mod Fills
 pub mod Clears
 pub mod Cursors
+pub mod EmptyValues
+pub mod Emptying
+pub mod Left

@@ -1,6 +1,6 @@
 -- Cited by the contracts of pieces_share, cursors_pass, ranges_are, bounds_hold and 3 more.
 -- What pieces come to, in the words in which elements keep their laws.
-use Rattle.std.specs.Prelude.{◌≡◌, ℕ, ◌≤◌, zero, suc, true, ◌+◌, ◌<◌, ◌^◌, ◌↔◌, List, [], ◌∷◌, Some, slice_get}
+use Rattle.std.specs.Prelude.{◌≡◌, ℕ, ◌≤◌, zero, suc, true, ◌+◌, ◌<◌, ◌^◌, ◌↔◌, List, [], ◌∷◌, length, Some, slice_get}
 use Rattle.std.specs.List.{AllByRecursion}
 use mathlib.Core.List.{map as each}
 use Rattle.keycode.specs.declared.value.Value.{Value}
@@ -18,7 +18,7 @@ use Rattle.element_state.specs.Exists.{exists_meaning}
 use Rattle.element_state.specs.Column.{IsLawfulColumn}
 use Rattle.element_state.specs.Required.{required_of}
 use Rattle.element_state.specs.Sources.{source_in, source_alone, default_value_at}
-use Rattle.element_state.specs.Consistent.{DemandOf}
+use Rattle.element_state.specs.Consistent.{DemandOf, IsConsistent}
 use Rattle.schema_version.specs.Sound.{IsSoundVersion}
 use Rattle.element_state.specs.Items.{ClearRange, Bounds, RowsOf, IsBound, HasRange, row_items, fill_puts, clear_writes}
 use Rattle.element_state.specs.Kinds.{kind_clear}
@@ -32,9 +32,10 @@ use Rattle.schema_version.specs.declared.element.Work.{Work}
 use Rattle.schema_version.specs.declared.element.Work.TheVariants.{Fill, Clear}
 use Rattle.reorganise.specs.declared.work.Span.{Span}
 use Rattle.reorganise.specs.declared.read.Reading.{Reading}
-use Rattle.reorganise.specs.ScanRanges.{scan_range_of, start, end}
+use Rattle.reorganise.specs.ScanRanges.{scan_range_of, start, end, items, ItemsAreEmpty}
 use Rattle.reorganise.specs.Pieces.{begun, are_ended, IsReading}
 use Rattle.reorganise.specs.Partition.{AreJoined}
+use Rattle.reorganise.specs.Left.{items_left}
 use Rattle.reorganise.specs.Batches.{expect_of, batch_for}
 
 -- ---- the pieces of a reorganisation
@@ -126,6 +127,19 @@ BoundsStay =
 -- a piece comes to where it may end, whatever pairs it was read from
 abbrev pub ComesToBound : Type 0
 ComesToBound = (read : Reading) → IsReading read → IsBound (bounds_of read.element read.kind) read.high → IsBound (bounds_of read.element read.kind) read.key_range.high
+
+-- in a store that agrees with a version, the items of a fill or a clear are the pairs of its range whose value is empty: a column's
+-- value is never empty
+abbrev pub ItemsEmpty : Type 0
+ItemsEmpty =
+    (version : Version) (element : ElementDef) (kind : Work) (P : Pairs) (R : Rows) → HasRange element.table element.number → IsConsistent version R P
+    → ItemsAreEmpty (scan_range_of element kind) P
+
+-- at its begin all items are left
+abbrev pub AllLeft : Type 0
+AllLeft =
+    (element : ElementDef) (kind : Work) (pairs : Pairs) (pieces : ℕ) → 0 < pieces
+    → items_left (begun element kind pairs pieces) pairs ≡ length (items (scan_range_of element kind) pairs)
 
 -- ---- what they write
 

@@ -5,3 +5,4 @@ pub mod Refusals
 pub mod Batches
 pub mod Laws
 pub mod Cursor
+pub mod Left

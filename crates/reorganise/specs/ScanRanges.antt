@@ -1,6 +1,7 @@
 -- Cited by the contracts of Progress::begin.
 -- If the items of a reorganisation stand.
-use Rattle.std.specs.Prelude.{◌≡◌, ℕ, ◌+◌, ◌^◌, ◌==◌, Bool, false, List, [], ◌∷◌, Option, Some, None, Result, Ok, Err, nat_lt, if◌then◌else◌, filter_map}
+use Rattle.std.specs.Prelude.{◌≡◌, ℕ, ◌+◌, ◌^◌, ◌==◌, Bool, true, false, List, [], ◌∷◌, Option, Some, None, Result, Ok, Err, nat_lt, if◌then◌else◌, filter_map}
+use Rattle.std.specs.FinMap as map
 use Rattle.std.specs.Int.{w32, to_be_bytes}
 use Rattle.keycode.specs.declared.fault.KeyFault.{KeyFault}
 use Rattle.keycode.specs.declared.value.Value.{Value}
@@ -9,7 +10,8 @@ use Rattle.row_map.specs.declared.key.KeyOf.TheVariants.{Exists, Column, Index a
 use Rattle.row_map.specs.Keys.{key_code, IsKey}
 use Rattle.row_map.specs.ReadKey.{key_at}
 use Rattle.row_map.specs.Rows.{Bytes, Pairs}
-use Rattle.row_map.specs.Walk.{key_range}
+use Rattle.row_map.specs.Ranges.{is_within}
+use Rattle.row_map.specs.Walk.{is_empty, key_range}
 use Rattle.schema_version.specs.declared.element.Kind.{Kind}
 use Rattle.schema_version.specs.declared.element.Kind.TheVariants.{Index, Optional, Required}
 use Rattle.schema_version.specs.declared.element.ElementDef.{ElementDef}
@@ -86,3 +88,7 @@ item_keys scan_range pairs = filter_map (item_key scan_range) pairs
 -- all items, in order
 abbrev pub items : ScanRange → Pairs → List Bytes
 items scan_range pairs = item_keys scan_range (key_range pairs (start scan_range) (end scan_range))
+
+-- a pair of the range is an item's exactly when its value is empty: a store that counts such pairs finds an item by its number
+abbrev pub ItemsAreEmpty : ScanRange → Pairs → Type 0
+ItemsAreEmpty scan_range pairs = (key value : Bytes) → map.get pairs key ≡ Some value → is_within (start scan_range) (end scan_range) key ≡ true → is_item scan_range key ≡ is_empty value

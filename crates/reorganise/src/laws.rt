@@ -1,7 +1,7 @@
 //! What pieces come to, in the words in which elements keep their laws: each is a call without a body, so that a
 //! contract names it. Whoever keeps a store consistent has from these that a piece is one of the fills and clears that
 //! `element_state` speaks of.
-ghost use Rattle.reorganise.specs.Laws.{PiecesJoin, PiecesEnd, BeginsFresh, CursorStands, CursorMoves, JoinStays, FillRange, ClearRangeIs, ClearIsOfKind, BeginsAtBounds, BoundsStay, ComesToBound, ColumnsAgree, FillLays, ClearLays};
+ghost use Rattle.reorganise.specs.Laws.{PiecesJoin, PiecesEnd, BeginsFresh, CursorStands, CursorMoves, JoinStays, FillRange, ClearRangeIs, ClearIsOfKind, BeginsAtBounds, BoundsStay, ComesToBound, ColumnsAgree, FillLays, ClearLays, ItemsEmpty, AllLeft};
 
 /// Pieces that join one another are such in the words of `element_state`, and have all ended
 /// exactly when `finished` says so.
@@ -31,6 +31,16 @@ pub fn bounds_hold()
     ensures begin { BeginsAtBounds }
     ensures stay { BoundsStay }
     ensures comes { ComesToBound }
+{}
+
+/// In a store that agrees with a version, the items of a fill or a clear are the pairs of its range whose value is empty.
+pub fn items_are_empty()
+    ensures { ItemsEmpty }
+{}
+
+/// At the begin of a reorganisation all items of its scan range are left.
+pub fn begins_whole()
+    ensures { AllLeft }
 {}
 
 /// In a store that agrees with a sound version, what a fill of an element of it reads of a row is right: the columns of an

@@ -12,6 +12,7 @@ mod fault;
 mod laws;
 mod prepare;
 mod prepared;
+mod ranks;
 mod read;
 mod row;
 mod scan_range;
@@ -20,7 +21,8 @@ mod work;
 
 pub use fault::ViewFault;
 pub use laws::{
-    bounds_hold, clear_lays, columns_agree, cursors_pass, fill_lays, pieces_share, ranges_are,
+    begins_whole, bounds_hold, clear_lays, columns_agree, cursors_pass, fill_lays, items_are_empty,
+    pieces_share, ranges_are,
 };
 pub use prepare::prepare_piece;
 pub use prepared::PreparedPiece;

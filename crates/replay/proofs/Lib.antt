@@ -1,6 +1,7 @@
 pub mod Soundness
 pub mod Time
 pub mod Agree
+pub mod Standing
 pub mod Begun
 pub mod Cursors
 pub mod Moved

@@ -253,7 +253,9 @@ module _ (facts : Facts) (now number : ℕ) (read : Reading) (later : facts.mome
 
   in_pieces : AreInPieces (each (moved_to number read.piece to) facts.progress)
   in_pieces =
-      move_in_pieces facts.progress number read.piece to p next.span next.here next.piece (subst (λ (high : Bytes). is_le (bytes_cmp to high) ≡ true) next.high next.read_so.comes.bounded)
+      move_in_pieces facts.progress number read.piece to p next.span next.here next.piece
+      (subst (λ (cursor : Bytes). is_le (bytes_cmp cursor to) ≡ true) next.cursor next.read_so.comes.onward)
+      (subst (λ (high : Bytes). is_le (bytes_cmp to high) ≡ true) next.high next.read_so.comes.bounded)
       (λ m q at. (found (IsBegun facts.newest) facts.progress m q kept.begun at).1) kept.in_pieces
 
   pub piece_kept : IsKept (after facts (piece_entry now number read))

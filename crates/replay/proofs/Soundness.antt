@@ -43,7 +43,7 @@ small version sound number table at =
     let found = table_in version.tables number table sound.tables at in
     (omega (arith, found.1, sound.few_tables), found.0.some_key, found.0.short_key)
 
-lawful_entry : (version : Version) → IsSoundVersion version → (n : ℕ) (d : ElementDef) → element_at version n ≡ Some d → IsLawful n (entry_of version d).kind
+pub lawful_entry : (version : Version) → IsSoundVersion version → (n : ℕ) (d : ElementDef) → element_at version n ≡ Some d → IsLawful n (entry_of version d).kind
 lawful_entry version sound n d at =
     let e : IsSoundElement version n d = sound.elements n d at in
     let fit = fits version sound n d at in

@@ -57,9 +57,14 @@ pub record IsBegun (newest : Version) (progress : Progress) : Type 0 where
 abbrev pub IsInPiece : Span → Type 0
 IsInPiece piece = is_le (bytes_cmp piece.cursor piece.high) ≡ true
 
+-- nor before the lower one
+abbrev pub IsReached : Span → Type 0
+IsReached piece = is_le (bytes_cmp piece.low piece.cursor) ≡ true
+
 pub record IsInPieces (progress : Progress) : Type 0 where
   pub few : length progress.pieces ≤ 64
   pub cursors : AllByRecursion IsInPiece progress.pieces
+  pub reached : AllByRecursion IsReached progress.pieces
 
 -- so it is with the begun reorganisation of each element
 abbrev pub AreInPieces : List Progress → Type 0

@@ -19,6 +19,7 @@ use Rattle.reorganise.specs.declared.work.Span.{Span}
 use Rattle.reorganise.specs.declared.work.Progress.{Progress}
 use Rattle.reorganise.specs.declared.read.Reading.{Reading}
 use Rattle.reorganise.specs.Pieces.{are_ended, IsReading}
+use Rattle.reorganise.specs.ScanRanges.{scan_range_of, ItemsAreEmpty}
 use Rattle.reorganise.specs.Batches.{expect_of, batch_for}
 use Rattle.row_write.specs.declared.op.RowOutcome.TheVariants.{Done, Refused}
 use Rattle.row_write.specs.declared.fault.RowFault.{RowFault}
@@ -71,6 +72,10 @@ BeginsKeep =
     (facts : Facts) (now number pieces : ℕ) (element : ElementDef) (work : Work) → facts.moment ≤ now → element_at facts.newest number ≡ Some element → wanted_work element ≡ Some work
     → state_of (used_before facts now) number ≡ element.state → progress_of facts.progress number ≡ None → IsPieceCount pieces
     → IsKept facts → IsKept (after facts (record { moment = now; what = Begin number pieces }))
+
+-- the items of a live element's fill or clear are the pairs of their range whose value is empty
+abbrev pub ItemsStand : Type 0
+ItemsStand = (facts : Facts) (number : ℕ) (element : ElementDef) (work : Work) → element_at facts.newest number ≡ Some element → IsKept facts → ItemsAreEmpty (scan_range_of element work) facts.pairs
 
 -- what was read of a piece of a begun reorganisation as it stands, where its expectation still holds
 pub record IsNextOf (facts : Facts) (number : ℕ) (read : Reading) : Type 0 where

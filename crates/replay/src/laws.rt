@@ -1,7 +1,7 @@
 //! What each accepted call keeps: each is a call without a body, so that a contract names it.
 ghost use Rattle.replay.specs.Headline.{Headline};
 ghost use Rattle.replay.specs.Worked.{ALogSays, ALogFollows};
-ghost use Rattle.replay.specs.Laws.{OpeningsKeep, LeasesKeep, PublicationsKeep, OutcomesHold, TxnsKeep, RefusedWriteNothing, BeginsKeep, PiecesKeep, KeptAgrees};
+ghost use Rattle.replay.specs.Laws.{OpeningsKeep, LeasesKeep, PublicationsKeep, OutcomesHold, TxnsKeep, RefusedWriteNothing, BeginsKeep, PiecesKeep, KeptAgrees, ItemsStand};
 
 /// An empty store under one sound version keeps all.
 pub fn openings_keep()
@@ -32,6 +32,12 @@ pub fn publications_keep()
 /// state, keeps all.
 pub fn begins_keep()
     ensures { BeginsKeep }
+{}
+
+/// If all is kept, the items of a live element's fill or clear are the pairs of their range whose
+/// value is empty.
+pub fn items_stand()
+    ensures { ItemsStand }
 {}
 
 /// A prepared piece of a begun reorganisation as it stands, whose expectation holds, writes what its entry says and keeps

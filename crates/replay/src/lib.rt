@@ -11,6 +11,6 @@ mod same;
 
 pub use entry::{Entry, What};
 pub use laws::{
-    a_log_says, begins_keep, headline, kept_agrees, leases_keep, openings_keep, pieces_keep,
-    publications_keep, transactions_keep,
+    a_log_says, begins_keep, headline, items_stand, kept_agrees, leases_keep, openings_keep,
+    pieces_keep, publications_keep, transactions_keep,
 };

@@ -1,4 +1,5 @@
 pub mod Invariant
+pub mod Left
 pub mod CallSteps
 pub mod Queries
 pub mod Snapshots

@@ -12,7 +12,7 @@ use crate::entry::Receipt;
 use crate::world::World;
 use lease::MAX_MOMENT;
 use reorganise::{Progress, Work};
-use replay::{What, begins_keep};
+use replay::{What, begins_keep, items_stand};
 use schema_version::ElementDef;
 use std::alloc::{AllocError, AllocFailed, Global};
 use thiserror::Error;
@@ -149,8 +149,9 @@ impl World {
         if pieces < 1 || pieces > MAX_PIECES {
             return Err(BeginFault::BadCount);
         }
+        items_stand();
         let element = element_copied(found)?;
-        Ok(Progress::begin(alloc, element, work, &self.store, pieces)?)
+        Ok(Progress::begin_ranked(alloc, element, work, &self.store, pieces)?)
     }
 
     // The reorganisation has begun.

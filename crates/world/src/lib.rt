@@ -12,6 +12,7 @@ mod grant;
 mod log;
 mod open;
 mod piece;
+mod progress;
 mod publish;
 mod query;
 mod read;

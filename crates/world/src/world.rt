@@ -14,7 +14,7 @@ use collections::ArcValue;
 use lease::{Lease, Timeline};
 use reorganise::Progress;
 use replay::{Entry, kept_agrees};
-use row_map::{Near, PairView, Walk};
+use row_map::{Near, PairView, RankedView, Walk};
 use schema_version::Schema;
 use std::marker::Model;
 use txn_store::Store;
@@ -167,5 +167,15 @@ impl PairView for World {
 
     fn walk_within<'a>(&'a self, low: &[u8], high: &'a [u8]) -> Walk<'a> {
         self.store.walk_within(low, high)
+    }
+}
+
+impl RankedView for World {
+    fn count_empty(&self, low: &[u8], high: &[u8]) -> usize {
+        self.store.count_empty(low, high)
+    }
+
+    fn nth_empty(&self, low: &[u8], high: &[u8], n: usize) -> Option<&[u8]> {
+        self.store.nth_empty(low, high, n)
     }
 }

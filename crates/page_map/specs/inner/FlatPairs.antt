@@ -1,6 +1,5 @@
--- Cited by private functions alone: read, edit, lay.
 -- Pairs that lie in one string of bytes.
-use Rattle.std.specs.Prelude.{ℕ, ◌≤◌, List, [], ◌∷◌, map, slice_range}
+use Rattle.std.specs.Prelude.{ℕ, ◌+◌, ◌≤◌, ◌<◌, ◌^◌, List, [], ◌∷◌, Option, Some, None, length, map, slice_range}
 use Rattle.page_map.specs.declared.flat_pairs.Slot.{Slot}
 
 -- the pair that a slot marks
@@ -20,3 +19,26 @@ pub record IsWithin (size : ℕ) (slot : Slot) : Type 0 where
 abbrev pub AllWithin : ℕ → List Slot → Type 0
 AllWithin size [] = Unit {0}
 AllWithin size (slot ∷ slots) = IsWithin size slot × AllWithin size slots
+
+-- what is seen of them: the pairs, how many bytes they lie in, and for how many bytes and pairs more there is room
+pub record Flat : Type 0 where
+  pub pairs : List (List ℕ × List ℕ)
+  pub used : ℕ
+  pub room : ℕ
+  pub gaps : ℕ
+
+-- so many bytes and pairs more need no memory
+pub record HasRoom (flat : Flat) (bytes : ℕ) (more : ℕ) : Type 0 where
+  pub fits : bytes ≤ flat.room
+  pub counted : flat.used + bytes < 2 ^ 32
+  pub slots : more ≤ flat.gaps
+
+-- how many bytes a change lays
+abbrev pub size : List ℕ → Option (List ℕ) → ℕ
+size key None = 0
+size key (Some value) = length key + length value
+
+-- how many bytes changes lay
+abbrev pub wanted : List (List ℕ × Option (List ℕ)) → ℕ
+wanted [] = 0
+wanted (w ∷ ws) = size w.0 w.1 + wanted ws

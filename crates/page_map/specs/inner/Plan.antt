@@ -1,4 +1,3 @@
--- Cited by private functions alone: Plan::new, Plan::add, Plan::place_each, Plan::place_all.
 -- Pages that are to take the place of pages in a list. The pieces of a plan come with the last one first.
 use Rattle.std.specs.Prelude.{◌≡◌, ℕ, ◌+◌, ◌≤◌, List, [], ◌∷◌, ◌++◌, length, take, drop, reverse}
 use Rattle.byte_map.specs.Sorted.{Entries}
@@ -35,4 +34,5 @@ pub record IsPlan (pages : List (Entries (List ℕ))) (plan : Plan) : Type 0 whe
   pub rising : AreRising pages (reverse plan.pieces.items)
   pub reached : plan.reach ≡ reach (reverse plan.pieces.items)
   pub room : plan.room ≡ brought (reverse plan.pieces.items)
-  pub len : plan.len ≡ length (joined (placed pages (reverse plan.pieces.items)))
+  pub part : length (joined pages) ≤ plan.base
+  pub len : plan.len + length (joined pages) ≡ plan.base + length (joined (placed pages (reverse plan.pieces.items)))

@@ -5,7 +5,7 @@ use Rattle.page_map.proofs.cut.parts.Given as goal
 abbrev pub invariant-loop-at : goal.invariant-loop-at
 invariant-loop-at l = record {
   in_range : l.at ≤ l.len;
-  whole : joined l.pages.items ++ drop l.at l.pairs ≡ l.pairs;
+  whole : joined l.pages.items ++ drop l.at l.pairs.pairs ≡ l.pairs.pairs;
 }
 
 abbrev pub decreases-loop-at : goal.decreases-loop-at

@@ -6,11 +6,11 @@ use Rattle.page_map.proofs.rewrite.write_all.Goals as goal
 
 pub loop-key-preserved : goal.loop-key-preserved
 loop-key-preserved c =
-    let old = c.loop-key.pairs in
+    let old = c.loop-key.pairs.pairs in
     let w = c.loop-key-item.result in
     let writes = c.args.writes.now in
     let i = c.loop-key.key-index in
-    let new : c.write.new.self ≡ changed old w.0 w.1 = c.in_ok-write.ensures ∙ ap (λ k. changed old k w.1) c.as_slice.ensures in
+    let new : c.write.new.self.pairs ≡ changed old w.0 w.1 = c.in_ok-write.ensures ∙ ap (λ k. changed old k w.1) c.as_slice.ensures in
     record {
       sorted = subst IsSorted (sym new) (sorted_changed old w.0 w.1 c.loop-key.invariant.sorted);
       whole =

@@ -4,6 +4,6 @@ use Rattle.page_map.proofs.rewrite.write_all.Given as goal
 
 abbrev pub invariant-loop-key : goal.invariant-loop-key
 invariant-loop-key l = record {
-  sorted : IsSorted l.pairs;
-  whole : changed_all l.pairs (drop l.key-index l.writes) ≡ changed_all l.fn.pairs l.writes;
+  sorted : IsSorted l.pairs.pairs;
+  whole : changed_all l.pairs.pairs (drop l.key-index l.writes) ≡ changed_all l.fn.pairs.pairs l.writes;
 }

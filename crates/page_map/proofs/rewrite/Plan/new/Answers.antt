@@ -37,6 +37,7 @@ loop-done-preserved c =
     let left : length c.split_at.result.1.now ≡ length writes - done = ap length c.split_at.ensures.back ∙ length-drop done writes in
     record {
       plan = c.in_ok-add.ensures.plan;
+      base = c.in_ok-add.ensures.base ∙ c.loop-done.invariant.base;
       in_range = omega (arith, left, c.count_before-count.ensures.in_range, c.loop-done-test.true);
       ahead = λ lt. subst (λ r. r ≤ length pages) (sym c.in_ok-add.ensures.reach) (some_left (length pages) (at + 1) n _ done (length writes) c.count_before-count.ensures.all left lt);
       whole =

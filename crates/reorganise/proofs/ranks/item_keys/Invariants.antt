@@ -1,6 +1,6 @@
 use Rattle.std.proofs.Common.{◌≡◌, ◌++◌, length}
 use Rattle.reorganise.specs.ScanRanges.{item_keys, items}
-use Rattle.reorganise.proofs.begin.item_keys.Given as goal
+use Rattle.reorganise.proofs.ranks.item_keys.Given as goal
 
 -- the keys so far and those of the pairs that are left are all
 abbrev pub invariant-loop-key : goal.invariant-loop-key
