@@ -50,7 +50,7 @@ pub record IsEncoded (version : Version) (pairs : Pairs) (row : RowKey) (cells :
   pub exists : HasExistsPair pairs row
   pub values : (column : ℕ) (value : Value) → (map.get cells column ≡ Some value) ↔ HasCell version pairs row column value
 
--- the columns that an index lists, each with what stands in the version for a value that a row lacks in it: a required column's default, else Null
+-- the columns that an index lists, each with the default of a value that a row lacks in it: that of a required column, else Null
 abbrev pub with_default_values : Version → List ℕ → List (ℕ × Value)
 with_default_values version columns = each (λ column. (column, default_value_at version column)) columns
 

@@ -19,7 +19,7 @@ pub(crate) struct MetRow {
     pub(crate) key: Values,
 }
 
-// Keeps the row, where this is the key of an `exists` pair.
+// Keeps the row, if this is the key of an `exists` pair.
 pub(crate) fn remember(last: &mut Option<MetRow>, read: Option<KeyOf>)
     ensures { last.new ≡ after read last.old }
 {
@@ -38,7 +38,8 @@ fn is_last(last: &Option<MetRow>, table: u32, key: &[Value]) -> bool
     }
 }
 
-// Whether the store has the `exists` pair of a row. That of the row that was met last isn't looked up.
+// Whether the store has the `exists` pair of a row. That of the row that was met last isn't looked
+// up.
 pub(crate) fn is_there<V: PairView>(
     alloc: Global,
     view: &V,

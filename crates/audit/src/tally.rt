@@ -14,7 +14,8 @@ use row_map::{KeyOf, Near, PairView};
 use schema_version::Schema;
 use std::alloc::{AllocError, Global};
 
-// How many pairs public indexes and required columns lack for the row, where the key is that of a row's `exists` pair.
+// How many pairs public indexes and required columns lack for the row, if the key is that of a
+// row's `exists` pair.
 fn count_missing<V: PairView>(
     alloc: Global,
     schema: &Schema,
@@ -89,15 +90,16 @@ fn tally_pairs<V: PairView>(
     Ok(report)
 }
 
-/// Counts the rows of a store, the pairs that it lacks and the pairs that it has too much, by a version of the schema and
-/// the pairs alone.
+/// Counts the rows of a store, the pairs that it lacks and the pairs that it has too much, by a
+/// version of the schema and the pairs alone.
 ///
-/// A row is an `exists` pair. Its values are those of its table's public columns, optional and required; what isn't the code
-/// of just one value of the column's type counts as none. A pair is missing where a public index or required column gives
-/// it to a row and the store hasn't got it with just its value. A required column's is that of the row's own value, or of
-/// the default, and an index takes the default for a value that a row lacks in a required column. A pair is extra where it
-/// is no `exists` pair, no pair of a live column of its table beside its row's `exists` pair, and no pair that a row gives a
-/// live index.
+/// A row is an `exists` pair. Its values are those of its table's public columns, optional and
+/// required; what isn't the code of just one value of the column's type counts as none. A pair is
+/// missing if a public index or required column gives it to a row and the store hasn't got it with
+/// just its value. A required column's is that of the row's own value, or of the default, and an
+/// index takes the default for a value that a row lacks in a required column. A pair is extra if it
+/// is no `exists` pair, no pair of a live column of its table beside its row's `exists` pair, and
+/// no pair that a row gives a live index.
 ///
 /// The only refusal is running out of memory.
 pub fn audit<V: PairView>(

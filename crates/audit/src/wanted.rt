@@ -15,7 +15,8 @@ use std::alloc::{AllocError, Global};
 pub(crate) struct Made<'a> {
     /// What the version says of it.
     pub(crate) definition: &'a ElementDef,
-    /// What gives rows their pairs for it, with what stands in the version for values that a row lacks.
+    /// What gives rows their pairs for it, with the default of the version for values that a row
+    /// lacks.
     pub(crate) element: AnyElement,
 }
 
@@ -44,7 +45,7 @@ pub(crate) fn all_made<'a>(alloc: Global, schema: &'a Schema) -> Result<Vec<Made
     Ok(all)
 }
 
-// The pair that an element gives a row of its table, where it is an index or a required column.
+// The pair that an element gives a row of its table, if it is an index or a required column.
 pub(crate) fn given(
     alloc: Global,
     made: &Made<'_>,
@@ -68,7 +69,8 @@ fn is_absent<V: PairView>(view: &V, pair: Option<&(Bytes, Bytes)>) -> bool
     }
 }
 
-// Whether the element is a public index or required column of the table, and the store lacks the pair that it gives the row.
+// Whether the element is a public index or required column of the table, and the store lacks the
+// pair that it gives the row.
 fn lacks<V: PairView>(
     alloc: Global,
     schema: &Schema,

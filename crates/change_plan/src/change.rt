@@ -3,8 +3,9 @@ use collections::List;
 use keycode::Text;
 use schema_version::Kind;
 
-/// One change of a schema, by names. A batch of them is planned as one: an index may be added over columns that the batch adds, and a
-/// column may be dropped with the indexes that list it, dropped or abandoned. `table` is the number of a table, from 1.
+/// One change of a schema, by names. A batch of them is planned as one: an index may be added over
+/// columns that the batch adds, and a column may be dropped with the indexes that list it, dropped
+/// or abandoned. `table` is the number of a table, from 1.
 #[derive(Clone, PartialEq, Eq, Drop)]
 pub enum Change {
     /// A new index of the table over these columns, live or added by the batch, in this order.
@@ -29,8 +30,8 @@ pub enum Change {
         table: u32,
         name: Text,
     },
-    /// The table's index or column of this name, which is being added and isn't public yet, turns back and goes. The batch counts it as
-    /// dropped.
+    /// The table's index or column of this name, which is being added and isn't public yet, turns
+    /// back and goes. The batch counts it as dropped.
     Abandon {
         table: u32,
         name: Text,

@@ -65,7 +65,8 @@ fn drops(change: &Change, table: u32, name: &Text) -> bool
     }
 }
 
-// Whether the change takes the table's index of this name out. Its elements have names of their own.
+// Whether the change takes the table's index of this name out. Its elements have names of their
+// own.
 fn drops_index(change: &Change, table: u32, name: &Text) -> bool
     ensures { result ≡ drops_index_of table name.now change.now }
 {
@@ -174,7 +175,7 @@ pub(crate) fn any_drops_column(schema: &Schema, changes: &[Change], table: u32, 
     changes.iter().any(|c| drops_column(schema, c, table, name))
 }
 
-// The steps until the change's column is public, where it adds the table's column of this name.
+// The steps until the change's column is public, if it adds the table's column of this name.
 fn steps_to(change: &Change, table: u32, name: &Text) -> u32
     ensures { result ≡ steps_to_of table name.now change.now }
 {
@@ -198,7 +199,8 @@ fn steps_until(changes: &[Change], table: u32, name: &Text) -> u32
     most
 }
 
-/// The steps that an index over these columns waits: until the last of them that the batch adds is public.
+/// The steps that an index over these columns waits: until the last of them that the batch adds is
+/// public.
 pub(crate) fn wait_in(all: &[Change], table: u32, columns: &[Text]) -> u32
     ensures { result ≡ wait_in_of all.now table columns.now }
 {

@@ -120,7 +120,8 @@ fn additions(changes: &[Change]) -> usize
     changes.iter().filter(|c| is_addition(*c)).count()
 }
 
-// Whether the batch brings the table over its count of indexes, or else of columns, or the schema over that of elements.
+// Whether the batch brings the table over its count of indexes, or else of columns, or the schema
+// over that of elements.
 fn is_over(schema: &Schema, next: u32, all: &[Change], table: u32, index: bool) -> bool
     requires { next ≡ schema.now.next }
     ensures { result ≡ is_over_of schema.now all.now table index }

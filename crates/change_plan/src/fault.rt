@@ -9,17 +9,20 @@ use thiserror::Error;
 /// this order; Memory comes after all.
 #[derive(Clone, Copy, Debug, PartialEq, Eq, Error)]
 pub enum PlanFault {
-    /// No such table, column or index, one that an earlier change drops or abandons already, a new column whose kind is an index, or
-    /// an element to be abandoned that is public or being dropped.
+    /// No such table, column or index, one that an earlier change drops or abandons already, a new
+    /// column whose kind is an index, or an element to be abandoned that is public or being
+    /// dropped.
     #[error("no such table, column or index")]
     Unknown,
     /// A key column or a live element of the table has the name, or an earlier change adds it.
     #[error("the name is taken")]
     NameTaken,
-    /// The column is dropped or abandoned, and an index lists it that stays or is added; or a new index lists such a column.
+    /// The column is dropped or abandoned, and an index lists it that stays or is added; or a new
+    /// index lists such a column.
     #[error("an index lists the column")]
     StillIndexed,
-    /// The element to be dropped, or a column that a new index lists, isn't public. No change that abandons an element is refused so.
+    /// The element to be dropped, or a column that a new index lists, isn't public. No change that
+    /// abandons an element is refused so.
     #[error("an element is in change")]
     InChange,
     /// A name, a list of columns, a default or a count is outside its limits.

@@ -40,7 +40,7 @@ fn number_of(next: u32, all: &[Change], place: usize, wait: u32) -> u32
     next + count_before(all, wait) as u32 + count_at(all, wait, &all[..place]) as u32
 }
 
-// The number of the column that the batch adds under this name; 0 where it adds none.
+// The number of the column that the batch adds under this name; 0 if it adds none.
 fn added_number(changes: &[Change], next: u32, table: u32, name: &Text) -> u32
     requires { next + count_by is_addition_of changes.now ≤ max_elements + 1 }
     ensures { result ≡ added_number_of next changes.now [] table name.now changes.now }
@@ -83,7 +83,7 @@ fn column_numbers(
         .collect(alloc)
 }
 
-// The steps until an element that leaves has gone, where it is an index that lists this column.
+// The steps until an element that leaves has gone, if it is an index that lists this column.
 fn steps_on(column: u32, element: Option<&ElementDef>) -> u32
     ensures { result ≡ steps_on_of column (option_copied element.entry) }
 {

@@ -42,7 +42,7 @@ fn make_steps(
     steps_of(alloc, &schedules)
 }
 
-// The plan, where `next` is the schema's next free number of an element.
+// The plan, if `next` is the schema's next free number of an element.
 fn plan_from(
     alloc: Global,
     schema: &Schema,
@@ -68,12 +68,13 @@ fn plan_from(
 /// plan that does so has fewer steps. A batch with no changes has a plan with no steps.
 ///
 /// - `schema`: the version from which the plan starts.
-/// - `changes`: the batch, which is brought about as one. What it abandons turns back in the first step, before which nothing of it needs
-///   to end.
+/// - `changes`: the batch, which is brought about as one. What it abandons turns back in the first
+///   step, before which nothing of it needs to end.
 ///
-/// The changes are tried in order, each against the schema and the whole batch. The first faulty one decides by its lowest fault, in
-/// the order of `PlanFault`. Memory comes last: all is tried before the first growth. Nothing is changed by a refusal. Whether memory is
-/// short is the allocator's word, so no contract can refuse a body that says so of each batch; the tests do.
+/// The changes are tried in order, each against the schema and the whole batch. The first faulty
+/// one decides by its lowest fault, in the order of `PlanFault`. Memory comes last: all is tried
+/// before the first growth. Nothing is changed by a refusal. Whether memory is short is the
+/// allocator's word, so no contract can refuse a body that says so of each batch; the tests do.
 ///
 /// After the schema changes of "Online, Asynchronous Schema Change in F1" (Rae et al., 2013).
 pub fn plan(alloc: Global, schema: &Schema, changes: &[Change]) -> Result<LeastPlan, PlanFault>

@@ -32,8 +32,9 @@ pub(crate) enum StatePath {
 /// An element that the batch adds or takes out.
 #[derive(Drop)]
 pub(crate) struct Schedule {
-    /// The steps before its first move. An added index waits for the columns that the batch adds, a column that goes for the indexes
-    /// that list it; all else begins at once, and no one waits on the way.
+    /// The steps before its first move. An added index waits for the columns that the batch adds, a
+    /// column that goes for the indexes that list it; all else begins at once, and no one waits on
+    /// the way.
     pub wait: u32,
     pub state_path: StatePath,
     /// Its number, which an added element gets as it enters.

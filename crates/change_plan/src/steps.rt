@@ -31,7 +31,7 @@ fn move_by(
     }
 }
 
-// The reorganisation of the element of this number, where a move needs one.
+// The reorganisation of the element of this number, if a move needs one.
 fn reorg(number: u32, work: Option<Work>) -> Option<Reorg>
     ensures { option_to_list result ≡ reorgs number work }
 {

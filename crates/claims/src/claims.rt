@@ -37,7 +37,7 @@ pub struct Opened {
 impl Opened {
     /// A counter for the numbers below `total`, which `seats` claimants are to draw.
     ///
-    /// Refused in this order: `BadCount` if there are more than 1,000,000 numbers, or where the
+    /// Refused in this order: `BadCount` if there are more than 1,000,000 numbers, or if the
     /// number of seats is not from 1 to 64; `Memory`.
     pub fn new(alloc: Global, total: usize, seats: usize) -> Result<Opened, ClaimFault>
         ensures ok { IfOk result (λ o. (o.total ≡ total) × (o.seats ≡ seats) × IsCount total seats) }
@@ -62,8 +62,8 @@ impl Opened {
     }
 }
 
-/// A counter from which threads draw the numbers below a total, in turn. Whatever the threads do, no number is drawn twice, and
-/// none is left out.
+/// A counter from which threads draw the numbers below a total, in turn. Whatever the threads do,
+/// no number is drawn twice, and none is left out.
 #[derive(Drop)]
 pub struct Claims<T: Drawing> {
     table: Table<(), Hand, Terms, Counting, Global>,
@@ -138,8 +138,8 @@ impl<T: Drawing> Claims<T> {
         self.table.shared.fetch_add::<Draw>(seat, 0, 1)
     }
 
-    /// Draws the next number; None from the total on. A seat that has met None answers None from then on, and draws nothing. It
-    /// takes no lock and no memory.
+    /// Draws the next number; None from the total on. A seat that has met None answers None from
+    /// then on, and draws nothing. It takes no lock and no memory.
     #[tactic(auto, using(crate::proofs::Totals::late_push))]
     pub fn claim(&self, me: &mut ClaimSeat<T>) -> Option<usize>
         ensures { Claimed T.total me.old result me.new }
@@ -178,9 +178,10 @@ impl<T: Drawing> Claims<T> {
         Some(all)
     }
 
-    /// Ends the counter, and tells the number that would have come next. The numbers that the seats handed in have drawn are below
-    /// it, each once. It is above the total if one of these seats has met None, and at most by the number of all seats. If all seats
-    /// are handed in, the numbers that they drew are all that are below it.
+    /// Ends the counter, and tells the number that would have come next. The numbers that the seats
+    /// handed in have drawn are below it, each once. It is above the total if one of these seats
+    /// has met None, and at most by the number of all seats. If all seats are handed in, the
+    /// numbers that they drew are all that are below it.
     pub fn finish(self, seats: Vec<ClaimSeat<T>>) -> u64
         ensures some { (x : ℕ) → times x (all_drawn seats.items) ≤ once_below x result }
         ensures all { vec_len seats ≡ T.seats → (x : ℕ) → times x (all_drawn seats.items) ≡ once_below x result }

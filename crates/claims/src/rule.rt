@@ -7,8 +7,8 @@ ghost use Rattle.claims.specs.Draws.{hand, Drawn, Draws};
 use atomic_table::{Join, Play, Split, TableRule};
 use std::collections::LinkedList;
 
-/// What a seat of the table knows: how many numbers there are, for how many claimants it stands, and what it has drawn. Contracts
-/// alone speak of it, and no value of it is made.
+/// What a seat of the table knows: how many numbers there are, for how many claimants it stands,
+/// and what it has drawn. Contracts alone speak of it, and no value of it is made.
 pub struct Hand {
     /// How many numbers there are.
     pub total: u64,
@@ -55,7 +55,8 @@ impl Split<Hand> for Cut {
     ghost right = { λ v. hand v.total 1 [] };
 }
 
-/// One seat stands for the claimants of both, and has drawn what both have. The other stands for none.
+/// One seat stands for the claimants of both, and has drawn what both have. The other stands for
+/// none.
 pub(crate) struct Unite;
 
 impl Join<Hand> for Unite {

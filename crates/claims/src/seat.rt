@@ -6,8 +6,8 @@ use crate::rule::Hand;
 use atomic_table::Seat;
 use std::marker::{Brand, Model, PhantomData};
 
-/// Which counter it is, so that no seat of one is taken for a seat of another: how many numbers it has, and how many seats. Each
-/// call of `Claims::new` picks it.
+/// Which counter it is, so that no seat of one is taken for a seat of another: how many numbers it
+/// has, and how many seats. Each call of `Claims::new` picks it.
 pub trait Drawing {
     ghost table: { TableId };
 
@@ -25,7 +25,8 @@ impl Drawing for Brand {
     ghost seats = { 0 };
 }
 
-/// A right to draw numbers. Contracts see the numbers that it has drawn, and whether it has met the end.
+/// A right to draw numbers. Contracts see the numbers that it has drawn, and whether it has met the
+/// end.
 #[derive(Drop)]
 pub struct ClaimSeat<T: Drawing> {
     pub(crate) seat: Seat<(), Hand>,

@@ -1,5 +1,5 @@
-//! A vector that contracts see as its list, a value with several owners that contracts see as the value, and the words
-//! by which contracts say which refusal comes.
+//! A vector that contracts see as its list, a value with several owners that contracts see as the
+//! value, and the words by which contracts say which refusal comes.
 #![tactic(auto)]
 
 ghost use Rattle.std.specs.Prelude.{◌≡◌, ◌++◌, ◌∷◌, [], length, is_ok, if◌then◌else◌, IfErr};
@@ -13,8 +13,8 @@ use std::alloc::{AllocError, AllocFailed};
 use std::cmp::Ordering;
 use std::marker::Model;
 
-/// A vector that contracts see as its list. Two are equal, and stand to each other, as their elements do one by one,
-/// a proper prefix first.
+/// A vector that contracts see as its list. Two are equal, and stand to each other, as their
+/// elements do one by one, a proper prefix first.
 #[derive(Drop)]
 pub struct List<T> {
     items: Vec<T>,

@@ -58,8 +58,9 @@ fn number_of(matches: &ArgMatches<'_>, name: &'static str, most: u32) -> Result<
     }
 }
 
-// The size that a `load` asks for, or else the name of the first option that is no number in its range. That clap hands on
-// none but texts in the ranges above is said by no contract of a subcommand; and it takes a sign before a number.
+// The size that a `load` asks for, or else the name of the first option that is no number in its
+// range. That clap hands on none but texts in the ranges above is said by no contract of a
+// subcommand; and it takes a sign before a number.
 fn load_size(matches: &ArgMatches<'_>) -> Result<LoadSize, &'static str>
     ensures { IfOk result IsLoadSize }
 {
@@ -92,9 +93,10 @@ fn names(words: &[String], name: &str) -> bool
     }
 }
 
-/// What the words of a command line choose, the program's own name first. An `Err` is what to print: the help that was asked
-/// for, or why the words are refused. What clap makes of words is said by no contract, and shown by tests: hence the words
-/// themselves are asked for what they choose.
+/// What the words of a command line choose, the program's own name first. An `Err` is what to
+/// print: the help that was asked for, or why the words are refused. What clap makes of words is
+/// said by no contract, and shown by tests: hence the words themselves are asked for what they
+/// choose.
 pub fn options(alloc: Global, words: &[String]) -> Result<Chosen, Error>
     ensures { IfOk result (IsChoiceOf words.now) }
 {
@@ -120,7 +122,7 @@ pub fn options(alloc: Global, words: &[String]) -> Result<Chosen, Error>
     }
 }
 
-/// The exit status after a command line that chooses nothing: 0 where help was asked for, 2 where
+/// The exit status after a command line that chooses nothing: 0 if help was asked for, 2 if
 /// the words are refused, 5 when out of memory.
 pub fn status_of(error: &Error) -> u8
     ensures { result ≡ status_after (kind_of error.now) }

@@ -1,4 +1,5 @@
-//! The command line of the program: what its words choose, the help, and the exit status after words that are refused.
+//! The command line of the program: what its words choose, the help, and the exit status after
+//! words that are refused.
 #![tactic(auto)]
 
 mod choice;

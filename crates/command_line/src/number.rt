@@ -3,7 +3,7 @@ ghost use Rattle.std.specs.Prelude.{◌≡◌, ◌≤◌};
 ghost use Rattle.std.specs.Option.{SomeIff};
 ghost use Rattle.std.specs.Str.Parse.{IsNumeral, digits_value};
 
-/// The number that a text of digits alone writes, where it is from 1 to `most`.
+/// The number that a text of digits alone writes, if it is from 1 to `most`.
 pub(crate) fn count_in(text: &str, most: u32) -> Option<u32>
     ensures { let number = digits_value 10 text.now in
         SomeIff result (IsNumeral 10 text.now × (1 ≤ number) × (number ≤ most)) number }

@@ -1,4 +1,5 @@
-//! Command lines that are taken, and what each chooses; what is refused, and what is printed then, the gate tries with the program (.ci/load_runs).
+//! Command lines that are taken, and what each chooses; what is refused, and what is printed then,
+//! the gate tries with the program (.ci/load_runs).
 
 use command_line::{Chosen, LoadSize, options};
 use std::alloc::{AllocError, Global};

@@ -30,7 +30,7 @@ abbrev pub default_or_null : Option ElementDef → Value
 default_or_null None = Null
 default_or_null (Some element) = default_value_of element.kind
 
--- what stands in a version for a value that a row lacks in a column: the default of a required one, else Null
+-- the default in a version for a value that a row lacks in a column: that of a required one, else Null
 abbrev pub default_value_at : Version → ℕ → Value
 default_value_at version column = default_or_null (element_at version column)
 

@@ -27,7 +27,7 @@ pub enum AnyElement {
     Required(RequiredColumn),
 }
 
-// What stands in a version for a value that a row lacks in a column.
+// The default in a version for a value that a row lacks in a column.
 fn default_value(schema: &Schema, column: u32) -> Result<Value, AllocError>
     ensures { IfOk result (λ value. value ≡ default_value_at schema.now column) }
 {
@@ -101,8 +101,9 @@ impl AnyElement {
         }
     }
 
-    /// The element that a version defines: of its table, its number and its kind. For a value that a row lacks in a column that an index
-    /// lists stands the column's default in that version, or Null.
+    /// The element that a version defines: of its table, its number and its kind. For a value that
+    /// a row lacks in a column that an index lists stands the column's default in that version, or
+    /// Null.
     ///
     /// `alloc` is where the list of an index's columns is made. Running out of memory is the only
     /// refusal.
@@ -118,8 +119,8 @@ impl AnyElement {
         AnyElement::with(definition, columns)
     }
 
-    /// The element of a definition by itself, for rows that have a value in each required column: in any other column that an index lists,
-    /// Null stands for a value that a row lacks.
+    /// The element of a definition by itself, for rows that have a value in each required column:
+    /// in any other column that an index lists, Null stands for a value that a row lacks.
     ///
     /// `alloc` is where the list of an index's columns is made. Running out of memory is the only
     /// refusal.

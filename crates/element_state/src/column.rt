@@ -13,8 +13,8 @@ use std::alloc::{AllocError, Global};
 
 /// A column of a table in which a row has a value or none. A row with a value has one pair for it.
 ///
-/// It is never write-only: a transaction that does not see the column cannot name a cell of it, so nothing has to be filled, and in
-/// delete-only it keeps up with the rows already.
+/// It is never write-only: a transaction that does not see the column cannot name a cell of it, so
+/// nothing has to be filled, and in delete-only it keeps up with the rows already.
 #[derive(Clone, Copy)]
 pub struct OptionalColumn {
     /// The number of its table.

@@ -17,16 +17,16 @@ use schema_version::ElementState;
 use std::alloc::{AllocError, Global};
 use std::slice::from_ref;
 
-/// A secondary index over columns of a table. Each row of the table has one pair for it, without a value, whose key has the row's
-/// values in these columns and then its primary key.
+/// A secondary index over columns of a table. Each row of the table has one pair for it, without a
+/// value, whose key has the row's values in these columns and then its primary key.
 #[derive(Drop)]
 pub struct IndexElement {
     /// The number of its table.
     pub table: u32,
     /// Its element number.
     pub number: u32,
-    /// The element numbers of its 1 to 4 columns, in the order in which they sort, each with what stands for a value that a row lacks
-    /// in it: Null, or the default of a required column.
+    /// The element numbers of its 1 to 4 columns, in the order in which they sort, each with what
+    /// stands for a value that a row lacks in it: Null, or the default of a required column.
     pub columns: List<(u32, Value)>,
 }
 
@@ -55,7 +55,8 @@ impl IndexElement {
         index_key(alloc, self.number, values.as_slice(), row.key.as_slice())
     }
 
-    /// Moves a row's pair from its old key to its new one, which is put where the index keeps up with the rows.
+    /// Moves a row's pair from its old key to its new one, which is put if the index keeps up with
+    /// the rows.
     fn move_pair(
         &self,
         alloc: Global,

@@ -17,15 +17,16 @@ use std::alloc::{AllocError, Global};
 
 /// A column of a table in which each row has a value, its own or the default, and one pair for it.
 ///
-/// It moves as an index does: in write-only each row that is inserted gets the default's pair, and a fill gives one to each row that was
-/// there before.
+/// It moves as an index does: in write-only each row that is inserted gets the default's pair, and
+/// a fill gives one to each row that was there before.
 #[derive(Drop)]
 pub struct RequiredColumn {
     /// The number of its table.
     pub table: u32,
     /// Its element number.
     pub number: u32,
-    /// The default: what a row has that was given no value. It is of the column's type, hence not Null.
+    /// The default: what a row has that was given no value. It is of the column's type, hence not
+    /// Null.
     pub fallback: Value,
 }
 

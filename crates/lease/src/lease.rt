@@ -1,7 +1,7 @@
 //! The right to use one schema version for a time.
 
-/// The right to use one schema version for a time, as in "Online, Asynchronous Schema Change in F1": a server
-/// without a lease in force neither reads nor writes.
+/// The right to use one schema version for a time, as in "Online, Asynchronous Schema Change in
+/// F1": a server without a lease in force neither reads nor writes.
 #[derive(Clone, Copy, PartialEq, Eq)]
 pub struct Lease {
     /// The number of the version, from 1.

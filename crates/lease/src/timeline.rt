@@ -16,9 +16,10 @@ pub const MAX_MOMENT: u64 = 1 << 62;
 /// The greatest lease length.
 pub const MAX_LENGTH: u64 = 1 << 32;
 
-/// When each schema version was published. Version 1 is published at moment 0, and each other one at least the lease
-/// length after the one before. So every lease on a version has ended before the next version but one comes, and at
-/// most two versions are in use at once, as in "Online, Asynchronous Schema Change in F1".
+/// When each schema version was published. Version 1 is published at moment 0, and each other one
+/// at least the lease length after the one before. So every lease on a version has ended before the
+/// next version but one comes, and at most two versions are in use at once, as in "Online,
+/// Asynchronous Schema Change in F1".
 #[derive(Drop)]
 pub struct Timeline {
     /// For how long a lease is granted.
@@ -90,7 +91,8 @@ impl Timeline {
 
     /// A lease on the newest version, from `moment` on and for the lease length.
     ///
-    /// `moment` is not below the last publication. Refused with `MomentTooLarge` alone, where it is above 2^62.
+    /// `moment` is not below the last publication. Refused with `MomentTooLarge` alone, if it is
+    /// above 2^62.
     pub fn grant(&self, moment: u64) -> Result<Lease, LeaseFault>
         requires { last_publication self.now ≤ moment }
         ensures granted { moment ≤ max_moment → result ≡ Ok (granted_at self.now moment) }
@@ -132,8 +134,8 @@ impl Timeline {
         Ok(())
     }
 
-    /// Whether some lease on a version may be in force at `moment`, which is not below the last publication.
-    /// `version` is any number.
+    /// Whether some lease on a version may be in force at `moment`, which is not below the last
+    /// publication. `version` is any number.
     pub fn usable(&self, version: u64, moment: u64) -> bool
         requires { last_publication self.now ≤ moment }
         ensures { IsTrue result ↔ IsUsable self.now version moment }

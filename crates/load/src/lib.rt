@@ -1,4 +1,5 @@
-//! A load: servers insert rows on threads of their own while an index is added to their table, step by step.
+//! A load: servers insert rows on threads of their own while an index is added to their table, step
+//! by step.
 #![tactic(auto)]
 
 mod add_index;

@@ -65,7 +65,8 @@ fn gather(lists: Vec<List<Receipt>>, receipts: &mut Vec<Receipt>) -> Result<(), 
     Ok(())
 }
 
-// The first handles for the servers, then one for the steps of the schema, and the last ones for the workers.
+// The first handles for the servers, then one for the steps of the schema, and the last ones for
+// the workers.
 fn split_handles<L: SharedLedger>(
     alloc: Global,
     handles: &mut Vec<Handle<L>>,
@@ -148,8 +149,8 @@ fn at_once<L: SharedLedger + Send + Sync, R: Threads + Wait + Sync>(
     Ok(join_handles(alloc, served, added)?)
 }
 
-// Whether there are as many receipts as entries, and what is wrong with them, if anything is. If nothing is wrong with either, the receipts
-// are the log: each entry has its receipt, and no other.
+// Whether there are as many receipts as entries, and what is wrong with them, if anything is. If
+// nothing is wrong with either, the receipts are the log: each entry has its receipt, and no other.
 fn compare_counts(
     alloc: Global,
     world: &World,
@@ -231,18 +232,22 @@ fn load<R: Threads + Wait + Sync>(
     load_in::<Brand, R>(rt, alloc, Blank::new(count), world, count, size)
 }
 
-/// Runs a load: it opens the table t (id int key, a int), has servers insert rows, each by a transaction of its own, while another
-/// thread adds the index i on (a) step by step and workers fill it; then it audits the store, compares all receipts with the log, and
-/// writes what it found in five lines.
+/// Runs a load: it opens the table t (id int key, a int), has servers insert rows, each by a
+/// transaction of its own, while another thread adds the index i on (a) step by step and workers
+/// fill it; then it audits the store, compares all receipts with the log, and writes what it found
+/// in five lines.
 ///
-/// - `size`: how many servers, rows, pieces of the fill, workers, and rows of a piece that are filled at a time.
+/// - `size`: how many servers, rows, pieces of the fill, workers, and rows of a piece that are
+///   filled at a time.
 /// - `writer`: takes the lines.
 ///
-/// The lines `counts equal` and `receipts ok` together mean that the receipts are the log: each entry has its receipt, and no other.
+/// The lines `counts equal` and `receipts ok` together mean that the receipts are the log: each
+/// entry has its receipt, and no other.
 ///
-/// Answers the exit status: 0 if all is as it has to be; 6 if a difference was found, a call was refused for another reason than memory, or
-/// an outcome was another than a committed row or a finished piece; 4 if the lines could not be written; 5 if any call or outcome found no
-/// memory, and then nothing is written. Of several the first in the order 5, 4, 6 is answered.
+/// Answers the exit status: 0 if all is as it has to be; 6 if a difference was found, a call was
+/// refused for another reason than memory, or an outcome was another than a committed row or a
+/// finished piece; 4 if the lines could not be written; 5 if any call or outcome found no memory,
+/// and then nothing is written. Of several the first in the order 5, 4, 6 is answered.
 pub fn run_load<R: Threads + Wait + Sync, W: Write>(
     rt: &R,
     alloc: Global,

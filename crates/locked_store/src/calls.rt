@@ -1,6 +1,6 @@
 //! The calls through the lock. Each answers what the world answers in one critical section, and is
 //! refused before it with `WentBack` if the log is shorter than the handle's front. The front then
-//! stays; else it is the length of the log after the call, also where the world refuses.
+//! stays; else it is the length of the log after the call, also if the world refuses.
 ghost use Rattle.std.specs.Prelude.{◌≡◌, IfOk};
 ghost use Rattle.locked_store.specs.Answers.{Answers, AnswersBack, Finds, reported, to_fault, no_place, grant_place, commit_place, publish_place, receipt_place, piece_place};
 ghost use Rattle.world.specs.BeginReorg.{BeginStep};
@@ -69,8 +69,9 @@ impl<L: SharedLedger> Shared<L> {
         through(locked.lease(alloc, me, moment))
     }
 
-    /// The schema of the newest version or of the one before, by its number, as `World::schema` gives it; None for any other
-    /// number. It is an owner of its own, so that it outlives the critical section.
+    /// The schema of the newest version or of the one before, by its number, as `World::schema`
+    /// gives it; None for any other number. It is an owner of its own, so that it outlives the
+    /// critical section.
     ///
     /// Refused in this order: `WentBack` if the log is shorter than the handle's front; `World`
     /// when out of memory.
@@ -150,8 +151,8 @@ impl<L: SharedLedger> Shared<L> {
         through(locked.query(alloc, me, moment, lease, query))
     }
 
-    /// A snapshot of what is committed, as `World::snapshot` gives it. It is an owner of its own: it outlives the critical
-    /// section, and its queries take no lock.
+    /// A snapshot of what is committed, as `World::snapshot` gives it. It is an owner of its own:
+    /// it outlives the critical section, and its queries take no lock.
     ///
     /// Refused in this order: `WentBack` if the log is shorter than the handle's front; `World`
     /// with what `World::snapshot` refuses.
@@ -211,8 +212,8 @@ impl<L: SharedLedger> Shared<L> {
         through(locked.begin_reorg(alloc, me, moment, element, pieces))
     }
 
-    /// How the begun reorganisation of an element stands, as `World::progress` tells it. Refused with `WentBack` alone, where
-    /// the log is shorter than the handle's front.
+    /// How the begun reorganisation of an element stands, as `World::progress` tells it. Refused
+    /// with `WentBack` alone, if the log is shorter than the handle's front.
     #[tactic(auto, using(crate::proofs::Through::finds))]
     pub fn progress(
         &self,
@@ -227,8 +228,8 @@ impl<L: SharedLedger> Shared<L> {
         Ok(locked.progress(me, element))
     }
 
-    /// How one piece of the begun reorganisation of an element stands, as `World::piece_progress` tells it. Refused with
-    /// `WentBack` alone, if the log is shorter than the handle's front.
+    /// How one piece of the begun reorganisation of an element stands, as `World::piece_progress`
+    /// tells it. Refused with `WentBack` alone, if the log is shorter than the handle's front.
     #[tactic(auto, using(crate::proofs::Through::finds))]
     pub fn piece_progress(
         &self,

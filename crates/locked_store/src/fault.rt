@@ -53,7 +53,8 @@ pub struct Missing {
     pub want: u64,
 }
 
-/// Why receipts do not agree with a log. The first faulty receipt decides, by the first reason in this order.
+/// Why receipts do not agree with a log. The first faulty receipt decides, by the first reason in
+/// this order.
 #[derive(Clone, Copy, Debug, PartialEq, Eq, Error)]
 pub enum ReceiptFault {
     /// The log has no such place.

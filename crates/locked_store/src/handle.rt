@@ -6,8 +6,8 @@ use crate::shared_ledger::SharedLedger;
 use std::marker::Model;
 use std::sync::ledger::Share;
 
-/// A right to call a shared world. It has a number, its share of the count of entries, and a front: the length of the log
-/// as it last saw it.
+/// A right to call a shared world. It has a number, its share of the count of entries, and a front:
+/// the length of the log as it last saw it.
 #[derive(Drop)]
 pub struct Handle<L: SharedLedger> {
     pub(crate) id: u64,

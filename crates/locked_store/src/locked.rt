@@ -28,10 +28,12 @@ use world::{
     PublishFault, QueryRefusal, ReadFault, Receipt, Snapshot, SnapshotFault, World,
 };
 
-/// The world, and how many entries its calls added since it was shared. Contracts see it as the state of the world.
+/// The world, and how many entries its calls added since it was shared. Contracts see it as the
+/// state of the world.
 ///
-/// Whenever the lock is free, the pairs are the replay of the log and agree with the rows for every version that a lease may
-/// still use, and the handles' shares add up to the entries that were added.
+/// Whenever the lock is free, the pairs are the replay of the log and agree with the rows for every
+/// version that a lease may still use, and the handles' shares add up to the entries that were
+/// added.
 #[derive(Drop)]
 pub(crate) struct Locked<L: SharedLedger> {
     pub(crate) world: World,

@@ -1,4 +1,5 @@
-//! Receipts against the log of a world. No lock is taken: the world is one that is handed in, as `Shared::close` gives it back.
+//! Receipts against the log of a world. No lock is taken: the world is one that is handed in, as
+//! `Shared::close` gives it back.
 ghost use Rattle.std.specs.Prelude.{◌≡◌, ◌<◌, ℕ, IfOk, IfErr, OnOk, vec_len, slice_index_or, true, false};
 ghost use Rattle.locked_store.specs.Faults.{Faulty};
 ghost use Rattle.locked_store.specs.Receipts.{Agree, ReceiptsAreTheLog};
@@ -18,7 +19,7 @@ fn fresh(alloc: Global, count: usize) -> Result<Vec<bool>, AllocError>
     Ok(seen)
 }
 
-// What is reported where there is no memory for marks: the first receipt's fault, and out of memory
+// What is reported if there is no memory for marks: the first receipt's fault, and out of memory
 // only if it has none.
 fn first_unmarked(log: &[Entry], receipts: &[Receipt]) -> ReceiptFault
     ensures { Faulty log.now receipts.now result }
@@ -61,7 +62,8 @@ fn check_receipts(alloc: Global, log: &[Entry], receipts: &[Receipt]) -> Result<
     Ok(())
 }
 
-/// Tests receipts, in order, against the log: each receipt's entry stands at its place, and no place comes twice.
+/// Tests receipts, in order, against the log: each receipt's entry stands at its place, and no
+/// place comes twice.
 ///
 /// The first faulty receipt is refused, in this order: `NoPlace` if the log has no such place;
 /// `OtherEntry` if another entry stands there; `Twice` if an earlier receipt has the place;
@@ -73,8 +75,8 @@ pub fn reconcile(alloc: Global, world: &World, receipts: &[Receipt]) -> Result<(
     check_receipts(alloc, world.log(), receipts)
 }
 
-/// Tells what receipts are that agree with a log, are as many as its entries after the first so many, and all come after
-/// those: each entry from there on has its receipt, and no other.
+/// Tells what receipts are that agree with a log, are as many as its entries after the first so
+/// many, and all come after those: each entry from there on has its receipt, and no other.
 pub fn receipts_are_the_log()
     ensures { ReceiptsAreTheLog }
 {}

@@ -16,7 +16,8 @@ use world::World;
 /// The greatest number of handles.
 const MAX_HANDLES: u64 = 64;
 
-/// A world that threads share by one lock. Each call is one critical section, and in it one call of the world.
+/// A world that threads share by one lock. Each call is one critical section, and in it one call of
+/// the world.
 #[derive(Drop)]
 pub struct Shared<L: SharedLedger> {
     handles: u64,
@@ -72,7 +73,8 @@ impl<L: SharedLedger> Shared<L> {
         Ok((shared, handles))
     }
 
-    /// Takes the world back once all handles are handed in. Their shares then add up to the entries since it was shared.
+    /// Takes the world back once all handles are handed in. Their shares then add up to the entries
+    /// since it was shared.
     ///
     /// Refused with `Missing` if handles are short, with how many were handed in and how many there
     /// are; the handles and the lock then come back.

@@ -1,9 +1,10 @@
-//! What tells one shared world from another, so that no handle of one is taken for a handle of the other.
+//! What tells one shared world from another, so that no handle of one is taken for a handle of the
+//! other.
 use std::marker::Brand;
 use std::sync::ledger::Ledger;
 
-/// Which shared world it is: how many handles it has, with what its world was opened, and how long the log was when it
-/// was shared. Each call of `Shared::new` picks it.
+/// Which shared world it is: how many handles it has, with what its world was opened, and how long
+/// the log was when it was shared. Each call of `Shared::new` picks it.
 pub trait SharedLedger: Ledger {
     ghost use Rattle.std.specs.Prelude.{ℕ};
     ghost use Rattle.replay.specs.Replay.{Opening};

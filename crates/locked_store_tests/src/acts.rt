@@ -39,7 +39,7 @@ pub(crate) enum Act {
     Piece,
     /// How the fill stands.
     Stand(Option<(Work, usize, bool)>),
-    /// The state of the index in a version, none if the version is not told.
+    /// The state of the index in a version, none if the version is not known.
     State(u64, Option<ElementState>),
 }
 

@@ -83,7 +83,7 @@ pub(crate) fn prepared<L: SharedLedger, R: Wait>(
     }
 }
 
-/// The receipt of what was prepared at moment 0. It comes back where memory was short.
+/// The receipt of what was prepared at moment 0. It comes back if memory was short.
 pub(crate) fn committed<L: SharedLedger, R: Wait>(
     port: &mut HandlePort<L, R>,
     back: &mut Option<Prepared>,

@@ -1,5 +1,6 @@
-//! Two handles increment one counter at once, each by what it read: it reads, computes the new value from what it read, prepares with just
-//! that, and commits; after a conflict it reads again. No increment is lost.
+//! Two handles increment one counter at once, each by what it read: it reads, computes the new
+//! value from what it read, prepares with just that, and commits; after a conflict it reads again.
+//! No increment is lost.
 ghost use Rattle.std.specs.Prelude.{◌≡◌, length};
 
 use crate::fixtures::{FIRST, are, insert, opened, update, whole_table};
@@ -28,8 +29,8 @@ fn value_of(alloc: Global, view: &ReadView) -> Option<i64> {
     }
 }
 
-// One try: whether it is committed, and not in conflict. What is read depends on the table and the key alone, so the keys are asked for with
-// a value that is not known yet.
+// One try: whether it is committed, and not in conflict. What is read depends on the table and the
+// key alone, so the keys are asked for with a value that is not known yet.
 fn is_incremented<L: SharedLedger, R: Wait>(port: &mut HandlePort<L, R>) -> Option<bool> {
     let alloc = port.alloc;
     let schema = port.shared.schema(port.rt, &mut port.me, 1).ok()??;
@@ -45,7 +46,8 @@ fn is_incremented<L: SharedLedger, R: Wait>(port: &mut HandlePort<L, R>) -> Opti
     }
 }
 
-// All increments of one handle. Each conflict is with one of the other's, so there are at most twice as many tries.
+// All increments of one handle. Each conflict is with one of the other's, so there are at most
+// twice as many tries.
 fn increments<L: SharedLedger, R: Wait>(port: &mut HandlePort<L, R>) -> Option<i64> {
     let mut done = 0i64;
     for _try in 0..2 * TIMES {

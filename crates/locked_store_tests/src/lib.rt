@@ -1,4 +1,5 @@
-//! A shared world under one thread and under two: what no clause says of its calls, and receipts against its log.
+//! A shared world under one thread and under two: what no clause says of its calls, and receipts
+//! against its log.
 #![tactic(auto)]
 
 #[cfg(test)]

@@ -1,5 +1,5 @@
-//! One handle: rows come and go beside a snapshot, and an index enters, is filled and becomes public; then receipts of the log are
-//! altered. Each call is asked once more where memory was short.
+//! One handle: rows come and go beside a snapshot, and an index enters, is filled and becomes
+//! public; then receipts of the log are altered. Each call is asked once more if memory was short.
 ghost use Rattle.std.specs.Prelude.{◌≡◌, length};
 
 use crate::acts::{Act, Kept, acted};
@@ -20,7 +20,8 @@ use world::{Entry, Receipt, World};
 // The length of the log and the number of rows.
 type Seen = (u64, u64);
 
-// What is asked in turn, and how many entries and rows there are then, while every pair has its reason and none is missing.
+// What is asked in turn, and how many entries and rows there are then, while every pair has its
+// reason and none is missing.
 static ACTS: [(Act, Seen); 25] = [
     (Lease, (1, 0)),
     (Insert(1, 5), (2, 1)),
@@ -49,7 +50,7 @@ static ACTS: [(Act, Seen); 25] = [
     (State(5, None), (9, 1)),
 ];
 
-// How the world stands, where no pair is missing and none too much.
+// How the world stands, if no pair is missing and none too much.
 fn seen_once<L: SharedLedger, R: Wait>(port: &mut HandlePort<L, R>) -> Result<Seen, Reported> {
     match port.shared.check(port.rt, port.alloc, &mut port.me) {
         Ok(found) if (found.missing, found.extra) == (0, 0) => Ok((port.me.front(), found.rows)),
@@ -58,7 +59,7 @@ fn seen_once<L: SharedLedger, R: Wait>(port: &mut HandlePort<L, R>) -> Result<Se
     }
 }
 
-// The same, asked once more where memory was short.
+// The same, asked once more if memory was short.
 fn seen<L: SharedLedger, R: Wait>(port: &mut HandlePort<L, R>) -> Option<Seen> {
     match seen_once(port) {
         Err(Reported::Short) => seen_once(port).ok(),
@@ -136,7 +137,7 @@ fn closed<L: SharedLedger, R: Wait>(
     Some((world, right))
 }
 
-// The world comes back as an error where there was no memory to share it.
+// The world comes back as an error if there was no memory to share it.
 fn shared<L: SharedLedger, R: Wait>(
     rt: &R,
     alloc: Global,
@@ -169,7 +170,7 @@ fn shared_twice<R: Wait>(rt: &R, alloc: Global, world: World) -> Option<(World, 
     }
 }
 
-// The world that comes back where there may not be so many handles.
+// The world that comes back if there may not be so many handles.
 fn unshared<L: SharedLedger>(alloc: Global, blank: Blank, world: World, count: u64) -> Option<World>
     requires name { blank.name ≡ L.name }
     requires parts { blank.parts ≡ L.parts }

@@ -58,7 +58,7 @@ fn prepared<L: SharedLedger, R: Wait>(
     }
 }
 
-// The piece ends with what is prepared of it, which comes back where memory was short.
+// The piece ends with what is prepared of it, which comes back if memory was short.
 fn ends<L: SharedLedger, R: Wait>(
     port: &mut HandlePort<L, R>,
     back: &mut Option<PreparedPiece>,

@@ -220,8 +220,8 @@ fn are_seen_again(alloc: Global, world: &World, seen: &[Seen]) -> bool {
     true
 }
 
-// A second world repeats the log entry by entry, and answers at each front what the snapshot that was taken there does, after
-// all commits of both threads.
+// A second world repeats the log entry by entry, and answers at each front what the snapshot that
+// was taken there does, after all commits of both threads.
 fn repeats(alloc: Global, again: &mut World, log: &[Entry], seen: &[Seen]) -> Option<bool> {
     for entry in log {
         repeat(alloc, again, entry)?;

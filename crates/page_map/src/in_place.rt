@@ -56,8 +56,8 @@ pub(crate) fn write_chunks(
     Some(total)
 }
 
-/// Makes the writes `here` in these pages, and those that come `later` in the chunks after them: all
-/// of them or none. A page is changed on the way back, when nothing can fail any more.
+/// Makes the writes `here` in these pages, and those that come `later` in the chunks after them:
+/// all of them or none. A page is changed on the way back, when nothing can fail any more.
 #[cycle(writing)]
 fn write_pages(
     pages: &mut [Page],

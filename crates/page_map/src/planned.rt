@@ -23,9 +23,9 @@ pub(crate) struct Outcome {
     pub(crate) grown: usize,
 }
 
-/// Makes all of `writes`, and reports what became of `len` pairs. The pages that they need, and room
-/// for them, are made before the first change: refused only when out of memory, and the chunks are
-/// then unchanged.
+/// Makes all of `writes`, and reports what became of `len` pairs. The pages that they need, and
+/// room for them, are made before the first change: refused only when out of memory, and the chunks
+/// are then unchanged.
 pub(crate) fn write_planned(
     alloc: Global,
     chunks: &mut [Chunk],

@@ -51,7 +51,7 @@ impl Plan {
         self.len
     }
 
-    /// Makes the pages that `writes` need anew, where `pages` hold some of so many pairs. Refused
+    /// Makes the pages that `writes` need anew, if `pages` hold some of so many pairs. Refused
     /// only when out of memory.
     pub(crate) fn new(
         alloc: Global,
@@ -115,7 +115,7 @@ impl Plan {
         Ok(())
     }
 
-    /// Room for the pages to go by way of, where one pass over them is faster than one for each
+    /// Room for the pages to go by way of, if one pass over them is faster than one for each
     /// piece. Refused only when out of memory.
     pub(crate) fn spare(
         &self,
@@ -144,7 +144,7 @@ impl Plan {
         }
     }
 
-    /// Puts the pieces into their places, for which there is room, one by one: right where few of
+    /// Puts the pieces into their places, for which there is room, one by one: right if few of
     /// them move the pages after.
     fn place_each(self, pages: &mut Vec<Page>)
         requires plan { IsPlan pages.old.items self }
@@ -327,7 +327,7 @@ fn turn_over(from: &mut Vec<Page>, at: usize, to: &mut Vec<Page>)
     }
 }
 
-// Whether all writes fall after the last pair of the page at a place, as where keys rise. It says
+// Whether all writes fall after the last pair of the page at a place, as when keys rise. It says
 // how the page is cut, and so shows in the speed alone.
 fn is_behind(pages: &[Page], at: usize, writes: &[(Bytes, Option<Bytes>)]) -> bool {
     if at >= pages.len() {
@@ -341,7 +341,7 @@ fn is_behind(pages: &[Page], at: usize, writes: &[(Bytes, Option<Bytes>)]) -> bo
     }
 }
 
-// How often the pages after a place move where so many pages come there for one: a choice of speed
+// How often the pages after a place move if so many pages come there for one: a choice of speed
 // alone.
 fn shifts(count: usize) -> usize {
     match count {

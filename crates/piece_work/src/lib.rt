@@ -1,7 +1,7 @@
 //! Works a begun reorganisation off, a piece after the other.
 //!
-//! That a schema change fills and clears its element in the background, before the next step is published, is of F1
-//! ("Online, Asynchronous Schema Change in F1", Rae et al., PVLDB 6(11), 2013).
+//! That a schema change fills and clears its element in the background, before the next step is
+//! published, is of F1 ("Online, Asynchronous Schema Change in F1", Rae et al., PVLDB 6(11), 2013).
 #![tactic(auto)]
 
 mod fault;

@@ -59,11 +59,12 @@ fn commit(alloc: Global, world: &mut World, moment: u64, view: PieceView) -> Res
     }
 }
 
-/// Works a begun reorganisation off: its pieces in order, each read, prepared and committed, at most `limit` items at a
-/// time, until it has ended. Answers the number of commits.
+/// Works a begun reorganisation off: its pieces in order, each read, prepared and committed, at
+/// most `limit` items at a time, until it has ended. Answers the number of commits.
 ///
 /// - `element`: the number of the element whose reorganisation it is.
-/// - `moment`: the moment of each commit; the greater of it and the moment of the last entry counts.
+/// - `moment`: the moment of each commit; the greater of it and the moment of the last entry
+///   counts.
 /// - `limit`: how many items each commit may have, 1 to 1,000.
 ///
 /// It ends at the first refusal, and what was committed before stands. Refused in this order of a

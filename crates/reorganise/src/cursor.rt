@@ -1,4 +1,5 @@
-//! How a reorganisation goes on: a cursor that moves, which prepared pieces are its own, and whether it is done.
+//! How a reorganisation goes on: a cursor that moves, which prepared pieces are its own, and
+//! whether it is done.
 ghost use Rattle.std.specs.Bool.{Decides};
 ghost use Rattle.std.specs.Option.{option_copied};
 ghost use Rattle.std.specs.Prelude.{◌≡◌, IfOk, MatchOption, slice_get, true};
@@ -73,8 +74,8 @@ impl Progress {
         self.pieces.as_slice().get(piece as usize)
     }
 
-    /// The piece that was prepared, where it is one of this reorganisation: of the same definition, fill or clear, number
-    /// and bounds. Its cursor may have moved since.
+    /// The piece that was prepared, if it is one of this reorganisation: of the same definition,
+    /// fill or clear, number and bounds. Its cursor may have moved since.
     pub fn span_of(&self, prepared: &PreparedPiece) -> Option<&Span>
         ensures { MatchOption result ((span : SpanOf) → ¬ (IsSpanOf self.now prepared.now span)) (λ span. IsSpanOf self.now prepared.now span.now) }
     {

@@ -8,8 +8,9 @@ use row_map::{Batch, Expect, KeyRange};
 use schema_version::{ElementDef, Work};
 use std::marker::Model;
 
-/// A piece that was read and prepared: what it expects to find again, and what it then writes. `prepare_piece` alone
-/// makes one, and it can grow as old as it likes. Contracts see it as what was read.
+/// A piece that was read and prepared: what it expects to find again, and what it then writes.
+/// `prepare_piece` alone makes one, and it can grow as old as it likes. Contracts see it as what
+/// was read.
 #[derive(Drop)]
 pub struct PreparedPiece {
     pub(crate) element: ElementDef,
@@ -66,8 +67,8 @@ impl PreparedPiece {
         (self.low.as_slice(), self.high.as_slice())
     }
 
-    /// What it expects of the store: that the pairs from the old cursor to below the new one are just those that were
-    /// read.
+    /// What it expects of the store: that the pairs from the old cursor to below the new one are
+    /// just those that were read.
     pub fn expect(&self) -> &Expect
         ensures { result.now ≡ expect_of self.now.key_range }
     {

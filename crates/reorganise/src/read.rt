@@ -77,7 +77,7 @@ fn element_copied(element: &ElementDef) -> Result<ElementDef, AllocError>
     element.clone()
 }
 
-/// The piece, where it can be read with this limit.
+/// The piece, if it can be read with this limit.
 fn open_span(progress: &Progress, piece: u32, limit: u32) -> Result<&Span, ViewFault>
     ensures found { IfOk result (λ span. slice_get progress.now.pieces piece ≡ Some span.now) }
     ensures open { IfOk result (λ span. bytes_cmp span.now.cursor span.now.high ≡ Less) }
@@ -129,7 +129,7 @@ fn read_span<V: PairView>(
 
 impl Progress {
     /// Reads the pairs of the next items of a piece: from its cursor to the key of the item after
-    /// so many, or to the piece's upper bound where no more are left. It changes nothing, and what
+    /// so many, or to the piece's upper bound if no more are left. It changes nothing, and what
     /// it gives can grow as old as it likes: it is committed only if its whole range is unchanged.
     ///
     /// - `view`: the pairs that are present.

@@ -84,7 +84,8 @@ fn one_cell(
     Ok(List::new(cells))
 }
 
-/// The cells of a row that the element's pair is made from: those of an index's columns, or that of a required column.
+/// The cells of a row that the element's pair is made from: those of an index's columns, or that of
+/// a required column.
 fn needed_cells(
     alloc: Global,
     pairs: &KeyMap<Bytes>,
@@ -103,7 +104,8 @@ fn needed_cells(
     }
 }
 
-/// The row of a primary key, with the cells that the element's pair is made from, in the element's order.
+/// The row of a primary key, with the cells that the element's pair is made from, in the element's
+/// order.
 pub(crate) fn row(
     alloc: Global,
     pairs: &KeyMap<Bytes>,

@@ -10,7 +10,7 @@ pub struct Span {
     pub low: Bytes,
     /// The key before which the piece ends.
     pub high: Bytes,
-    /// The key from which on the work is still to be done. The piece has ended where this is `high`.
+    /// The key from which on the work is still to be done. The piece has ended if this is `high`.
     pub cursor: Bytes,
 }
 

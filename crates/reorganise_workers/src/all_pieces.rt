@@ -42,7 +42,8 @@ pub struct Reorganised<L: SharedLedger> {
 /// Why no piece was worked on. Of several reasons the first in this order is reported.
 #[derive(Clone, Copy, Debug, PartialEq, Eq, Error)]
 pub enum ReorganiseFault {
-    /// The number of handles is not from 1 to 64, the limit not from 1 to 1,000, or the number of tries not from 1 to 1,000,000.
+    /// The number of handles is not from 1 to 64, the limit not from 1 to 1,000, or the number of
+    /// tries not from 1 to 1,000,000.
     #[error("not from 1 to 64 handles, 1 to 1,000 items or 1 to 1,000,000 tries")]
     BadCount,
     /// The log was shorter than the last handle had seen it.
@@ -239,25 +240,31 @@ fn look_again<L: SharedLedger, R: Wait>(
     found
 }
 
-/// Runs a begun reorganisation to its end, in as many threads as there are handles, the caller's thread being one of them; a thread that
-/// cannot be started leaves its share to the others. Each draws a piece, and reads, prepares and commits its next items until it has
-/// ended; what is read is prepared outside of the lock.
+/// Runs a begun reorganisation to its end, in as many threads as there are handles, the caller's
+/// thread being one of them; a thread that cannot be started leaves its share to the others. Each
+/// draws a piece, and reads, prepares and commits its next items until it has ended; what is read
+/// is prepared outside of the lock.
 ///
-/// The call begins with the reorganisation that the last handle finds begun, and a piece ends `Finished` by work of that kind alone. If the
-/// reorganisation is over by the time that a piece is read, looked at or committed, or has no such piece, the piece ends
-/// `Refused(NotWanted)`; if the element's reorganisation is of another kind by then, as when a fill was abandoned and a clear begun, it
-/// ends `Refused(WrongElement)`.
+/// The call begins with the reorganisation that the last handle finds begun, and a piece ends
+/// `Finished` by work of that kind alone. If the reorganisation is over by the time that a piece is
+/// read, looked at or committed, or has no such piece, the piece ends `Refused(NotWanted)`; if the
+/// element's reorganisation is of another kind by then, as when a fill was abandoned and a clear
+/// begun, it ends `Refused(WrongElement)`.
 ///
 /// - `handles`: all of the same shared world, from 1 to 64.
-/// - `moment`: the moment of each commit; the greater of it and the moment of the last entry counts.
+/// - `moment`: the moment of each commit; the greater of it and the moment of the last entry
+///   counts.
 /// - `element`: the number of the element whose reorganisation it is.
 /// - `limit`: how many items each commit may have, from 1 to 1,000.
-/// - `tries`: after how many tries that ended in a conflict, or found the piece moved, a piece is given up, from 1 to 1,000,000.
-/// - `gate`: it is asked up to 10,000,000 times before a piece; if it never lets pass, the piece's end is `Held`.
+/// - `tries`: after how many tries that ended in a conflict, or found the piece moved, a piece is
+///   given up, from 1 to 1,000,000.
+/// - `gate`: it is asked up to 10,000,000 times before a piece; if it never lets pass, the piece's
+///   end is `Held`.
 ///
-/// Refused in this order, and then no piece was worked on and the handles come back: `BadCount` if one of these numbers is out of its
-/// range; `WentBack` if the log is shorter than the last handle's front; `NotBegun` if no reorganisation of the element has begun;
-/// `Memory`. Once a piece has begun, running out of memory is the end of single pieces, and what they committed stays.
+/// Refused in this order, and then no piece was worked on and the handles come back: `BadCount` if
+/// one of these numbers is out of its range; `WentBack` if the log is shorter than the last
+/// handle's front; `NotBegun` if no reorganisation of the element has begun; `Memory`. Once a piece
+/// has begun, running out of memory is the end of single pieces, and what they committed stays.
 pub fn reorganise_all<L: SharedLedger + Send + Sync, G: Gate + Sync, R: Threads + Wait + Sync>(
     rt: &R,
     alloc: Global,

@@ -26,7 +26,8 @@ pub(crate) enum Attempt {
     Ended(PieceEnd),
 }
 
-// The next items of a piece, if the work is of the kind with which the call began; an `Err` is what the turn came to without them.
+// The next items of a piece, if the work is of the kind with which the call began; an `Err` is what
+// the turn came to without them.
 fn next_items<L: SharedLedger, R: Wait>(
     rt: &R,
     alloc: Global,
@@ -74,7 +75,8 @@ fn unread_end(fault: SharedFault<ReadFault>) -> Option<PieceEnd>
     }
 }
 
-// What becomes of a piece that was found at its end, by how it stands now: the read did not say of which kind of work that end is.
+// What becomes of a piece that was found at its end, by how it stands now: the read did not say of
+// which kind of work that end is.
 fn look<L: SharedLedger, R: Wait>(
     rt: &R,
     shared: &Shared<L>,

@@ -1,8 +1,9 @@
-//! What a log of accepted calls says of a store: its versions, rows, reorganisations and pairs, and the laws by which the
-//! pairs stay consistent with every version that a lease may still use.
+//! What a log of accepted calls says of a store: its versions, rows, reorganisations and pairs, and
+//! the laws by which the pairs stay consistent with every version that a lease may still use.
 //!
-//! The protocol is that of F1 ("Online, Asynchronous Schema Change in F1", Rae et al., PVLDB 6(11), 2013): leases on schema
-//! versions, two versions in use at most, element states, and background reorganisation between two steps.
+//! The protocol is that of F1 ("Online, Asynchronous Schema Change in F1", Rae et al., PVLDB 6(11),
+//! 2013): leases on schema versions, two versions in use at most, element states, and background
+//! reorganisation between two steps.
 #![tactic(auto)]
 
 mod entry;

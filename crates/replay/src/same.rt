@@ -46,7 +46,8 @@ fn did_same(one: &What, other: &What) -> bool
 }
 
 impl Entry {
-    /// Whether the other entry is the same: of the same moment, and of a call that did the same. Never refused.
+    /// Whether the other entry is the same: of the same moment, and of a call that did the same.
+    /// Never refused.
     pub fn is_same(&self, other: &Entry) -> bool
         ensures { Decides result (self.now ≡ other.now) }
     {

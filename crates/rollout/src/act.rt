@@ -24,8 +24,9 @@ pub enum Act {
     Nothing,
 }
 
-/// What is due at a moment, for all changes that are under way: a begin first, since its pieces can be worked from then on; then the
-/// step of all elements that are ready; then a piece; then a wait. It changes nothing.
+/// What is due at a moment, for all changes that are under way: a begin first, since its pieces can
+/// be worked from then on; then the step of all elements that are ready; then a piece; then a wait.
+/// It changes nothing.
 ///
 /// - `moment`: the effective moment is the greater of it and the moment of the last entry.
 ///

@@ -27,8 +27,8 @@ pub enum Advanced {
     Finished,
 }
 
-/// Why nothing was done. If several reasons hold, the first in this order is reported, but `Memory` may come in place of
-/// `VersionsSpent`.
+/// Why nothing was done. If several reasons hold, the first in this order is reported, but `Memory`
+/// may come in place of `VersionsSpent`.
 #[derive(Clone, Copy, Debug, PartialEq, Eq, Error)]
 pub enum AdvanceFault {
     /// The pieces are not 1 to 64, or the limit is not 1 to 1,000.
@@ -53,16 +53,18 @@ impl From<AllocError> for AdvanceFault {
     }
 }
 
-/// Does the act that is due, and reports it. It makes no difference who began a change: from the state of the world alone, whoever
-/// calls it carries all changes on. If nothing can be done before a moment, it reports that moment and changes nothing.
+/// Does the act that is due, and reports it. It makes no difference who began a change: from the
+/// state of the world alone, whoever calls it carries all changes on. If nothing can be done before
+/// a moment, it reports that moment and changes nothing.
 ///
 /// - `moment`: the effective moment is the greater of it and the moment of the last entry.
 /// - `pieces`: in how many pieces a fill or a clear begins, 1 to 64.
 /// - `limit`: how many items of a piece are worked at most, 1 to 1,000.
 ///
-/// Refused, in this order, by the names of `AdvanceFault`: bad counts, a moment above 2^62, no version left for a publication, out of
-/// memory. A refused call changes nothing, and the next one does the same act. The world itself refuses no act that is due for any
-/// other reason (`due_is_accepted`).
+/// Refused, in this order, by the names of `AdvanceFault`: bad counts, a moment above 2^62, no
+/// version left for a publication, out of memory. A refused call changes nothing, and the next one
+/// does the same act. The world itself refuses no act that is due for any other reason
+/// (`due_is_accepted`).
 pub fn advance(
     alloc: Global,
     world: &mut World,

@@ -10,18 +10,21 @@ use lease::MAX_MOMENT;
 use std::alloc::Global;
 use world::World;
 
-/// Brings every change that is under way to its end, and returns the effective moment of its end: then each element that was being
-/// added is public, and each that was being dropped is gone. If nothing can be done before a moment, it goes on at that moment.
+/// Brings every change that is under way to its end, and returns the effective moment of its end:
+/// then each element that was being added is public, and each that was being dropped is gone. If
+/// nothing can be done before a moment, it goes on at that moment.
 ///
-/// It always comes to an end. It takes at most three begins and publications for each element that is under way, whatever it returns.
+/// It always comes to an end. It takes at most three begins and publications for each element that
+/// is under way, whatever it returns.
 ///
 /// - `moment`: the effective moment is the greater of it and the moment of the last entry.
 /// - `pieces`: in how many pieces a fill or a clear begins, 1 to 64.
 /// - `limit`: how many items of a piece are worked at a time, 1 to 1,000.
 ///
-/// Refused, in this order, by the names of `AdvanceFault`: bad counts, which change nothing; then a moment above 2^62, no version left,
-/// or out of memory, at the act that needs it. What was done before that act stays: the rows are as before, and each element is where
-/// it was or further on its way, so a second call goes on.
+/// Refused, in this order, by the names of `AdvanceFault`: bad counts, which change nothing; then a
+/// moment above 2^62, no version left, or out of memory, at the act that needs it. What was done
+/// before that act stays: the rows are as before, and each element is where it was or further on
+/// its way, so a second call goes on.
 pub fn complete(
     alloc: Global,
     world: &mut World,

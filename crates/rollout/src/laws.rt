@@ -9,9 +9,10 @@ pub fn due_is_accepted()
     ensures { AreAccepted }
 {}
 
-/// Each advance lowers what is left: a step lowers the edges of all elements, a begin the reorganisations that have not begun, a piece
-/// the rest of one piece. A begin and a publication lower the acts that are left too, of which each element under way has at most
-/// three. As long as edges are left, an advance does not report that all is finished.
+/// Each advance lowers what is left: a step lowers the edges of all elements, a begin the
+/// reorganisations that have not begun, a piece the rest of one piece. A begin and a publication
+/// lower the acts that are left too, of which each element under way has at most three. As long as
+/// edges are left, an advance does not report that all is finished.
 pub fn advances_lower()
     ensures { AdvancesLower }
 {}
@@ -21,12 +22,14 @@ pub fn few_acts_are_left()
     ensures { AreFewLeft }
 {}
 
-/// A call of `complete` that is refused and a later one that is not, together, complete all changes that were under way at first.
+/// A call of `complete` that is refused and a later one that is not, together, complete all changes
+/// that were under way at first.
 pub fn calls_go_on()
     ensures { CallsGoOn }
 {}
 
-/// A read takes exactly `limit` of the items that are left of a piece, or reaches the piece's end: so items measure how far it is.
+/// A read takes exactly `limit` of the items that are left of a piece, or reaches the piece's end:
+/// so items measure how far it is.
 pub fn pieces_take_items()
     ensures { PiecesTakeItems }
 {}

@@ -1,10 +1,12 @@
-//! Carries every schema change that is under way to its end, one act after another, from the state of the world alone. No plan is
-//! kept: any operator may take the next act, and one operator finishes what another began.
+//! Carries every schema change that is under way to its end, one act after another, from the state
+//! of the world alone. No plan is kept: any operator may take the next act, and one operator
+//! finishes what another began.
 //!
-//! `due` says what may be done now, `advance` does it, and `complete` goes on until no change is under way.
+//! `due` says what may be done now, `advance` does it, and `complete` goes on until no change is
+//! under way.
 //!
-//! The states that an element goes through, and the wait of a lease length between two versions, are those of F1 ("Online,
-//! Asynchronous Schema Change in F1", Rae et al., PVLDB 6(11), 2013).
+//! The states that an element goes through, and the wait of a lease length between two versions,
+//! are those of F1 ("Online, Asynchronous Schema Change in F1", Rae et al., PVLDB 6(11), 2013).
 #![tactic(auto)]
 
 mod act;

@@ -73,7 +73,8 @@ pub(crate) fn work_piece(
     }
 }
 
-/// Works an open reorganisation to its end. If it is refused, the pieces that were worked before stay so.
+/// Works an open reorganisation to its end. If it is refused, the pieces that were worked before
+/// stay so.
 pub(crate) fn work_all(
     alloc: Global,
     world: &mut World,

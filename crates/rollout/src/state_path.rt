@@ -4,7 +4,8 @@ ghost use Rattle.rollout.specs.StatePath.{next_state as next_state_of};
 
 use schema_version::{ElementDef, ElementState, Way};
 
-/// The state that comes next on the way of an element; `None` if it is public and not being dropped, so that no change is under way.
+/// The state that comes next on the way of an element; `None` if it is public and not being
+/// dropped, so that no change is under way.
 ///
 /// - `element`: a live element of a version.
 pub fn next_state(element: &ElementDef) -> Option<ElementState>

@@ -1,5 +1,5 @@
-//! A world of one table with five rows, and the step that begins three changes at once. Elements 1 and 2 are the columns a and b, 3 is
-//! the index and 4 the column that enter.
+//! A world of one table with five rows, and the step that begins three changes at once. Elements 1
+//! and 2 are the columns a and b, 3 is the index and 4 the column that enter.
 
 use collections::List;
 use keycode::{Text, Value};

@@ -1,4 +1,5 @@
-//! One operator goes on where another stopped, after an element was abandoned in mid-course; also if a call is out of memory.
+//! One operator goes on where another stopped, after an element was abandoned in mid-course; also
+//! if a call is out of memory.
 
 use crate::fixtures::{is_whole, mark, states, with_changes};
 use collections::List;

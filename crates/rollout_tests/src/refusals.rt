@@ -24,7 +24,8 @@ fn bad_numbers_are_refused(rt: HostRuntime) {
         assert!(rt; complete(alloc, &mut world, moment, pieces, limit) == Err(fault));
     }
     assert!(rt; world.log().len() == entries);
-    // From here on each version has to wait for a moment that is too large: the first one is published, and no other.
+    // From here on each version has to wait for a moment that is too large: the first one is
+    // published, and no other.
     assert!(rt; complete(alloc, &mut world, MAX_MOMENT, 1, 1) == Err(AdvanceFault::MomentTooLarge));
     assert!(rt;
         states(&world)

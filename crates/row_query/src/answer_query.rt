@@ -44,7 +44,8 @@ fn by_key<V: PairView>(
     Ok(rows)
 }
 
-/// The rows of a query that has no fault, by its path. A required column's pair holds the default where a row has no value of its own.
+/// The rows of a query that has no fault, by its path. A required column's pair holds the default
+/// if a row has no value of its own.
 fn find<V: PairView>(
     alloc: Global,
     schema: &Schema,
@@ -71,19 +72,22 @@ fn find<V: PairView>(
     scan(alloc, view, columns, query)
 }
 
-/// The rows that a query asks for, in the order of their primary keys, each with its values in the named columns.
+/// The rows that a query asks for, in the order of their primary keys, each with its values in the
+/// named columns.
 ///
-/// - `schema`: the version under which the query runs. It reads the columns and indexes that are public there.
+/// - `schema`: the version under which the query runs. It reads the columns and indexes that are
+///   public there.
 /// - `view`: the pairs of a store. If they agree with the version and with rows, those rows are
 ///   what is answered, as the version sees them: in a public required column the default stands
-///   where a row has no value of its own.
-/// - `query`: a table, columns and conditions. Equal with Null finds the rows without a value, hence none by a required
-///   column; Between has its bounds included and never finds a row without a value. A text over 1,024 bytes is no fault: in
-///   a key and with Equal it finds nothing, as a bound it is compared as every value is.
+///   if a row has no value of its own.
+/// - `query`: a table, columns and conditions. Equal with Null finds the rows without a value,
+///   hence none by a required column; Between has its bounds included and never finds a row without
+///   a value. A text over 1,024 bytes is no fault: in a key and with Equal it finds nothing, as a
+///   bound it is compared as every value is.
 ///
-/// The rows are found by the path that `path_of` tells. By a key one row is read, by an index only the pairs between the
-/// condition's values. An index that isn't public is never read: some rows may have no pair there (Rae et al., PVLDB
-/// 6(11), 2013).
+/// The rows are found by the path that `path_of` tells. By a key one row is read, by an index only
+/// the pairs between the condition's values. An index that isn't public is never read: some rows
+/// may have no pair there (Rae et al., PVLDB 6(11), 2013).
 ///
 /// The refusals, in their order: `NoTable`; then of the named columns in their order and the
 /// conditions in theirs, the first with a fault by its lowest, `NotPublic` and then `WrongType`.

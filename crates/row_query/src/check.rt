@@ -27,8 +27,8 @@ pub(crate) fn public_numbers(
         .collect(alloc)
 }
 
-/// Whether the value is of the kind, however long a text is: that no row holds one over 1,024 bytes makes it no fault.
-/// Null is of no kind.
+/// Whether the value is of the kind, however long a text is: that no row holds one over 1,024 bytes
+/// makes it no fault. Null is of no kind.
 fn has_kind(kind: ColumnType, value: &Value) -> bool
     ensures test { result ≡ has_kind_of kind value.now }
     ensures known { IsValue value.now }

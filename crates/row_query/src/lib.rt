@@ -1,4 +1,5 @@
-//! Queries over one table: what they answer, why they are refused, and the three paths by which their rows are found.
+//! Queries over one table: what they answer, why they are refused, and the three paths by which
+//! their rows are found.
 #![tactic(auto)]
 
 mod answer_query;

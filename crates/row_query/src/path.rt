@@ -89,10 +89,11 @@ fn has_key(conditions: &[Cond]) -> bool
     conditions.iter().any(|c| is_on_key(c))
 }
 
-/// By which path `answer` finds the rows of `query` under the version `schema`: by the primary key where a condition is
-/// on it; else by the least public index of the table whose first column has a condition, as F1's queries read public
-/// elements alone (Rae et al., PVLDB 6(11), 2013); else by going over the whole table. A query that `answer` refuses has
-/// a path too. Never refused, and takes no memory.
+/// By which path `answer` finds the rows of `query` under the version `schema`: by the primary key
+/// if a condition is on it; else by the least public index of the table whose first column has a
+/// condition, as F1's queries read public elements alone (Rae et al., PVLDB 6(11), 2013); else by
+/// going over the whole table. A query that `answer` refuses has a path too. Never refused, and
+/// takes no memory.
 pub fn path_of(schema: &Schema, query: &Query) -> Path
     ensures { result ≡ plain_path schema.now query.now }
 {

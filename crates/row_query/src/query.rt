@@ -2,8 +2,9 @@
 use collections::List;
 use keycode::{Value, Values};
 
-/// What a row must meet to be answered. Columns go by their element numbers, and values are ordered as keycode has it. A
-/// text may be of any length: one over 1,024 bytes is no row's, and rows lie below and above it as by any other.
+/// What a row must meet to be answered. Columns go by their element numbers, and values are ordered
+/// as keycode has it. A text may be of any length: one over 1,024 bytes is no row's, and rows lie
+/// below and above it as by any other.
 #[derive(Clone, Drop, PartialEq, Eq)]
 pub enum Cond {
     /// The row has this primary key.
@@ -12,7 +13,8 @@ pub enum Cond {
     Equal {
         /// The number of the column.
         column: u32,
-        /// The value. With Null the row has no value in the column, which no row lacks in a required one: it has the default.
+        /// The value. With Null the row has no value in the column, which no row lacks in a
+        /// required one: it has the default.
         value: Value,
     },
     /// The row has a value in a column, and it lies between two bounds, both included.
@@ -31,8 +33,8 @@ pub enum Cond {
 pub struct Query {
     /// The number of the table.
     pub table: u32,
-    /// The numbers of the columns whose values are answered, of a required column the default where a row has no value of its
-    /// own. Their order says nothing, nor does a number that stands twice.
+    /// The numbers of the columns whose values are answered, of a required column the default if a
+    /// row has no value of its own. Their order says nothing, nor does a number that stands twice.
     pub columns: List<u32>,
     /// What the rows must meet, all of it.
     pub conditions: List<Cond>,
@@ -43,7 +45,8 @@ pub struct Query {
 pub enum Path {
     /// One row is read by its primary key.
     Key,
-    /// A part of the index of this number is gone over, and the rows that stand there are read by their keys.
+    /// A part of the index of this number is gone over, and the rows that stand there are read by
+    /// their keys.
     Index(u32),
     /// All rows of the table are gone over.
     Scan,

@@ -23,7 +23,7 @@ fn counts(
     Ok((report.rows, report.missing, report.extra))
 }
 
-/// The same in a store of these pairs, where an element went through these states.
+/// The same in a store of these pairs, if an element went through these states.
 fn counted(
     alloc: Global,
     element: u32,
@@ -35,7 +35,7 @@ fn counted(
     counts(alloc, &schema, &store)
 }
 
-/// The same, asked once more where memory was short.
+/// The same, asked once more if memory was short.
 fn counted_at_last(
     alloc: Global,
     element: u32,

@@ -1,4 +1,5 @@
-//! Tests of the layers over rows, as tables with answers from outside: transactions, queries, audits and reorganisations.
+//! Tests of the layers over rows, as tables with answers from outside: transactions, queries,
+//! audits and reorganisations.
 #![tactic(auto)]
 
 #[cfg(test)]

@@ -87,7 +87,7 @@ fn divided(
     Ok(stand(progress.pieces.as_slice(), bounds))
 }
 
-/// The same, asked once more where memory was short.
+/// The same, asked once more if memory was short.
 fn divided_at_last(
     alloc: Global,
     what: (Of, Work),
@@ -173,7 +173,7 @@ fn read(alloc: Global, what: (Of, Work), pairs: Pairs, limit: u32) -> Result<Pie
     progress.read_piece(alloc, &store, 0, limit)
 }
 
-/// A piece of what was read, which comes back where memory was short: then it is prepared once more.
+/// A piece of what was read, which comes back if memory was short: then it is prepared once more.
 fn piece_of(alloc: Global, view: PieceView) -> Result<PreparedPiece, ViewFault> {
     let reported = match prepare_piece(alloc, view) {
         Ok(piece) => return Ok(piece),
@@ -220,7 +220,7 @@ fn written_once(
     Ok(writes(&piece, wanted, cursor))
 }
 
-/// The same, asked once more where memory was short.
+/// The same, asked once more if memory was short.
 fn written(
     alloc: Global,
     what: (Of, Work),

@@ -85,7 +85,8 @@ const INDEXED: Pairs<'static> = &[
     (I_9_4, EMPTY),
 ];
 
-/// The same without the index's pair of row (3), as no calls leave it: only a query that goes by the index misses that row.
+/// The same without the index's pair of row (3), as no calls leave it: only a query that goes by
+/// the index misses that row.
 const HOLED: Pairs<'static> = &[
     (ROW_1, EMPTY),
     (A_1, FIVE),
@@ -99,7 +100,8 @@ const HOLED: Pairs<'static> = &[
     (I_9_4, EMPTY),
 ];
 
-/// The rows (1) with r = 6, (2) with r = 5, (3) without a value of its own, whose pair has the default 5, and (4) with r = 9.
+/// The rows (1) with r = 6, (2) with r = 5, (3) without a value of its own, whose pair has the
+/// default 5, and (4) with r = 9.
 const WITH_R: Pairs<'static> = &[
     (ROW_1, EMPTY),
     (R_1, SIX),

@@ -79,7 +79,7 @@ fn read_set(alloc: Global, ops: &[RowOp]) -> Result<ReadSet, AllocError> {
     reads_of(alloc, &schema, ops)
 }
 
-/// What is prepared; of no table where the operations did not come back with a refusal.
+/// What is prepared; of no table if the operations did not come back with a refusal.
 fn prepared(alloc: Global, ops: Vec<RowOp>, view: ReadView) -> Result<Prepared, PrepareFault> {
     let schema = ArcValue::new(alloc, declared(alloc)?)?;
     let count = ops.len();
@@ -89,7 +89,7 @@ fn prepared(alloc: Global, ops: Vec<RowOp>, view: ReadView) -> Result<Prepared, 
     }
 }
 
-/// The outcome, where there are just these writes in this order.
+/// The outcome, if there are just these writes in this order.
 fn outcome_with(prepared: &Prepared, wanted: Points) -> Option<RowOutcome> {
     if are_writes(prepared.batch().writes(), wanted) {
         Some(prepared.outcome())
@@ -111,7 +111,7 @@ fn outcome_once(
     Ok(outcome_with(&prepared, wanted))
 }
 
-/// The same, asked once more where memory was short.
+/// The same, asked once more if memory was short.
 fn outcome(
     alloc: Global,
     plain: &[Op],
@@ -191,7 +191,7 @@ const ONE: Op<'static> = (Insert, 1, Int(1), &[]);
 
 const TWO: Op<'static> = (Insert, 1, Int(2), &[]);
 
-/// Operations, what is read, and what is reported where nothing is written.
+/// Operations, what is read, and what is reported if nothing is written.
 static TOLD: [(
     &str,
     &[Op],
@@ -356,7 +356,7 @@ fn are_read(alloc: Global, plain: &[Op], wanted: &[&[u8]]) -> Result<bool, Alloc
 /// The table 2 is not there.
 const READING: &[Op] = &[TWO, ONE, ONE, (Delete, 2, Int(1), &[])];
 
-/// The same, asked once more where memory was short.
+/// The same, asked once more if memory was short.
 fn are_read_at_last(alloc: Global, plain: &[Op], wanted: &[&[u8]]) -> Result<bool, AllocError> {
     match are_read(alloc, plain, wanted) {
         Err(AllocError) => are_read(alloc, plain, wanted),

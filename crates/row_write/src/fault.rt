@@ -29,7 +29,8 @@ pub enum PrepareFault {
         /// The number that was named, the first such of the operation.
         column: u32,
     },
-    /// A key or a value of another type than its column's, Null in the key, a text over 1,024 bytes, or a column named twice.
+    /// A key or a value of another type than its column's, Null in the key, a text over 1,024
+    /// bytes, or a column named twice.
     #[error("a value of another type, or a column named twice")]
     WrongType,
     /// More than 64 operations.

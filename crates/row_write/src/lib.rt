@@ -1,5 +1,5 @@
-//! Transactions of row operations: what they do to plain rows, what they read, and what they write by the states of a
-//! schema version.
+//! Transactions of row operations: what they do to plain rows, what they read, and what they write
+//! by the states of a schema version.
 #![tactic(auto)]
 
 mod check;

@@ -41,7 +41,8 @@ pub type RowOps = List<RowOp>;
 pub enum RowOutcome {
     /// Every operation is accepted.
     Done,
-    /// This operation, counted from 0, is the first that is refused: the rows stay as before the first one.
+    /// This operation, counted from 0, is the first that is refused: the rows stay as before the
+    /// first one.
     Refused {
         /// Its place.
         op: usize,

@@ -85,11 +85,13 @@ fn prepare_ops(
 /// - `ops`: at most 64 operations.
 /// - `view`: the keys that `reads_of` gives for them, each with its value or none.
 ///
-/// A transaction that is committed is serializable in the rows that its operations name: when it commits, they are as they
-/// were read. No other row is looked at again, and a query is no part of a transaction: two servers that query, compute and
-/// then write what they computed may lose an update. To change a row by what it holds, read first: `reads_of` depends on the
-/// tables and the primary keys of the operations alone, so it can be asked with values that are not known yet. Compute the new
-/// values from that view, prepare the operations that have them with the same view, and commit. After a conflict, read again.
+/// A transaction that is committed is serializable in the rows that its operations name: when it
+/// commits, they are as they were read. No other row is looked at again, and a query is no part of
+/// a transaction: two servers that query, compute and then write what they computed may lose an
+/// update. To change a row by what it holds, read first: `reads_of` depends on the tables and the
+/// primary keys of the operations alone, so it can be asked with values that are not known yet.
+/// Compute the new values from that view, prepare the operations that have them with the same view,
+/// and commit. After a conflict, read again.
 ///
 /// The first operation with NoTable, NotPublic or WrongType decides by its lowest; then TooManyOps,
 /// then ViewMismatch. Out of memory may come in place of ViewMismatch alone. A refusal gives the

@@ -10,8 +10,9 @@ use schema_version::Schema;
 use std::alloc::AllocError;
 use std::marker::Model;
 
-/// A transaction that was prepared under a schema version from what was read: what it expects to find again, and what
-/// it then writes. `prepare` alone makes one, and it can grow as old as it likes.
+/// A transaction that was prepared under a schema version from what was read: what it expects to
+/// find again, and what it then writes. `prepare` alone makes one, and it can grow as old as it
+/// likes.
 #[derive(Drop)]
 pub struct Prepared {
     pub(crate) schema: ArcValue<Schema>,
@@ -66,7 +67,7 @@ impl Prepared {
         &self.expect
     }
 
-    /// What it writes: nothing where an operation is refused.
+    /// What it writes: nothing if an operation is refused.
     pub fn batch(&self) -> &Batch
         ensures { result.now ≡ self.now.batch }
     {

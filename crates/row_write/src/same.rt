@@ -1,4 +1,5 @@
-//! Equality of a transaction's operations. That the derived `==` decides is not found by search, for the lists inside.
+//! Equality of a transaction's operations. That the derived `==` decides is not found by search,
+//! for the lists inside.
 ghost use Rattle.std.specs.Bool.{Decides};
 ghost use Rattle.std.specs.Prelude.{◌≡◌, length};
 

@@ -234,8 +234,8 @@ fn cells_in(
     Ok(List::new(cells))
 }
 
-/// What `read_row` gives, without a look-up, where the view's keys are those of the operation's row in their order. None of a view
-/// with other keys or in another order.
+/// What `read_row` gives, without a look-up, if the view's keys are those of the operation's row in
+/// their order. None of a view with other keys or in another order.
 pub(crate) fn row_in_order(
     alloc: Global,
     view: &ReadView,

@@ -1,5 +1,6 @@
-//! Each cell of the table of writes, on rows made by hand. Table 1 has the column 1, the index 2 over it, and the required column 3 with
-//! the default 5. The expected bytes are worked out by hand: a number is 02 and its eight bytes with the highest bit set.
+//! Each cell of the table of writes, on rows made by hand. Table 1 has the column 1, the index 2
+//! over it, and the required column 3 with the default 5. The expected bytes are worked out by
+//! hand: a number is 02 and its eight bytes with the highest bit set.
 ghost use Rattle.std.specs.Prelude.{◌≡◌, IfOk, [], ◌∷◌};
 ghost use Rattle.keycode.specs.declared.value.Value.TheVariants.{Int};
 
@@ -26,15 +27,15 @@ pub(crate) const REQUIRED: &[u8] = &[0x52, 0, 0, 0, 1, 2, 0x80, 0, 0, 0, 0, 0, 0
 pub(crate) const FIVE: &[u8] = &[2, 0x80, 0, 0, 0, 0, 0, 0, 5];
 /// The value 6.
 pub(crate) const SIX: &[u8] = &[2, 0x80, 0, 0, 0, 0, 0, 0, 6];
-/// The index's pair of row 1 where the value is 5: 58, element, value, key.
+/// The index's pair of row 1 if the value is 5: 58, element, value, key.
 pub(crate) const AT_FIVE: &[u8] = &[
     0x58, 0, 0, 0, 2, 2, 0x80, 0, 0, 0, 0, 0, 0, 5, 2, 0x80, 0, 0, 0, 0, 0, 0, 1,
 ];
-/// The same where it is 6.
+/// The same if it is 6.
 const AT_SIX: &[u8] = &[
     0x58, 0, 0, 0, 2, 2, 0x80, 0, 0, 0, 0, 0, 0, 6, 2, 0x80, 0, 0, 0, 0, 0, 0, 1,
 ];
-/// The same where there is none: Null is 01.
+/// The same if there is none: Null is 01.
 pub(crate) const AT_NULL: &[u8] = &[0x58, 0, 0, 0, 2, 1, 2, 0x80, 0, 0, 0, 0, 0, 0, 1];
 
 /// The pairs of the index 6 over the column 1, and of the index 8 over the required column 7.
@@ -247,7 +248,8 @@ fn note(
     }
 }
 
-/// Whether a batch that has the writes of the case has them twice then; asked once more where memory was short and it has them once.
+/// Whether a batch that has the writes of the case has them twice then; asked once more if memory
+/// was short and it has them once.
 fn writes_again(
     alloc: Global,
     element: &AnyElement,
@@ -269,7 +271,8 @@ fn writes_again(
     noted.is_ok() && are_writes(first, case.5) && are_writes(second, case.5)
 }
 
-/// Whether an empty batch gets the writes of the case, and then once more. It stays empty where memory was short.
+/// Whether an empty batch gets the writes of the case, and then once more. It stays empty if memory
+/// was short.
 fn writes(
     alloc: Global,
     element: &AnyElement,
@@ -302,7 +305,7 @@ fn holds_once(alloc: Global, case: &Case) -> Result<bool, AllocError> {
     writes_of_rows(alloc, &element, case)
 }
 
-/// The same, asked once more where memory was short.
+/// The same, asked once more if memory was short.
 fn holds(alloc: Global, case: &Case) -> bool {
     match holds_once(alloc, case) {
         Err(AllocError) => holds_once(alloc, case) == Ok(true),

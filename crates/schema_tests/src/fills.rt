@@ -12,7 +12,8 @@ use schema_version::Schema;
 use std::alloc::{AllocError, Global};
 use std::test::*;
 
-/// Whether the version has it, an element, the column and row 1's value in it, and the pair with which the row fills the element.
+/// Whether the version has it, an element, the column and row 1's value in it, and the pair with
+/// which the row fills the element.
 type Filled = (
     bool,
     u32,
@@ -33,7 +34,7 @@ static FILLS: [Filled; 12] = [
     (false, 3, 1, Some(6), Some((REQUIRED, FIVE))),
     (true, 6, 1, None, Some((SIX_AT_NULL, &[]))),
     (true, 8, 7, Some(6), Some((EIGHT_AT_SIX, &[]))),
-    // The default of the column 7 is in the index over it, where the row has no value.
+    // The default of the column 7 is in the index over it, if the row has no value.
     (true, 8, 7, None, Some((EIGHT_AT_FIVE, &[]))),
     (true, 8, 1, Some(6), Some((EIGHT_AT_FIVE, &[]))),
     (true, 1, 1, Some(6), None),
@@ -91,7 +92,7 @@ fn reads(alloc: Global, case: &Filled) -> Result<bool, AllocError> {
     Ok(element.number() == case.1 && fills(alloc, &element, case)?)
 }
 
-/// The same, asked once more where memory was short.
+/// The same, asked once more if memory was short.
 fn reads_at_last(alloc: Global, case: &Filled) -> bool {
     match reads(alloc, case) {
         Err(AllocError) => reads(alloc, case) == Ok(true),

@@ -1,4 +1,5 @@
-//! Tests of versions of the schema, of plans and of the pairs of elements, on values worked out by hand.
+//! Tests of versions of the schema, of plans and of the pairs of elements, on values worked out by
+//! hand.
 #![tactic(auto)]
 
 #[cfg(test)]

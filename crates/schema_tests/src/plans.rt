@@ -125,7 +125,7 @@ static PLANS: [Case; 15] = [
         Err(PlanFault::InChange),
     ),
     // The second change of an element is refused, and the fault of what stands after it is not
-    // told.
+    // reported.
     (
         &[],
         &[
@@ -148,7 +148,7 @@ static REQUIRED_PLANS: [Case; 8] = [
             (&[Fill(7)], &[Go(7, Public)]),
         ]),
     ),
-    // An index waits for its column, also where it stands before it in the batch.
+    // An index waits for its column, also if it stands before it in the batch.
     (
         &[],
         &[(AddIndex, "j", b"g"), (AddRequired(Whole(7)), "g", b"")],
@@ -351,7 +351,7 @@ fn holds_once(alloc: Global, case: &Case) -> Result<bool, AllocError> {
     }
 }
 
-/// The same, asked once more where memory was short.
+/// The same, asked once more if memory was short.
 fn holds(alloc: Global, case: &Case) -> bool {
     match holds_once(alloc, case) {
         Err(AllocError) => holds_once(alloc, case) == Ok(true),

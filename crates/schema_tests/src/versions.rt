@@ -22,9 +22,11 @@ const LONG_NAME: &str = "n23456789012345678901234567890123";
 enum Ask {
     /// Its last step is refused.
     Refused(StepFault),
-    /// The number of the element of a name in the table 1, that of the sixth live element, and the next one.
+    /// The number of the element of a name in the table 1, that of the sixth live element, and the
+    /// next one.
     Numbers(&'static str, Option<u32>, Option<u32>, u32),
-    /// The state of the element of a number, its name, that of the live element at this place, and that of the table.
+    /// The state of the element of a number, its name, that of the live element at this place, and
+    /// that of the table.
     Number(u32, ElementState, &'static str, &'static str, &'static str),
     /// Whether it has the columns of a table.
     Shape(u32, Option<&'static [(u32, ColumnType)]>),
@@ -129,7 +131,8 @@ static REFUSED: [Case; 24] = [
     ),
 ];
 
-/// Steps of required columns: a default is a value of the column's type, and no state is passed over.
+/// Steps of required columns: a default is a value of the column's type, and no state is passed
+/// over.
 static REQUIRED_REFUSED: [Case; 10] = [
     (
         TABLE_T,
@@ -308,14 +311,16 @@ fn has_shape(
     }
 }
 
-/// Whether these are the number of the element of a name, that of the sixth live element, and the next one.
+/// Whether these are the number of the element of a name, that of the sixth live element, and the
+/// next one.
 fn are_numbers(schema: &Schema, name: &str, numbers: (Option<u32>, Option<u32>, u32)) -> bool {
     number_of(schema.by_name(1, name)) == numbers.0
         && number_of(schema.live(5)) == numbers.1
         && schema.next_number() == numbers.2
 }
 
-/// Whether these are the names of an element, of the live element at its place, and of a table of its number.
+/// Whether these are the names of an element, of the live element at its place, and of a table of
+/// its number.
 fn are_names(schema: &Schema, number: u32, names: (&str, &str, &str)) -> bool {
     name_of(schema.element(number)) == names.0
         && name_of(schema.live(number as usize)) == names.1
@@ -347,7 +352,7 @@ fn holds_once(alloc: Global, case: &Case) -> Answer {
     }
 }
 
-/// The same, asked once more where memory was short.
+/// The same, asked once more if memory was short.
 fn holds(alloc: Global, case: &Case) -> bool {
     match holds_once(alloc, case) {
         Err(AllocError) => holds_once(alloc, case) == Ok(true),

@@ -17,7 +17,8 @@ use keycode::Text;
 use row_map::ColumnType;
 use std::alloc::{AllocError, Global};
 
-// The number of the column of this name, where the first of these columns has this number; 0 if there is none.
+// The number of the column of this name, if the first of these columns has this number; 0 if there
+// is none.
 fn number_of(first: u32, columns: &[(Text, ColumnType)], name: &[u8]) -> u32
     requires { first + length columns.now ≤ 2000 }
     ensures { result ≡ number_in first columns.now name.now }
@@ -113,7 +114,7 @@ fn add_indexes(
     Ok(())
 }
 
-// The moves by which a table's columns and indexes enter, where the first of them gets this number.
+// The moves by which a table's columns and indexes enter, if the first of them gets this number.
 fn table_moves(
     alloc: Global,
     number: u32,

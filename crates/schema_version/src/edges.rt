@@ -7,8 +7,9 @@ use crate::element::{ElementDef, ElementState, Kind, Way, Work};
 /// The way of an element after it goes from one state to another; `None` if no edge joins them that
 /// is one of its way or leaves public.
 ///
-/// An index and a required column go absent, delete-only, write-only, public, one state at a time, and the same way back; an optional
-/// column goes absent, delete-only, public, and the same way back. What leaves public is dropped from then on.
+/// An index and a required column go absent, delete-only, write-only, public, one state at a time,
+/// and the same way back; an optional column goes absent, delete-only, public, and the same way
+/// back. What leaves public is dropped from then on.
 ///
 /// - `kind`: what the element is.
 /// - `way`: where it is going; that of a public one does not count.

@@ -12,7 +12,8 @@ use crate::step::Move;
 use keycode::Text;
 use row_map::{ColumnType, fits};
 
-/// Whether the step takes the element of this number to another state or turns it back. An entered element has no number before.
+/// Whether the step takes the element of this number to another state or turns it back. An entered
+/// element has no number before.
 pub fn moves_element(step: &[Move], number: u32) -> bool
     ensures { result ≡ moves_element_of step.now number }
 {
@@ -98,7 +99,8 @@ pub(crate) fn entries_like(moves: &[Move], table: u32, index: bool) -> usize
         .count()
 }
 
-/// How many of the elements are indexes of the table of this number, or else, where `index` is false, how many are its columns.
+/// How many of the elements are indexes of the table of this number, or else, where `index` is
+/// false, how many are its columns.
 pub fn elements_like(elements: &[ElementDef], table: u32, index: bool) -> usize
     ensures { result ≡ count_by (λ (element : ElementDefinition). (element.table == table) && is_like_of index element.kind) elements.now }
 {
@@ -141,8 +143,8 @@ pub(crate) fn is_distinct(numbers: &[u32]) -> bool
     }
 }
 
-/// Whether an index lists 1 to 4 distinct columns, and the default of a required column is a value of its type: not Null, and no text of
-/// more than 1,024 bytes.
+/// Whether an index lists 1 to 4 distinct columns, and the default of a required column is a value
+/// of its type: not Null, and no text of more than 1,024 bytes.
 #[tactic(auto, using(crate::proofs::Decides::passes_so))]
 pub fn is_fair_kind(kind: &Kind) -> bool
     ensures { result ≡ is_fair_kind_of kind.now }

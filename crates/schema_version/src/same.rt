@@ -1,4 +1,5 @@
-//! Whether two versions, or parts of them, are equal. That the derived `==` decides is not found by search, for the values inside.
+//! Whether two versions, or parts of them, are equal. That the derived `==` decides is not found by
+//! search, for the values inside.
 ghost use Rattle.std.specs.Prelude.{◌≡◌};
 ghost use Rattle.std.specs.Bool.{Decides};
 ghost use Rattle.std.specs.String.{string_bytes};

@@ -27,9 +27,11 @@ use row_map::ColumnType;
 use std::alloc::{AllocError, Global};
 use std::marker::Model;
 
-/// A version of the schema: its tables, which no step changes, its live elements by number, and the next free number of an element.
+/// A version of the schema: its tables, which no step changes, its live elements by number, and the
+/// next free number of an element.
 ///
-/// Versions and their elements are those of "Online, Asynchronous Schema Change in F1" (Rae et al., 2013).
+/// Versions and their elements are those of "Online, Asynchronous Schema Change in F1" (Rae et al.,
+/// 2013).
 #[derive(Drop)]
 pub struct Schema {
     tables: IndexMap<String, Columns>,
@@ -67,7 +69,8 @@ impl Schema {
         self.elements.get(&number)
     }
 
-    /// Whether the other version is equal to this one: the same tables, live elements and next free number.
+    /// Whether the other version is equal to this one: the same tables, live elements and next free
+    /// number.
     pub fn is_same(&self, other: &Schema) -> bool
         ensures { Decides result (self.now ≡ other.now) }
     {
@@ -80,7 +83,8 @@ impl Schema {
         same_tables(&self.tables, &other.tables)
     }
 
-    /// The state of the element of this number. A number that no live element has, 0 among them, is Absent.
+    /// The state of the element of this number. A number that no live element has, 0 among them, is
+    /// Absent.
     pub fn state(&self, element: u32) -> ElementState
         ensures { result ≡ state_of self.now element }
     {
@@ -97,7 +101,8 @@ impl Schema {
         self.elements.values().as_slice()
     }
 
-    /// The live element at this place, from 0, among all live elements by rising number; None past the last.
+    /// The live element at this place, from 0, among all live elements by rising number; None past
+    /// the last.
     pub fn live(&self, place: usize) -> Option<&ElementDef>
         ensures { option_copied result ≡ slice_get (live self.now) place }
     {
@@ -189,8 +194,9 @@ impl Schema {
         })
     }
 
-    /// The version that a step gives. The moves are tried in order, each against this version and the whole step, and an empty step
-    /// is allowed. Entered elements get the next numbers in the step's order.
+    /// The version that a step gives. The moves are tried in order, each against this version and
+    /// the whole step, and an empty step is allowed. Entered elements get the next numbers in the
+    /// step's order.
     ///
     /// The first faulty move decides by its lowest fault, in the order of `StepFault`. Memory comes
     /// last: the whole step is tried before the first growth, so it never is in place of another
@@ -207,13 +213,15 @@ impl Schema {
         Ok(self.with_elements(elements, next)?)
     }
 
-    /// Version 1 of the declared tables. Elements are numbered from 1 table by table, a table's columns first and then its indexes, and
-    /// all of them are public. Tables are numbered from 1 in their order.
+    /// Version 1 of the declared tables. Elements are numbered from 1 table by table, a table's
+    /// columns first and then its indexes, and all of them are public. Tables are numbered from 1
+    /// in their order.
     ///
-    /// BadTable comes where they may not be declared: other than 1 to 16 tables, 1 to 4 key columns, at most 32 columns and 16 indexes
-    /// a table and 1 to 4 distinct columns an index; a name that isn't 1 to 32 bytes, a letter and then letters, digits and
-    /// underscores; a name used twice among the tables or within one; an index over what is no column of its table outside the key.
-    /// Then Memory. All is tried before the first growth.
+    /// BadTable comes if they may not be declared: other than 1 to 16 tables, 1 to 4 key columns,
+    /// at most 32 columns and 16 indexes a table and 1 to 4 distinct columns an index; a name that
+    /// isn't 1 to 32 bytes, a letter and then letters, digits and underscores; a name used twice
+    /// among the tables or within one; an index over what is no column of its table outside the
+    /// key. Then Memory. All is tried before the first growth.
     pub fn declared(alloc: Global, tables: &[TableDef]) -> Result<Schema, DeclareFault>
         ensures lawful { OnOk result (IsLawful tables.now) }
         ensures first { IfOk result (λ schema. schema ≡ declared_of tables.now) }

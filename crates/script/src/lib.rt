@@ -1,4 +1,5 @@
-//! A script from its bytes to the bytes of its replies, and the exit status that tells what came of it.
+//! A script from its bytes to the bytes of its replies, and the exit status that tells what came of
+//! it.
 #![tactic(auto)]
 
 mod run;

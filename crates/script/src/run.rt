@@ -40,8 +40,8 @@ pub enum ScriptFault {
 // The longest script, in bytes.
 const LIMIT: usize = 16_777_216;
 
-/// All that is left to read, or the first fault. That a reader failed is its own to say, and no contract sees it: that
-/// `Read` isn't answered at random is shown by the tests.
+/// All that is left to read, or the first fault. That a reader failed is its own to say, and no
+/// contract sees it: that `Read` isn't answered at random is shown by the tests.
 fn read_all<R: Read>(alloc: Global, reader: &mut R) -> Result<Vec<u8>, ScriptFault>
     ensures read { IsRead (R.remaining reader.old) result }
     ensures bounded { IfOk result (λ bytes. length bytes.items ≤ limit) }
@@ -106,8 +106,8 @@ fn answer_lines<W: Write>(alloc: Global, text: &str, writer: &mut W) -> Result<S
 
 /// Reads a script to its end, and writes the reply to each line when the line is done.
 ///
-/// Refused if the reader fails (`Read`), and then where the script is too long (`TooLong`) or no
-/// UTF-8 (`NotUtf8`): nothing is written. Refused later where the writer fails (`Write`) or memory
+/// Refused if the reader fails (`Read`), and then if the script is too long (`TooLong`) or no
+/// UTF-8 (`NotUtf8`): nothing is written. Refused later if the writer fails (`Write`) or memory
 /// runs out (`Memory`): what was written is a start of the replies.
 pub fn run_script<R: Read, W: Write>(
     alloc: Global,

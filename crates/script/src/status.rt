@@ -4,8 +4,8 @@ ghost use Rattle.script.specs.Status.{status_of};
 
 use crate::run::{ScriptFault, Summary};
 
-/// The exit status after a script: 0 where every line was good, 1 where a line was bad, 3 where the
-/// script could not be read, 4 where a reply could not be written, 5 when out of memory.
+/// The exit status after a script: 0 if every line was good, 1 if a line was bad, 3 if the
+/// script could not be read, 4 if a reply could not be written, 5 when out of memory.
 pub fn script_status(outcome: &Result<Summary, ScriptFault>) -> u8
     ensures { result ≡ status_of outcome.now }
 {

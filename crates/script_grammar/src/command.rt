@@ -7,12 +7,14 @@ use crate::selection::Selection;
 use collections::List;
 use keycode::Text;
 
-/// What a line asks for. Names stay names: what they stand for is the caller's to look up. A moment is a point of the script's own time, which it counts in whole numbers.
+/// What a line asks for. Names stay names: what they stand for is the caller's to look up. A moment
+/// is a point of the script's own time, which it counts in whole numbers.
 #[derive(Drop)]
 pub enum Command {
     /// `length N`: a lease's length, in moments.
     Length(u64),
-    /// `table NAME ( COLUMN TYPE key {, COLUMN TYPE key} {, COLUMN TYPE} )`: the primary key's columns, of which there is one at least, and the others.
+    /// `table NAME ( COLUMN TYPE key {, COLUMN TYPE key} {, COLUMN TYPE} )`: the primary key's
+    /// columns, of which there is one at least, and the others.
     Table {
         name: Text,
         key: Columns,
@@ -43,7 +45,8 @@ pub enum Command {
     Check,
     /// `log`: how many entries the log has.
     Log,
-    /// `prepare WORK by SERVER: OPERATION {; OPERATION}`: a transaction under the server's lease, to be committed later under that name.
+    /// `prepare WORK by SERVER: OPERATION {; OPERATION}`: a transaction under the server's lease,
+    /// to be committed later under that name.
     Prepare {
         name: Text,
         server: Text,
@@ -54,21 +57,23 @@ pub enum Command {
         name: Text,
         moment: u64,
     },
-    /// `query SERVER at M: select COLUMN {, COLUMN} from TABLE [where COND {and COND}]`, or `*` in place of the columns: the rows that are asked for, under the
-    /// server's lease.
+    /// `query SERVER at M: select COLUMN {, COLUMN} from TABLE [where COND {and COND}]`, or `*` in
+    /// place of the columns: the rows that are asked for, under the server's lease.
     Query {
         server: Text,
         moment: u64,
         selection: Selection,
     },
-    /// `forge SERVER version V granted G until U`: a lease of these numbers for the server, whether it was granted or not.
+    /// `forge SERVER version V granted G until U`: a lease of these numbers for the server, whether
+    /// it was granted or not.
     Forge {
         server: Text,
         version: u64,
         granted: u64,
         until: u64,
     },
-    /// `piece WORK of TABLE.NAME N limit K`: at most K entries of the piece N of an element's reorganisation, to be committed later under that name.
+    /// `piece WORK of TABLE.NAME N limit K`: at most K entries of the piece N of an element's
+    /// reorganisation, to be committed later under that name.
     Piece {
         name: Text,
         element: ElementName,
@@ -94,12 +99,14 @@ pub enum Command {
         moment: u64,
         pieces: u32,
     },
-    /// `work TABLE.NAME at M limit K`: the pieces of an element's reorganisation one after the other, each to its end, at most K entries a commit.
+    /// `work TABLE.NAME at M limit K`: the pieces of an element's reorganisation one after the
+    /// other, each to its end, at most K entries a commit.
     Work {
         element: ElementName,
         moment: u64,
         limit: u32,
     },
-    /// `status`: the elements with their states, the newest version, and the versions that are usable.
+    /// `status`: the elements with their states, the newest version, and the versions that are
+    /// usable.
     Status,
 }

@@ -316,7 +316,7 @@ fn parsed_command(alloc: Global, tokens: &[Token<'_>]) -> Result<Command, LineFa
 /// `line` is the bytes of the line without its ending. How long it may be is the caller's to say,
 /// and a silent line parses to no command. The refusals: `Malformed` if the line is not of the
 /// grammar, which also holds of a text that is not UTF-8 and of a number that does not fit its
-/// place, and `Memory`, in place of either answer, where memory ran out. A refusal leaves nothing
+/// place, and `Memory`, in place of either answer, if memory ran out. A refusal leaves nothing
 /// behind.
 pub fn read_command(alloc: Global, line: &[u8]) -> Result<Command, LineFault>
     ensures { GivesOr Memory (λ command. command) result (command_at line.now) }

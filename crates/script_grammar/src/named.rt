@@ -1,4 +1,5 @@
-//! The moves of a step and the changes of a plan, by the names that a script has for their elements.
+//! The moves of a step and the changes of a plan, by the names that a script has for their
+//! elements.
 ghost use Rattle.script_tokens.specs.Productions.{Gives};
 ghost use Rattle.script_grammar.specs.Changes.{enter_of, go_of, move_of, add_of, drop_of, change_of};
 

@@ -12,7 +12,8 @@ use std::alloc::Global;
 /// An operation of a transaction on one row, which the values of its primary key name.
 #[derive(Drop)]
 pub enum Operation {
-    /// `insert TABLE ( VALUE {, VALUE} ) [set COLUMN = VALUE {, COLUMN = VALUE}]`; no `set` makes an empty list.
+    /// `insert TABLE ( VALUE {, VALUE} ) [set COLUMN = VALUE {, COLUMN = VALUE}]`; no `set` makes
+    /// an empty list.
     Insert {
         table: Text,
         key: Values,

@@ -54,7 +54,8 @@ fn push_quoted(out: &mut String, text: &str) -> Result<(), AllocError>
     Ok(())
 }
 
-/// Adds a value to a text as the grammar has it: a number in decimal, a text in quotes with each quote in it doubled, `true`, `false` and `null`.
+/// Adds a value to a text as the grammar has it: a number in decimal, a text in quotes with each
+/// quote in it doubled, `true`, `false` and `null`.
 ///
 /// The only refusal is running out of memory; it may leave a part of the value after the text.
 pub fn push_value(out: &mut String, value: &Value) -> Result<(), AllocError>

@@ -21,7 +21,8 @@ pub enum Condition {
         column: Text,
         value: Value,
     },
-    /// `COLUMN >= VALUE`, which has no high bound, `COLUMN <= VALUE`, which has no low one, or `COLUMN between VALUE and VALUE`.
+    /// `COLUMN >= VALUE`, which has no high bound, `COLUMN <= VALUE`, which has no low one, or
+    /// `COLUMN between VALUE and VALUE`.
     Between {
         column: Text,
         low: Option<Value>,
@@ -29,7 +30,8 @@ pub enum Condition {
     },
 }
 
-/// `select COLUMN {, COLUMN} from TABLE [where COND {and COND}]`, or `*` in place of the columns. Without `where` there is no condition.
+/// `select COLUMN {, COLUMN} from TABLE [where COND {and COND}]`, or `*` in place of the columns.
+/// Without `where` there is no condition.
 #[derive(Drop)]
 pub struct Selection {
     pub table: Text,
@@ -105,7 +107,7 @@ fn key_condition<'t, 'a>(
     Ok((Condition::Key(key), rest))
 }
 
-/// The condition that a sign and the value after it make of a column, where it is `=`, `>=` or
+/// The condition that a sign and the value after it make of a column, if it is `=`, `>=` or
 /// `<=`.
 fn condition_of(sign: &Token<'_>, column: Text, value: Value) -> Option<Condition>
     ensures { result ≡ compared sign.now column value }

@@ -19,7 +19,8 @@ fn is_blank(line: &[u8]) -> bool
     true
 }
 
-/// Whether a line asks for nothing and has no reply: it is empty, holds spaces alone, or begins with `#`.
+/// Whether a line asks for nothing and has no reply: it is empty, holds spaces alone, or begins
+/// with `#`.
 ///
 /// `line` is the line without its ending. A `#` after a space makes no remark.
 pub fn is_silent(line: &[u8]) -> bool

@@ -6,7 +6,7 @@ use keycode::Value;
 use row_map::ColumnType;
 use schema_version::Kind;
 
-/// The kind of a new column of this type: required where it has a default, else optional.
+/// The kind of a new column of this type: required if it has a default, else optional.
 pub(crate) fn column_kind(column_type: ColumnType, fallback: Option<Value>) -> Kind
     ensures { result ≡ column_kind column_type fallback }
 {

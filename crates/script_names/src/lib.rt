@@ -1,5 +1,5 @@
-//! What the names of a script stand for in a version of the schema. A name that isn't found becomes number 0, which
-//! names nothing, and which the call then refuses.
+//! What the names of a script stand for in a version of the schema. A name that isn't found becomes
+//! number 0, which names nothing, and which the call then refuses.
 #![tactic(auto)]
 
 mod changes;

@@ -6,7 +6,7 @@ use lease::Lease;
 use std::alloc::{AllocError, Global};
 use world::{GrantFault, OpenFault};
 
-/// The reply where no world was opened: `refused BadTable`.
+/// The reply if no world was opened: `refused BadTable`.
 ///
 /// - `fault`: why none was.
 pub fn open_refusal(alloc: Global, fault: OpenFault) -> Result<String, AllocError>
@@ -19,7 +19,7 @@ pub fn open_refusal(alloc: Global, fault: OpenFault) -> Result<String, AllocErro
     }
 }
 
-/// The reply where no lease was granted: `refused MomentTooLarge`.
+/// The reply if no lease was granted: `refused MomentTooLarge`.
 ///
 /// - `fault`: why none was.
 pub fn grant_refusal(alloc: Global, fault: GrantFault) -> Result<String, AllocError>

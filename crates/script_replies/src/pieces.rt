@@ -69,7 +69,8 @@ pub fn unread_line(alloc: Global, fault: ReadFault) -> Result<String, AllocError
     Ok(text)
 }
 
-/// The reply to a piece that was committed: `ok piece PLACE done` where it has come to its end, else `ok piece PLACE more`.
+/// The reply to a piece that was committed: `ok piece PLACE done` if it has come to its end, else
+/// `ok piece PLACE more`.
 ///
 /// - `done`: the receipt for the piece's entry, and whether the piece has ended.
 pub fn pieced_line(alloc: Global, done: &PieceDone) -> Result<String, AllocError>

@@ -23,7 +23,7 @@ fn push_plan(out: &mut String, fault: PlanFault) -> Result<(), AllocError>
     }
 }
 
-/// The reply where changes have no plan: `refused InChange`.
+/// The reply if changes have no plan: `refused InChange`.
 ///
 /// - `fault`: why there is none.
 pub fn unplanned_line(alloc: Global, fault: PlanFault) -> Result<String, AllocError>

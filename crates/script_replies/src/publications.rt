@@ -69,7 +69,8 @@ fn refused_line(alloc: Global, fault: PublishFault) -> Result<String, AllocError
 
 /// The reply to a publication: `ok version VERSION`, or a refusal as `refused TooEarly EARLIEST`.
 ///
-/// - `published`: the number of the new version with the receipt for its entry, or why there is none.
+/// - `published`: the number of the new version with the receipt for its entry, or why there is
+///   none.
 pub fn published_line(
     alloc: Global,
     published: &Result<(u64, Receipt), PublishFault>,

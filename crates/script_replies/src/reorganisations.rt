@@ -50,7 +50,8 @@ fn find_wanted(schema: &Schema, number: u32) -> Option<Work>
 /// The word for what an element wants: `fill` or `clear`.
 ///
 /// - `schema`: the version that has the element.
-/// - `number`: the number of the element. None that isn't live, or wants nothing, is ever begun: its word is `clear`.
+/// - `number`: the number of the element. None that isn't live, or wants nothing, is ever begun:
+///   its word is `clear`.
 pub fn work_word(schema: &Schema, number: u32) -> &'static str
     ensures { result.now ≡ work_word (element_at schema.now number) }
 {
@@ -66,7 +67,8 @@ fn push_begun(out: &mut String, word: &str, pieces: u32) -> Result<(), AllocErro
     push_number(out, u64::from(pieces))
 }
 
-/// The reply to the begin of a reorganisation: `ok begun WORD PIECES`, or a refusal as `refused StillUsed UNTIL`.
+/// The reply to the begin of a reorganisation: `ok begun WORD PIECES`, or a refusal as
+/// `refused StillUsed UNTIL`.
 ///
 /// - `word`: the word for what the element wants, `fill` or `clear`.
 /// - `pieces`: the number of pieces.

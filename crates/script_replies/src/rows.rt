@@ -133,7 +133,7 @@ fn push_rows(out: &mut String, rows: &[Row], columns: &[(u32, Text)]) -> Result<
 
 /// The rows of a query: a line `row (KEY) COLUMN = VALUE, ..` for each, and then `ok rows ROWS`.
 /// The line of a row has the public columns of the table that the query names, by rising number,
-/// `null` if the row has no value; it is `row (KEY)` where there is none.
+/// `null` if the row has no value; it is `row (KEY)` if there is none.
 ///
 /// - `schema`: the version under which the query was asked, which has the columns' names.
 /// - `query`: the query.

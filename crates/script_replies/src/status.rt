@@ -20,11 +20,12 @@ fn status_value(alloc: Global, world: &World, usable: &[u64]) -> Result<Value, A
     json!(in alloc; {"elements": elements, "log": log, "moment": moment, "usable": usable, "version": version})
 }
 
-/// The one line of JSON that tells how a world stands: compact, with no line end, an object with these keys in this
-/// order.
+/// The one line of JSON that tells how a world stands: compact, with no line end, an object with
+/// these keys in this order.
 ///
-/// - `elements`: the live elements of the newest version by rising number, each an object with `name`, `number`, `state`
-///   (`delete_only`, `write_only` or `public`), `table` (the table's name) and `way` (`adding` or `dropping`);
+/// - `elements`: the live elements of the newest version by rising number, each an object with
+///   `name`, `number`, `state` (`delete_only`, `write_only` or `public`), `table` (the table's
+///   name) and `way` (`adding` or `dropping`);
 /// - `log`: the number of log entries;
 /// - `moment`: the moment of the last entry, 0 before the first;
 /// - `usable`: the versions that a lease may still use at that moment, rising;

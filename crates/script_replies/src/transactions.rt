@@ -80,7 +80,8 @@ pub fn unprepared_line(alloc: Global, fault: PrepareFault) -> Result<String, All
     Ok(text)
 }
 
-/// The reply to a commit that the world accepted, `ok done PLACE`, or that its rows refused, `ok refused OPERATION REASON`.
+/// The reply to a commit that the world accepted, `ok done PLACE`, or that its rows refused,
+/// `ok refused OPERATION REASON`.
 ///
 /// - `done`: what became of the transaction.
 pub fn committed_line(alloc: Global, done: &Committed) -> Result<String, AllocError>

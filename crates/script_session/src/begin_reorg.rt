@@ -11,7 +11,8 @@ use script_names::element_of;
 use script_replies::{begun_line, work_word, worked_line};
 use std::alloc::{AllocError, Global};
 
-/// `reorganise`: the fill or the clear that an element of the newest version wants begins, in so many pieces.
+/// `reorganise`: the fill or the clear that an element of the newest version wants begins, in so
+/// many pieces.
 pub(crate) fn reorganise(
     alloc: Global,
     opened: &mut Opened,
@@ -27,8 +28,8 @@ pub(crate) fn reorganise(
     Ok(reply(begun_line(alloc, word, pieces, begun)?))
 }
 
-/// `work`: the pieces of an element of the newest version in order, each until it has ended; what was committed before a
-/// refusal stands.
+/// `work`: the pieces of an element of the newest version in order, each until it has ended; what
+/// was committed before a refusal stands.
 pub(crate) fn work(
     alloc: Global,
     opened: &mut Opened,

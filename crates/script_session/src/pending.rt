@@ -22,7 +22,8 @@ pub(crate) fn keep(opened: &mut Opened, name: Text, prepared: Pending) -> Result
     Ok(())
 }
 
-/// `prepare`: what could be prepared is kept under its name, in place of what was there; else what was there stays.
+/// `prepare`: what could be prepared is kept under its name, in place of what was there; else what
+/// was there stays.
 pub(crate) fn prepare(
     alloc: Global,
     opened: &mut Opened,
@@ -80,7 +81,8 @@ fn put_back(opened: &mut Opened, name: Text, left: Option<Pending>) -> Result<()
     }
 }
 
-/// `commit`: what was prepared under the name is committed and is then spent, unless the world refuses it.
+/// `commit`: what was prepared under the name is committed and is then spent, unless the world
+/// refuses it.
 pub(crate) fn commit(
     alloc: Global,
     opened: &mut Opened,

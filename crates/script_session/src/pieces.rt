@@ -60,7 +60,8 @@ fn keep_read(opened: &mut Opened, name: Text, how: PieceRead) -> Result<(), Allo
     }
 }
 
-/// `piece`: what could be prepared is kept under its name, in place of what was there; else what was there stays.
+/// `piece`: what could be prepared is kept under its name, in place of what was there; else what
+/// was there stays.
 pub(crate) fn piece(
     alloc: Global,
     opened: &mut Opened,

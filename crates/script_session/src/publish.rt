@@ -11,7 +11,8 @@ use script_names::step_of;
 use script_replies::published_line;
 use std::alloc::{AllocError, Global};
 
-/// `publish`: the names of the moves are looked up in the newest version, and the step is published.
+/// `publish`: the names of the moves are looked up in the newest version, and the step is
+/// published.
 pub(crate) fn publish(
     alloc: Global,
     opened: &mut Opened,

@@ -18,7 +18,7 @@ use script_tokens::LineFault;
 use std::alloc::{AllocError, Global};
 use world::World;
 
-/// A lease's length where no line says it, in moments.
+/// A lease's length if no line says it, in moments.
 const USUAL_LENGTH: u64 = 10;
 
 /// The longest line, in bytes.
@@ -51,7 +51,8 @@ pub enum Pending {
     Piece(PreparedPiece),
 }
 
-/// An opened world, with the leases that servers were granted, what was prepared, and the plan that is kept.
+/// An opened world, with the leases that servers were granted, what was prepared, and the plan that
+/// is kept.
 #[derive(Drop)]
 pub struct Opened {
     /// The world.
@@ -76,7 +77,7 @@ pub enum Session {
 /// The text that answers a line, and whether it says that the line is bad.
 #[derive(Drop)]
 pub struct Answer {
-    /// The reply, with its line ends; empty where a line asks for nothing.
+    /// The reply, with its line ends; empty if a line asks for nothing.
     pub text: String,
     /// Whether it is `bad line`.
     pub is_bad: bool,

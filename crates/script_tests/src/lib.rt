@@ -1,4 +1,5 @@
-//! What no script file can show of a script's run: its summary, its limits, and readers and writers that fail.
+//! What no script file can show of a script's run: its summary, its limits, and readers and writers
+//! that fail.
 #![tactic(auto)]
 
 #[cfg(test)]

@@ -59,7 +59,8 @@ fn of_spaces(alloc: Global, left: usize) -> (Result<Summary, ScriptFault>, usize
     (outcome, output.len())
 }
 
-// The longest script is one line that is too long to be good, and of one byte more nothing is answered.
+// The longest script is one line that is too long to be good, and of one byte more nothing is
+// answered.
 #[test]
 fn longest_script(rt: HostRuntime) {
     let read = Ok(Summary { lines: 1, bad: 1 });

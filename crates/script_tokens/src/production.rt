@@ -16,19 +16,19 @@ pub trait Production: Drop {
 
     /// Reads `tokens` to their end.
     ///
-    /// `alloc` is where what they parse to is made. The refusals: `Malformed` if they parse to nothing,
-    /// and `Memory`, in place of either answer, where memory ran out. A refusal leaves nothing
-    /// behind.
+    /// `alloc` is where what they parse to is made. The refusals: `Malformed` if they parse to
+    /// nothing, and `Memory`, in place of either answer, if memory ran out. A refusal leaves
+    /// nothing behind.
     fn read(alloc: Global, tokens: &[Token<'_>]) -> Result<Self, LineFault>
         ensures { Gives (λ x. x) result (parsed tokens.now) };
 }
 
 /// What the parts of `tokens` parse to, each read whole, in their order. A mark `separator` ends a
-/// part and begins the next: where there is none, all of `tokens` is the one part, and two of them
+/// part and begins the next: if there is none, all of `tokens` is the one part, and two of them
 /// in turn have an empty part between them.
 ///
 /// `alloc` is where the list is made. The refusals: `Malformed` if a part parses to nothing, and
-/// `Memory`, in place of either answer, where memory ran out. A refusal leaves nothing behind.
+/// `Memory`, in place of either answer, if memory ran out. A refusal leaves nothing behind.
 pub fn read_each<T: Production>(
     alloc: Global,
     tokens: &[Token<'_>],

@@ -105,8 +105,8 @@ fn state_in(token: &Token<'_>) -> Option<ElementState>
 /// The name at the start of `tokens`, which any word is, and the tokens after it.
 ///
 /// `alloc` is where the name's text is made. The refusals: `Malformed` if the first token is no
-/// word or has bytes that are not UTF-8, or where there is none, and `Memory`, in place of either
-/// answer, where memory ran out. A refusal leaves nothing behind.
+/// word or has bytes that are not UTF-8, or if there is none, and `Memory`, in place of either
+/// answer, if memory ran out. A refusal leaves nothing behind.
 pub fn name<'t, 'a>(
     alloc: Global,
     tokens: &'t [Token<'a>],
@@ -125,7 +125,7 @@ pub fn name<'t, 'a>(
 /// The count or moment at the start of `tokens`, which is a number without a sign, and the tokens
 /// after it.
 ///
-/// The only refusal is `Malformed`, where the first token is none or has a sign, or where there is
+/// The only refusal is `Malformed`, if the first token is none or has a sign, or if there is
 /// no token. It leaves nothing behind.
 pub fn count<'t, 'a>(tokens: &'t [Token<'a>]) -> Result<(u64, &'t [Token<'a>]), LineFault>
     ensures { Gives (λ x. (x.0, x.1.now)) result (first_by count_in tokens.entry.now) }
@@ -142,8 +142,8 @@ pub fn count<'t, 'a>(tokens: &'t [Token<'a>]) -> Result<(u64, &'t [Token<'a>]), 
 /// The count at the start of `tokens`, which is a number below 2^32 without a sign, and the tokens
 /// after it.
 ///
-/// The only refusal is `Malformed`, where the first token is none, has a sign or is 2^32 or more,
-/// or where there is no token. It leaves nothing behind.
+/// The only refusal is `Malformed`, if the first token is none, has a sign or is 2^32 or more,
+/// or if there is no token. It leaves nothing behind.
 pub fn small_count<'t, 'a>(tokens: &'t [Token<'a>]) -> Result<(u32, &'t [Token<'a>]), LineFault>
     ensures { Gives (λ x. (x.0, x.1.now)) result (first_by small_count_in tokens.entry.now) }
 {
@@ -158,7 +158,7 @@ pub fn small_count<'t, 'a>(tokens: &'t [Token<'a>]) -> Result<(u32, &'t [Token<'
 
 /// The type at the start of `tokens`, by its word `int`, `text` or `bool`, and the tokens after it.
 ///
-/// The only refusal is `Malformed`, where the first token is none of these words, or where there is
+/// The only refusal is `Malformed`, if the first token is none of these words, or if there is
 /// no token. It leaves nothing behind.
 pub fn column_type<'t, 'a>(
     tokens: &'t [Token<'a>],
@@ -177,7 +177,7 @@ pub fn column_type<'t, 'a>(
 /// The state at the start of `tokens`, by its word `absent`, `delete_only`, `write_only` or
 /// `public`, and the tokens after it.
 ///
-/// The only refusal is `Malformed`, where the first token is none of these words, or where there is
+/// The only refusal is `Malformed`, if the first token is none of these words, or if there is
 /// no token. It leaves nothing behind.
 pub fn state<'t, 'a>(tokens: &'t [Token<'a>]) -> Result<(ElementState, &'t [Token<'a>]), LineFault>
     ensures { Gives (λ x. (x.0, x.1.now)) result (first_by state_in tokens.entry.now) }
@@ -193,7 +193,7 @@ pub fn state<'t, 'a>(tokens: &'t [Token<'a>]) -> Result<(ElementState, &'t [Toke
 
 /// The tokens after the mark `wanted`, which `tokens` begin with.
 ///
-/// The only refusal is `Malformed`, where they begin with anything else or are none. It leaves
+/// The only refusal is `Malformed`, if they begin with anything else or are none. It leaves
 /// nothing after.
 pub fn after_mark<'t, 'a>(
     tokens: &'t [Token<'a>],
@@ -209,7 +209,7 @@ pub fn after_mark<'t, 'a>(
 
 /// The tokens after the word `wanted`, which `tokens` begin with.
 ///
-/// The only refusal is `Malformed`, where they begin with anything else or are none. It leaves
+/// The only refusal is `Malformed`, if they begin with anything else or are none. It leaves
 /// nothing after.
 pub fn after_word<'t, 'a>(
     tokens: &'t [Token<'a>],
@@ -223,9 +223,9 @@ pub fn after_word<'t, 'a>(
     }
 }
 
-/// Gives `found` back where `tokens`, what is left behind it, are none.
+/// Gives `found` back if `tokens`, what is left behind it, are none.
 ///
-/// The only refusal is `Malformed`, where a token is left. It leaves nothing behind, and `found` is
+/// The only refusal is `Malformed`, if a token is left. It leaves nothing behind, and `found` is
 /// dropped.
 pub fn at_end<T: Drop>(found: T, tokens: &[Token<'_>]) -> Result<T, LineFault>
     ensures { Gives (λ x. x) result (at_end found tokens.now) }
@@ -252,7 +252,7 @@ pub fn place(tokens: &[Token<'_>], wanted: Mark) -> Option<usize>
 /// What is in round brackets at the start of `tokens`, up to the first closing one, and the tokens
 /// after that.
 ///
-/// The only refusal is `Malformed`, where they do not begin with an opening bracket or none closes
+/// The only refusal is `Malformed`, if they do not begin with an opening bracket or none closes
 /// it. It leaves nothing behind.
 #[tactic(auto, unfolding(crate::specs::Productions::cut_brackets))]
 pub fn cut_brackets<'t, 'a>(

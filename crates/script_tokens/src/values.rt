@@ -9,7 +9,7 @@ use crate::token::{Mark, Token};
 use keycode::{Text, Value};
 use std::alloc::{AllocError, Global};
 
-/// The content of a text in quotes, where each quote is doubled.
+/// The content of a text in quotes, in which each quote is doubled.
 #[tactic(auto, unfolding(crate::specs::Productions::undoubled))]
 fn undouble_quotes(alloc: Global, quoted: &[u8]) -> Result<Vec<u8>, AllocError>
     ensures { IfOk result (λ content. content.items ≡ undoubled quoted.now) }
@@ -80,8 +80,8 @@ fn value_in(alloc: Global, token: &Token<'_>) -> Result<Option<Value>, AllocErro
 /// a text in quotes, or one of the words `true`, `false` and `null`.
 ///
 /// `alloc` is where a text is made. The refusals: `Malformed` if the first token is none of these,
-/// a number from 2^63 on or below -2^63 or a text that is not UTF-8, or where there is no token,
-/// and `Memory`, in place of either answer, where memory ran out. A refusal leaves nothing behind.
+/// a number from 2^63 on or below -2^63 or a text that is not UTF-8, or if there is no token,
+/// and `Memory`, in place of either answer, if memory ran out. A refusal leaves nothing behind.
 pub fn value<'t, 'a>(
     alloc: Global,
     tokens: &'t [Token<'a>],

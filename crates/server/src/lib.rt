@@ -1,7 +1,8 @@
-//! Servers over a shared world: one request through a port, tried again after a conflict, and many requests by workers.
+//! Servers over a shared world: one request through a port, tried again after a conflict, and many
+//! requests by workers.
 //!
-//! That a server reads, prepares and commits under a lease, and begins anew where what it read has changed, is of F1 ("Online,
-//! Asynchronous Schema Change in F1", Rae et al., PVLDB 6(11), 2013).
+//! That a server reads, prepares and commits under a lease, and begins anew if what it read has
+//! changed, is of F1 ("Online, Asynchronous Schema Change in F1", Rae et al., PVLDB 6(11), 2013).
 #![tactic(auto)]
 
 mod handle_port;

@@ -166,17 +166,22 @@ fn try_once<P: Port>(
     }
 }
 
-/// Serves one request through a port. A try is a lease if there is none at hand, a read, a preparation and a commit. One that
-/// ends in a conflict is followed by another under the same lease, and one whose lease has ended by another under a new one.
+/// Serves one request through a port. A try is a lease if there is none at hand, a read, a
+/// preparation and a commit. One that ends in a conflict is followed by another under the same
+/// lease, and one whose lease has ended by another under a new one.
 ///
 /// - `request`: the operations, and the moment of each lease and commit.
-/// - `tries`: how many such tries there are at most, from 1 to 1,000. After so many the outcome is `Busy`.
+/// - `tries`: how many such tries there are at most, from 1 to 1,000. After so many the outcome is
+///   `Busy`.
 ///
-/// A lease that is refused with `MomentTooLarge` gives `Rejected` with it, and running out of memory `Memory`.
+/// A lease that is refused with `MomentTooLarge` gives `Rejected` with it, and running out of
+/// memory `Memory`.
 ///
-/// What the outcome tells is what the port said after all that it had seen when the call began: `Done` has a receipt whose entry is in
-/// the log, `Row` and `Rejected` have a refusal, `Unprepared` comes of a lease that was granted and of what was read under it, `WentBack`
-/// has a length of the log, and `Busy` comes after that many tries that ended in a conflict or with the end of their lease.
+/// What the outcome tells is what the port said after all that it had seen when the call began:
+/// `Done` has a receipt whose entry is in the log, `Row` and `Rejected` have a refusal,
+/// `Unprepared` comes of a lease that was granted and of what was read under it, `WentBack` has a
+/// length of the log, and `Busy` comes after that many tries that ended in a conflict or with the
+/// end of their lease.
 #[tactic(auto, using(crate::proofs::Ends::served))]
 pub fn serve_one<P: Port>(alloc: Global, port: &mut P, request: &Request, tries: u32) -> Outcome
     requires tries { (1 ≤ tries) × (tries ≤ 1000) }

@@ -13,11 +13,12 @@ use schema_version::Schema;
 use std::alloc::{AllocError, Global};
 use world::{CommitFault, Committed, GrantFault};
 
-/// Leases, reads and commits of one server, as `Shared` answers them through a handle. A port keeps the receipts of its leases, and
-/// a tally of its answers.
+/// Leases, reads and commits of one server, as `Shared` answers them through a handle. A port keeps
+/// the receipts of its leases, and a tally of its answers.
 ///
-/// Each answer is of a state of the world that is no older than what the port had seen before the call: the lease that it grants, the
-/// pairs that it reads, the receipt of an entry that came after, and each refusal but `WentBack` and `Memory`.
+/// Each answer is of a state of the world that is no older than what the port had seen before the
+/// call: the lease that it grants, the pairs that it reads, the receipt of an entry that came
+/// after, and each refusal but `WentBack` and `Memory`.
 pub trait Port {
     ghost use Rattle.std.specs.Prelude.{ℕ, List};
     ghost use Rattle.world.specs.declared.entry.Receipt.{Receipt};
@@ -42,8 +43,8 @@ pub trait Port {
     // what it may say of the world that it calls, after so many entries of the log
     ghost may: { ℕ → Said → Type 0 };
 
-    /// Takes a lease on the newest version at `moment`, and gives it with the schema of that version. The port keeps the receipt,
-    /// whose room is made first.
+    /// Takes a lease on the newest version at `moment`, and gives it with the schema of that
+    /// version. The port keeps the receipt, whose room is made first.
     ///
     /// Refused as `Shared::lease` is; `Memory` also if there is no room for the receipt.
     fn lease(
@@ -68,8 +69,9 @@ pub trait Port {
         ensures rises { front self.old ≤ front self.new }
         ensures says { (f : ℕ) → f ≤ front self.old → ReadSays (may f) keys.now result };
 
-    /// Commits a prepared transaction at `moment`: `Done` has the receipt for an entry of its operations, and `Refused` tells that the rows
-    /// refuse them. The call is refused as `Shared::commit` is; what was prepared comes back with each such refusal.
+    /// Commits a prepared transaction at `moment`: `Done` has the receipt for an entry of its
+    /// operations, and `Refused` tells that the rows refuse them. The call is refused as
+    /// `Shared::commit` is; what was prepared comes back with each such refusal.
     fn commit(
         &mut self,
         alloc: Global,

@@ -40,7 +40,8 @@ pub struct Served<L: SharedLedger> {
 /// Why no request was served. Of several reasons the first in this order is reported.
 #[derive(Clone, Copy, Debug, PartialEq, Eq, Error)]
 pub enum ServeFault {
-    /// The number of handles is not from 1 to 64, the number of tries not from 1 to 1,000, or there are more than 1,000,000 requests.
+    /// The number of handles is not from 1 to 64, the number of tries not from 1 to 1,000, or there
+    /// are more than 1,000,000 requests.
     #[error("not from 1 to 64 handles, 1 to 1,000 tries, or more than 1,000,000 requests")]
     BadCount,
     /// Out of memory.
@@ -173,30 +174,36 @@ fn to_fault(fault: TaskFault) -> ServeFault
     }
 }
 
-/// Serves each request once, in as many threads as there are handles, the caller's thread being one of them; a thread that cannot be
-/// started leaves its share to the others. A request is served as by `serve_one`, and is read and prepared outside of the lock.
+/// Serves each request once, in as many threads as there are handles, the caller's thread being one
+/// of them; a thread that cannot be started leaves its share to the others. A request is served as
+/// by `serve_one`, and is read and prepared outside of the lock.
 ///
 /// - `handles`: all of the same shared world, from 1 to 64.
 /// - `requests`: at most 1,000,000.
 /// - `tries`: how often a request is tried at most, from 1 to 1,000.
-/// - `gate`: it is asked up to 10,000,000 times before a request; if it never lets pass, the outcome is `Held`.
+/// - `gate`: it is asked up to 10,000,000 times before a request; if it never lets pass, the
+///   outcome is `Held`.
 ///
-/// Each outcome is true of its own request, in the world that the handles call. A state is meant here that is no older than what all
-/// handles had seen when the call began:
+/// Each outcome is true of its own request, in the world that the handles call. A state is meant
+/// here that is no older than what all handles had seen when the call began:
 ///
-/// - `Done` has the receipt of an entry of its operations, which is in the log, after all that the handles had seen.
+/// - `Done` has the receipt of an entry of its operations, which is in the log, after all that the
+///   handles had seen.
 /// - `Row` is how the rows of such a state refuse its operations.
-/// - `Unprepared` is why its operations cannot be prepared, by the schema of a lease on the newest version of such a state and by what
-///   was read of such a state.
+/// - `Unprepared` is why its operations cannot be prepared, by the schema of a lease on the newest
+///   version of such a state and by what was read of such a state.
 /// - `Rejected` has a refusal by such a state after which no further try would help.
-/// - `Busy` comes after as many tries as were allowed, each refused by such a state with a conflict or with the end of its lease.
+/// - `Busy` comes after as many tries as were allowed, each refused by such a state with a conflict
+///   or with the end of its lease.
 /// - `WentBack` has the length of the log of some state of the world.
 /// - `Held` and `Memory` say nothing of it.
 ///
-/// The receipts that come back beside the outcomes, those of leases, are of entries in the log, after all that the handles had seen.
+/// The receipts that come back beside the outcomes, those of leases, are of entries in the log,
+/// after all that the handles had seen.
 ///
-/// Refused in this order, and then nothing was served and the handles come back: `BadCount` if one of these numbers is out of its
-/// range; `Memory`. Once a request has begun, running out of memory is the outcome of single requests.
+/// Refused in this order, and then nothing was served and the handles come back: `BadCount` if one
+/// of these numbers is out of its range; `Memory`. Once a request has begun, running out of memory
+/// is the outcome of single requests.
 pub fn serve<L: SharedLedger + Send + Sync, G: Gate + Sync, R: Threads + Wait + Sync>(
     rt: &R,
     alloc: Global,

@@ -1,4 +1,5 @@
-//! A piece of a fill whose rows another handle updates meanwhile: it is given up after as many failed tries as are allowed, and not before.
+//! A piece of a fill whose rows another handle updates meanwhile: it is given up after as many
+//! failed tries as are allowed, and not before.
 ghost use Rattle.std.specs.Prelude.{◌≡◌, length};
 
 use crate::fills::filling;
@@ -15,7 +16,8 @@ use std::thread::{Threads, join};
 use tasks::{FreeGate, Gate};
 use world::World;
 
-// Whether a row was updated, and whether the piece has its end. The piece starts after the first update.
+// Whether a row was updated, and whether the piece has its end. The piece starts after the first
+// update.
 #[derive(Drop)]
 struct Contest {
     updated: AtomicU64,
@@ -118,8 +120,8 @@ fn contended<L: SharedLedger + Send + Sync, R: Threads + Wait + Sync>(
     Some((shared.close(handles).ok()?, is_busy))
 }
 
-// So many updates, each of another row than the last, beside a fill of so many rows in one piece: whether the piece was given up. Its fill has
-// ended just if it was not.
+// So many updates, each of another row than the last, beside a fill of so many rows in one piece:
+// whether the piece was given up. Its fill has ended just if it was not.
 fn round<R: Threads + Wait + Sync>(
     rt: &R,
     alloc: Global,
@@ -158,7 +160,8 @@ fn a_piece_is_not_given_up_early(rt: HostRuntime) {
     }
 }
 
-// A piece of many turns of a thousand rows meets updates in them, so its tries fail; if it does not, as on a busy machine, all is tried anew.
+// A piece of many turns of a thousand rows meets updates in them, so its tries fail; if it does
+// not, as on a busy machine, all is tried anew.
 #[test]
 fn a_piece_that_fails_in_each_try_is_given_up(rt: HostRuntime) {
     let mut is_busy = false;

@@ -32,7 +32,7 @@ fn drawn_once(alloc: Global) -> Result<[Option<usize>; 4], ClaimFault> {
     alone::<Brand>(alloc, opened)
 }
 
-// The same, asked once more where memory was short.
+// The same, asked once more if memory was short.
 fn drawn(alloc: Global) -> Result<[Option<usize>; 4], ClaimFault> {
     match drawn_once(alloc) {
         Err(ClaimFault::Memory) => drawn_once(alloc),

@@ -1,4 +1,5 @@
-//! A world with rows, in which the fill of an index has begun, and the step that turns the index back.
+//! A world with rows, in which the fill of an index has begun, and the step that turns the index
+//! back.
 
 use crate::one_request::{Stubborn, outcome_of, port};
 use crate::table::{insert, named, opened};
@@ -67,8 +68,8 @@ fn begins(alloc: Global, world: &mut World, steps: &(Step, Step), pieces: u32) -
         && world.begin_reorg(alloc, 30, 2, pieces).is_ok()
 }
 
-/// A world with so many rows, whose index i, element 2, is write-only from 20 on and has its fill begun at 30 in so many pieces: two
-/// entries for each row and three more.
+/// A world with so many rows, whose index i, element 2, is write-only from 20 on and has its fill
+/// begun at 30 in so many pieces: two entries for each row and three more.
 pub(crate) fn filling(alloc: Global, rows: i64, pieces: u32) -> Option<World> {
     let steps = (entering(alloc).ok()?, writing(alloc).ok()?);
     let mut world = with_rows(alloc, rows)?;

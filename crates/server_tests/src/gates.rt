@@ -72,8 +72,8 @@ impl Gate for Together {
     fn answered(&self, _number: usize) {}
 }
 
-// How many of the outcomes are committed, each with the receipt of a transaction, and what came back beside them: handles, receipts of
-// leases, entries of the log, rows of the store.
+// How many of the outcomes are committed, each with the receipt of a transaction, and what came
+// back beside them: handles, receipts of leases, entries of the log, rows of the store.
 fn counted(alloc: Global, served: &[(usize, Outcome)], world: &World) -> Option<[u64; 3]> {
     let mut done = 0u64;
     for (_, outcome) in served {

@@ -26,11 +26,12 @@ pub(crate) enum Answer {
     Memory,
 }
 
-/// Calls by their numbers, counted from 1, with their answers. Every other call is answered as the port's world answers it.
+/// Calls by their numbers, counted from 1, with their answers. Every other call is answered as the
+/// port's world answers it.
 pub(crate) type Answers = &'static [(u32, Answer)];
 
-/// A port over a world of its own. It keeps the receipts of its leases, which it grants at rising moments, a mark for each transaction that it
-/// committed, and which lease each try used.
+/// A port over a world of its own. It keeps the receipts of its leases, which it grants at rising
+/// moments, a mark for each transaction that it committed, and which lease each try used.
 #[derive(Drop)]
 pub(crate) struct Stubborn {
     world: World,
@@ -199,8 +200,9 @@ impl Port for Stubborn {
     }
 }
 
-/// What became of a request: the place of its entry, or the number of tries that Busy tells, or neither if memory ran out; then how
-/// many retries the port counted, how many entries its world has, and which lease each try used, by one digit each.
+/// What became of a request: the place of its entry, or the number of tries that Busy tells, or
+/// neither if memory ran out; then how many retries the port counted, how many entries its world
+/// has, and which lease each try used, by one digit each.
 type Ending = (Option<u64>, Option<u32>, u64, usize, u64);
 
 /// A port over a world, of these answers.
@@ -284,8 +286,9 @@ fn is_served(alloc: Global, answers: Answers, tries: u32, ending: Ending) -> boo
     }
 }
 
-// Answers, how many tries, and what becomes of the request. A try is a lease, if none is at hand, a read and a commit: after a
-// conflict the next try begins with its read under the same lease, after the end of a lease with a new one, which is one entry more.
+// Answers, how many tries, and what becomes of the request. A try is a lease, if none is at hand, a
+// read and a commit: after a conflict the next try begins with its read under the same lease, after
+// the end of a lease with a new one, which is one entry more.
 static CASES: [(Answers, u32, Ending); 19] = [
     (&[], 1, (Some(2), None, 0, 2, 1)),
     (&[(1, Memory)], 2, (None, None, 0, 0, 0)),

@@ -1,5 +1,5 @@
 //! Two handles fill an index and then serve two requests, twice, after gates that only servers on
-//! threads of their own can pass: where memory was short, each number has its outcome all the same,
+//! threads of their own can pass: if memory was short, each number has its outcome all the same,
 //! the handles come back, and what is left is done by a second call.
 ghost use Rattle.std.specs.Prelude.{◌≡◌, length};
 
@@ -17,7 +17,8 @@ use std::sync::ledger::Blank;
 use std::thread::Threads;
 use world::World;
 
-// 1 where a request is committed, 0 where memory was short, also for the thread that its gate waits for, or an earlier call committed it.
+// 1 if a request is committed, 0 if memory was short, also for the thread that its gate waits for,
+// or an earlier call committed it.
 fn is_done(outcome: &Outcome) -> Option<u64> {
     match outcome {
         Outcome::Done(_) => Some(1),
@@ -26,7 +27,7 @@ fn is_done(outcome: &Outcome) -> Option<u64> {
     }
 }
 
-// How many requests are committed, where the two numbers have one outcome each.
+// How many requests are committed, if the two numbers have one outcome each.
 fn dones(outcomes: &[(usize, Outcome)]) -> Option<u64> {
     match outcomes {
         [(one, first), (two, second)] if (*one, *two) == (0, 1) => {
@@ -77,7 +78,7 @@ fn all_served<L: SharedLedger + Send + Sync, G: Gate + Sync, R: Threads + Wait +
     }
 }
 
-// Whether a piece has ended; not where memory was short.
+// Whether a piece has ended; not if memory was short.
 fn is_finished(end: &PieceEnd) -> Option<bool> {
     match end {
         PieceEnd::Finished => Some(true),
@@ -86,7 +87,7 @@ fn is_finished(end: &PieceEnd) -> Option<bool> {
     }
 }
 
-// Whether both pieces have ended, where the two numbers have one end each.
+// Whether both pieces have ended, if the two numbers have one end each.
 fn are_finished(ends: &[(usize, PieceEnd)]) -> Option<bool> {
     match ends {
         [(one, first), (two, second)] if (*one, *two) == (0, 1) => {
@@ -117,7 +118,7 @@ fn filled<L: SharedLedger + Send + Sync, R: Threads + Wait + Sync>(
     }
 }
 
-// The same, once more where memory was short.
+// The same, once more if memory was short.
 fn all_filled<L: SharedLedger + Send + Sync, R: Threads + Wait + Sync>(
     rt: &R,
     alloc: Global,
@@ -132,7 +133,8 @@ fn all_filled<L: SharedLedger + Send + Sync, R: Threads + Wait + Sync>(
     if second? { Some(handles) } else { None }
 }
 
-// Behind the mark the handles fill the index and serve the requests. The world comes back, so both handles did.
+// Behind the mark the handles fill the index and serve the requests. The world comes back, so both
+// handles did.
 fn works<L: SharedLedger + Send + Sync, R: Threads + Wait + Sync + Print>(
     rt: &R,
     alloc: Global,

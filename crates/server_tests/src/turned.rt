@@ -1,5 +1,6 @@
-//! An index is abandoned while all pieces of its fill are held: none of them is worked on, and the fill is over. So it is also if the index
-//! goes on to delete-only meanwhile and its clear has begun: no piece of the clear is worked on either, and a second call finishes it.
+//! An index is abandoned while all pieces of its fill are held: none of them is worked on, and the
+//! fill is over. So it is also if the index goes on to delete-only meanwhile and its clear has
+//! begun: no piece of the clear is worked on either, and a second call finishes it.
 ghost use Rattle.std.specs.Prelude.{◌≡◌, length};
 
 use crate::fills::{dropping, filling, turning};
@@ -16,14 +17,16 @@ use std::thread::Threads;
 use tasks::{FreeGate, Gate};
 use world::{PieceFault, World};
 
-// What is published while the pieces are held: the turn, and if a clear is to begin, the step to delete-only.
+// What is published while the pieces are held: the turn, and if a clear is to begin, the step to
+// delete-only.
 #[derive(Drop)]
 struct Steps {
     turn: Step,
     down: Option<Step>,
 }
 
-// A handle by which they are published, and once they were, the version that the turn gave and the place of its entry.
+// A handle by which they are published, and once they were, the version that the turn gave and the
+// place of its entry.
 #[derive(Drop)]
 struct Turner<L: SharedLedger> {
     me: Handle<L>,
@@ -102,7 +105,8 @@ fn is_wanted(end: &PieceEnd, wanted: Wanted) -> bool {
     }
 }
 
-// Each of the three pieces ended so, both handles are back, and together they gave so many receipts.
+// Each of the three pieces ended so, both handles are back, and together they gave so many
+// receipts.
 fn are_ended<L: SharedLedger>(done: &Reorganised<L>, wanted: Wanted, given: usize) -> bool {
     let each = match done.ends.as_slice() {
         [(one, first), (two, second), (three, third)] => {
@@ -141,7 +145,8 @@ fn worked<L: SharedLedger + Send + Sync, G: Gate + Sync, R: Threads + Wait + Syn
     Some(handles)
 }
 
-// The clear is as it was begun, and then a second call finishes it: one piece has all items, the other two had ended at the begin.
+// The clear is as it was begun, and then a second call finishes it: one piece has all items, the
+// other two had ended at the begin.
 fn cleared<L: SharedLedger + Send + Sync, R: Threads + Wait + Sync>(
     rt: &R,
     alloc: Global,
@@ -155,7 +160,8 @@ fn cleared<L: SharedLedger + Send + Sync, R: Threads + Wait + Sync>(
     worked(rt, alloc, shared, handles, &FreeGate, (Wanted::Finished, 1))
 }
 
-// The pieces of the fill, held by a gate with the third handle, and then those of the clear, if one has begun.
+// The pieces of the fill, held by a gate with the third handle, and then those of the clear, if one
+// has begun.
 fn worked_and_back<L: SharedLedger + Send + Sync, R: Threads + Wait + Sync>(
     rt: &R,
     alloc: Global,
@@ -211,8 +217,9 @@ fn turned<L: SharedLedger + Send + Sync, R: Threads + Wait + Sync>(
     Some((world, given))
 }
 
-// After nine entries and the turn: the fill is forgotten and the index keeps its state; or it is delete-only and its clear has ended. All three
-// rows are there, and the index has no pair too much.
+// After nine entries and the turn: the fill is forgotten and the index keeps its state; or it is
+// delete-only and its clear has ended. All three rows are there, and the index has no pair too
+// much.
 fn is_left(alloc: Global, world: &World, clears: bool) -> bool {
     let newest = world.newest().get();
     let Ok(found) = world.check(alloc) else {

@@ -15,8 +15,8 @@ const REFUSED: u8 = 2;
 /// The exit status when memory ran out.
 const NO_MEMORY: u8 = 5;
 
-/// Runs the script on standard input. What the process's own reader and writer do is said by no contract: it is shown by the
-/// stored run.
+/// Runs the script on standard input. What the process's own reader and writer do is said by no
+/// contract: it is shown by the stored run.
 fn run_input(rt: &HostRuntime) -> u8 {
     let mut input = rt.stdin();
     let mut output = io::writer(rt);
@@ -27,7 +27,8 @@ fn run_input(rt: &HostRuntime) -> u8 {
     script_status(&outcome)
 }
 
-/// Tells standard error why a load of this status was not reported, or why the command line was not read.
+/// Tells standard error why a load of this status was not reported, or why the command line was not
+/// read.
 fn tell_fault(rt: &HostRuntime, status: u8) {
     let fault = match status {
         4 => "write",

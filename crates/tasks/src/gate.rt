@@ -3,11 +3,11 @@ ghost use Rattle.std.specs.Prelude.{◌≡◌, true};
 
 /// Decides when a task may start. Any number of threads call it at once.
 pub trait Gate {
-    /// Whether the task of this number may start. It is asked anew, with `turn` from 0 on, until it lets pass or until it was asked
-    /// 10,000,000 times.
+    /// Whether the task of this number may start. It is asked anew, with `turn` from 0 on, until it
+    /// lets pass or until it was asked 10,000,000 times.
     fn may_start(&self, number: usize, turn: u64) -> bool;
 
-    /// Is told that the task of this number has its outcome.
+    /// Learns that the task of this number has its outcome.
     fn answered(&self, number: usize);
 }
 

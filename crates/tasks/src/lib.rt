@@ -1,4 +1,5 @@
-//! Numbered tasks that workers, on threads of their own, draw from one counter: each number once, with one outcome for each.
+//! Numbered tasks that workers, on threads of their own, draw from one counter: each number once,
+//! with one outcome for each.
 #![tactic(auto)]
 
 mod fault;

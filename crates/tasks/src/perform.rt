@@ -16,7 +16,8 @@ use std::alloc::Global;
 use std::marker::Brand;
 use std::thread::Threads;
 
-/// Each task's outcome by rising number, and the workers, in the order in which they were handed in.
+/// Each task's outcome by rising number, and the workers, in the order in which they were handed
+/// in.
 #[derive(Drop)]
 pub struct Performed<W: Worker> {
     /// The number and the outcome of each task.
@@ -25,15 +26,16 @@ pub struct Performed<W: Worker> {
     pub workers: Vec<W>,
 }
 
-/// Performs the tasks 0 to `total` - 1, each once: one thread for each worker, the caller's thread being one of them. A thread that
-/// cannot be started leaves its share to the others.
+/// Performs the tasks 0 to `total` - 1, each once: one thread for each worker, the caller's thread
+/// being one of them. A thread that cannot be started leaves its share to the others.
 ///
-/// The gate is asked up to 10,000,000 times before a task; if it never lets pass, the task is held back.
+/// The gate is asked up to 10,000,000 times before a task; if it never lets pass, the task is held
+/// back.
 ///
 /// Workers that share a plan still have it when they come back.
 ///
 /// Refused in this order, with the workers: `BadCount` if there are more than 1,000,000 tasks, or
-/// where the number of workers is not from 1 to 64; `Memory`. All room is made before the first
+/// if the number of workers is not from 1 to 64; `Memory`. All room is made before the first
 /// task, and nothing is refused from then on.
 pub fn perform_all<W: Worker + Send, G: Gate + Sync, R: Threads + Sync>(
     rt: &R,

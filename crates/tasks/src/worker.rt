@@ -3,8 +3,8 @@ ghost use Rattle.std.specs.Prelude.{◌≡◌, ◌+◌, ◌<◌};
 
 use std::alloc::Global;
 
-/// One worker: it performs tasks by their numbers. An outcome may hold receipts for what the task did, and a worker may keep receipts
-/// itself.
+/// One worker: it performs tasks by their numbers. An outcome may hold receipts for what the task
+/// did, and a worker may keep receipts itself.
 pub trait Worker: Drop {
     ghost use Rattle.std.specs.Prelude.{ℕ};
 

@@ -20,7 +20,8 @@ pub(crate) struct WorkerSlot<W: Worker, T: Drawing> {
     ghost numbers: { numbers_of done.items ≡ early T.total seat.drawn },
 }
 
-/// Gives each worker a seat. The last worker comes first, and the lists that become empty keep their room.
+/// Gives each worker a seat. The last worker comes first, and the lists that become empty keep
+/// their room.
 #[tactic(auto, using(crate::proofs::Seats::idle_init, crate::proofs::Seats::idle_last))]
 pub(crate) fn seat_workers<W: Worker, T: Drawing>(
     alloc: Global,
@@ -118,7 +119,7 @@ fn work<W: Worker, T: Drawing, G: Gate>(
     perform_drawn(alloc, gate, claims, total, worker, seat, done);
 }
 
-// Each worker slot's run, on a thread of its own where one can be started.
+// Each worker slot's run, on a thread of its own if one can be started.
 fn work_each<W: Worker + Send, T: Drawing + Send + Sync, G: Gate + Sync, R: Threads + Sync>(
     rt: &R,
     alloc: Global,

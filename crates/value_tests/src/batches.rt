@@ -10,7 +10,7 @@ use txn_store::{PairSnapshot, Store};
 /// What a store has to hold: numbers that rise, each with a value.
 type Pairs = Vec<(u64, u8)>;
 
-/// Changes of numbers that rise: a value, or none where the pair goes.
+/// Changes of numbers that rise: a value, or none if the pair goes.
 type Changes = Vec<(u64, Option<u8>)>;
 
 /// Numbers that look random, the same ones at each run.
@@ -344,8 +344,8 @@ fn runs_large(alloc: Global, seed: u64) -> Result<bool, AllocError> {
 }
 
 /// How many changes there are at first, how many rounds follow, how many bytes all keys share
-/// (beyond 24 a page is found by whole keys alone), and how many seeds are tried. 20,000 changes take
-/// more than one chunk.
+/// (beyond 24 a page is found by whole keys alone), and how many seeds are tried. 20,000 changes
+/// take more than one chunk.
 const RUNS: &[(usize, usize, usize, u64)] = &[
     (0, 12, 0, 6),
     (400, 12, 30, 6),

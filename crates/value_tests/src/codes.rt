@@ -1,5 +1,5 @@
-//! The key code: a Null is 01, a number 02 and its eight bytes with the highest bit flipped, a text 03 and its bytes
-//! and 00 01, with each 00 as 00 FF, a truth value 04 and its byte.
+//! The key code: a Null is 01, a number 02 and its eight bytes with the highest bit flipped, a text
+//! 03 and its bytes and 00 01, with each 00 as 00 FF, a truth value 04 and its byte.
 use crate::fixtures::mark;
 use keycode::{KeyFault, Value, decode, encode};
 use row_map::{ColumnType, read_only_value, read_typed_value};
@@ -35,7 +35,7 @@ fn are_values(values: &[Value], plain: &[Plain]) -> bool {
     values.len() == plain.len()
 }
 
-/// How many bytes the values take that so many are read of, where they are these and are encoded so
+/// How many bytes the values take that so many are read of, if they are these and are encoded so
 /// again, or the fault.
 fn taken(
     alloc: Global,
@@ -55,7 +55,7 @@ fn taken(
     }
 }
 
-/// The same, asked once more where memory was short.
+/// The same, asked once more if memory was short.
 fn reported(
     alloc: Global,
     bytes: &[u8],
@@ -108,7 +108,7 @@ fn letters_read(alloc: Global, count: usize) -> Result<usize, KeyFault> {
     Ok(taken)
 }
 
-/// The same, asked once more where memory was short.
+/// The same, asked once more if memory was short.
 fn letters_reported(alloc: Global, count: usize) -> Result<usize, KeyFault> {
     match letters_read(alloc, count) {
         Err(KeyFault::Memory) => letters_read(alloc, count),
@@ -137,7 +137,7 @@ fn is_found(found: &Option<Value>, plain: Option<Plain>) -> bool {
     }
 }
 
-/// Bytes, the one value that they encode, a type, and the value where it is of this type.
+/// Bytes, the one value that they encode, a type, and the value if it is of this type.
 type Encoding = (&'static [u8], Option<Plain>, ColumnType, Option<Plain>);
 
 fn is_read(alloc: Global, encoding: &Encoding) -> Result<bool, AllocError> {
@@ -147,7 +147,7 @@ fn is_read(alloc: Global, encoding: &Encoding) -> Result<bool, AllocError> {
     Ok(is_found(&one, plain) && is_found(&other, typed))
 }
 
-/// The same, asked once more where memory was short.
+/// The same, asked once more if memory was short.
 fn is_read_at_last(alloc: Global, encoding: &Encoding) -> Result<bool, AllocError> {
     match is_read(alloc, encoding) {
         Err(AllocError) => is_read(alloc, encoding),

@@ -18,7 +18,7 @@ pub fn byte(alloc: Global, content: u8) -> Result<Bytes, AllocError> {
     bytes(alloc, [content].as_slice())
 }
 
-/// A byte string of one byte, where there is one.
+/// A byte string of one byte, if there is one.
 pub fn byte_or_none(alloc: Global, content: Option<u8>) -> Result<Option<Bytes>, AllocError> {
     match content {
         None => Ok(None),
@@ -65,7 +65,7 @@ pub fn sum_of<P: PairView>(pairs: &P) -> u64 {
     sum
 }
 
-/// Sets a store, once more where memory was short and the pairs are as before.
+/// Sets a store, once more if memory was short and the pairs are as before.
 pub fn set(
     alloc: Global,
     store: &mut Store,

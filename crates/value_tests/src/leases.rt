@@ -6,7 +6,7 @@ use std::alloc::Global;
 /// The greatest moment, 2^62.
 const GREATEST: u64 = 4611686018427387904;
 
-/// The number of the version that is published at a moment, where one may be; none if the moment is
+/// The number of the version that is published at a moment, if one may be; none if the moment is
 /// too great, or memory is short.
 fn published_once(line: &mut Timeline, moment: u64) -> Result<Option<u64>, TooEarly> {
     line.may_publish(moment)?;
@@ -16,7 +16,7 @@ fn published_once(line: &mut Timeline, moment: u64) -> Result<Option<u64>, TooEa
     Ok(line.publish(moment).ok())
 }
 
-/// The same, once more where there was none and the timeline is as before.
+/// The same, once more if there was none and the timeline is as before.
 fn published(line: &mut Timeline, moment: u64) -> Result<Option<u64>, TooEarly> {
     let before = (line.newest(), line.last_publication());
     match published_once(line, moment) {
@@ -46,7 +46,8 @@ fn timeline(alloc: Global, moments: &[u64]) -> Option<Timeline> {
     Some(line)
 }
 
-/// The length of a timeline, its newest version, the moment at which that came and the earliest one of the next.
+/// The length of a timeline, its newest version, the moment at which that came and the earliest one
+/// of the next.
 type Facts = (u64, u64, u64, u64);
 
 /// The facts of a timeline, and what is granted and then published at a moment.

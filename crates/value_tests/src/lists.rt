@@ -12,7 +12,7 @@ fn is_kept_once(alloc: Global) -> Result<bool, AllocError> {
     Ok(second.get().as_slice() == [3, 1, 2].as_slice())
 }
 
-/// The same, asked once more where memory was short.
+/// The same, asked once more if memory was short.
 fn is_kept(alloc: Global) -> Result<bool, AllocError> {
     match is_kept_once(alloc) {
         Err(AllocError) => is_kept_once(alloc),

@@ -48,7 +48,7 @@ fn ranged(store: &Store) -> usize {
     200
 }
 
-/// A snapshot, taken once more where memory was short.
+/// A snapshot, taken once more if memory was short.
 fn snapshot(store: &Store) -> Option<PairSnapshot> {
     match store.snapshot() {
         Ok(taken) => Some(taken),
@@ -87,7 +87,7 @@ fn counts(alloc: Global, first: u16) -> Result<(bool, usize, usize, usize), Allo
     Ok((is_begun && is_put, given, found, store.len()))
 }
 
-/// The same, once more where there was no memory for what is handed in.
+/// The same, once more if there was no memory for what is handed in.
 fn counts_at_last(alloc: Global, first: u16) -> Result<(bool, usize, usize, usize), AllocError> {
     match counts(alloc, first) {
         Err(AllocError) => counts(alloc, first),

@@ -1,13 +1,14 @@
-//! Table 1 has the primary key `id` and the column `a`, which is element 1, both numbers, and an index on `a`, which is
-//! element 2. Its row 1 has a 5 in `a`. A key of a row is 52, the table, the key, and the element or 0; one of an index
-//! is 58, the element, the value and the key. A number is 02 and its eight bytes with the highest bit flipped.
+//! Table 1 has the primary key `id` and the column `a`, which is element 1, both numbers, and an
+//! index on `a`, which is element 2. Its row 1 has a 5 in `a`. A key of a row is 52, the table, the
+//! key, and the element or 0; one of an index is 58, the element, the value and the key. A number
+//! is 02 and its eight bytes with the highest bit flipped.
 use crate::fixtures::{bytes, mark};
-use byte_map::Bytes;
+use byte_map::{Bytes, KeyMap};
 use collections::List;
 use keycode::{KeyFault, Value};
 use row_map::{
-    ColumnType, KeyOf, Row, ShapeFault, TableShape, column_key, exists_key, index_key, read_key,
-    row_from_pairs,
+    ColumnType, KeyOf, Row, ShapeFault, TableShape, column_key, exists_key, index_key, read_cell,
+    read_key, row_from_pairs,
 };
 use std::alloc::{AllocError, Global};
 
@@ -22,8 +23,8 @@ const NULL_ROW: &[u8] = b"\x52\0\0\0\x01\x01\0\0\0\0";
 /// The value 5.
 const FIVE: &[u8] = b"\x02\x80\0\0\0\0\0\0\x05";
 
-/// What a key is of: its letter, its number and the element of a column, with its values where these are one number or
-/// two.
+/// What a key is of: its letter, its number and the element of a column, with its values if these
+/// are one number or two.
 fn parts(of: &KeyOf) -> (u8, u32, u32, Option<(i64, i64)>) {
     match of {
         KeyOf::Exists { table, key } => (b'R', *table, 0, two(key.as_slice())),
@@ -70,7 +71,7 @@ fn key_read(alloc: Global, bytes: &[u8]) -> Read {
     Ok((parts(&of), again.as_slice() == bytes))
 }
 
-/// The same, asked once more where memory was short.
+/// The same, asked once more if memory was short.
 fn key_reported(alloc: Global, bytes: &[u8]) -> Read {
     match key_read(alloc, bytes) {
         Err(KeyFault::Memory) => key_read(alloc, bytes),
@@ -114,7 +115,8 @@ fn shape(alloc: Global) -> Result<TableShape, AllocError> {
     })
 }
 
-/// The number of a row's key, the element of its cell and its number; noughts where it has not one of each.
+/// The number of a row's key, the element of its cell and its number; noughts if it has not one of
+/// each.
 fn content(row: &Option<Row>) -> Option<(i64, u32, i64)> {
     match row {
         None => None,
@@ -145,7 +147,7 @@ fn row_read(alloc: Global, encoded: &[(&[u8], &[u8])]) -> Encoded {
     Ok(content(&row))
 }
 
-/// The same, asked once more where memory was short.
+/// The same, asked once more if memory was short.
 fn row_reported(alloc: Global, encoded: &[(&[u8], &[u8])]) -> Encoded {
     match row_read(alloc, encoded) {
         Err(ShapeFault::Memory) => row_read(alloc, encoded),
@@ -167,5 +169,46 @@ fn under_refusal_rows_are_read_of_their_pairs(rt: HostRuntime) {
     assert!(rt; mark(&rt));
     for (encoded, want) in PAIRS {
         assert!(rt; row_reported(rt.alloc(), encoded) == *want, "{encoded:?}");
+    }
+}
+
+/// The number that row 1 has in column `a` by these pairs, if it has a value there; 0 for a value
+/// that is no number.
+fn cell_in(alloc: Global, encoded: &[(&[u8], &[u8])]) -> Result<Option<i64>, AllocError> {
+    let mut view = KeyMap::new(alloc);
+    for (key, value) in encoded {
+        let key = bytes(alloc, key)?;
+        view.insert(key, bytes(alloc, value)?)?;
+    }
+    let key = vec![in alloc; Value::Int(1)]?;
+    Ok(match read_cell(alloc, &view, 1, key.as_slice(), 1)? {
+        None => None,
+        Some(Value::Int(number)) => Some(number),
+        Some(_) => Some(0),
+    })
+}
+
+/// The same, asked once more if memory was short.
+fn cell_reported(alloc: Global, encoded: &[(&[u8], &[u8])]) -> Result<Option<i64>, AllocError> {
+    match cell_in(alloc, encoded) {
+        Err(AllocError) => cell_in(alloc, encoded),
+        reported => reported,
+    }
+}
+
+const CELLS: &[(&[(&[u8], &[u8])], Option<i64>)] = &[
+    (&[(EXISTS, b""), (COLUMN, FIVE)], Some(5)),
+    (&[(COLUMN, FIVE)], Some(5)),
+    (&[(EXISTS, b""), (INDEX, b"")], None),
+    (&[(COLUMN, b"\x01")], Some(0)),
+    (&[(COLUMN, b"")], None),
+    (&[(COLUMN, b"\x02\x80\0\0\0\0\0\0\x05\x01")], None),
+];
+
+#[test]
+fn under_refusal_cells_are_read(rt: HostRuntime) {
+    assert!(rt; mark(&rt));
+    for (encoded, want) in CELLS {
+        assert!(rt; cell_reported(rt.alloc(), encoded) == Ok(*want), "{encoded:?}");
     }
 }

@@ -8,7 +8,8 @@ use txn_store::{Range, SetFault, Store};
 /// Writes of a byte, or of none, to keys of a byte.
 type Writes<'a> = &'a [(u8, Option<u8>)];
 
-/// The keys from the first to below the second, with their pairs; no range is expected where the two are equal.
+/// The keys from the first to below the second, with their pairs; no range is expected if the two
+/// are equal.
 type Within<'a> = (u8, u8, Writes<'a>);
 
 const NO_RANGE: (u8, u8, &[(u8, Option<u8>)]) = (0, 0, &[]);
@@ -47,7 +48,8 @@ fn batch(alloc: Global, made: Writes) -> Result<Batch, AllocError> {
     Ok(batch)
 }
 
-/// Sets a store, and gives the key of the conflict, or none; 0 where a call that found no memory changed something.
+/// Sets a store, and gives the key of the conflict, or none; 0 if a call that found no memory
+/// changed something.
 fn reported(alloc: Global, store: &mut Store, expected: &Expect, batch: &Batch) -> Option<u8> {
     match set(alloc, store, expected, batch) {
         Ok(()) => None,
@@ -56,7 +58,7 @@ fn reported(alloc: Global, store: &mut Store, expected: &Expect, batch: &Batch) 
     }
 }
 
-/// The same where these points and this range are expected, and these writes are made.
+/// The same if these points and this range are expected, and these writes are made.
 fn conflict_of(
     alloc: Global,
     store: &mut Store,
@@ -91,11 +93,12 @@ fn go_over(mut range: Range, wanted: &[(u8, u8)]) -> bool {
     range.next().is_none()
 }
 
-/// A conflict's key, if there is one, the number of pairs, whether there is none, and whether they are those that were wanted.
+/// A conflict's key, if there is one, the number of pairs, whether there is none, and whether they
+/// are those that were wanted.
 type Left = Result<(Option<u8>, usize, bool, bool), AllocError>;
 
-/// The key of the conflict, if there is one, where such writes are made to the three pairs, how many pairs are left,
-/// whether there is none, and whether these are they.
+/// The key of the conflict, if there is one, when such writes are made to the three pairs, how many
+/// pairs are left, whether there is none, and whether these are they.
 fn sets(alloc: Global, wanted: Writes, within: Within, made: Writes, left: &[(u8, u8)]) -> Left {
     let mut store = three(alloc)?;
     let reported = conflict_of(alloc, &mut store, wanted, within, made)?;
@@ -103,7 +106,7 @@ fn sets(alloc: Global, wanted: Writes, within: Within, made: Writes, left: &[(u8
     Ok((reported, store.len(), store.is_empty(), are))
 }
 
-/// The same, once more where there was no memory for what is handed in.
+/// The same, once more if there was no memory for what is handed in.
 fn sets_at_last(
     alloc: Global,
     wanted: Writes,

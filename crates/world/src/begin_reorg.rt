@@ -26,7 +26,8 @@ pub enum BeginFault {
     /// No live element has the number, or it wants neither a fill nor a clear.
     #[error("the element wants no reorganisation")]
     NotWanted,
-    /// A lease may still be in force on the version before the newest, in which the element has another state.
+    /// A lease may still be in force on the version before the newest, in which the element has
+    /// another state.
     #[error("the version before has the element in another state, and may be used until {until}")]
     StillUsed {
         /// The first moment at which no such lease is in force.
@@ -104,8 +105,8 @@ impl World {
         Some((found, work))
     }
 
-    /// Whether each version that a lease may use at the moment that counts has the element in the same state, so that its
-    /// reorganisation may begin.
+    /// Whether each version that a lease may use at the moment that counts has the element in the
+    /// same state, so that its reorganisation may begin.
     ///
     /// - `now`: the moment that counts.
     /// - `number`: the number of the element.
@@ -121,7 +122,7 @@ impl World {
         }
     }
 
-    // The reorganisation as it stands at its begin, where it may begin.
+    // The reorganisation as it stands at its begin, if it may begin.
     fn prepare_begin(
         &self,
         alloc: Global,

@@ -89,7 +89,8 @@ fn txn_of(prepared: &Prepared) -> Result<What, AllocError>
 }
 
 impl World {
-    /// Commits a prepared transaction: it is logged and its batch is written, or the rows refuse it.
+    /// Commits a prepared transaction: it is logged and its batch is written, or the rows refuse
+    /// it.
     ///
     /// The moment that counts is the greater of `moment` and the moment of the last entry. Refused
     /// in this order, and then nothing changes and the prepared transaction comes back:
@@ -145,7 +146,7 @@ impl World {
         }
     }
 
-    // The same, where what was read accepts all operations.
+    // The same, if what was read accepts all operations.
     fn add_txn(
         &mut self,
         alloc: Global,

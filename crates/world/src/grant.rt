@@ -29,8 +29,8 @@ impl From<AllocError> for GrantFault {
 }
 
 impl World {
-    /// Grants a lease on the newest version, from the moment that counts on: the greater of `moment` and the moment
-    /// of the last entry.
+    /// Grants a lease on the newest version, from the moment that counts on: the greater of
+    /// `moment` and the moment of the last entry.
     ///
     /// Refused in this order: `MomentTooLarge` if the moment that counts is above 2^62; `Memory`. A
     /// refusal changes nothing.

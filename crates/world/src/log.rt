@@ -1,5 +1,6 @@
-//! The log: its entries, the moment of the last one, and how an entry more comes to stand in it. All that can be refused
-//! comes first, so that a call enters its entry when nothing can fail any more.
+//! The log: its entries, the moment of the last one, and how an entry more comes to stand in it.
+//! All that can be refused comes first, so that a call enters its entry when nothing can fail any
+//! more.
 ghost use Rattle.std.specs.Prelude.{◌≡◌, ◌<◌, ◌+◌, ◌++◌, ◌∷◌, [], length, IfOk, OnOk};
 ghost use Rattle.std.specs.Vec.{vec_len, vec_capacity};
 
@@ -16,7 +17,8 @@ pub(crate) struct Log {
     moment: u64,
 }
 
-/// An entry that is ready to be entered, and the same for its receipt. Contracts see it as the entry.
+/// An entry that is ready to be entered, and the same for its receipt. Contracts see it as the
+/// entry.
 #[derive(Drop)]
 pub(crate) struct Draft {
     entry: Entry,

@@ -58,7 +58,7 @@ fn declare(alloc: Global, config: &Config) -> Result<Schema, OpenFault>
     }
 }
 
-/// The timeline, where the tables are good.
+/// The timeline, if the tables are good.
 fn begin(alloc: Global, config: &Config) -> Result<Timeline, OpenFault>
     requires { IsLawful config.now.tables }
     ensures opened { IfOk result (λ line. line ≡ line_opened config.now.length) }

@@ -48,7 +48,8 @@ pub enum PieceFault {
     /// No reorganisation of the element has begun, or it is over.
     #[error("no reorganisation of the element has begun")]
     NotWanted,
-    /// The element's definition, the work, the piece's number or its bounds are not those of the reorganisation.
+    /// The element's definition, the work, the piece's number or its bounds are not those of the
+    /// reorganisation.
     #[error("the piece is not one of the element's reorganisation")]
     WrongElement,
     /// The piece's cursor is no longer where it was read.
@@ -102,7 +103,7 @@ fn standing_of(progress: &Progress, piece: u32) -> Option<(Work, bool)>
     Some((progress.kind, span.cursor.cmp(&span.high).is_eq()))
 }
 
-/// A copy of a reorganisation, with that cursor come on where it is the one of this element.
+/// A copy of a reorganisation, with that cursor come on if it is the one of this element.
 fn move_cursor(
     progress: &Progress,
     number: u32,
@@ -152,8 +153,9 @@ impl World {
         Some((progress.kind, progress.pieces.len(), progress.finished()))
     }
 
-    /// How one piece of the begun reorganisation of an element stands: what the reorganisation does, and whether the piece
-    /// has ended. None if none has begun, if it is over, or if it has no such piece.
+    /// How one piece of the begun reorganisation of an element stands: what the reorganisation
+    /// does, and whether the piece has ended. None if none has begun, if it is over, or if it has
+    /// no such piece.
     ///
     /// - `element`: the number of the element whose reorganisation it is.
     /// - `piece`: the number of the piece, from 0.
@@ -195,7 +197,7 @@ impl World {
     /// in this order, and then nothing changes and the prepared piece comes back: `MomentTooLarge`
     /// if the moment that counts is above 2^62; `NotWanted` if no reorganisation of the element has
     /// begun; `WrongElement` if the element's definition, the work, the piece's number or its
-    /// bounds are not those of the reorganisation; `Moved` with the piece's cursor, where that is
+    /// bounds are not those of the reorganisation; `Moved` with the piece's cursor, if that is
     /// not where it was read; `Conflict` with the least key of the range whose pair is not what was
     /// read; `Memory`, which may come in place of Moved and of Conflict.
     pub fn commit_piece(
@@ -237,7 +239,7 @@ impl World {
         Ok(())
     }
 
-    // The piece is written, where the store agrees.
+    // The piece is written, if the store agrees.
     fn move_on(
         &mut self,
         alloc: Global,

@@ -64,8 +64,8 @@ impl From<TooEarly> for PublishFault {
 }
 
 impl World {
-    /// Publishes the version that a step gives, and answers its number. From then on leases are granted on it, and a
-    /// reorganisation of an element that the step moves is over.
+    /// Publishes the version that a step gives, and answers its number. From then on leases are
+    /// granted on it, and a reorganisation of an element that the step moves is over.
     ///
     /// The moment that counts is the greater of `moment` and the moment of the last entry. Refused
     /// in this order, and then nothing changes: `MomentTooLarge` if the moment that counts is above
@@ -87,7 +87,7 @@ impl World {
         self.enter(alloc, now, step, next)
     }
 
-    // The version that a step gives, where it may be published at the moment that counts.
+    // The version that a step gives, if it may be published at the moment that counts.
     fn next_version(&self, now: u64, step: &Step) -> Result<Schema, PublishFault>
         ensures version { IfOk result (λ next. next ≡ after_step (facts_of self.now).newest step.now) }
         ensures may { OnOk result (MayPublish (facts_of self.now) now step.now) }

@@ -57,8 +57,8 @@ impl From<QueryFault> for QueryRefusal {
 }
 
 impl World {
-    /// The rows that a query asks for, as the log gives them: in the order of their primary keys, each with its values in
-    /// the named columns.
+    /// The rows that a query asks for, as the log gives them: in the order of their primary keys,
+    /// each with its values in the named columns.
     ///
     /// The query runs under the schema of the lease's version, whichever of its paths finds the
     /// rows. The moment that counts is the greater of `moment` and the moment of the last entry.

@@ -38,7 +38,8 @@ impl World {
         reply
     }
 
-    /// Runs events in their order, from any servers, with any leases and moments, and gives one reply for each.
+    /// Runs events in their order, from any servers, with any leases and moments, and gives one
+    /// reply for each.
     ///
     /// Refused only when out of memory, before the first event; the events come back then, and
     /// nothing changed. An event that is refused has its refusal as its reply, and the next event

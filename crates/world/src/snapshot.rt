@@ -1,4 +1,5 @@
-//! Snapshots of the core: what its rows were under the version of a lease, whatever is committed later.
+//! Snapshots of the core: what its rows were under the version of a lease, whatever is committed
+//! later.
 ghost use Rattle.std.specs.Prelude.{◌≡◌, ◌⊎◌, IfOk, IfErr, OnOk};
 ghost use Rattle.element_state.specs.Consistent.{IsConsistent};
 ghost use Rattle.element_state.specs.Visible.{visible_rows};
@@ -64,9 +65,9 @@ impl From<AllocError> for SnapshotFault {
     }
 }
 
-/// What a World held when the snapshot was taken, and the schema of the lease's version. It stays that, whatever is
-/// committed to the World later, also when the lease has ended or the World is gone: it takes no lock and knows no World.
-/// Contracts see it as the version and the pairs.
+/// What a World held when the snapshot was taken, and the schema of the lease's version. It stays
+/// that, whatever is committed to the World later, also when the lease has ended or the World is
+/// gone: it takes no lock and knows no World. Contracts see it as the version and the pairs.
 #[derive(Drop)]
 pub struct Snapshot {
     /// The schema of the lease's version.
@@ -87,8 +88,9 @@ impl Model for Snapshot {
 }
 
 impl Snapshot {
-    /// The rows that a query asks for, as they were when the snapshot was taken: in the order of their primary keys, each
-    /// with its values in the named columns, or the default of a required column where it has none.
+    /// The rows that a query asks for, as they were when the snapshot was taken: in the order of
+    /// their primary keys, each with its values in the named columns, or the default of a required
+    /// column if it has none.
     ///
     /// `query` is asked under the schema of the version of the lease that the snapshot was taken
     /// under. It is answered as by `row_query::answer`, and refused as there: `NoTable`; then of
@@ -112,8 +114,8 @@ impl Snapshot {
 }
 
 impl World {
-    /// A snapshot of what is committed now, to be queried later under the schema of the lease's version. The schema and
-    /// the pairs are shared, and none is copied; nothing changes.
+    /// A snapshot of what is committed now, to be queried later under the schema of the lease's
+    /// version. The schema and the pairs are shared, and none is copied; nothing changes.
     ///
     /// The moment that counts is the greater of `moment` and the moment of the last entry. Refused
     /// in this order: `MomentTooLarge` if the moment that counts is above 2^62; `BadLease` if no

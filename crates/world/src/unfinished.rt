@@ -53,7 +53,8 @@ impl World {
         None
     }
 
-    // Whether an allowed step may be published as to what it waits for, and as to the number of versions.
+    // Whether an allowed step may be published as to what it waits for, and as to the number of
+    // versions.
     pub(crate) fn ready(&self, step: &[Move]) -> Result<(), PublishFault>
         ensures finished { OnOk result (AreFinished (facts_of self.now) step.now) }
         ensures room { OnOk result (newest_number (facts_of self.now).line < max_versions) }

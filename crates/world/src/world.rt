@@ -19,8 +19,8 @@ use schema_version::Schema;
 use std::marker::Model;
 use txn_store::Store;
 
-/// The core: the schema versions in use, the store of pairs, and the log of all accepted calls. Contracts see it as its
-/// state: what it was opened with, its log and its pairs.
+/// The core: the schema versions in use, the store of pairs, and the log of all accepted calls.
+/// Contracts see it as its state: what it was opened with, its log and its pairs.
 #[derive(Drop)]
 pub struct World {
     /// Version 1.
@@ -51,7 +51,8 @@ impl Model for World {
 }
 
 impl World {
-    /// The schema of the newest version or of the one before, by its number; None for any other number.
+    /// The schema of the newest version or of the one before, by its number; None for any other
+    /// number.
     pub fn schema(&self, version: u64) -> Option<&ArcValue<Schema>>
         ensures { option_map (λ s. s.now) result ≡ recent (facts_of self.now) version }
     {
@@ -87,8 +88,8 @@ impl World {
         &self.newest
     }
 
-    /// When each version was published, and for how long a lease is granted. The newest version was published at the
-    /// moment of the last entry or before.
+    /// When each version was published, and for how long a lease is granted. The newest version was
+    /// published at the moment of the last entry or before.
     pub fn timeline(&self) -> &Timeline
         ensures value { result.now ≡ (facts_of self.now).line }
         ensures valid { IsValid result.now }
@@ -105,7 +106,7 @@ impl World {
         self.effective_moment(0)
     }
 
-    // The moment that counts where this one is handed in: moments never go back.
+    // The moment that counts if this one is handed in: moments never go back.
     pub(crate) fn effective_moment(&self, moment: u64) -> u64
         ensures { result ≡ effective_moment self.now moment }
     {
@@ -126,11 +127,12 @@ impl World {
         self.begun.iter().find(|p| p.element.number == element)
     }
 
-    /// Tells that the pairs are those that the log gives, and that they agree with the rows of the log for every
-    /// version that a lease may still use: whatever was called before, in whatever order. The timeline is valid, its last
-    /// publication is not after the moment of the last entry, and the newest version is sound. Begun reorganisations have
-    /// at most 64 pieces, and no cursor is past its piece's end. All that the theorem rests on is kept, for instance that what
-    /// is begun is what its element wants.
+    /// Tells that the pairs are those that the log gives, and that they agree with the rows of the
+    /// log for every version that a lease may still use: whatever was called before, in whatever
+    /// order. The timeline is valid, its last publication is not after the moment of the last
+    /// entry, and the newest version is sound. Begun reorganisations have at most 64 pieces, and no
+    /// cursor is past its piece's end. All that the theorem rests on is kept, for instance that
+    /// what is begun is what its element wants.
     pub fn lemma_agrees(&self)
         ensures replayed { IsReplayed self.now }
         ensures agrees { Agrees self.now }

@@ -21,7 +21,8 @@ pub(crate) enum Act {
     Insert(Lease, (i64, i64)),
     /// The same, prepared by the schema of this version, and refused for it.
     Strange(u64, Lease, (i64, i64)),
-    /// The same, prepared by the schema of its lease's version and let go before it is committed, which leaves no trace.
+    /// The same, prepared by the schema of its lease's version and let go before it is committed,
+    /// which leaves no trace.
     LetGo(Lease, (i64, i64)),
     /// select a from t where a = 5 at 9, which finds rows 1 and 3.
     Find(Lease),

@@ -48,7 +48,7 @@ fn are_as_asked(replies: &[Reply]) -> bool {
     }
 }
 
-// How many of the replies accept their event, where one tells that memory was short.
+// How many of the replies accept their event, if one tells that memory was short.
 fn accepted(replies: &[Reply]) -> Option<usize> {
     let mut accepted = 0usize;
     let mut is_short = false;
@@ -74,7 +74,7 @@ fn judged(world: &World, replies: &[Reply]) -> Option<bool> {
     Some(are_as_asked(replies) && entries == 3)
 }
 
-// The events come back where there was no memory for the replies.
+// The events come back if there was no memory for the replies.
 fn runs_four(alloc: Global, world: &mut World, events: Vec<Event>) -> Option<bool> {
     let events = match world.run(alloc, events) {
         Ok(replies) => return judged(world, replies.as_slice()),
@@ -96,7 +96,7 @@ fn four_run(alloc: Global) -> Option<bool> {
     }
 }
 
-// The events, in another world alike where memory was short.
+// The events, in another world alike if memory was short.
 fn all_run(alloc: Global) -> bool {
     match four_run(alloc) {
         Some(is_right) => is_right,

@@ -1,4 +1,5 @@
-//! The worked table, its operations, a query and its steps. Element 1 is the column a, element 2 the index that enters.
+//! The worked table, its operations, a query and its steps. Element 1 is the column a, element 2
+//! the index that enters.
 
 use collections::List;
 use keycode::{Text, Value};
@@ -51,7 +52,7 @@ fn opened_once(alloc: Global) -> Result<World, OpenFault> {
     World::open(alloc, &config(alloc)?)
 }
 
-/// A world of that table, asked for once more where memory was short.
+/// A world of that table, asked for once more if memory was short.
 pub(crate) fn opened(alloc: Global) -> Result<World, OpenFault> {
     match opened_once(alloc) {
         Err(OpenFault::Memory) => opened_once(alloc),

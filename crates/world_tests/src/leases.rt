@@ -1,4 +1,5 @@
-//! All leases of small numbers, honest and forged, at each state of a run: a commit is answered as the definition of a lease in force says.
+//! All leases of small numbers, honest and forged, at each state of a run: a commit is answered as
+//! the definition of a lease in force says.
 
 use crate::fixtures::{entering, going, is_published, opened};
 use byte_map::KeyMap;
@@ -13,8 +14,9 @@ use world::{CommitFault, Committed, World};
 /// The greatest moment.
 const MAX_MOMENT: u64 = 4_611_686_018_427_387_904;
 
-// Whether a grant could have given the lease, where versions were published at these moments: when it was granted, as many versions
-// as its number were published, and not more than that before; that was not after now; and it ends ten moments later.
+// Whether a grant could have given the lease, if versions were published at these moments: when it
+// was granted, as many versions as its number were published, and not more than that before; that
+// was not after now; and it ends ten moments later.
 fn is_honest(published: &[u64], now: u64, lease: Lease) -> bool {
     let mut before = 0u64;
     let mut then = 0u64;
@@ -37,8 +39,8 @@ fn nothing(alloc: Global, schema: &ArcValue<Schema>, lease: Lease) -> Option<Pre
     prepare(alloc, schema, lease, ops, KeyMap::new(alloc)).ok()
 }
 
-// Whether the answer to a commit by the newest schema is the one that the definition gives. The last of the published versions is
-// the newest, and no other has its schema.
+// Whether the answer to a commit by the newest schema is the one that the definition gives. The
+// last of the published versions is the newest, and no other has its schema.
 fn is_right(
     answer: &Result<Committed, (CommitFault, Prepared)>,
     published: &[u64],
@@ -84,8 +86,8 @@ fn is_answered(
     }
 }
 
-// All leases on versions 0 to 4 that are granted and end at 0 to 45, each in a commit at the first of the two moments, of which the
-// second is the one that counts.
+// All leases on versions 0 to 4 that are granted and end at 0 to 45, each in a commit at the first
+// of the two moments, of which the second is the one that counts.
 fn are_answered(alloc: Global, world: &mut World, published: &[u64], moments: (u64, u64)) -> bool {
     for version in 0..5u64 {
         for granted in 0..46u64 {

@@ -1,4 +1,5 @@
-//! Each call of the core once, and what no script can ask of it: work under another schema, pieces of another world, a run of events.
+//! Each call of the core once, and what no script can ask of it: work under another schema, pieces
+//! of another world, a run of events.
 #![tactic(auto)]
 
 #[cfg(test)]

@@ -28,7 +28,7 @@ pub(crate) fn begins(
     }
 }
 
-// What is prepared of a piece that was read, which comes back where memory was short.
+// What is prepared of a piece that was read, which comes back if memory was short.
 fn piece_of(alloc: Global, view: PieceView) -> Result<PreparedPiece, Reported> {
     match prepare_piece(alloc, view) {
         Ok(piece) => Ok(piece),
@@ -64,7 +64,8 @@ fn progress_by_hand(alloc: Global, world: &World, kind: Work) -> Result<Progress
     }
 }
 
-/// A piece of work on column a, made by hand from the world's own definition of it and the world's own pairs.
+/// A piece of work on column a, made by hand from the world's own definition of it and the world's
+/// own pairs.
 pub(crate) fn piece_by_hand(
     alloc: Global,
     world: &World,
@@ -77,7 +78,7 @@ pub(crate) fn piece_by_hand(
     prepared(alloc, view)
 }
 
-// The answer to a commit of a piece, which comes back where memory was short.
+// The answer to a commit of a piece, which comes back if memory was short.
 fn committed(
     alloc: Global,
     world: &mut World,

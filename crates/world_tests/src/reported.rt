@@ -46,7 +46,8 @@ fn sum_of(world: &World) -> u64 {
     sum
 }
 
-/// The number of entries, the last moment, a number that the pairs make, and how the reorganisation of element 2 stands.
+/// The number of entries, the last moment, a number that the pairs make, and how the reorganisation
+/// of element 2 stands.
 type Seen = (usize, u64, u64, Option<(Work, usize, bool)>);
 
 /// What a call that found no memory has to leave as it was.

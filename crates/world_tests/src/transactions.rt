@@ -59,7 +59,7 @@ fn prepared(
     work_of(alloc, world, schema, lease, ops)
 }
 
-// The answer to a commit at moment 0. What was prepared comes back where memory was short.
+// The answer to a commit at moment 0. What was prepared comes back if memory was short.
 fn committed(
     alloc: Global,
     world: &mut World,
@@ -77,7 +77,7 @@ fn committed(
     }
 }
 
-// A commit is done, but refused for its schema where it is strange.
+// A commit is done, but refused for its schema if it is strange.
 fn reported_of(answer: &Result<Committed, (CommitFault, Prepared)>, is_strange: bool) -> Reported {
     judged(match answer {
         Ok(Committed::Done(_)) => !is_strange,
@@ -86,7 +86,8 @@ fn reported_of(answer: &Result<Committed, (CommitFault, Prepared)>, is_strange: 
     })
 }
 
-/// An insert that is prepared by the schema of a version and committed, where that is the version of its lease; else it is refused.
+/// An insert that is prepared by the schema of a version and committed, if that is the version of
+/// its lease; else it is refused.
 pub(crate) fn inserts(
     alloc: Global,
     world: &mut World,

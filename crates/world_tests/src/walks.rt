@@ -1,5 +1,6 @@
-//! Acts on a world in turn: commits, queries and a snapshot, a column that is cleared, an index that enters and is filled, work under
-//! another schema, pieces of another world, a commit that cuts a page in two.
+//! Acts on a world in turn: commits, queries and a snapshot, a column that is cleared, an index
+//! that enters and is filled, work under another schema, pieces of another world, a commit that
+//! cuts a page in two.
 
 use crate::acts::{Act, Kept, acted};
 use crate::fixtures::{FIRST, mark, opened};
@@ -66,9 +67,10 @@ fn are_right<R: Print + Abort>(rt: &R, alloc: Global, first: &[Row], second: &[R
     assert!(rt; are_all, "acts {one} and {other}");
 }
 
-// Rows 1 and 3 have the value, row 2 another. An insert that is let go leaves no trace, so that row 4 can be added; a snapshot from
-// before it has rows 1 and 3 all the same. Then the column is cleared: a fill of the same definition, over the same
-// range, is not one of its pieces; a clear that is made by hand in the same way is.
+// Rows 1 and 3 have the value, row 2 another. An insert that is let go leaves no trace, so that row
+// 4 can be added; a snapshot from before it has rows 1 and 3 all the same. Then the column is
+// cleared: a fill of the same definition, over the same range, is not one of its pieces; a clear
+// that is made by hand in the same way is.
 static COMMITS: [Row; 17] = [
     (Act::Lease(FIRST), 1),
     (Insert(FIRST, (1, 5)), 2),
@@ -101,8 +103,8 @@ const LATER: Lease = Lease {
     until: 20,
 };
 
-// The lease still serves while version 2 is the newest, and its transactions have version 1's schema. The versions that are to be had
-// are the newest and the one before it.
+// The lease still serves while version 2 is the newest, and its transactions have version 1's
+// schema. The versions that are to be had are the newest and the one before it.
 static VERSIONS: [Row; 10] = [
     (Act::Lease(LATER), 1),
     (Enter("i"), 2),
