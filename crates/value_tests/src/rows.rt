@@ -209,6 +209,9 @@ const CELLS: &[(&[(&[u8], &[u8])], Option<i64>)] = &[
 fn under_refusal_cells_are_read(rt: HostRuntime) {
     assert!(rt; mark(&rt));
     for (encoded, want) in CELLS {
-        assert!(rt; cell_reported(rt.alloc(), encoded) == Ok(*want), "{encoded:?}");
+        assert!(rt;
+            cell_reported(rt.alloc(), encoded) == Ok(*want),
+            "{encoded:?}"
+        );
     }
 }
