@@ -27,7 +27,7 @@ pub enum What {
         element: u32,
         /// The number of the piece, from 0.
         piece: u32,
-        /// If its cursor came to.
+        /// Where its cursor came to.
         cursor: Bytes,
     },
 }

@@ -55,7 +55,7 @@ pub enum PieceFault {
     /// The piece's cursor is no longer where it was read.
     #[error("the piece has moved since it was read")]
     Moved {
-        /// If the piece's cursor is.
+        /// Where the piece's cursor is.
         cursor: Bytes,
     },
     /// A pair of the range is no longer what was read.
