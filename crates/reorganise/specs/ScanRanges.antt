@@ -1,5 +1,5 @@
 -- Cited by the contracts of Progress::begin.
--- If the items of a reorganisation stand.
+-- Where the items of a reorganisation lie.
 use Rattle.std.specs.Prelude.{◌≡◌, ℕ, ◌+◌, ◌^◌, ◌==◌, Bool, true, false, List, [], ◌∷◌, Option, Some, None, Result, Ok, Err, nat_lt, if◌then◌else◌, filter_map}
 use Rattle.std.specs.FinMap as map
 use Rattle.std.specs.Int.{w32, to_be_bytes}

@@ -1,4 +1,4 @@
-//! If the items of a reorganisation stand.
+//! Where the items of a reorganisation lie.
 ghost use Rattle.std.specs.Prelude.{◌≡◌, ◌<◌, true, Some, IfOk};
 ghost use Rattle.row_map.specs.declared.key.KeyOf.TheVariants.{Exists as ExistsKey};
 ghost use Rattle.row_map.specs.Keys.{key_code, IsKey};

@@ -1,4 +1,4 @@
-//! If walks begin and end.
+//! Where walks begin and end.
 ghost use Rattle.std.specs.Prelude.{◌≡◌, ◌∷◌, IfOk};
 ghost use Rattle.std.specs.Int.{w32, to_be_bytes};
 ghost use Rattle.row_query.specs.inner.Bounds.{table_end, low_bound, high_bound};

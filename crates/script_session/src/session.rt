@@ -123,7 +123,7 @@ pub(crate) fn key_of(name: Text) -> Result<Bytes, AllocError>
     Bytes::new(name.into_string().into_bytes())
 }
 
-/// If a script begins: nothing is declared.
+/// What is declared at the start of a script: nothing.
 pub(crate) fn nothing_declared(alloc: Global) -> Declarations
     ensures { result ≡ nothing_declared }
 {
@@ -134,7 +134,7 @@ pub(crate) fn nothing_declared(alloc: Global) -> Declarations
 }
 
 impl Session {
-    /// If a script begins.
+    /// The session at the start of a script.
     pub fn new(alloc: Global) -> Session
         ensures { result ≡ empty }
     {

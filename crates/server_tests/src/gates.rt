@@ -19,7 +19,7 @@ pub(crate) struct Behind {
 }
 
 impl Behind {
-    /// If none is answered yet.
+    /// The gate while no request is answered.
     pub(crate) fn new() -> Behind {
         Behind {
             answered: AtomicU64::new(0),
@@ -46,7 +46,7 @@ pub(crate) struct Together {
 }
 
 impl Together {
-    /// If none was entered yet.
+    /// The gate before the first request.
     pub(crate) fn new() -> Together {
         Together {
             entered: AtomicU64::new(0),

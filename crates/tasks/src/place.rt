@@ -1,4 +1,4 @@
-//! If outcomes go: each to the place of its number.
+//! Where outcomes go: each to the place of its number.
 ghost use Rattle.std.specs.Prelude.{◌≡◌, ◌+◌, ◌<◌, ◌≤◌, ℕ, [], All, IfOk, map, reverse, slice_index_or, vec_len, vec_capacity};
 ghost use Rattle.claims.specs.Draws.{times};
 ghost use Rattle.claims.specs.Seats.{all_drawn};
