@@ -12,7 +12,7 @@ use row_map::ColumnType;
 use schema_version::{ElementDef, ElementState, Kind, Way};
 use std::alloc::{AllocError, Global};
 
-/// If the rows of table 1 begin, and where they end.
+/// Where the rows of table 1 begin, and where they end.
 const TABLE: &[u8] = b"\x52\0\0\0\x01";
 
 const NEXT_TABLE: &[u8] = b"\x52\0\0\0\x02";

@@ -236,7 +236,7 @@ pub fn at_end<T: Drop>(found: T, tokens: &[Token<'_>]) -> Result<T, LineFault>
     Ok(found)
 }
 
-/// If the first mark `wanted` is in `tokens`, if it stands there.
+/// Where the first mark `wanted` is in `tokens`, if it is there.
 pub fn place(tokens: &[Token<'_>], wanted: Mark) -> Option<usize>
     ensures cut { MatchOption result (cut_at wanted tokens.now ≡ None) (λ i. cut_at wanted tokens.now ≡ Some (take i tokens.now, drop (i + 1) tokens.now)) }
     ensures in_range { IfSome result (λ i. i < length tokens.now) }
