@@ -1,3 +1,4 @@
+-- Cited by the contracts of PageMap::count_empty, PageMap::nth_empty, row_map::RankedView, and of their parts.
 -- Pairs with an empty value, in the order of their keys.
 use Rattle.std.specs.Prelude.{ℕ, Bool, true, false, List, [], ◌∷◌, Option, Some, None, if◌then◌else◌, filter_map}
 use Rattle.byte_map.specs.Sorted.{Entries}

@@ -1,3 +1,4 @@
+-- Cited by a private type alone: Walk.
 -- The pairs from a place in chunks on.
 use Rattle.std.specs.Prelude.{◌≡◌, List, [], ℕ}
 use Rattle.byte_map.specs.Sorted.{Entries}

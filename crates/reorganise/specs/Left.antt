@@ -1,3 +1,4 @@
+-- Cited by the contracts of World::items_left, World::next_piece.
 -- How far a begun reorganisation has come: its next piece, and the items that it has still to work on.
 use Rattle.std.specs.Prelude.{ℕ, suc, ◌+◌, List, [], ◌∷◌, Option, Some, None, length, if◌then◌else◌}
 use Rattle.row_map.specs.Rows.{Pairs}

@@ -1,4 +1,4 @@
--- Cited by the contracts of Progress::begin.
+-- Cited by the contracts of Progress::begin, Progress::begin_ranked.
 -- Where the items of a reorganisation lie.
 use Rattle.std.specs.Prelude.{◌≡◌, ℕ, ◌+◌, ◌^◌, ◌==◌, Bool, true, false, List, [], ◌∷◌, Option, Some, None, Result, Ok, Err, nat_lt, if◌then◌else◌, filter_map}
 use Rattle.std.specs.FinMap as map

@@ -1,3 +1,4 @@
+-- Cited by private functions alone: Plan::new, Plan::add, Plan::place, Plan::place_each, Plan::place_all.
 -- Pages that are to take the place of pages in a list. The pieces of a plan come with the last one first.
 use Rattle.std.specs.Prelude.{◌≡◌, ℕ, ◌+◌, ◌≤◌, List, [], ◌∷◌, ◌++◌, length, take, drop, reverse}
 use Rattle.byte_map.specs.Sorted.{Entries}

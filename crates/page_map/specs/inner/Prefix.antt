@@ -1,3 +1,4 @@
+-- Cited by private functions alone: Page::begins_above, Page::first_prefix, Chunk::begins_above, prefix_of.
 -- The prefix of a key: its first 24 bytes. If two prefixes differ, the keys are in the order of
 -- their prefixes.
 use Rattle.std.specs.Prelude.{◌≡◌, ℕ, zero, suc, List, [], ◌∷◌, get_or}

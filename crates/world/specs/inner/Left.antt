@@ -1,3 +1,4 @@
+-- Cited by private functions alone: count_left.
 -- The pairs with an empty value that are left in pieces.
 use Rattle.std.specs.Prelude.{ℕ, ◌+◌, List, [], ◌∷◌, length}
 use Rattle.row_map.specs.Rows.{Pairs}
