@@ -14,6 +14,8 @@ mod lists;
 #[cfg(test)]
 mod pages;
 #[cfg(test)]
+mod ranks;
+#[cfg(test)]
 mod rows;
 #[cfg(test)]
 mod stores;
