@@ -1,7 +1,9 @@
--- Versions are equal where their tables' names, their keys, their elements and their next numbers are.
-use Rattle.std.proofs.Common.{◌≡◌, ℕ, Bool, true, false, List, [], ◌∷◌, Option, Some, None, refl, sym, ap, subst, ◌∙◌, true≢false}
+-- Sound versions are equal if their encodings are.
+use Rattle.std.proofs.Common.{◌≡◌, ℕ, T, List, [], ◌∷◌, Option, Some, None, refl, sym, ap, subst, ◌∙◌}
 use mathlib.Core.List.{map as each}
-use Rattle.std.specs.Bool.{Decides}
+use Rattle.std.specs.List.{AllByRecursion}
+use Rattle.std.specs.Ordering.{nat_cmp}
+use Rattle.std.specs.FinMap.Entries.{is_sorted}
 use Rattle.std.specs.Prelude.{Contains}
 use Rattle.std.specs.String.{string_bytes}
 use Rattle.std.specs.declared.string.String.{String}
@@ -14,6 +16,9 @@ use Rattle.schema_version.specs.declared.element.ElementDef.{ElementDef}
 use Rattle.schema_version.specs.Version.{Version, Table, element_at, live}
 use Rattle.schema_version.specs.Held.{table_held}
 use Rattle.schema_version.specs.Sound.{IsSoundVersion}
+use Rattle.schema_version.specs.inner.Encoding.{parts_bytes, encoding}
+use Rattle.schema_version.proofs.Encoded.{HasFairKind, parts_tell}
+use Rattle.schema_version.proofs.Lists.{here, later}
 use Rattle.schema_version.proofs.Live.{live_has, live_from}
 
 option_same : {X : Type 0} (o p : Option X) → ((x : X) → o ≡ Some x → p ≡ Some x) → ((x : X) → p ≡ Some x → o ≡ Some x) → o ≡ p
@@ -38,17 +43,6 @@ heads x y xs ys e = cc
 tails : {X : Type 0} (x y : X) (xs ys : List X) → x ∷ xs ≡ y ∷ ys → xs ≡ ys
 tails x y xs ys e = cc
 
--- tables with the same names and keys
-pub same_held : {Y : Type 0} (es fs : List (String Y × List (List ℕ × ColumnType))) → each string_bytes (keys_of es) ≡ each string_bytes (keys_of fs) → values_of es ≡ values_of fs → each table_held es ≡ each table_held fs
-same_held [] [] names keys = refl
-same_held [] (f ∷ fs) names keys = cc
-same_held (e ∷ es) [] names keys = cc
-same_held (e ∷ es) (f ∷ fs) names keys =
-    let name : string_bytes e.0 ≡ string_bytes f.0 = heads _ _ _ _ names in
-    let key : e.1 ≡ f.1 = heads _ _ _ _ keys in
-    let first : ◌≡◌ {A = Table} (table_held e) (table_held f) = λ i. record { name = name i; key = key i } in
-    ap (λ (t : Table). t ∷ each table_held es) first ∙ ap (λ (l : List Table). table_held f ∷ l) (same_held es fs (tails _ _ _ _ names) (tails _ _ _ _ keys))
-
 pub names_of_held : {Y : Type 0} (es : List (String Y × List (List ℕ × ColumnType))) → each (λ (t : Table). t.name) (each table_held es) ≡ each string_bytes (keys_of es)
 names_of_held [] = refl
 names_of_held (e ∷ es) = ap (λ (l : List (List ℕ)). string_bytes e.0 ∷ l) (names_of_held es)
@@ -57,37 +51,32 @@ pub keys_of_held : {Y : Type 0} (es : List (String Y × List (List ℕ × Column
 keys_of_held [] = refl
 keys_of_held (e ∷ es) = ap (λ (l : List (List (List ℕ × ColumnType))). e.1 ∷ l) (keys_of_held es)
 
-abbrev Held : Type 0 → Type 0
-Held Y = List (String Y × List (List ℕ × ColumnType))
+tables_same : (ts us : List Table) → each (λ (t : Table). t.name) ts ≡ each (λ (t : Table). t.name) us → each (λ (t : Table). t.key) ts ≡ each (λ (t : Table). t.key) us → ts ≡ us
+tables_same [] [] names keys = refl
+tables_same [] (u ∷ us) names keys = cc
+tables_same (t ∷ ts) [] names keys = cc
+tables_same (t ∷ ts) (u ∷ us) names keys =
+    let name : t.name ≡ u.name = heads _ _ _ _ names in
+    let key : t.key ≡ u.key = heads _ _ _ _ keys in
+    let rest : ts ≡ us = tables_same ts us (tails _ _ _ _ names) (tails _ _ _ _ keys) in
+    λ i. record { name = name i; key = key i } ∷ rest i
 
-abbrev AreTheSame : {Y : Type 0} → Held Y → Held Y → Type 0
-AreTheSame {Y} es fs = each (table_held {Y = Y}) es ≡ each (table_held {Y = Y}) fs
+-- the encoding of what is held
+pub encoding_is : {Y : Type 0} (es : List (String Y × List (List ℕ × ColumnType))) (ms : List (ℕ × ElementDef)) (next : ℕ) → T (is_sorted nat_cmp ms)
+    → parts_bytes (each string_bytes (keys_of es)) (values_of es) (values_of ms) next ≡ encoding (record { tables = each (table_held {Y = Y}) es; elements = map.from_sorted ms; next = next })
+encoding_is es ms next rising =
+    λ i. parts_bytes (sym (names_of_held es) i) (sym (keys_of_held es) i) (ap values_of (sym (map.entries-from_sorted nat_cmp ms rising)) i) next
 
-module _ {Y : Type 0} where
-  names_same : (es fs : Held Y) → AreTheSame es fs → each string_bytes (keys_of es) ≡ each string_bytes (keys_of fs)
-  names_same es fs e = sym (names_of_held es) ∙ ap (each (λ (t : Table). t.name)) e ∙ names_of_held fs
+all_of : {X : Type 0} (P : X → Type 0) (xs : List X) → ((x : X) → Contains xs x → P x) → AllByRecursion P xs
+all_of P [] f = tt
+all_of P (x ∷ xs) f = (f x (here x xs), all_of P xs (λ y there. f y (later x y xs there)))
 
-  keys_same : (es fs : Held Y) → AreTheSame es fs → values_of es ≡ values_of fs
-  keys_same es fs e = sym (keys_of_held es) ∙ ap (each (λ (t : Table). t.key)) e ∙ keys_of_held fs
+all_fair : (v : Version) → IsSoundVersion v → AllByRecursion HasFairKind (live v)
+all_fair v sound = all_of HasFairKind (live v) (λ e there. let at = live_from v e there in (sound.elements at.0 e at.1).fair)
 
-  -- the names differ
-  pub tables_differ : (es fs : Held Y) (names others : List (String Y)) (r : Bool) → names ≡ keys_of es → others ≡ keys_of fs → Decides r (each string_bytes names ≡ each string_bytes others) → r ≡ false → Decides false (AreTheSame es fs)
-  tables_differ es fs names others r first second names_tell apart = (
-    (λ t. absurd (true≢false (sym t))),
-    λ e.
-        absurd (true≢false (sym (names_tell.1 (ap (each string_bytes) first ∙ names_same es fs e ∙ ap (each string_bytes) (sym second))) ∙ apart)),
-  )
-
-  -- the names are the same, so the keys tell
-  pub tables_decided : (es fs : Held Y) (names others : List (String Y)) (keys keys_too : List (List (List ℕ × ColumnType))) (r k : Bool) → names ≡ keys_of es → others ≡ keys_of fs → keys ≡ values_of es → keys_too ≡ values_of fs
-      → Decides r (each string_bytes names ≡ each string_bytes others) → r ≡ true → Decides k (keys ≡ keys_too) → Decides k (AreTheSame es fs)
-  tables_decided es fs names others keys keys_too r k first second third fourth names_tell alike keys_tell =
-      ((λ t. same_held es fs (ap (each string_bytes) (sym first) ∙ names_tell.0 alike ∙ ap (each string_bytes) second) (sym third ∙ keys_tell.0 t ∙ fourth)), λ e. keys_tell.1 (third ∙ keys_same es fs e ∙ sym fourth))
-
--- the next numbers and the elements are the same, so the tables tell
-pub versions_decided : (a b : Version) (t : Bool) → IsSoundVersion a → IsSoundVersion b → a.next ≡ b.next → live a ≡ live b → Decides t (a.tables ≡ b.tables) → Decides t (a ≡ b)
-versions_decided a b t left right next elements tables_tell =
-    ((λ yes. same_version a b (tables_tell.0 yes) (same_map a b left right elements) next), λ e. tables_tell.1 (ap (λ (v : Version). v.tables) e))
-  where
-    same_version : (a b : Version) → a.tables ≡ b.tables → a.elements ≡ b.elements → a.next ≡ b.next → a ≡ b
-    same_version a b t m n = λ i. record { tables = t i; elements = m i; next = n i }
+pub same_encoding_same : (a b : Version) → IsSoundVersion a → IsSoundVersion b → encoding a ≡ encoding b → a ≡ b
+same_encoding_same a b left right e =
+    let p = parts_tell _ _ _ _ _ _ _ _ (all_fair a left) (all_fair b right) e in
+    let tables = tables_same a.tables b.tables p.names p.keys in
+    let elements = same_map a b left right p.elements in
+    λ i. record { tables = tables i; elements = elements i; next = p.next i }

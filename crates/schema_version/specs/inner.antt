@@ -1,1 +1,2 @@
 pub mod AcceptTables
+pub mod Encoding

@@ -16,9 +16,9 @@ ghost use Rattle.schema_version.specs.declared.step.StepFault.TheVariants.{Memor
 use crate::apply::{copy_elements, copy_tables, make_all};
 use crate::declare::{enter_tables, hold_tables};
 use crate::element::{ElementDef, ElementState};
+use crate::encoding::{encode, same_bytes};
 use crate::lawful::are_lawful;
 use crate::moves::is_named;
-use crate::same::{same_elements, same_tables};
 use crate::step::{Move, Step, StepFault};
 use crate::table::{Columns, DeclareFault, TableDef};
 use indexmap::IndexMap;
@@ -37,6 +37,8 @@ pub struct Schema {
     tables: IndexMap<String, Columns>,
     elements: IndexMap<u32, ElementDef>,
     next: u32,
+    // All of the above as bytes, so that comparing two versions is comparing two strings.
+    encoding: Vec<u8>,
 }
 
 impl Model for Schema {
@@ -74,13 +76,7 @@ impl Schema {
     pub fn is_same(&self, other: &Schema) -> bool
         ensures { Decides result (self.now ≡ other.now) }
     {
-        if self.next != other.next {
-            return false;
-        }
-        if !same_elements(self.elements(), other.elements()) {
-            return false;
-        }
-        same_tables(&self.tables, &other.tables)
+        same_bytes(self.encoding.as_slice(), other.encoding.as_slice())
     }
 
     /// The state of the element of this number. A number that no live element has, 0 among them, is
@@ -187,10 +183,13 @@ impl Schema {
         requires sound { IsSoundVersion (holding self.now elements.entries next) }
         ensures { IfOk result (λ made. made ≡ holding self.now elements.entries next) }
     {
+        let tables = copy_tables(&self.tables)?;
+        let encoding = encode(*self.encoding.allocator(), &tables, &elements, next)?;
         Ok(Schema {
-            tables: copy_tables(&self.tables)?,
+            tables,
             elements,
             next,
+            encoding,
         })
     }
 
@@ -233,10 +232,12 @@ impl Schema {
         let held = hold_tables(alloc, tables)?;
         let mut elements = IndexMap::new(alloc);
         let next = enter_tables(alloc, &mut elements, tables)?;
+        let encoding = encode(alloc, &held, &elements, next)?;
         Ok(Schema {
             tables: held,
             elements,
             next,
+            encoding,
         })
     }
 }

@@ -1,5 +1,0 @@
-use Rattle.std.proofs.Common.{length}
-use Rattle.schema_version.proofs.same.+same_keys.Given as goal
-
-abbrev pub decreases-same_keys : goal.decreases-same_keys
-decreases-same_keys l = length l.a.now
