@@ -14,7 +14,7 @@ use Rattle.schema_version.specs.declared.element.Way.TheVariants.{Adding, Droppi
 use Rattle.schema_version.specs.declared.element.Kind.TheVariants.{Index, Optional, Required}
 use Rattle.schema_version.specs.declared.element.ElementDef.{ElementDef}
 use Rattle.schema_version.specs.Moves.{IsFairKind}
-use Rattle.schema_version.specs.inner.Encoding.{word, byte, after_one, listed, name_bytes, type_byte, column_bytes, key_bytes, kind_bytes, state_byte, way_byte, element_bytes, parts_bytes}
+use Rattle.schema_version.specs.inner.Encoding.{word, byte, after_one, items_bytes, name_bytes, type_byte, column_bytes, key_bytes, kind_bytes, state_byte, way_byte, element_bytes, parts_bytes}
 
 head : {x y : ℕ} {xs ys : List ℕ} → x ∷ xs ≡ y ∷ ys → x ≡ y
 head e = cc
@@ -26,12 +26,12 @@ abbrev Tells : {X : Type 0} → (X → Type 0) → (X → List ℕ) → Type 0
 Tells {X} P bytes = (x y : X) (r s : List ℕ) → P x → P y → bytes x ++ r ≡ bytes y ++ s → (x ≡ y) × (r ≡ s)
 
 module _ {X : Type 0} (P : X → Type 0) (bytes : X → List ℕ) (tells : Tells P bytes) where
-  begins : (x : X) (xs : List X) (r : List ℕ) → listed bytes (x ∷ xs) ++ r ≡ 1 ∷ (bytes x ++ (listed bytes xs ++ r))
+  begins : (x : X) (xs : List X) (r : List ℕ) → items_bytes bytes (x ∷ xs) ++ r ≡ 1 ∷ (bytes x ++ (items_bytes bytes xs ++ r))
   begins x xs r =
       ap (λ l. 1 ∷ (l ++ r)) (append_assoc (bytes x) (flat_map (after_one bytes) xs) (0 ∷ []))
-      ∙ ap (λ l. 1 ∷ l) (append_assoc (bytes x) (listed bytes xs) r)
+      ∙ ap (λ l. 1 ∷ l) (append_assoc (bytes x) (items_bytes bytes xs) r)
 
-  listed_tells : Tells (AllByRecursion P) (listed bytes)
+  listed_tells : Tells (AllByRecursion P) (items_bytes bytes)
   listed_tells [] [] r s p q e = (refl, tail e)
   listed_tells [] (y ∷ ys) r s p q e = absurd (omega (arith, head (e ∙ begins y ys s)))
   listed_tells (x ∷ xs) [] r s p q e = absurd (omega (arith, head (sym (begins x xs r) ∙ e)))
@@ -47,7 +47,7 @@ every : {X : Type 0} (xs : List X) → AllByRecursion (λ (x : X). ⊤) xs
 every [] = tt
 every (x ∷ xs) = (tt, every xs)
 
-listed_always : {X : Type 0} (bytes : X → List ℕ) → Always bytes → Always (listed bytes)
+listed_always : {X : Type 0} (bytes : X → List ℕ) → Always bytes → Always (items_bytes bytes)
 listed_always {X} bytes tells xs ys r s e = listed_tells (λ (x : X). ⊤) bytes (λ x y r s p q e. tells x y r s e) xs ys r s (every xs) (every ys) e
 
 byte_tells : Always byte
@@ -152,8 +152,8 @@ pub record AreSameParts (a b : List (List ℕ)) (j k : List (List (List ℕ × C
   pub elements : x ≡ y
   pub next : m ≡ n
 
-parts_are : (a : List (List ℕ)) (j : List (List (List ℕ × ColumnType))) (x : List ElementDef) (m : ℕ) → parts_bytes a j x m ≡ word m ++ (listed name_bytes a ++ (listed key_bytes j ++ (listed element_bytes x ++ [])))
-parts_are a j x m = sym (append-nil (parts_bytes a j x m)) ∙ regroup (word m) (listed name_bytes a) (listed key_bytes j) (listed element_bytes x) []
+parts_are : (a : List (List ℕ)) (j : List (List (List ℕ × ColumnType))) (x : List ElementDef) (m : ℕ) → parts_bytes a j x m ≡ word m ++ (items_bytes name_bytes a ++ (items_bytes key_bytes j ++ (items_bytes element_bytes x ++ [])))
+parts_are a j x m = sym (append-nil (parts_bytes a j x m)) ∙ regroup (word m) (items_bytes name_bytes a) (items_bytes key_bytes j) (items_bytes element_bytes x) []
   where
     regroup : (a b c d r : List ℕ) → (((a ++ b) ++ c) ++ d) ++ r ≡ a ++ (b ++ (c ++ (d ++ r)))
     regroup a b c d r = simp append_assoc

@@ -4,7 +4,7 @@ ghost use Rattle.std.specs.Bool.{Decides};
 ghost use Rattle.std.specs.Map.{keys_of, values_of};
 ghost use Rattle.std.specs.String.{string_bytes};
 ghost use mathlib.Core.List.{map as each};
-ghost use Rattle.schema_version.specs.inner.Encoding.{word as word_of, after_one, listed, name_bytes, type_byte as type_byte_of, column_bytes, key_bytes, kind_bytes, state_byte as state_byte_of, way_byte as way_byte_of, element_bytes, parts_bytes};
+ghost use Rattle.schema_version.specs.inner.Encoding.{word as word_of, after_one, items_bytes, name_bytes, type_byte as type_byte_of, column_bytes, key_bytes, kind_bytes, state_byte as state_byte_of, way_byte as way_byte_of, element_bytes, parts_bytes};
 
 use crate::element::{ElementDef, ElementState, Kind, Way};
 use crate::table::Columns;
@@ -79,7 +79,7 @@ fn push_key(out: &mut Vec<u8>, key: &Columns) -> Result<(), AllocError>
 }
 
 fn push_keys(out: &mut Vec<u8>, keys: &[Columns]) -> Result<(), AllocError>
-    ensures { OnOk result (out.new.items ≡ out.old.items ++ listed key_bytes keys.now) }
+    ensures { OnOk result (out.new.items ≡ out.old.items ++ items_bytes key_bytes keys.now) }
 {
     for key in keys {
         push_key(out, key)?;
@@ -96,7 +96,7 @@ fn push_table_name(out: &mut Vec<u8>, name: &String) -> Result<(), AllocError>
 }
 
 fn push_table_names(out: &mut Vec<u8>, names: &[String]) -> Result<(), AllocError>
-    ensures { OnOk result (out.new.items ≡ out.old.items ++ listed name_bytes (each string_bytes names.now)) }
+    ensures { OnOk result (out.new.items ≡ out.old.items ++ items_bytes name_bytes (each string_bytes names.now)) }
 {
     for name in names {
         push_table_name(out, name)?;
@@ -106,7 +106,7 @@ fn push_table_names(out: &mut Vec<u8>, names: &[String]) -> Result<(), AllocErro
 }
 
 fn push_numbers(out: &mut Vec<u8>, numbers: &[u32]) -> Result<(), AllocError>
-    ensures { OnOk result (out.new.items ≡ out.old.items ++ listed word_of numbers.now) }
+    ensures { OnOk result (out.new.items ≡ out.old.items ++ items_bytes word_of numbers.now) }
 {
     for n in numbers {
         out.push(1)?;
@@ -171,7 +171,7 @@ fn push_element(out: &mut Vec<u8>, element: &ElementDef) -> Result<(), AllocErro
 }
 
 fn push_elements(out: &mut Vec<u8>, elements: &[ElementDef]) -> Result<(), AllocError>
-    ensures { OnOk result (out.new.items ≡ out.old.items ++ listed element_bytes elements.now) }
+    ensures { OnOk result (out.new.items ≡ out.old.items ++ items_bytes element_bytes elements.now) }
 {
     for element in elements {
         push_element(out, element)?;

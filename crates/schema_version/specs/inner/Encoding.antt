@@ -26,11 +26,11 @@ abbrev pub after_one : {X : Type 0} → (X → List ℕ) → X → List ℕ
 after_one code x = 1 ∷ code x
 
 -- each item after a 1, and a 0 after the last
-abbrev pub listed : {X : Type 0} → (X → List ℕ) → List X → List ℕ
-listed code items = flat_map (after_one code) items ++ 0 ∷ []
+abbrev pub items_bytes : {X : Type 0} → (X → List ℕ) → List X → List ℕ
+items_bytes code items = flat_map (after_one code) items ++ 0 ∷ []
 
 abbrev pub name_bytes : List ℕ → List ℕ
-name_bytes name = listed byte name
+name_bytes name = items_bytes byte name
 
 abbrev pub type_byte : ColumnType → ℕ
 type_byte Int = 0
@@ -41,10 +41,10 @@ abbrev pub column_bytes : List ℕ × ColumnType → List ℕ
 column_bytes column = name_bytes column.0 ++ byte (type_byte column.1)
 
 abbrev pub key_bytes : List (List ℕ × ColumnType) → List ℕ
-key_bytes key = listed column_bytes key
+key_bytes key = items_bytes column_bytes key
 
 abbrev pub kind_bytes : Kind → List ℕ
-kind_bytes (Index columns) = 0 ∷ listed word columns
+kind_bytes (Index columns) = 0 ∷ items_bytes word columns
 kind_bytes (Optional type) = 1 ∷ byte (type_byte type)
 kind_bytes (Required type fallback) = 2 ∷ type_byte type ∷ code fallback
 
@@ -62,7 +62,7 @@ abbrev pub element_bytes : ElementDef → List ℕ
 element_bytes e = word e.number ++ word e.table ++ name_bytes e.name ++ kind_bytes e.kind ++ state_byte e.state ∷ way_byte e.way ∷ []
 
 abbrev pub parts_bytes : List (List ℕ) → List (List (List ℕ × ColumnType)) → List ElementDef → ℕ → List ℕ
-parts_bytes names keys elements next = word next ++ listed name_bytes names ++ listed key_bytes keys ++ listed element_bytes elements
+parts_bytes names keys elements next = word next ++ items_bytes name_bytes names ++ items_bytes key_bytes keys ++ items_bytes element_bytes elements
 
 abbrev pub encoding : Version → List ℕ
 encoding version = parts_bytes (each (λ (t : Table). t.name) version.tables) (each (λ (t : Table). t.key) version.tables) (live version) version.next
