@@ -190,7 +190,7 @@ fn repeat(alloc: Global, world: &mut World, entry: &Entry) -> Option<()> {
             Err(_) => None,
         },
         What::Txn(lease, ops) => {
-            let work = prepared_again(alloc, world, *lease, ops)?;
+            let work = prepared_again(alloc, world, *lease, ops.get())?;
             match world.commit(alloc, entry.moment, work) {
                 Ok(Committed::Done(_)) => Some(()),
                 _ => None,

@@ -10,8 +10,9 @@ use schema_version::Step;
 pub enum What {
     /// A lease was granted.
     Lease(Lease),
-    /// These operations were committed under a lease.
-    Txn(Lease, RowOps),
+    /// These operations were committed under a lease. The log shares them with the transaction that
+    /// was prepared.
+    Txn(Lease, ArcValue<RowOps>),
     /// A step of the schema was published: the newest version and the step give the next one.
     Publish(Step),
     /// A reorganisation of an element began, in so many pieces.

@@ -20,7 +20,7 @@ fn did_same(one: &What, other: &What) -> bool
     match (one, other) {
         (What::Lease(lease), What::Lease(second)) => lease == second,
         (What::Txn(lease, ops), What::Txn(second, more)) => lease == second
-            && are_same_ops(ops.as_slice(), more.as_slice()),
+            && are_same_ops(ops.get().as_slice(), more.get().as_slice()),
         (What::Publish(step), What::Publish(second)) => is_same_step(step, second),
         (
             What::Begin { element, pieces },

@@ -20,7 +20,7 @@ use collections::ArcValue;
 use lease::Lease;
 use row_map::{Batch, Expect, ReadView};
 use schema_version::Schema;
-use std::alloc::Global;
+use std::alloc::{AllocError, Global};
 
 /// The most operations of a transaction.
 const MAX_OPS: usize = 64;
@@ -75,6 +75,31 @@ fn prepare_ops(
     work_out(alloc, schema, view, ops)
 }
 
+/// A copy of the operations for the log to share, made here since a commit holds the lock.
+fn share_ops(alloc: Global, ops: &RowOps) -> Result<ArcValue<RowOps>, AllocError>
+    ensures { IfOk result (λ shared. shared ≡ ops.now) }
+{
+    ArcValue::new(alloc, ops.clone()?)
+}
+
+/// The same, with the operations as the log shares them.
+fn prepare_shared(
+    alloc: Global,
+    schema: &Schema,
+    view: &ReadView,
+    ops: &RowOps,
+) -> Result<(RowOutcome, Batch, ArcValue<RowOps>), PrepareFault>
+    ensures sound { OnOk result (AllByRecursion (IsSound schema.now) ops.now × (length ops.now ≤ max_ops)) }
+    ensures some_rows { OnOk result ((rows : Rows) × Encodes schema.now ops.now view.now rows) }
+    ensures prepared { IfOk result (λ done. IsPrepared schema.now ops.now view.now done.0 done.1) }
+    ensures shared { IfOk result (λ done. done.2 ≡ ops.now) }
+    ensures clear { OnOk result (IsClear (Condition schema.now ops.now view.now)) }
+    ensures refused { IfErr result (λ e. IsRefusal rank (Condition schema.now ops.now view.now) OutOfMemory e) }
+{
+    let (reported, batch) = prepare_ops(alloc, schema, view, ops.as_slice())?;
+    Ok((reported, batch, share_ops(alloc, ops)?))
+}
+
 /// Prepares a transaction from what was read: what its operations come to on the rows that the view
 /// encodes, and what they then write by the states of the schema. The operations act in turn, each
 /// seeing the ones before; with one that rows refuse, nothing is written. A transaction that is
@@ -109,12 +134,12 @@ pub fn prepare(
     ensures refused { IfErr result (λ e. IsRefusal rank (Condition schema ops view) OutOfMemory e.0) }
     ensures returned { IfErr result (λ e. e.1 ≡ ops) }
 {
-    match prepare_ops(alloc, schema.get(), &view, ops.as_slice()) {
+    match prepare_shared(alloc, schema.get(), &view, &ops) {
         Err(fault) => Err((fault, ops)),
-        Ok((reported, batch)) => Ok(Prepared {
+        Ok((reported, batch, shared)) => Ok(Prepared {
             schema,
             lease,
-            ops,
+            ops: shared,
             expect: Expect {
                 points: view,
                 key_range: None,

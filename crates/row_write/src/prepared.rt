@@ -17,7 +17,8 @@ use std::marker::Model;
 pub struct Prepared {
     pub(crate) schema: ArcValue<Schema>,
     pub(crate) lease: Lease,
-    pub(crate) ops: RowOps,
+    /// The log shares them.
+    pub(crate) ops: ArcValue<RowOps>,
     pub(crate) expect: Expect,
     pub(crate) batch: Batch,
     pub(crate) reported: RowOutcome,
@@ -57,7 +58,7 @@ impl Prepared {
     pub fn ops(&self) -> &[RowOp]
         ensures { result.now ≡ self.now.ops }
     {
-        self.ops.as_slice()
+        self.ops.get().as_slice()
     }
 
     /// What it expects of the store: just what was read.
@@ -81,8 +82,9 @@ impl Prepared {
         self.reported
     }
 
-    /// A copy of its operations, as the log keeps them. Refused only when out of memory.
-    pub fn ops_copied(&self) -> Result<RowOps, AllocError>
+    /// Its operations, shared: the log keeps them so, and none is copied. Refused only when out of
+    /// memory.
+    pub fn ops_shared(&self) -> Result<ArcValue<RowOps>, AllocError>
         ensures { IfOk result (λ ops. ops ≡ self.now.ops) }
     {
         self.ops.clone()

@@ -64,13 +64,14 @@ snapshot_short f s moment now lease schema as_reported v is =
     subst (λ (r : SnapshotFault). SnapshotStep s moment lease (Err r)) (sym is)
     (subst (λ (n : ℕ). SnapshotAt s n lease (Err snapshot_fault.Memory)) v.counts (inl refl, λ other lt. served_clear s now lease v.serves other))
 
-pub snapshot_taken : (f : Inside) (s : State) (moment now : ℕ) (lease : Lease) (schema : Version) (pairs : Pairs) → LeasesKeep → KeptAgrees → IsServed f s moment now lease schema → pairs ≡ f.store
-    → SnapshotStep s moment lease (Ok (record { version = schema; pairs = pairs }))
-snapshot_taken f s moment now lease schema pairs goes agrees v same =
-    subst (λ (n : ℕ). SnapshotAt s n lease (Ok (record { version = schema; pairs = pairs }))) v.counts (
+pub snapshot_taken : (f : Inside) (s : State) (moment now : ℕ) (lease : Lease) (schema newest : Version) (pairs : Pairs) → LeasesKeep → KeptAgrees → IsServed f s moment now lease schema → newest ≡ f.newest → pairs ≡ f.store
+    → SnapshotStep s moment lease (Ok (record { version = schema; newest = newest; pairs = pairs }))
+snapshot_taken f s moment now lease schema newest pairs goes agrees v is_newest same =
+    subst (λ (n : ℕ). SnapshotAt s n lease (Ok (record { version = schema; newest = newest; pairs = pairs }))) v.counts (
       served_clear s now lease v.serves,
       record {
         version = v.schema_is;
+        newest = is_newest ∙ (follow_of f s v.held v.view).newest;
         pairs = same ∙ ap (λ (x : State). x.pairs) v.view;
         consistent = subst (λ (p : Pairs). IsConsistent schema (facts_of s).rows p) (sym same) (consistent_held f s moment now lease schema goes agrees v);
       },

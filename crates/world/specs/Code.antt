@@ -26,7 +26,7 @@ state_code =
 
 abbrev pub taken_code : Coded Taken
 taken_code =
-    code_by (Version × Pairs) (coded× version_code (map.code {R = bytes_cmp} (coded_list coded_ℕ) (coded_list coded_ℕ)))
-    (λ t. (t.version, t.pairs))
-    (λ p. record { version = p.0; pairs = p.1 })
+    code_by (Version × (Version × Pairs)) (coded× version_code (coded× version_code (map.code {R = bytes_cmp} (coded_list coded_ℕ) (coded_list coded_ℕ))))
+    (λ t. (t.version, (t.newest, t.pairs)))
+    (λ p. record { version = p.0; newest = p.1.0; pairs = p.1.1 })
     (λ _. refl)

@@ -1,6 +1,8 @@
--- Cited by the contracts of Snapshot, Snapshot::query, World::snapshot, locked_store::Shared::snapshot.
+-- Cited by the contracts of Snapshot, Snapshot::query, Snapshot::check, World::snapshot, locked_store::Shared::snapshot.
 -- What a snapshot under a lease is of, and what it answers.
 use Rattle.std.specs.Prelude.{◌≡◌, ℕ, ◌<◌, List, Some, Result, Ok, Err, ◌⊎◌}
+use Rattle.audit.specs.declared.report.CheckReport.{CheckReport}
+use Rattle.audit.specs.Audit.{IsAudit}
 use Rattle.element_state.specs.Consistent.{IsConsistent}
 use Rattle.element_state.specs.Visible.{visible_rows}
 use Rattle.lease.specs.declared.lease.Lease.{Lease}
@@ -20,9 +22,10 @@ use Rattle.world.specs.declared.snapshot.SnapshotFault.TheVariants as snapshot_f
 use Rattle.world.specs.Calls.{effective_moment}
 use Rattle.world.specs.State.{State, facts_of}
 
--- a version, and the pairs of a store
+-- the version of a lease, the newest version, and the pairs of a store
 pub record Taken : Type 0 where
   pub version : Version
+  pub newest : Version
   pub pairs : Pairs
 
 -- out of memory comes last
@@ -38,9 +41,10 @@ SnapshotCondition old now lease snapshot_fault.BadLease = ¬ (IsHonest (facts_of
 SnapshotCondition old now lease (snapshot_fault.LeaseEnded until effective_moment) = (until ≡ lease.until) × (effective_moment ≡ now) × (¬ (IsInForce lease now))
 SnapshotCondition old now lease snapshot_fault.Memory = ⊥
 
--- the version of the lease and the pairs of the state, which agree with the rows of the log
+-- the version of the lease, the newest version and the pairs of the state, which agree with the rows of the log
 pub record IsTaken (old : State) (lease : Lease) (taken : Taken) : Type 0 where
   pub version : version_at (facts_of old) lease.version ≡ Some taken.version
+  pub newest : taken.newest ≡ (facts_of old).newest
   pub pairs : taken.pairs ≡ old.pairs
   pub consistent : IsConsistent taken.version (facts_of old).rows taken.pairs
 
@@ -57,3 +61,7 @@ SnapshotStep old moment = SnapshotAt old (effective_moment old moment)
 abbrev pub IsSnapshotAnswer : Taken → Query → Result (List Row) QueryFault → Type 0
 IsSnapshotAnswer taken query (Ok found) = IsSound taken.version query × ((rows : Rows) → IsConsistent taken.version rows taken.pairs → found ≡ plain_answer (visible_rows taken.version rows) query)
 IsSnapshotAnswer taken query (Err fault) = ((fault ≡ Memory) × IsSound taken.version query) ⊎ IsRefused taken.version query fault
+
+-- what a check of a snapshot counts, whenever it is asked: the audit of its pairs by the version that was the newest when it was taken
+abbrev pub IsSnapshotCheck : Taken → CheckReport → Type 0
+IsSnapshotCheck taken report = IsAudit taken.newest taken.pairs report

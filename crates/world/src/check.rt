@@ -8,7 +8,8 @@ use std::alloc::{AllocError, Global};
 
 impl World {
     /// Audits the pairs of the store by the newest version: how many rows there are, how many pairs
-    /// are missing, and how many are there without a reason. Refused only when out of memory.
+    /// are missing, and how many are there without a reason. It takes time with the pairs; behind a
+    /// lock, take a snapshot and ask `Snapshot::check` instead. Refused only when out of memory.
     pub fn check(&self, alloc: Global) -> Result<CheckReport, AllocError>
         ensures { IfOk result (λ report. IsCheck self.now report) }
     {

@@ -84,7 +84,7 @@ impl From<LeaseFault> for CommitFault {
 fn txn_of(prepared: &Prepared) -> Result<What, AllocError>
     ensures { IfOk result (λ what. what ≡ Txn prepared.now.lease prepared.now.ops) }
 {
-    let ops = prepared.ops_copied()?;
+    let ops = prepared.ops_shared()?;
     Ok(What::Txn(*prepared.lease(), ops))
 }
 

@@ -1,5 +1,5 @@
-//! Snapshots of the core: what its rows were under the version of a lease, whatever is committed
-//! later.
+//! Snapshots of the core: what its rows were under the version of a lease, and whether its pairs
+//! were sound, whatever is committed later.
 ghost use Rattle.std.specs.Prelude.{◌≡◌, ◌⊎◌, IfOk, IfErr, OnOk};
 ghost use Rattle.element_state.specs.Consistent.{IsConsistent};
 ghost use Rattle.element_state.specs.Visible.{visible_rows};
@@ -7,11 +7,12 @@ ghost use Rattle.row_map.specs.Rows.{Rows};
 ghost use Rattle.row_query.specs.declared.fault.QueryFault.TheVariants.{Memory};
 ghost use Rattle.row_query.specs.Answer.{plain_answer};
 ghost use Rattle.row_query.specs.Refused.{IsRefused, IsSound};
-ghost use Rattle.world.specs.Snapshot.{IsSnapshotAnswer, SnapshotStep};
+ghost use Rattle.world.specs.Snapshot.{IsSnapshotAnswer, IsSnapshotCheck, SnapshotStep};
 ghost use Rattle.world.specs.Faults.{snapshot_reported};
 ghost use Rattle.world.specs.declared.snapshot.SnapshotFault.TheVariants as snapshot_fault;
 
 use crate::world::World;
+use audit::{CheckReport, audit};
 use collections::{ArcValue, List};
 use lease::{Lease, LeaseFault};
 use replay::{kept_agrees, leases_keep};
@@ -65,13 +66,16 @@ impl From<AllocError> for SnapshotFault {
     }
 }
 
-/// What a World held when the snapshot was taken, and the schema of the lease's version. It stays
-/// that, whatever is committed to the World later, also when the lease has ended or the World is
-/// gone: it takes no lock and knows no World. Contracts see it as the version and the pairs.
+/// What a World held when the snapshot was taken, the schema of the lease's version and that of the
+/// newest version. It stays that, whatever is committed to the World later, also when the lease has
+/// ended or the World is gone: it takes no lock and knows no World. Contracts see it as the two
+/// versions and the pairs.
 #[derive(Drop)]
 pub struct Snapshot {
     /// The schema of the lease's version.
     schema: ArcValue<Schema>,
+    /// The schema of the newest version.
+    newest: ArcValue<Schema>,
     /// The pairs of the store, shared with it.
     pairs: PairSnapshot,
 }
@@ -84,7 +88,7 @@ impl Model for Snapshot {
 
     ghost coded = { taken_code };
 
-    ghost view = { λ s. record { version = s.schema; pairs = s.pairs } };
+    ghost view = { λ s. record { version = s.schema; newest = s.newest; pairs = s.pairs } };
 }
 
 impl Snapshot {
@@ -103,7 +107,17 @@ impl Snapshot {
         self.rows_of(alloc, query)
     }
 
-    // The same, by the contract of `answer`.
+    /// Audits the pairs as they were when the snapshot was taken, by the version that was the
+    /// newest then: how many rows there are, how many pairs are missing, and how many are there
+    /// without a reason, as `World::check` counts them. It takes time with the pairs and no lock.
+    /// Refused only when out of memory.
+    pub fn check(&self, alloc: Global) -> Result<CheckReport, AllocError>
+        ensures { IfOk result (λ report. IsSnapshotCheck self.now report) }
+    {
+        audit(alloc, self.newest.get(), &self.pairs)
+    }
+
+    // The same as `query`, by the contract of `answer`.
     fn rows_of(&self, alloc: Global, query: &Query) -> Result<List<Row>, QueryFault>
         ensures refused { IfErr result (λ fault. ((fault ≡ Memory) × IsSound self.now.version query.now) ⊎ IsRefused self.now.version query.now fault) }
         ensures clear { OnOk result (IsSound self.now.version query.now) }
@@ -115,7 +129,8 @@ impl Snapshot {
 
 impl World {
     /// A snapshot of what is committed now, to be queried later under the schema of the lease's
-    /// version. The schema and the pairs are shared, and none is copied; nothing changes.
+    /// version, and to be checked by that of the newest. The schemas and the pairs are shared, and
+    /// none is copied; nothing changes.
     ///
     /// The moment that counts is the greater of `moment` and the moment of the last entry. Refused
     /// in this order: `MomentTooLarge` if the moment that counts is above 2^62; `BadLease` if no
@@ -129,7 +144,12 @@ impl World {
         self.line.standing(lease, now)?;
         let schema = self.under(lease, now);
         let schema = schema.clone()?;
+        let newest = self.newest.clone()?;
         let pairs = self.store.snapshot()?;
-        Ok(Snapshot { schema, pairs })
+        Ok(Snapshot {
+            schema,
+            newest,
+            pairs,
+        })
     }
 }

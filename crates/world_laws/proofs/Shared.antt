@@ -18,6 +18,7 @@ use Rattle.world_laws.specs.Shared.{
   SharedSnapshotsAreRecent,
   SharedSnapshotsAnswerTheirLog,
   SharedChecksAreClean,
+  SharedSnapshotChecksAreClean,
   SharedPublicationsFindConsistent,
   SharedPublicationsFindExact,
   SharedPublicationsFindEmpty,
@@ -25,7 +26,7 @@ use Rattle.world_laws.specs.Shared.{
 use Rattle.world_laws.proofs.Clean.{checks_clean}
 use Rattle.world_laws.proofs.Found.{finds_consistent, finds_exact, finds_empty}
 use Rattle.world_laws.proofs.Recent.{commits_recent, queries_recent}
-use Rattle.world_laws.proofs.Snapshots.{answer_their_log, snapshots_recent}
+use Rattle.world_laws.proofs.Snapshots.{answer_their_log, check_their_log, snapshots_recent}
 
 published : (opening : Opening) (core : State) (moment : ℕ) → IsCore opening core → IsPublishedBy core (effective_moment core moment)
 published opening core moment is = record { valid = is.valid; past = omega (arith, is.past) }
@@ -50,6 +51,10 @@ shared_snapshots_answer opening v w moment lease taken query found a is = answer
 
 pub shared_checks_clean : SharedChecksAreClean
 shared_checks_clean opening v w report a = checks_clean a.0 report (world_state opening a.0 a.2.0) a.2.3.0
+
+pub shared_snapshot_checks_clean : SharedSnapshotChecksAreClean
+shared_snapshot_checks_clean opening v w moment lease taken report a is =
+    checks_clean a.0 report (world_state opening a.0 a.2.0) (check_their_log a.0 (effective_moment a.0 moment) lease taken report a.2.3.0 is)
 
 pub shared_publications_consistent : SharedPublicationsFindConsistent
 shared_publications_consistent opening v w moment step done a = finds_consistent a.0 a.1 (effective_moment a.0 moment) step (publication opening v w moment step done a)

@@ -28,7 +28,7 @@ use Rattle.world.specs.declared.snapshot.SnapshotFault.{SnapshotFault}
 use Rattle.world.specs.Calls.{CommitStep, IsCheck}
 use Rattle.world.specs.Publish.{PublishStep}
 use Rattle.world.specs.Query.{QueryStep}
-use Rattle.world.specs.Snapshot.{Taken, SnapshotStep, IsSnapshotAnswer}
+use Rattle.world.specs.Snapshot.{Taken, SnapshotStep, IsSnapshotAnswer, IsSnapshotCheck}
 use Rattle.world.specs.State.{State, facts_of}
 use Rattle.locked_store.specs.Answers.{Answers, AnswersBack, no_place, commit_place, publish_place}
 use Rattle.locked_store.specs.declared.fault.SharedFault.{SharedFault}
@@ -75,6 +75,11 @@ abbrev pub SharedSnapshotsAnswerTheirLog : Type 0
 SharedSnapshotsAnswerTheirLog =
     (opening : Opening) (v w : Known) (moment : ℕ) (lease : Lease) (taken : Taken) (query : Query) (found : List Row) (a : Taking opening v moment lease taken w)
     → IsSnapshotAnswer taken query (Ok found) → found ≡ plain_answer (visible_rows taken.version (facts_of a.0).rows) query
+
+-- and what a check of it counts is what an audit of that log counts: nothing missing, nothing without a reason, and the rows of the log
+abbrev pub SharedSnapshotChecksAreClean : Type 0
+SharedSnapshotChecksAreClean =
+    (opening : Opening) (v w : Known) (moment : ℕ) (lease : Lease) (taken : Taken) (report : CheckReport) (a : Taking opening v moment lease taken w) → IsSnapshotCheck taken report → IsClean a.0 report
 
 -- an audit finds nothing missing and nothing without a reason, and counts the rows of the log
 abbrev pub SharedChecksAreClean : Type 0

@@ -30,6 +30,8 @@ pub(crate) enum Act {
     Keep(Lease),
     /// The same query of the snapshot.
     Look,
+    /// A check of the snapshot: so many rows, with no pair missing and none without a reason.
+    LookOver(u64),
     /// add index NAME on t (a), at 10
     Enter(&'static str),
     /// move ELEMENT to STATE, at this moment: the version that it gives
@@ -104,6 +106,16 @@ fn looks(alloc: Global, kept: &Option<Snapshot>) -> Reported {
     }
 }
 
+fn looks_over(alloc: Global, kept: &Option<Snapshot>, rows: u64) -> Reported {
+    let Some(snapshot) = kept else {
+        return Reported::Wrong;
+    };
+    match snapshot.check(alloc) {
+        Ok(found) => judged((found.rows, found.missing, found.extra) == (rows, 0, 0)),
+        Err(AllocError) => Reported::Short,
+    }
+}
+
 fn publishes(
     alloc: Global,
     world: &mut World,
@@ -161,6 +173,7 @@ pub(crate) fn acted(alloc: Global, world: &mut World, kept: &mut Kept, act: &Act
         Act::Find(lease) => finds(alloc, world, *lease),
         Act::Keep(lease) => keeps(world, &mut kept.snapshot, *lease),
         Act::Look => looks(alloc, &kept.snapshot),
+        Act::LookOver(rows) => looks_over(alloc, &kept.snapshot, *rows),
         Act::Enter(name) => publishes(alloc, world, 10, entering(alloc, name), &Ok(2)),
         Act::Go(element, to, moment, wanted) => {
             publishes(alloc, world, *moment, going(alloc, *element, *to), wanted)

@@ -7,8 +7,8 @@ use crate::fixtures::{FIRST, mark, opened};
 use crate::pieces::Refusal::{Moved, NotWanted, WrongElement};
 use crate::reported::{Reported, seen};
 use Act::{
-    Begin, ByHand, Check, Commit, Enter, Find, Go, Insert, Keep, LetGo, Look, Read, Stand, State,
-    Strange, Swap,
+    Begin, ByHand, Check, Commit, Enter, Find, Go, Insert, Keep, LetGo, Look, LookOver, Read, Stand,
+    State, Strange, Swap,
 };
 use lease::Lease;
 use reorganise::Work::{Clear, Fill};
@@ -68,10 +68,10 @@ fn are_right<R: Print + Abort>(rt: &R, alloc: Global, first: &[Row], second: &[R
 }
 
 // Rows 1 and 3 have the value, row 2 another. An insert that is let go leaves no trace, so that row
-// 4 can be added; a snapshot from before it has rows 1 and 3 all the same. Then the column is
-// cleared: a fill of the same definition, over the same range, is not one of its pieces; a clear
-// that is made by hand in the same way is.
-static COMMITS: [Row; 17] = [
+// 4 can be added; a snapshot from before it has rows 1 and 3 all the same, and three rows in all.
+// Then the column is cleared: a fill of the same definition, over the same range, is not one of its
+// pieces; a clear that is made by hand in the same way is.
+static COMMITS: [Row; 18] = [
     (Act::Lease(FIRST), 1),
     (Insert(FIRST, (1, 5)), 2),
     (Insert(FIRST, (2, 9)), 3),
@@ -82,6 +82,7 @@ static COMMITS: [Row; 17] = [
     (LetGo(FIRST, (4, 5)), 4),
     (Insert(FIRST, (4, 5)), 5),
     (Look, 5),
+    (LookOver(3), 5),
     (Go(1, DeleteOnly, 10, Ok(2)), 6),
     (Begin(1, 1, Ok(())), 7),
     (ByHand(Fill), 7),

@@ -33,6 +33,19 @@ returns-in_err-schema c =
     let p = err_from_is_err_and c.from_residual-in_err-schema.result c.from_residual-in_err-schema.ensures.1 in
     rw p.1 (snapshot_short c.self.inside c.args.self.now c.args.moment c.effective_moment-now.result c.args.lease.now c.under-schema.result.now p.0 served p.2)
 
+pub returns-in_err-newest : goal.returns-in_err-newest
+returns-in_err-newest c =
+    let served : IsServed c.self.inside c.args.self.now c.args.moment c.effective_moment-now.result c.args.lease.now c.under-schema.result.now
+    = record {
+      held = c.self.invariant;
+      view = c.self.view_is;
+      counts = c.effective_moment-now.ensures;
+      serves = serves_there c.self.inside c.args.self.now c.effective_moment-now.result c.args.lease.now c.args.lease.now c.self.invariant c.self.view_is refl (c.in_ok-standing.ensures.serves.0 refl);
+      schema_is = c.under-schema.ensures;
+    } in
+    let p = err_from_is_err_and c.from_residual-in_err-newest.result c.from_residual-in_err-newest.ensures.1 in
+    rw p.1 (snapshot_short c.self.inside c.args.self.now c.args.moment c.effective_moment-now.result c.args.lease.now c.under-schema.result.now p.0 served p.2)
+
 pub returns-in_err-pairs : goal.returns-in_err-pairs
 returns-in_err-pairs c =
     let served : IsServed c.self.inside c.args.self.now c.args.moment c.effective_moment-now.result c.args.lease.now c.under-schema.result.now
@@ -56,4 +69,4 @@ returns c =
       serves = serves_there c.self.inside c.args.self.now c.effective_moment-now.result c.args.lease.now c.args.lease.now c.self.invariant c.self.view_is refl (c.in_ok-standing.ensures.serves.0 refl);
       schema_is = c.under-schema.ensures ∙ ap Some (sym c.in_ok-schema.ensures.cases);
     } in
-    snapshot_taken c.self.inside c.args.self.now c.args.moment c.effective_moment-now.result c.args.lease.now c.in_ok-schema.schema c.in_ok-pairs.pairs c.leases_keep.ensures c.kept_agrees.ensures served c.in_ok-pairs.ensures
+    snapshot_taken c.self.inside c.args.self.now c.args.moment c.effective_moment-now.result c.args.lease.now c.in_ok-schema.schema c.in_ok-newest.newest c.in_ok-pairs.pairs c.leases_keep.ensures c.kept_agrees.ensures served c.in_ok-newest.ensures.cases c.in_ok-pairs.ensures
