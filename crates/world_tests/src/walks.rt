@@ -7,8 +7,8 @@ use crate::fixtures::{FIRST, mark, opened};
 use crate::pieces::Refusal::{Moved, NotWanted, WrongElement};
 use crate::reported::{Reported, seen};
 use Act::{
-    Begin, ByHand, Check, Commit, Enter, Find, Go, Insert, Keep, LetGo, Look, LookOver, Read, Stand,
-    State, Strange, Swap,
+    Begin, ByHand, Check, Commit, Enter, Find, Go, Insert, Keep, LetGo, Look, LookOver, Read,
+    Stand, State, Strange, Swap,
 };
 use lease::Lease;
 use reorganise::Work::{Clear, Fill};
