@@ -6,6 +6,7 @@ use Rattle.std.proofs.lemmas.List.Sums.{sum_by-cons}
 use mathlib.Core.List.{map as each}
 use Rattle.row_map.specs.declared.shape.Row.{Row}
 use Rattle.row_map.specs.Rows.{Pairs}
+use Rattle.schema_version.specs.declared.element.ElementDef.{ElementDef}
 use Rattle.schema_version.specs.Version.{Version, live}
 use Rattle.element_state.specs.Elements.{Meaning}
 use Rattle.element_state.specs.Kinds.{kind_meaning, table_of_any}
@@ -13,6 +14,7 @@ use Rattle.element_state.specs.Operations.{cells_of, fill_pair}
 use Rattle.element_state.specs.Sources.{source_in}
 use Rattle.audit.specs.declared.wanted.Made.{Made}
 use Rattle.audit.specs.Audit.{given, lacks, numbered}
+use Rattle.audit.specs.inner.Counted.{gives}
 use Rattle.audit.specs.inner.Made.{definition_of, definition_in, given_by, IsMade, AreMade}
 
 module _ {X Y : Type 0} (f : X → Y) where
@@ -49,6 +51,10 @@ module _ {X : Type 0} (P : X → Type 0) where
 abbrev pub lacks_made : Version → Pairs → ℕ → Row → Made → Bool
 lacks_made version pairs table row made = lacks version pairs table row (definition_of made)
 
+-- whether the store has the pair of a made index
+abbrev pub gives_made : Version → Pairs → ℕ → Row → Made → Bool
+gives_made version pairs table row made = gives version pairs table row (definition_of made)
+
 -- a made element gives what its definition does
 pub made_gives : (version : Version) (made : Made) (row : Row) → IsMade version made → given_by made row ≡ given version (definition_of made) row
 made_gives version made row is =
@@ -59,8 +65,8 @@ module _ (version : Version) (all : List Made) (made : AreMade version all) wher
   pub made_at : (i : ℕ) (d here : Made) → i < length all → here ≡ get_or all i d → IsMade version here
   made_at i d here within is = subst (IsMade version) (sym is) (all_at (IsMade version) all i d within made.made)
 
-  pub made_count : (pairs : Pairs) (table : ℕ) (row : Row) → count_by (lacks_made version pairs table row) all ≡ count_by (lacks version pairs table row) (live version)
-  made_count pairs table row = sym (count_each definition_of (lacks version pairs table row) all) ∙ ap (count_by (lacks version pairs table row)) made.live
+  pub made_count : (test : ElementDef → Bool) → count_by (λ made. test (definition_of made)) all ≡ count_by test (live version)
+  made_count test = sym (count_each definition_of test all) ∙ ap (count_by test) made.live
 
   pub made_numbered : (number : ℕ) (found : Option Made) → found ≡ find (λ made. (definition_of made).number == number) all → (definition_in found ≡ numbered version number) × IfSome found (IsMade version)
   made_numbered number found is = (

@@ -92,8 +92,3 @@ pub values_behind : (n : ℕ) (vs : List Value) → AreValues vs → AreValues (
 values_behind zero vs all = all
 values_behind (suc n) [] all = tt
 values_behind (suc n) (v ∷ vs) all = values_behind n vs all.1
-
-pub short_behind : (n : ℕ) (vs : List Value) → AreShort vs → AreShort (drop n vs)
-short_behind zero vs all = all
-short_behind (suc n) [] all = tt
-short_behind (suc n) (v ∷ vs) all = short_behind n vs all.1

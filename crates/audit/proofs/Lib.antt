@@ -7,3 +7,6 @@ pub mod Exists
 pub mod Reasons
 pub mod LastMet
 pub mod Elements
+pub mod Sums
+pub mod Hits
+pub mod Counting

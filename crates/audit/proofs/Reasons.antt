@@ -55,7 +55,7 @@ column_typed (Optional t) type e = refl
 column_typed (Required t fallback) type e = refl
 
 -- what tells the key of an index's pair from others
-abbrev is_index_key : Option KeyOf → Bool
+abbrev pub is_index_key : Option KeyOf → Bool
 is_index_key (Some (IndexKey number values)) = true
 is_index_key _ = false
 
@@ -66,7 +66,7 @@ table_within version number table e =
       | false ↦ λ z is. (let within : number - 1 < length version.tables = slice_get_within version.tables (number - 1) table is in omega (arith, within))
     ] refl e
 
-same_bytes : (x : Bytes) → bytes_eq x x ≡ true
+pub same_bytes : (x : Bytes) → bytes_eq x x ≡ true
 same_bytes x = (bytes_eq-Decides x x).1 refl
 
 module _ (version : Version) (sound : IsSoundVersion version) (pairs : Pairs) (strings : AreByteStrings pairs) where
@@ -95,7 +95,7 @@ module _ (version : Version) (sound : IsSoundVersion version) (pairs : Pairs) (s
       let within : element.table ≤ length version.tables = table_within version element.table placed.0 placed.1 in
       omega (arith, within, sound.few_tables)
 
-  lawful_index : (number : ℕ) (element : ElementDef) (columns : List ℕ) → element_at version number ≡ Some element → element.kind ≡ Index columns → IsLawfulIndex number (with_default_values version columns)
+  pub lawful_index : (number : ℕ) (element : ElementDef) (columns : List ℕ) → element_at version number ≡ Some element → element.kind ≡ Index columns → IsLawfulIndex number (with_default_values version columns)
   lawful_index number element columns at kind =
       let e = sound.elements number element at in
       lawful_source version (λ n d is. (sound.elements n d is).fair) number e.first (omega (arith, e.given, sound.few_elements)) (Index columns) (subst IsFairKind kind e.fair)
@@ -122,7 +122,7 @@ module _ (version : Version) (sound : IsSoundVersion version) (pairs : Pairs) (s
       let form = (key_form pairs strings exists.key exists.value exists.there (Exists element.table primary) exists.names).0 in
       (form.0, form.1, omega (arith, e.own, e.first), omega (arith, e.own, e.given, sound.few_elements))
 
-  index_says : (number : ℕ) (values : List Value) (x w : Bytes) → key_read x ≡ Some (IndexKey number values) → AreValues values → is_index_pair version pairs values (x, w) (numbered version number) ≡ true → Belongs version pairs x w
+  pub index_says : (number : ℕ) (values : List Value) (x w : Bytes) → key_read x ≡ Some (IndexKey number values) → AreValues values → is_index_pair version pairs values (x, w) (numbered version number) ≡ true → Belongs version pairs x w
   index_says number values x w names are e = by (element_at version number) refl (ap (is_index_pair version pairs values (x, w)) (sym (numbered_is number)) ∙ e)
     where
       at_kind : (element : ElementDef) → element_at version number ≡ Some element → (primary : List Value) → HasExistsPair pairs (element.table, primary) → (k : Kind) → element.kind ≡ k
@@ -189,7 +189,7 @@ module _ (version : Version) (sound : IsSoundVersion version) (pairs : Pairs) (s
           ap (λ (k : Kind). drop (length (indexed_columns k)) (indexed (with_default_values version columns) cells ++ primary)) kind
           ∙ drop_at (indexed (with_default_values version columns) cells) primary (length columns) (indexed_length (with_default_values version columns) cells ∙ length-map columns (λ (column : ℕ). (column, default_value_at version column)))
 
-  reason_from : (x w : Bytes) → Belongs version pairs x w → has_reason version pairs (x, w) ≡ true
+  pub reason_from : (x w : Bytes) → Belongs version pairs x w → has_reason version pairs (x, w) ≡ true
   reason_from x w (ExistsPair row names) = ap (reason_by version pairs (x, w)) names
   reason_from x w (ColumnPair row column names live exists) = ap (reason_by version pairs (x, w)) names ∙ column_from row.0 row.1 column live exists
   reason_from x w (IndexPair number element columns at kind primary cells encoded key_is empty) =

@@ -1,57 +1,111 @@
--- Sums of what pairs count for.
-use Rattle.std.proofs.Common.{◌≡◌, not, cond, List, [], ◌∷◌, refl, sym, ap, ◌∙◌, add_assoc, zero-add, add-zero}
+-- Sums of what pairs count for, and the audit that they come to.
+use Rattle.std.proofs.Common.{◌≡◌, ℕ, suc, ◌+◌, ◌-◌, ◌<◌, ◌≤◌, get_or, not, cond, List, [], ◌∷◌, refl, sym, ap, subst, ◌∙◌, add_assoc, zero-add, add-zero, arith}
 use Rattle.std.specs.Prelude.{count_by, sum_by}
 use Rattle.std.specs.FinMap as map
+use Rattle.std.specs.List.{AllByRecursion}
 use Rattle.std.proofs.lemmas.List.Recursion.{is_sum_by}
-use Rattle.row_map.specs.Rows.{Pairs}
+use Rattle.keycode.proofs.Orders.{bytes_cmp-IsAntisymmetric}
+use Rattle.row_map.specs.Rows.{Bytes, Pairs}
+use Rattle.schema_version.specs.Sound.{IsSoundVersion}
 use Rattle.schema_version.specs.Version.{Version}
+use Rattle.audit.specs.declared.counts.Counts.{Counts}
 use Rattle.audit.specs.declared.report.CheckReport.{CheckReport}
-use Rattle.audit.specs.Audit.{Pair, IsAudit, is_exists_pair, missing_beside, has_reason, judged, added, tally}
+use Rattle.audit.specs.Audit.{Pair, IsAudit, is_exists_pair, missing_beside, has_reason}
+use Rattle.audit.specs.Encoded.{key_read}
+use Rattle.audit.specs.Meaning.{AreByteStrings}
+use Rattle.audit.specs.inner.Counted.{IsByteString, AreStrings, given_beside, has_plain_reason, judged, added, tally}
+use Rattle.audit.proofs.Counting.{counted_from_rows}
+use Rattle.audit.proofs.Zero.{all_found}
 
-abbrev none : CheckReport
-none = record { rows = 0; missing = 0; extra = 0 }
+abbrev none : Counts
+none = record { rows = 0; missing = 0; other = 0; given = 0 }
 
-none_added : (a : CheckReport) → added none a ≡ a
-none_added a = λ i. record { rows = zero-add a.rows i; missing = zero-add a.missing i; extra = zero-add a.extra i }
+none_added : (a : Counts) → added none a ≡ a
+none_added a = λ i. record { rows = zero-add a.rows i; missing = zero-add a.missing i; other = zero-add a.other i; given = zero-add a.given i }
 
-added_none : (a : CheckReport) → added a none ≡ a
-added_none a = λ i. record { rows = add-zero a.rows i; missing = add-zero a.missing i; extra = add-zero a.extra i }
+added_none : (a : Counts) → added a none ≡ a
+added_none a = λ i. record { rows = add-zero a.rows i; missing = add-zero a.missing i; other = add-zero a.other i; given = add-zero a.given i }
 
-added_assoc : (a b c : CheckReport) → added (added a b) c ≡ added a (added b c)
-added_assoc a b c = λ i. record { rows = add_assoc a.rows b.rows c.rows i; missing = add_assoc a.missing b.missing c.missing i; extra = add_assoc a.extra b.extra c.extra i }
+added_assoc : (a b c : Counts) → added (added a b) c ≡ added a (added b c)
+added_assoc a b c = λ i. record {
+  rows = add_assoc a.rows b.rows c.rows i;
+  missing = add_assoc a.missing b.missing c.missing i;
+  other = add_assoc a.other b.other c.other i;
+  given = add_assoc a.given b.given c.given i;
+}
+
+-- ---- pairs of strings of bytes
+
+pub all_bytes : (bytes : Bytes) → ((i : ℕ) → get_or bytes i 0 < 256) → IsByteString bytes
+all_bytes [] below = tt
+all_bytes (b ∷ bytes) below = (below 0, all_bytes bytes (λ i. below (suc i)))
+
+abbrev pub AllStrings : List Pair → Type 0
+AllStrings = AllByRecursion AreStrings
+
+pub strings_begun : (pairs : Pairs) (ahead : List Pair) → ahead ≡ map.entries pairs → AllStrings ahead → AllStrings (map.entries pairs)
+strings_begun pairs ahead is all = subst AllStrings is all
+
+pub strings_more : (pairs : Pairs) (here next : List Pair) (p : Pair) → here ≡ p ∷ next → AreStrings p → (AllStrings here → AllStrings (map.entries pairs)) → AllStrings next → AllStrings (map.entries pairs)
+strings_more pairs here next p found own so_far rest = so_far (subst AllStrings (sym found) (own, rest))
+
+pub strings_done : (pairs : Pairs) (here : List Pair) → here ≡ [] → (AllStrings here → AllStrings (map.entries pairs)) → AreByteStrings pairs
+strings_done pairs here none_left so_far =
+    let all : AllStrings (map.entries pairs) = so_far (subst AllStrings (sym none_left) tt) in
+    all_found bytes_cmp-IsAntisymmetric (λ (x w : Bytes). AreStrings (x, w)) pairs all
+
+-- ---- the counts
 
 module _ (version : Version) (pairs : Pairs) where
-  pub tally_begun : (report : CheckReport) (ahead : List Pair) → report ≡ none → ahead ≡ map.entries pairs → added report (tally version pairs ahead) ≡ tally version pairs (map.entries pairs)
-  tally_begun report ahead none_is ahead_is =
-      ap (λ (r : CheckReport). added r (tally version pairs ahead)) none_is
+  pub tally_begun : (counts : Counts) (ahead : List Pair) → counts ≡ none → ahead ≡ map.entries pairs → added counts (tally version pairs ahead) ≡ tally version pairs (map.entries pairs)
+  tally_begun counts ahead none_is ahead_is =
+      ap (λ (r : Counts). added r (tally version pairs ahead)) none_is
       ∙ none_added (tally version pairs ahead)
       ∙ ap (tally version pairs) ahead_is
 
-  pub tally_more : (total report more sum : CheckReport) (here next : List Pair) (p : Pair) → here ≡ p ∷ next
-      → more ≡ judged version pairs p → sum ≡ added report more → added report (tally version pairs here) ≡ total → added sum (tally version pairs next) ≡ total
-  tally_more total report more sum here next p found more_is sum_is so_far =
-      ap (λ (r : CheckReport). added r (tally version pairs next)) (sum_is ∙ ap (added report) more_is)
-      ∙ added_assoc report (judged version pairs p) (tally version pairs next)
-      ∙ ap (λ (l : List Pair). added report (tally version pairs l)) (sym found)
+  pub tally_more : (total counts more sum : Counts) (here next : List Pair) (p : Pair) → here ≡ p ∷ next
+      → more ≡ judged version pairs p → sum ≡ added counts more → added counts (tally version pairs here) ≡ total → added sum (tally version pairs next) ≡ total
+  tally_more total counts more sum here next p found more_is sum_is so_far =
+      ap (λ (r : Counts). added r (tally version pairs next)) (sum_is ∙ ap (added counts) more_is)
+      ∙ added_assoc counts (judged version pairs p) (tally version pairs next)
+      ∙ ap (λ (l : List Pair). added counts (tally version pairs l)) (sym found)
       ∙ so_far
 
-  pub tally_done : (total report : CheckReport) (here : List Pair) → here ≡ [] → added report (tally version pairs here) ≡ total → report ≡ total
-  tally_done total report here none_left so_far =
-      sym (added_none report)
-      ∙ ap (λ (l : List Pair). added report (tally version pairs l)) (sym none_left)
+  pub tally_done : (total counts : Counts) (here : List Pair) → here ≡ [] → added counts (tally version pairs here) ≡ total → counts ≡ total
+  tally_done total counts here none_left so_far =
+      sym (added_none counts)
+      ∙ ap (λ (l : List Pair). added counts (tally version pairs l)) (sym none_left)
       ∙ so_far
 
   -- the counts of a tally are those of its parts
-  pub tally_is : (es : List Pair) → (((tally version pairs es).rows ≡ count_by is_exists_pair es) × ((tally version pairs es).missing ≡ sum_by (missing_beside version pairs) es)) × ((tally version pairs es).extra ≡ count_by (λ pair. not (has_reason version pairs pair)) es)
-  tally_is es = (
-    (
-      is_sum_by (λ (l : List Pair). (tally version pairs l).rows) (λ pair. cond (is_exists_pair pair) 1 0) refl (λ x xs. refl) es,
-      is_sum_by (λ (l : List Pair). (tally version pairs l).missing) (missing_beside version pairs) refl (λ x xs. refl) es,
-    ),
-    is_sum_by (λ (l : List Pair). (tally version pairs l).extra) (λ pair. cond (not (has_reason version pairs pair)) 1 0) refl (λ x xs. refl) es,
-  )
+  record IsTally (es : List Pair) (counts : Counts) : Type 0 where
+    rows : counts.rows ≡ count_by is_exists_pair es
+    missing : counts.missing ≡ sum_by (missing_beside version pairs) es
+    other : counts.other ≡ count_by (λ pair. not (has_plain_reason version pairs (key_read pair.0))) es
+    given : counts.given ≡ sum_by (λ pair. given_beside version pairs (key_read pair.0)) es
 
-  pub audit_from : (report : CheckReport) → report ≡ tally version pairs (map.entries pairs) → IsAudit version pairs report
-  audit_from report is =
-      let all = tally_is (map.entries pairs) in
-      record { rows = ap (λ (r : CheckReport). r.rows) is ∙ all.0.0; missing = ap (λ (r : CheckReport). r.missing) is ∙ all.0.1; extra = ap (λ (r : CheckReport). r.extra) is ∙ all.1 }
+  tally_is : (es : List Pair) → IsTally es (tally version pairs es)
+  tally_is es = record {
+    rows = is_sum_by (λ (l : List Pair). (tally version pairs l).rows) (λ pair. cond (is_exists_pair pair) 1 0) refl (λ x xs. refl) es;
+    missing = is_sum_by (λ (l : List Pair). (tally version pairs l).missing) (missing_beside version pairs) refl (λ x xs. refl) es;
+    other = is_sum_by (λ (l : List Pair). (tally version pairs l).other) (λ pair. cond (not (has_plain_reason version pairs (key_read pair.0))) 1 0) refl (λ x xs. refl) es;
+    given = is_sum_by (λ (l : List Pair). (tally version pairs l).given) (λ pair. given_beside version pairs (key_read pair.0)) refl (λ x xs. refl) es;
+  }
+
+  module _ (sound : IsSoundVersion version) (strings : AreByteStrings pairs) where
+    abbrev extra : ℕ
+    extra = count_by (λ pair. not (has_reason version pairs pair)) (map.entries pairs)
+
+    split : (counts : Counts) → counts ≡ tally version pairs (map.entries pairs) → counts.other ≡ extra + counts.given
+    split counts is =
+        let all : IsTally (map.entries pairs) counts = subst (IsTally (map.entries pairs)) (sym is) (tally_is (map.entries pairs)) in
+        all.other ∙ counted_from_rows version sound pairs strings ∙ ap (λ (n : ℕ). extra + n) (sym all.given)
+
+    -- no more pairs are given than there are
+    pub given_within : (counts : Counts) → counts ≡ tally version pairs (map.entries pairs) → counts.given ≤ counts.other
+    given_within counts is = omega (arith, split counts is)
+
+    pub audit_from : (counts : Counts) (report : CheckReport) → counts ≡ tally version pairs (map.entries pairs) → report.rows ≡ counts.rows → report.missing ≡ counts.missing → report.extra ≡ counts.other - counts.given → IsAudit version pairs report
+    audit_from counts report is rows missing over =
+        let all : IsTally (map.entries pairs) counts = subst (IsTally (map.entries pairs)) (sym is) (tally_is (map.entries pairs)) in
+        record { rows = rows ∙ all.rows; missing = missing ∙ all.missing; extra = omega (arith, over, split counts is) }

@@ -1,6 +1,6 @@
 -- Cited by the contracts of audit.
 -- What an audit of a store counts, by a version and the pairs alone. Each pair is judged by itself.
-use Rattle.std.specs.Prelude.{◌≡◌, ℕ, ◌+◌, ◌==◌, Bool, true, false, ◌&&◌, not, cond, List, [], ◌∷◌, length, drop, Option, Some, None, count_by, sum_by, bytes_eq}
+use Rattle.std.specs.Prelude.{◌≡◌, ℕ, ◌==◌, Bool, true, false, ◌&&◌, not, List, length, drop, Option, Some, None, count_by, sum_by, bytes_eq}
 use Rattle.std.specs.List.{find}
 use Rattle.std.specs.FinMap as map
 use Rattle.keycode.specs.declared.value.Value.{Value}
@@ -86,21 +86,3 @@ pub record IsAudit (version : Version) (pairs : Pairs) (report : CheckReport) : 
   pub rows : report.rows ≡ count_by is_exists_pair (map.entries pairs)
   pub missing : report.missing ≡ sum_by (missing_beside version pairs) (map.entries pairs)
   pub extra : report.extra ≡ count_by (λ pair. not (has_reason version pairs pair)) (map.entries pairs)
-
--- what one pair counts for
-abbrev pub judged : Version → Pairs → Pair → CheckReport
-judged version pairs pair =
-    record {
-      rows = cond (is_exists_pair pair) 1 0;
-      missing = missing_beside version pairs pair;
-      extra = cond (not (has_reason version pairs pair)) 1 0;
-    }
-
--- the counts of both
-abbrev pub added : CheckReport → CheckReport → CheckReport
-added a b = record { rows = a.rows + b.rows; missing = a.missing + b.missing; extra = a.extra + b.extra }
-
--- the counts of pairs in turn
-abbrev pub tally : Version → Pairs → List Pair → CheckReport
-tally version pairs [] = record { rows = 0; missing = 0; extra = 0 }
-tally version pairs (pair ∷ more) = added (judged version pairs pair) (tally version pairs more)

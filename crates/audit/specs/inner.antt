@@ -1,2 +1,3 @@
 pub mod Met
 pub mod Made
+pub mod Counted

@@ -1,6 +1,7 @@
-//! What a store lacks and what it has too much, counted pair by pair.
+//! What a store lacks and what it has too much, counted in one walk over its pairs.
 #![tactic(auto)]
 
+mod counts;
 mod encoded_rows;
 mod laws;
 mod met;

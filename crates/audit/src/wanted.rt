@@ -1,6 +1,7 @@
 //! The pairs that indexes and required columns give rows.
-ghost use Rattle.std.specs.Prelude.{◌≡◌, IfOk, option_map, count_by};
-ghost use Rattle.audit.specs.Audit.{is_absent as is_absent_of, lacks as lacks_of};
+ghost use Rattle.std.specs.Prelude.{◌≡◌, IfOk, Some, count_by};
+ghost use Rattle.audit.specs.Audit.{lacks as lacks_of};
+ghost use Rattle.audit.specs.inner.Counted.{is_present as is_present_of, gives as gives_of};
 ghost use Rattle.audit.specs.inner.Made.{definition_of, given_by, IsMade, AreMade};
 ghost use Rattle.schema_version.specs.Version.{live};
 
@@ -56,57 +57,86 @@ pub(crate) fn given(
     made.element.fill_of(alloc, row)
 }
 
-// Whether there is a pair to be, and the store hasn't got it with just this value.
-fn is_absent<V: PairView>(view: &V, pair: Option<&(Bytes, Bytes)>) -> bool
-    ensures { result ≡ is_absent_of (V.pairs view.now) (option_map (λ p. p.now) pair.entry) }
+// Whether the store has the pair with just this value.
+fn is_present<V: PairView>(view: &V, pair: &(Bytes, Bytes)) -> bool
+    ensures { result ≡ is_present_of (V.pairs view.now) (Some pair.now) }
 {
-    match pair {
+    match view.get(pair.0.as_slice()) {
         None => false,
-        Some((key, value)) => match view.get(key.as_slice()) {
-            None => true,
-            Some(found) => found != value.as_slice(),
-        },
+        Some(found) => found == pair.1.as_slice(),
     }
 }
 
-// Whether the element is a public index or required column of the table, and the store lacks the
-// pair that it gives the row.
-fn lacks<V: PairView>(
+/// What an element's pair of a row counts for.
+#[derive(Clone, Copy)]
+struct Weight {
+    // Whether a public index or required column lacks it.
+    lacks: bool,
+    // Whether a live index has it.
+    gives: bool,
+}
+
+const NOTHING: Weight = Weight {
+    lacks: false,
+    gives: false,
+};
+
+// What an element's pair of a row of its table counts for. The pair is made and looked up once.
+fn weigh<V: PairView>(
     alloc: Global,
     schema: &Schema,
     view: &V,
     table: u32,
     row: &Row,
     made: &Made<'_>,
-) -> Result<bool, AllocError>
+) -> Result<Weight, AllocError>
     requires { IsMade schema.now made.now }
-    ensures { IfOk result (λ b. b ≡ lacks_of schema.now (V.pairs view.now) table row.now (definition_of made.now)) }
+    ensures lacks { IfOk result (λ w. w.lacks ≡ lacks_of schema.now (V.pairs view.now) table row.now (definition_of made.now)) }
+    ensures gives { IfOk result (λ w. w.gives ≡ gives_of schema.now (V.pairs view.now) table row.now (definition_of made.now)) }
 {
     let element = made.definition;
-    if element.table != table || !element.state.is_public() {
-        return Ok(false);
+    if element.table != table {
+        return Ok(NOTHING);
     }
-    let pair = given(alloc, made, row)?;
-    Ok(is_absent(view, pair.as_ref()))
+    let Some(pair) = given(alloc, made, row)? else {
+        return Ok(NOTHING);
+    };
+    let present = is_present(view, &pair);
+    Ok(Weight {
+        lacks: element.state.is_public() && !present,
+        gives: element.kind.is_index() && present,
+    })
 }
 
-// How many pairs of the row the public indexes and required columns lack.
-pub(crate) fn count_lacking<V: PairView>(
+/// How many pairs of a row public indexes and required columns lack, and how many live indexes
+/// have.
+#[derive(Clone, Copy)]
+pub(crate) struct Wanted {
+    /// Those that public indexes and required columns lack.
+    pub(crate) missing: u64,
+    /// Those that live indexes have.
+    pub(crate) given: u64,
+}
+
+// What the pairs that elements give a row count for.
+pub(crate) fn count_wanted<V: PairView>(
     alloc: Global,
     schema: &Schema,
     view: &V,
     elements: &[Made<'_>],
     table: u32,
     row: &Row,
-) -> Result<u64, AllocError>
+) -> Result<Wanted, AllocError>
     requires { AreMade schema.now elements.now }
-    ensures { IfOk result (λ n. n ≡ count_by (lacks_of schema.now (V.pairs view.now) table row.now) (live schema.now)) }
+    ensures missing { IfOk result (λ w. w.missing ≡ count_by (lacks_of schema.now (V.pairs view.now) table row.now) (live schema.now)) }
+    ensures given { IfOk result (λ w. w.given ≡ count_by (gives_of schema.now (V.pairs view.now) table row.now) (live schema.now)) }
 {
-    let mut count = 0u64;
+    let mut missing = 0u64;
+    let mut given = 0u64;
     for made in elements {
-        if lacks(alloc, schema, view, table, row, made)? {
-            count += 1;
-        }
+        let weight = weigh(alloc, schema, view, table, row, made)?;
+        missing += u64::from(weight.lacks);
+        given += u64::from(weight.gives);
     }
-    Ok(count)
+    Ok(Wanted { missing, given })
 }

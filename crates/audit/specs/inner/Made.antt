@@ -1,4 +1,4 @@
--- Cited by private functions alone: find_element, is_given, is_column, is_index and 8 more.
+-- Cited by private functions alone: find_element, is_column, has_plain_reason, count_at and 7 more.
 -- The elements of a version, made once for all rows.
 use Rattle.std.specs.Prelude.{◌≡◌, List, Option, option_map}
 use Rattle.std.specs.List.{AllByRecursion}

@@ -1,13 +1,8 @@
-use Rattle.std.proofs.Common.{◌≡◌, Ok, Err, IfOk}
-use Rattle.std.specs.FinMap as map
-use Rattle.audit.specs.Audit.{IsAudit, tally}
-use Rattle.audit.proofs.Tallies.{audit_from}
+use Rattle.audit.proofs.Tallies.{given_within, audit_from}
 use Rattle.audit.proofs.tally.audit.Goals as goal
 
+pub report-requires : goal.report-requires
+report-requires g c = given_within c.args.schema.now (g.V.PairView.pairs c.args.view.now) c.lemma_known.ensures c.in_ok-counts.ensures.strings _ c.in_ok-counts.ensures.counts
+
 pub returns : goal.returns
-returns g c =
-    let pairs = g.V.PairView.pairs c.args.view.now in
-    elim c.tally_pairs.result as (λ o. IfOk o (λ report. report ≡ tally c.args.schema.now pairs (map.entries pairs)) → IfOk o (λ report. IsAudit c.args.schema.now pairs report)) [
-      | Ok report ↦ λ is. audit_from c.args.schema.now pairs report is
-      | Err fault ↦ λ h. tt
-    ] c.tally_pairs.ensures
+returns g c = audit_from c.args.schema.now (g.V.PairView.pairs c.args.view.now) c.lemma_known.ensures c.in_ok-counts.ensures.strings _ _ c.in_ok-counts.ensures.counts c.report.ensures.rows c.report.ensures.missing c.report.ensures.extra

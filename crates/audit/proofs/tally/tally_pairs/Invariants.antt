@@ -1,16 +1,18 @@
 use Rattle.std.proofs.Common.{◌≡◌, length}
 use Rattle.std.specs.FinMap as map
-use Rattle.audit.specs.Audit.{added, tally}
+use Rattle.audit.specs.inner.Counted.{added, tally}
 use Rattle.audit.specs.inner.Met.{IsThere}
 use Rattle.audit.proofs.LastMet.{ArePresent}
+use Rattle.audit.proofs.Tallies.{AllStrings}
 use Rattle.audit.proofs.tally.tally_pairs.Given as goal
 
--- what was counted and what is left are all; what is left are pairs of the store, and the row that was met last is there
+-- what was counted and what is left are all; what is left are pairs of the store, and the row that was met last is there; what was walked over are strings of bytes
 abbrev pub invariant-loop-pair : goal.invariant-loop-pair
 invariant-loop-pair g l = record {
-  counted : added l.report (tally l.schema (g.V.PairView.pairs l.view) l.walk) ≡ tally l.schema (g.V.PairView.pairs l.view) (map.entries (g.V.PairView.pairs l.view));
+  counted : added l.counts (tally l.schema (g.V.PairView.pairs l.view) l.walk) ≡ tally l.schema (g.V.PairView.pairs l.view) (map.entries (g.V.PairView.pairs l.view));
   present : ArePresent (g.V.PairView.pairs l.view) l.walk;
   there : IsThere (g.V.PairView.pairs l.view) l.last;
+  strings : AllStrings l.walk → AllStrings (map.entries (g.V.PairView.pairs l.view));
 }
 
 abbrev pub decreases-loop-pair : goal.decreases-loop-pair
