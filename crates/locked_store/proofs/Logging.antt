@@ -66,10 +66,10 @@ piece_logged opening v w front moment read done a seen = logged_after opening fr
 
 -- ---- fronts
 
-stays : (v w : Known) (found left : State) → v.front ≤ length found.log → w.front ≡ length left.log → left ≡ found → v.front ≤ w.front
+pub stays : (v w : Known) (found left : State) → v.front ≤ length found.log → w.front ≡ length left.log → left ≡ found → v.front ≤ w.front
 stays v w found left seen is same = omega (arith, seen, is, ap (λ (s : State). length s.log) same)
 
-same_front : (v w : Known) → w ≡ v → v.front ≤ w.front
+pub same_front : (v w : Known) → w ≡ v → v.front ≤ w.front
 same_front v w same = omega (arith, ap (λ (k : Known). k.front) same)
 
 -- a call whose step changes nothing

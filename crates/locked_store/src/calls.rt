@@ -4,7 +4,9 @@
 ghost use Rattle.std.specs.Prelude.{◌≡◌, IfOk};
 ghost use Rattle.locked_store.specs.Answers.{Answers, AnswersBack, Finds, reported, to_fault, no_place, grant_place, commit_place, publish_place, receipt_place, piece_place};
 ghost use Rattle.world.specs.BeginReorg.{BeginStep};
-ghost use Rattle.world.specs.Calls.{LeaseStep, CommitStep, IsReadView, IsCheck};
+ghost use Rattle.piece_work.specs.WorkOff.{NextStep};
+ghost use Rattle.rollout.specs.Due.{IsDue};
+ghost use Rattle.world.specs.Calls.{LeaseStep, CommitStep, IsReadView, IsCheck, effective_moment};
 ghost use Rattle.world.specs.Piece.{PieceStep, ReadStep, standing_at, piece_standing_at};
 ghost use Rattle.world.specs.Publish.{PublishStep};
 ghost use Rattle.world.specs.Query.{QueryStep};
@@ -18,6 +20,7 @@ use crate::shared_ledger::SharedLedger;
 use collections::{ArcValue, List};
 use lease::Lease;
 use reorganise::{PieceView, PreparedPiece, Work};
+use rollout::Act;
 use row_map::{ReadSet, ReadView, Row};
 use row_query::Query;
 use row_write::Prepared;
@@ -212,6 +215,25 @@ impl<L: SharedLedger> Shared<L> {
         through(locked.begin_reorg(alloc, me, moment, element, pieces))
     }
 
+    /// What is due at a moment, as `rollout::due` tells it of the world.
+    ///
+    /// Refused in this order: `WentBack` if the log is shorter than the handle's front; `World`
+    /// when out of memory.
+    #[tactic(auto, using(crate::proofs::Through::answers))]
+    pub fn due(
+        &self,
+        rt: &impl Wait,
+        alloc: Global,
+        me: &mut Handle<L>,
+        moment: u64,
+    ) -> Result<Act, SharedFault<AllocError>>
+        ensures { Answers L.opening me.old result me.new (λ c r d. IfOk r (λ act. IsDue (facts_of c) (effective_moment c moment) act) × (d ≡ c)) no_place }
+    {
+        let locked = self.locked.lock(rt);
+        locked.check_front(me)?;
+        through(locked.due(alloc, me, moment))
+    }
+
     /// How the begun reorganisation of an element stands, as `World::progress` tells it. Refused
     /// with `WentBack` alone, if the log is shorter than the handle's front.
     #[tactic(auto, using(crate::proofs::Through::finds))]
@@ -264,6 +286,26 @@ impl<L: SharedLedger> Shared<L> {
         let locked = self.locked.lock(rt);
         locked.check_front(me)?;
         through(locked.read_piece(alloc, me, element, piece, limit))
+    }
+
+    /// Reads the next items of the first piece that has not ended, as `piece_work::next_view` does.
+    ///
+    /// Refused in this order: `WentBack` if the log is shorter than the handle's front; `World`
+    /// with what `piece_work::next_view` refuses.
+    #[tactic(auto, using(crate::proofs::Through::answers))]
+    pub fn next_view(
+        &self,
+        rt: &impl Wait,
+        alloc: Global,
+        me: &mut Handle<L>,
+        element: u32,
+        limit: u32,
+    ) -> Result<Option<PieceView>, SharedFault<ReadFault>>
+        ensures { Answers L.opening me.old result me.new (λ c r d. NextStep c element limit r × (d ≡ c)) no_place }
+    {
+        let locked = self.locked.lock(rt);
+        locked.check_front(me)?;
+        through(locked.next_view(alloc, me, element, limit))
     }
 
     /// Commits a prepared piece, as `World::commit_piece` does.

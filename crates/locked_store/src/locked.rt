@@ -3,7 +3,9 @@ ghost use Rattle.std.specs.Prelude.{◌≡◌, ◌<◌, ◌≤◌, length, IfOk,
 ghost use Rattle.locked_store.specs.Answers.{Takes, Found, no_place, grant_place, commit_place, publish_place, receipt_place, piece_place};
 ghost use Rattle.locked_store.specs.Cores.{IsCore, WasLength};
 ghost use Rattle.world.specs.BeginReorg.{BeginStep};
-ghost use Rattle.world.specs.Calls.{LeaseStep, CommitStep, IsReadView, IsCheck};
+ghost use Rattle.piece_work.specs.WorkOff.{NextStep};
+ghost use Rattle.rollout.specs.Due.{IsDue};
+ghost use Rattle.world.specs.Calls.{LeaseStep, CommitStep, IsReadView, IsCheck, effective_moment};
 ghost use Rattle.world.specs.Piece.{PieceStep, ReadStep, standing_at, piece_standing_at};
 ghost use Rattle.world.specs.Publish.{PublishStep};
 ghost use Rattle.world.specs.Query.{QueryStep};
@@ -15,7 +17,9 @@ use crate::handle::Handle;
 use crate::shared_ledger::SharedLedger;
 use collections::{ArcValue, List};
 use lease::Lease;
+use piece_work::next_view;
 use reorganise::{PieceView, PreparedPiece, Work};
+use rollout::{Act, due};
 use row_map::{ReadSet, ReadView, Row};
 use row_query::Query;
 use row_write::Prepared;
@@ -248,6 +252,19 @@ impl<L: SharedLedger> Locked<L> {
         result
     }
 
+    pub(crate) fn due(
+        &self,
+        alloc: Global,
+        me: &mut Handle<L>,
+        moment: u64,
+    ) -> Result<Act, AllocError>
+        requires { me.old.front ≤ length self.now.log }
+        ensures { Takes L.opening me.old self.now result self.now me.new (λ c r d. IfOk r (λ act. IsDue (facts_of c) (effective_moment c moment) act) × (d ≡ c)) no_place }
+    {
+        self.look(me);
+        due(alloc, &self.world, moment)
+    }
+
     pub(crate) fn progress(&self, me: &mut Handle<L>, element: u32) -> Option<(Work, usize, bool)>
         requires { me.old.front ≤ length self.now.log }
         ensures { Found L.opening me.old self.now result me.new (λ c x. x ≡ standing_at (facts_of c) element) }
@@ -267,6 +284,20 @@ impl<L: SharedLedger> Locked<L> {
     {
         self.look(me);
         self.world.piece_progress(element, piece)
+    }
+
+    pub(crate) fn next_view(
+        &self,
+        alloc: Global,
+        me: &mut Handle<L>,
+        element: u32,
+        limit: u32,
+    ) -> Result<Option<PieceView>, ReadFault>
+        requires { me.old.front ≤ length self.now.log }
+        ensures { Takes L.opening me.old self.now result self.now me.new (λ c r d. NextStep c element limit r × (d ≡ c)) no_place }
+    {
+        self.look(me);
+        next_view(alloc, &self.world, element, limit)
     }
 
     pub(crate) fn read_piece(

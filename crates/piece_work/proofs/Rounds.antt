@@ -15,19 +15,17 @@ use Rattle.reorganise.specs.declared.fault.ViewFault.TheVariants as view
 use Rattle.reorganise.specs.Pieces.{is_ended, are_ended}
 use Rattle.reorganise.specs.Refusals.{IsSpent, rank, Condition}
 use Rattle.replay.specs.Kept.{IsInPiece, IsInPieces, AreInPieces}
-use Rattle.replay.specs.Replay.{progress_of, moved_to}
+use Rattle.replay.specs.Replay.{progress_of}
 use Rattle.replay.proofs.Pieces.{at_place}
 use Rattle.world.specs.declared.entry.PieceDone.{PieceDone}
 use Rattle.world.specs.declared.piece.ReadFault.{ReadFault}
 use Rattle.world.specs.declared.piece.ReadFault.TheVariants.{NotWanted, View}
 use Rattle.world.specs.Piece.{standing, standing_at, ReadStep, PieceStep}
-use Rattle.world.specs.Calls.{effective_moment}
-use Rattle.world.specs.State.{State, facts_of, effect}
+use Rattle.world.specs.State.{State, facts_of}
 use Rattle.piece_work.specs.declared.fault.WorkFault.{WorkFault}
 use Rattle.piece_work.specs.declared.fault.WorkFault.TheVariants as work_fault
-use Rattle.piece_work.specs.WorkOff.{IsEndedAt, IsNext, Round, Rounds, WasRead, HasEnded, Stops, WorkStep}
+use Rattle.piece_work.specs.WorkOff.{IsEndedAt, IsNext, NextStep, Round, Rounds, WasRead, HasEnded, Stops, WorkStep}
 use Rattle.piece_work.specs.inner.Steps.{IsAt, WasSpent, IsUncommitted}
-use Rattle.piece_work.proofs.Moves.{moved_length, moved_ended, after_piece}
 
 some_one : {A : Type 0} {v w : A} → Some v ≡ (let o : Option A = Some w in o) → v ≡ w
 some_one e = cc
@@ -106,45 +104,34 @@ unspent p piece limit span view.Spent here refused other = absurd (other refl)
 unspent p piece limit span view.BadLimit here refused other = refused.1 view.Spent (omega arith)
 unspent p piece limit span view.Memory here refused other = refused.1 view.Spent (omega arith)
 
-pub stops_read : (s : State) (element pieces piece moment limit : ℕ) (fault : ReadFault) → IsAt s element pieces piece → piece < pieces → ReadStep s element piece limit (Err fault) → fault ≢ View view.Spent → Stops s element moment limit (work_fault.Read fault)
-stops_read s element pieces piece moment limit NotWanted at lt read other = read
-stops_read s element pieces piece moment limit (View fault) at lt read other =
+pub next_refused : (s : State) (element pieces piece limit : ℕ) (fault : ReadFault) → IsAt s element pieces piece → piece < pieces → ReadStep s element piece limit (Err fault) → fault ≢ View view.Spent → NextStep s element limit (Err fault)
+next_refused s element pieces piece limit NotWanted at lt read other = read
+next_refused s element pieces piece limit (View fault) at lt read other =
     let same : read.0 ≡ at.progress = one_progress s element pieces piece at read.0 read.1 in
     let refused : IsRefusal rank (Condition at.progress piece limit) view.Memory fault = subst (λ (p : Progress). IsRefusal rank (Condition p piece limit) view.Memory fault) same read.2 in
     let found = there at.progress.pieces piece (subst (λ (n : ℕ). piece < n) (sym at.count) lt) in
     (piece, next_at s element pieces piece found.0 at found.1 (unspent at.progress piece limit found.0 fault found.1 refused other), read)
 
+pub stops_next : (s : State) (element moment limit : ℕ) (fault : ReadFault) → NextStep s element limit (Err fault) → Stops s element moment limit (work_fault.Read fault)
+stops_next s element moment limit NotWanted next = next
+stops_next s element moment limit (View fault) next = next
+
 -- ---- a round
 
-pub round : (old new : State) (element pieces piece moment limit : ℕ) (read : Reading) (done : PieceDone) → IsAt old element pieces piece → ReadStep old element piece limit (Ok read) → PieceStep old moment read (Ok done) new → Round old element moment limit new
-round old new element pieces piece moment limit read done at step committed =
-    record { piece = piece; next = (was_read old element pieces piece limit read at step).0; read = read; read_so = step; done = done; committed = committed }
-
--- the pieces are the same, and those before stay ended
-pub stays : (old new : State) (element pieces piece moment limit : ℕ) (read : Reading) (done : PieceDone) → IsAt old element pieces piece → ReadStep old element piece limit (Ok read) → PieceStep old moment read (Ok done) new → IsAt new element pieces piece
-stays old new element pieces piece moment limit read done at step committed =
-    let number = read.element.number in
-    let to = read.key_range.high in
-    let place : read.piece ≡ piece = ap (λ (r : Reading). r.piece) step.3.read_is in
-    let state = committed.2.state ∙ ap (effect old) committed.2.entry in
-    record {
-      progress = moved_to number read.piece to at.progress;
-      begun = ap (λ (s : State). progress_of (facts_of s).progress element) state ∙ after_piece old (effective_moment old moment) number read.piece to element at.progress at.begun;
-      count = moved_length number read.piece to at.progress ∙ at.count;
-      earlier = λ k lt. moved_ended number read.piece to at.progress k (subst (λ (n : ℕ). k < n) (sym place) lt) (at.earlier k lt);
-    }
+pub round : (old new : State) (element moment limit : ℕ) (read : Reading) (done : PieceDone) → (piece : ℕ) × WasRead old element limit piece read → PieceStep old moment read (Ok done) new → Round old element moment limit new
+round old new element moment limit read done was committed = record { piece = was.0; next = was.1.0; read = read; read_so = was.1.1; done = done; committed = committed }
 
 pub one_more : (n m : ℕ) (old middle new : State) (element moment limit : ℕ) → m ≡ n + 1 → Rounds n old element moment limit middle → Round middle element moment limit new → Rounds m old element moment limit new
 one_more n m old middle new element moment limit is rounds last = subst (λ (k : ℕ). Rounds k old element moment limit new) (sym (is ∙ add-one n)) (middle, rounds, last)
 
 -- a refused commit leaves all as it was
-pub stops_commit : (s new : State) (element pieces piece moment limit : ℕ) (read : Reading) (fault : WorkFault) → IsAt s element pieces piece → ReadStep s element piece limit (Ok read) → IsUncommitted s moment read fault → new ≡ s → Stops new element moment limit fault
-stops_commit s new element pieces piece moment limit read fault at step why same = subst (λ (x : State). Stops x element moment limit fault) (sym same) (by fault why)
+pub stops_commit : (s new : State) (element moment limit : ℕ) (read : Reading) (fault : WorkFault) → (piece : ℕ) × WasRead s element limit piece read → IsUncommitted s moment read fault → new ≡ s → Stops new element moment limit fault
+stops_commit s new element moment limit read fault was why same = subst (λ (x : State). Stops x element moment limit fault) (sym same) (by fault why)
   where
     by : (fault : WorkFault) → IsUncommitted s moment read fault → Stops s element moment limit fault
     by (work_fault.Read fault) why = absurd why
-    by (work_fault.Commit fault) why = (piece, read, was_read s element pieces piece limit read at step, why)
-    by work_fault.Memory why = (piece, read, was_read s element pieces piece limit read at step)
+    by (work_fault.Commit fault) why = (was.0, read, was.1, why)
+    by work_fault.Memory why = (was.0, read, was.1)
 
 -- ---- how it stands
 

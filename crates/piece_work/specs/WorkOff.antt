@@ -1,6 +1,6 @@
--- Cited by the contracts of work_off.
+-- Cited by the contracts of next_view, work_off, locked_store::Shared::next_view.
 -- What it is to work a begun reorganisation off, round by round.
-use Rattle.std.specs.Prelude.{◌≡◌, ℕ, zero, suc, ◌<◌, true, Some, None, Result, Ok, Err, slice_get}
+use Rattle.std.specs.Prelude.{◌≡◌, ℕ, zero, suc, ◌<◌, true, Option, Some, None, Result, Ok, Err, slice_get}
 use Rattle.std.specs.declared.cmp.Ordering.TheVariants.{Less}
 use Rattle.keycode.specs.Order.{bytes_cmp}
 use Rattle.schema_version.specs.declared.element.Work.{Work}
@@ -10,6 +10,7 @@ use Rattle.reorganise.specs.declared.read.Reading.{Reading}
 use Rattle.reorganise.specs.Pieces.{is_ended}
 use Rattle.replay.specs.Replay.{progress_of}
 use Rattle.world.specs.declared.entry.PieceDone.{PieceDone}
+use Rattle.world.specs.declared.piece.ReadFault.{ReadFault}
 use Rattle.world.specs.declared.piece.ReadFault.TheVariants.{NotWanted, View}
 use Rattle.world.specs.Piece.{standing_at, ReadStep, PieceStep}
 use Rattle.world.specs.State.{State, facts_of}
@@ -62,6 +63,13 @@ HasEnded state element = (work : Work) × (pieces : ℕ) × (standing_at (facts_
 -- the next piece was read
 abbrev pub WasRead : State → ℕ → ℕ → ℕ → Reading → Type 0
 WasRead state element limit piece read = IsNext state element piece × ReadStep state element piece limit (Ok read)
+
+-- the next piece is read; or there is none, since all have ended; or nothing is begun, or the next piece is refused by its read
+abbrev pub NextStep : State → ℕ → ℕ → Result (Option Reading) ReadFault → Type 0
+NextStep state element limit (Ok (Some read)) = (piece : ℕ) × WasRead state element limit piece read
+NextStep state element limit (Ok None) = HasEnded state element
+NextStep state element limit (Err NotWanted) = progress_of (facts_of state).progress element ≡ None
+NextStep state element limit (Err (View fault)) = (piece : ℕ) × IsNext state element piece × ReadStep state element piece limit (Err (View fault))
 
 -- why the next round doesn't come: nothing is begun, or the next piece is refused by its read or by
 -- its commit; out of memory comes after the read

@@ -5,7 +5,9 @@
 #![tactic(auto)]
 
 mod fault;
+mod next_piece;
 mod piece_loop;
 
 pub use fault::WorkFault;
+pub use next_piece::next_view;
 pub use piece_loop::work_off;

@@ -1,48 +1,15 @@
 //! The rounds of a reorganisation.
-ghost use Rattle.std.specs.Prelude.{◌≡◌, ◌≢◌, ℕ, IfOk, IfErr, OnOk, OnErr, MatchOption, Ok, Err};
-ghost use Rattle.reorganise.specs.declared.fault.ViewFault.TheVariants.{Spent};
+ghost use Rattle.std.specs.Prelude.{◌≡◌, IfErr, OnOk, OnErr, Ok};
 ghost use Rattle.world.specs.declared.entry.PieceDone.{PieceDone as Done};
-ghost use Rattle.world.specs.declared.piece.ReadFault.TheVariants.{View};
-ghost use Rattle.world.specs.Piece.{ReadStep, PieceStep};
-ghost use Rattle.piece_work.specs.WorkOff.{Stops, WorkStep};
-ghost use Rattle.piece_work.specs.inner.Steps.{HasPieces, WasSpent, IsUncommitted};
+ghost use Rattle.world.specs.Piece.{PieceStep};
+ghost use Rattle.piece_work.specs.WorkOff.{WorkStep};
+ghost use Rattle.piece_work.specs.inner.Steps.{IsUncommitted};
 
 use crate::fault::WorkFault;
-use reorganise::{PieceView, ViewFault, prepare_piece};
+use crate::next_piece::next_view;
+use reorganise::{PieceView, prepare_piece};
 use std::alloc::Global;
-use world::{ReadFault, World};
-
-/// How many pieces the begun reorganisation of an element has.
-fn pieces_of(world: &World, element: u32) -> Result<u32, WorkFault>
-    ensures begun { IfOk result (λ pieces. HasPieces world.now element pieces) }
-    ensures stops { IfErr result (λ fault. (moment limit : ℕ) → Stops world.now element moment limit fault) }
-{
-    world.lemma_agrees();
-    let Some((_, pieces, _)) = world.progress(element) else {
-        return Err(WorkFault::Read(ReadFault::NotWanted));
-    };
-    Ok(pieces as u32)
-}
-
-/// The next items of a piece, none if it has ended.
-fn next_items(
-    alloc: Global,
-    world: &World,
-    element: u32,
-    piece: u32,
-    limit: u32,
-) -> Result<Option<PieceView>, ReadFault>
-    ensures read { IfOk result (λ found. MatchOption found (WasSpent world.now element piece limit) (λ view. ReadStep world.now element piece limit (Ok view))) }
-    ensures refused { IfErr result (λ fault. ReadStep world.now element piece limit (Err fault)) }
-    ensures other { IfErr result (λ fault. fault ≢ View Spent) }
-{
-    world.lemma_agrees();
-    match world.read_piece(alloc, element, piece, limit) {
-        Ok(view) => Ok(Some(view)),
-        Err(ReadFault::View(ViewFault::Spent)) => Ok(None),
-        Err(fault) => Err(fault),
-    }
-}
+use world::World;
 
 /// What was read of a piece is prepared and committed.
 fn commit(alloc: Global, world: &mut World, moment: u64, view: PieceView) -> Result<(), WorkFault>
@@ -81,20 +48,13 @@ pub fn work_off(
 ) -> Result<u64, WorkFault>
     ensures step { WorkStep world.old element moment limit result world.new }
 {
-    let pieces = pieces_of(world, element)?;
-    let mut piece = 0u32;
     let mut commits = 0u64;
-    while piece < pieces {
-        match next_items(alloc, world, element, piece, limit)? {
-            None => piece += 1,
-            Some(view) => {
-                let Some(more) = commits.checked_add(1) else {
-                    return Err(WorkFault::Memory);
-                };
-                commit(alloc, world, moment, view)?;
-                commits = more;
-            }
-        }
+    while let Some(view) = next_view(alloc, world, element, limit)? {
+        let Some(more) = commits.checked_add(1) else {
+            return Err(WorkFault::Memory);
+        };
+        commit(alloc, world, moment, view)?;
+        commits = more;
     }
     Ok(commits)
 }

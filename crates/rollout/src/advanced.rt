@@ -4,8 +4,8 @@ ghost use Rattle.rollout.specs.Advance.{AdvanceStep};
 ghost use Rattle.rollout.specs.declared.advanced.AdvanceFault.TheVariants.{Memory};
 
 use crate::act::{Act, due};
-use crate::counts::are_counts;
 use crate::due_calls::{begin, publish};
+use crate::limits::are_counts;
 use crate::piece::work_piece;
 use lease::MAX_MOMENT;
 use std::alloc::{AllocError, Global};

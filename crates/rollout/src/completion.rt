@@ -3,8 +3,8 @@ ghost use Rattle.rollout.specs.Complete.{CompleteStep};
 
 use crate::act::{Act, due};
 use crate::advanced::AdvanceFault;
-use crate::counts::are_counts;
 use crate::due_calls::{begin, publish};
+use crate::limits::are_counts;
 use crate::piece::work_all;
 use lease::MAX_MOMENT;
 use std::alloc::Global;

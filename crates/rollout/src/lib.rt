@@ -13,9 +13,9 @@ mod act;
 mod advanced;
 mod candidates;
 mod completion;
-mod counts;
 mod due_calls;
 mod laws;
+mod limits;
 mod piece;
 mod state_path;
 
@@ -25,4 +25,5 @@ pub use completion::complete;
 pub use laws::{
     advances_lower, calls_go_on, due_is_accepted, few_acts_are_left, pieces_take_items,
 };
+pub use limits::are_counts;
 pub use state_path::next_state;

@@ -3,30 +3,17 @@ ghost use Rattle.std.specs.Prelude.{◌≡◌, ℕ, ◌≤◌, IfOk, OnErr, OnOk
 ghost use Rattle.lease.specs.Timeline.{max_moment};
 ghost use Rattle.world.specs.Calls.{effective_moment};
 ghost use Rattle.world.specs.State.{facts_of};
-ghost use Rattle.piece_work.specs.inner.Steps.{HasPieces};
 ghost use Rattle.piece_work.specs.WorkOff.{HasEnded, Rounds, WasRead};
 ghost use Rattle.rollout.specs.Due.{IsOpen};
 ghost use Rattle.rollout.specs.Advance.{IsLimit, WorksPiece};
 
-use piece_work::work_off;
-use reorganise::{PieceView, ViewFault, prepare_piece};
+use piece_work::{next_view, work_off};
+use reorganise::{PieceView, prepare_piece};
 use std::alloc::{AllocError, Global};
-use world::{PieceDone, ReadFault, World};
-
-/// How many pieces an open reorganisation has.
-fn piece_count(world: &World, element: u32) -> u32
-    requires { IsOpen (facts_of world.now) element }
-    ensures { HasPieces world.now element result }
-{
-    world.lemma_agrees();
-    match world.progress(element) {
-        Some((_, pieces, _)) => pieces as u32,
-        None => unreachable!(),
-    }
-}
+use world::{PieceDone, World};
 
 /// The next items of the first piece that has not ended: there is one.
-fn next_view(
+fn open_view(
     alloc: Global,
     world: &World,
     element: u32,
@@ -36,17 +23,11 @@ fn next_view(
     requires limit { IsLimit limit }
     ensures { IfOk result (λ view. (piece : ℕ) × WasRead world.now element limit piece view) }
 {
-    world.lemma_agrees();
-    let pieces = piece_count(world, element);
-    let mut piece = 0u32;
-    while piece < pieces {
-        match world.read_piece(alloc, element, piece, limit) {
-            Ok(view) => return Ok(view),
-            Err(ReadFault::View(ViewFault::Spent)) => piece += 1,
-            Err(_) => return Err(AllocError),
-        }
+    match next_view(alloc, world, element, limit) {
+        Ok(Some(view)) => Ok(view),
+        Ok(None) => unreachable!(),
+        Err(_) => Err(AllocError),
     }
-    unreachable!()
 }
 
 /// Works the next items of an open reorganisation.
@@ -63,7 +44,7 @@ pub(crate) fn work_piece(
     ensures done { IfOk result (λ done. WorksPiece world.old element moment limit done world.new) }
     ensures same { OnErr result (world.new ≡ world.old) }
 {
-    let view = next_view(alloc, world, element, limit)?;
+    let view = open_view(alloc, world, element, limit)?;
     let Ok(prepared) = prepare_piece(alloc, view) else {
         return Err(AllocError);
     };

@@ -7,6 +7,7 @@ use lease::Lease;
 use row_map::ColumnType;
 use row_write::{RowOp, prepare, reads_of};
 use schema_version::{ElementState, Kind, Move, NewElement, TableDef};
+use server::Request;
 use std::alloc::{AllocError, Global};
 use world::{Config, World};
 
@@ -43,6 +44,28 @@ fn config(alloc: Global) -> Result<Config, AllocError> {
         length: 10,
         tables: List::new(vec![in alloc; table]?),
     })
+}
+
+/// insert t (ID) set a = ID, or, of a row that is there, update t (ID) set a = ID + 1
+pub(crate) fn request(alloc: Global, id: i64, is_there: bool) -> Result<Request, AllocError> {
+    let key = List::new(vec![in alloc; Value::Int(id)]?);
+    let value = if is_there { id.wrapping_add(1) } else { id };
+    let cells = List::new(vec![in alloc; (1u32, Value::Int(value))]?);
+    let op = if is_there {
+        RowOp::Update {
+            table: 1,
+            key,
+            cells,
+        }
+    } else {
+        RowOp::Insert {
+            table: 1,
+            key,
+            cells,
+        }
+    };
+    let ops = List::new(vec![in alloc; op]?);
+    Ok(Request { moment: 10, ops })
 }
 
 // insert t (ID) set a = ID, b = 5
@@ -113,10 +136,10 @@ pub(crate) fn states(world: &World) -> (ElementState, ElementState, ElementState
     (schema.state(2), schema.state(3), schema.state(4))
 }
 
-/// Whether the audit finds five rows, and no entry missing or left over.
-pub(crate) fn is_whole(alloc: Global, world: &World) -> bool {
+/// Whether the audit finds so many rows, and no entry missing or left over.
+pub(crate) fn is_whole(alloc: Global, world: &World, rows: u64) -> bool {
     match world.check(alloc) {
-        Ok(report) => report.rows == 5 && report.missing == 0 && report.extra == 0,
+        Ok(report) => report.rows == rows && report.missing == 0 && report.extra == 0,
         Err(_) => false,
     }
 }

@@ -1,4 +1,4 @@
-//! Changes that are carried on by `advance` and `complete` alone.
+//! Changes that are carried on by `advance` and `complete` alone, also through the lock.
 #![tactic(auto)]
 
 #[cfg(test)]
@@ -7,5 +7,7 @@ mod fixtures;
 mod operators;
 #[cfg(test)]
 mod refusals;
+#[cfg(test)]
+mod shared;
 #[cfg(test)]
 mod side_by_side;

@@ -65,7 +65,7 @@ fn under_refusal_another_operator_goes_on(rt: HostRuntime) {
                 ElementState::Public
             )
     );
-    assert!(rt; is_whole(alloc, &world) || is_whole(alloc, &world));
+    assert!(rt; is_whole(alloc, &world, 5) || is_whole(alloc, &world, 5));
     let entries = world.log().len();
     assert!(rt; completes(alloc, &mut world, 70) == Ok(70) && world.log().len() == entries);
 }

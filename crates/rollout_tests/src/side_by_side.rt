@@ -55,5 +55,5 @@ fn changes_go_on_side_by_side(rt: HostRuntime) {
                 ElementState::Public
             )
     );
-    assert!(rt; is_whole(alloc, &world));
+    assert!(rt; is_whole(alloc, &world, 5));
 }

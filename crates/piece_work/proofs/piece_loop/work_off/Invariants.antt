@@ -1,15 +1,10 @@
-use Rattle.std.proofs.Common.{◌+◌, ◌-◌, ◌^◌, ◌≤◌}
+use Rattle.std.proofs.Common.{◌-◌, ◌^◌}
 use Rattle.piece_work.specs.WorkOff.{Rounds}
-use Rattle.piece_work.specs.inner.Steps.{IsAt}
 use Rattle.piece_work.proofs.piece_loop.work_off.Given as goal
 
-abbrev pub invariant-loop-piece : goal.invariant-loop-piece
-invariant-loop-piece l = record {
-  at : IsAt l.world l.element l.pieces l.piece;
-  rounds : Rounds l.commits l.fn.world l.element l.moment l.limit l.world;
-  within : l.piece ≤ l.pieces;
-}
+abbrev pub invariant-loop-view : goal.invariant-loop-view
+invariant-loop-view l = Rounds l.commits l.fn.world l.element l.moment l.limit l.world
 
--- a piece is passed, or a commit is counted
-abbrev pub decreases-loop-piece : goal.decreases-loop-piece
-decreases-loop-piece l = (l.pieces - l.piece) + (2 ^ 64 - l.commits)
+-- a commit is counted
+abbrev pub decreases-loop-view : goal.decreases-loop-view
+decreases-loop-view l = 2 ^ 64 - l.commits

@@ -1,0 +1,141 @@
+-- Attempts until one act is done, and acts until no change is under way.
+use Rattle.std.proofs.Common.{◌≡◌, ℕ, ◌+◌, ◌<◌, ◌≤◌, ◌++◌, ◌∷◌, List, [], length, All, Option, Some, None, refl, sym, ap, ◌∙◌, subst, inl, arith}
+use Rattle.std.specs.Prelude.{Result, Ok, Err, IfOk, IfErr}
+use Rattle.std.proofs.lemmas.List.{length-append}
+use Rattle.std.proofs.lemmas.List.Elements.{All-append, All-cons, All-nil, All-same}
+use Rattle.std.proofs.Math.Nat.{le-max_left}
+use Rattle.lease.specs.Timeline.{max_moment}
+use Rattle.replay.specs.Replay.{Opening}
+use Rattle.world.specs.declared.entry.Receipt.{Receipt}
+use Rattle.world.specs.State.{facts_of}
+use Rattle.locked_store.specs.Known.{Known}
+use Rattle.locked_store.specs.Receipts.{IsLogged}
+use Rattle.rollout.specs.declared.advanced.Advanced.{Advanced}
+use Rattle.rollout.specs.declared.advanced.Advanced.TheVariants as advanced
+use Rattle.shared_rollout.specs.Operator.{HasFinished, IsAdvanced, IsRefused, WereOvertaken, asked, entries_in, entries_of}
+use Rattle.shared_rollout.specs.inner.Attempts.{Acts, Attempts, TurnSays, Turns, next_of, receipts_of}
+use Rattle.shared_rollout.specs.declared.ask.Ask.{Ask}
+use Rattle.shared_rollout.specs.declared.fault.OperatorFault.{OperatorFault}
+use Rattle.shared_rollout.specs.declared.fault.OperatorFault.TheVariants as fault
+
+-- ---- tries
+
+-- a handle by which no entry was added since
+abbrev pub IsStill : Known → Known → Type 0
+IsStill v w = (w.id ≡ v.id) × (w.count ≡ v.count) × (v.front ≤ w.front)
+
+pub still_same : (v w : Known) → w ≡ v → IsStill v w
+still_same v w is = (ap (λ (k : Known). k.id) is, ap (λ (k : Known). k.count) is, omega (arith, ap (λ (k : Known). k.front) is))
+
+pub too_late : (opening : Opening) (ask : Ask) (v w : Known) → w ≡ v → max_moment < ask.moment → Acts opening ask v (Err fault.MomentTooLarge) w
+too_late opening ask v w is late = let s = still_same v w is in record { same = s.0; rises = s.2; says = (inl late, s.1) }
+
+pub done_at_last : (opening : Opening) (ask : Ask) (v u w : Known) (done : Advanced) → IsStill v u → Attempts opening ask u (Ok (Some done)) w → Acts opening ask v (Ok done) w
+done_at_last opening ask v u w done s a =
+    record { same = a.same ∙ s.0; rises = omega (arith, a.rises, s.2); says = (a.says.0, a.says.1 ∙ ap (λ n. n + entries_of done) s.1) }
+
+pub refused_at_last : (opening : Opening) (ask : Ask) (v u w : Known) (why : OperatorFault) → IsStill v u → Attempts opening ask u (Err why) w → Acts opening ask v (Err why) w
+refused_at_last opening ask v u w why s a = record { same = a.same ∙ s.0; rises = omega (arith, a.rises, s.2); says = (a.says.0, a.says.1 ∙ s.1) }
+
+pub still_later : (opening : Opening) (ask : Ask) (v u w : Known) → IsStill v u → Attempts opening ask u (Ok None) w → IsStill v w
+still_later opening ask v u w s a = (a.same ∙ s.0, a.says.1 ∙ s.1, omega (arith, a.rises, s.2))
+
+-- as many tries as were allowed
+pub busy : (opening : Opening) (ask : Ask) (v w : Known) (failed : ℕ) → IsStill v w → failed ≤ ask.tries → ask.tries ≤ failed → WereOvertaken opening ask failed → Acts opening ask v (Err (fault.Busy ask.tries)) w
+busy opening ask v w failed s within over were =
+    let all : failed ≡ ask.tries = omega (arith, within, over) in record { same = s.0; rises = s.2; says = ((refl, subst (λ n. WereOvertaken opening ask n) all were), s.1) }
+
+-- ---- turns
+
+says_of : (opening : Opening) (ask : Ask) (front : ℕ) (done : Advanced) → IsAdvanced opening ask done → TurnSays opening ask front (Ok (next_of ask.moment done))
+says_of opening ask front (advanced.Began number receipt) d = omega arith
+says_of opening ask front (advanced.Published version receipt) d = omega arith
+says_of opening ask front (advanced.Worked number done) d = omega arith
+says_of opening ask front (advanced.Waiting until) d = omega (arith, d.2.0.1, le-max_left ask.moment (facts_of d.0).moment)
+says_of opening ask front advanced.Finished d = d
+
+as_many : (done : Advanced) → length (receipts_of done) ≡ entries_of done
+as_many (advanced.Began number receipt) = refl
+as_many (advanced.Published version receipt) = refl
+as_many (advanced.Worked number done) = refl
+as_many (advanced.Waiting until) = refl
+as_many advanced.Finished = refl
+
+one_logged : (opening : Opening) (front : ℕ) (receipt : Receipt) → IsLogged opening front receipt → All (IsLogged opening front) (receipt ∷ [])
+one_logged opening front receipt is = All-cons (IsLogged opening front) receipt [] is (All-nil (IsLogged opening front))
+
+are_logged : (opening : Opening) (ask : Ask) (done : Advanced) → IsAdvanced opening ask done → All (IsLogged opening ask.front) (receipts_of done)
+are_logged opening ask (advanced.Began number receipt) d = one_logged opening ask.front receipt d.2
+are_logged opening ask (advanced.Published version receipt) d = one_logged opening ask.front receipt d.3
+are_logged opening ask (advanced.Worked number done) d = one_logged opening ask.front done.receipt d.2
+are_logged opening ask (advanced.Waiting until) d = All-nil (IsLogged opening ask.front)
+are_logged opening ask advanced.Finished d = All-nil (IsLogged opening ask.front)
+
+pub turned : (opening : Opening) (ask : Ask) (v w : Known) (old mid new : List Receipt) (done : Advanced) (next : Option ℕ) → mid ≡ old → Acts opening ask v (Ok done) w → next ≡ next_of ask.moment done → new ≡ mid ++ receipts_of done
+    → Turns opening ask v old (Ok next) w new
+turned opening ask v w old mid new done next same a next_is new_is =
+    let is : new ≡ old ++ receipts_of done = new_is ∙ ap (λ l. l ++ receipts_of done) same in
+    record {
+      same = a.same;
+      rises = a.rises;
+      says = subst (λ (n : Option ℕ). TurnSays opening ask w.front (Ok n)) (sym next_is) (says_of opening ask w.front done a.says.0);
+      counted = omega (arith, a.says.1, ap (λ (l : List Receipt). length l) is, length-append old (receipts_of done), as_many done);
+      logged = λ all.
+          All-same (IsLogged opening ask.front) new (old ++ receipts_of done) is (All-append (IsLogged opening ask.front) old (receipts_of done) all (are_logged opening ask done a.says.0));
+    }
+
+pub turn_refused : (opening : Opening) (ask : Ask) (v w : Known) (old new : List Receipt) (why : OperatorFault) → new ≡ old → Acts opening ask v (Err why) w → Turns opening ask v old (Err why) w new
+turn_refused opening ask v w old new why same a =
+    record {
+      same = a.same;
+      rises = a.rises;
+      says = a.says.0;
+      counted = omega (arith, a.says.1, ap (λ (l : List Receipt). length l) same);
+      logged = λ all. All-same (IsLogged opening ask.front) new old same all;
+    }
+
+-- no room for a receipt
+pub no_room : (opening : Opening) (ask : Ask) (v w : Known) (old new : List Receipt) → w ≡ v → new ≡ old → Turns opening ask v old (Err fault.Memory) w new
+no_room opening ask v w old new is same =
+    let s = still_same v w is in turn_refused opening ask v w old new fault.Memory same (record { same = s.0; rises = s.2; says = (tt, s.1) })
+
+-- ---- until no change is under way
+
+-- some turns, in which the moment did not fall
+pub record Went (opening : Opening) (front : ℕ) (v : Known) (old : List Receipt) (w : Known) (new : List Receipt) : Type 0 where
+  pub same : w.id ≡ v.id
+  pub rises : v.front ≤ w.front
+  pub counted : w.count + length old ≡ v.count + length new
+  pub logged : All (IsLogged opening front) old → All (IsLogged opening front) new
+
+pub one_turn_more : (opening : Opening) (ask : Ask) (front : ℕ) (v u w : Known) (old mid new : List Receipt) (turn : Result (Option ℕ) OperatorFault) → ask.front ≡ front → Went opening front v old u mid → Turns opening ask u mid turn w new
+    → Went opening front v old w new
+one_turn_more opening ask front v u w old mid new turn is went t =
+    record {
+      same = t.same ∙ went.same;
+      rises = omega (arith, went.rises, t.rises);
+      counted = omega (arith, went.counted, t.counted);
+      logged = λ all. subst (λ f. All (IsLogged opening f) mid → All (IsLogged opening f) new) is t.logged (went.logged all);
+    }
+
+-- ---- the calls
+
+pub acts_as : (opening : Opening) (moment pieces limit tries front own : ℕ) (v w : Known) (result : Result Advanced OperatorFault) → front ≡ own → Acts opening (asked moment pieces limit tries front) v result w
+    → Acts opening (asked moment pieces limit tries own) v result w
+acts_as opening moment pieces limit tries front own v w result is a = subst (λ f. Acts opening (asked moment pieces limit tries f) v result w) is a
+
+pub acts_done : (opening : Opening) (ask : Ask) (v w : Known) (result : Result Advanced OperatorFault) → Acts opening ask v result w → IfOk result (λ done. IsAdvanced opening ask done)
+acts_done opening ask v w (Ok done) a = a.says.0
+acts_done opening ask v w (Err why) a = tt
+
+pub acts_refused : (opening : Opening) (ask : Ask) (v w : Known) (result : Result Advanced OperatorFault) → Acts opening ask v result w → IfErr result (λ why. IsRefused opening ask w.front why)
+acts_refused opening ask v w (Ok done) a = tt
+acts_refused opening ask v w (Err why) a = a.says.0
+
+pub acts_counted : (opening : Opening) (ask : Ask) (v w : Known) (result : Result Advanced OperatorFault) → Acts opening ask v result w → w.count ≡ v.count + entries_in result
+acts_counted opening ask v w (Ok done) a = a.says.1
+acts_counted opening ask v w (Err why) a = omega (arith, a.says.1)
+
+pub any_ok : {A E P : Type 0} (result : Result A E) → P → IfOk result (λ x. P)
+any_ok (Ok x) p = p
+any_ok (Err e) p = tt

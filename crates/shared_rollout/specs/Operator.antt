@@ -1,0 +1,163 @@
+-- Cited by the contracts of advance, complete.
+-- What an operator's calls through the lock answer.
+use Rattle.std.specs.Prelude.{◌≡◌, ℕ, ◌<◌, ◌≤◌, ◌⊎◌, List, length, All, Option, Some, None, Result, Ok, Err}
+use Rattle.lease.specs.Timeline.{max_moment}
+use Rattle.schema_version.specs.declared.step.Move.{Move}
+use Rattle.reorganise.specs.declared.fault.ViewFault.TheVariants as view_fault
+use Rattle.reorganise.specs.declared.read.Reading.{Reading}
+use Rattle.replay.specs.Replay.{Opening}
+use Rattle.world.specs.declared.begin_reorg.BeginFault.{BeginFault}
+use Rattle.world.specs.declared.begin_reorg.BeginFault.TheVariants as begin_fault
+use Rattle.world.specs.declared.entry.PieceDone.{PieceDone}
+use Rattle.world.specs.declared.entry.Receipt.{Receipt}
+use Rattle.world.specs.declared.piece.PieceFault.{PieceFault}
+use Rattle.world.specs.declared.piece.PieceFault.TheVariants as piece_fault
+use Rattle.world.specs.declared.piece.ReadFault.{ReadFault}
+use Rattle.world.specs.declared.piece.ReadFault.TheVariants as read_fault
+use Rattle.world.specs.declared.publish.PublishFault.{PublishFault}
+use Rattle.world.specs.declared.publish.PublishFault.TheVariants as publish_fault
+use Rattle.world.specs.BeginReorg.{BeginStep}
+use Rattle.world.specs.Calls.{effective_moment}
+use Rattle.world.specs.Piece.{PieceStep}
+use Rattle.world.specs.Publish.{PublishStep}
+use Rattle.world.specs.State.{State, facts_of}
+use Rattle.locked_store.specs.Cores.{IsCoreSince, WasLength}
+use Rattle.locked_store.specs.Receipts.{IsLogged}
+use Rattle.piece_work.specs.WorkOff.{NextStep}
+use Rattle.rollout.specs.declared.act.Act.{Act}
+use Rattle.rollout.specs.declared.act.Act.TheVariants as act
+use Rattle.rollout.specs.declared.advanced.Advanced.{Advanced}
+use Rattle.rollout.specs.declared.advanced.Advanced.TheVariants as advanced
+use Rattle.rollout.specs.Advance.{AreCounts}
+use Rattle.rollout.specs.Due.{IsDue}
+use Rattle.shared_rollout.specs.declared.ask.Ask.{Ask}
+use Rattle.shared_rollout.specs.declared.fault.OperatorFault.{OperatorFault}
+use Rattle.shared_rollout.specs.declared.fault.OperatorFault.TheVariants as fault
+
+-- the pieces are 1 to 64, the limit is 1 to 1,000, the tries are 1 to 1,000,000
+abbrev pub AreNumbers : ℕ → ℕ → ℕ → Type 0
+AreNumbers pieces limit tries = AreCounts pieces limit × (1 ≤ tries) × (tries ≤ 1000000)
+
+abbrev pub asked : ℕ → ℕ → ℕ → ℕ → ℕ → Ask
+asked moment pieces limit tries front = record { moment = moment; pieces = pieces; limit = limit; tries = tries; front = front }
+
+-- ---- what the lock answered. Each core is one of the opening, with at least the entries that the handle had seen
+
+-- a call found a core, and answered so by a step of it
+abbrev pub Answered : {R : Type 0} → Opening → ℕ → R → (State → R → State → Type 0) → Type 0
+Answered opening front answer step = (found : State) × (left : State) × IsCoreSince opening front found × step found answer left
+
+-- the act was due in a core
+abbrev pub WasDue : Opening → Ask → Act → Type 0
+WasDue opening ask what = (core : State) × IsCoreSince opening ask.front core × IsDue (facts_of core) (effective_moment core ask.moment) what
+
+abbrev pub WasBegun : Opening → Ask → ℕ → Result Receipt BeginFault → Type 0
+WasBegun opening ask number answer = Answered opening ask.front answer (λ c r d. BeginStep c ask.moment number ask.pieces r d)
+
+abbrev pub WasPublished : Opening → Ask → List Move → Result (ℕ × Receipt) PublishFault → Type 0
+WasPublished opening ask step answer = Answered opening ask.front answer (λ c r d. PublishStep c ask.moment step r d)
+
+-- the next items of the first piece that had not ended were read, or not
+abbrev pub WasLooked : Opening → Ask → ℕ → Result (Option Reading) ReadFault → Type 0
+WasLooked opening ask number answer = Answered opening ask.front answer (λ c r d. NextStep c number ask.limit r × (d ≡ c))
+
+abbrev pub WasRead : Opening → Ask → ℕ → Reading → Type 0
+WasRead opening ask number read = WasLooked opening ask number (Ok (Some read))
+
+abbrev pub WasCommitted : Opening → Ask → Reading → Result PieceDone (PieceFault × Reading) → Type 0
+WasCommitted opening ask read answer = Answered opening ask.front answer (λ c r d. PieceStep c ask.moment read r d)
+
+-- ---- an act that was done
+
+-- the act was due in one core, and then it was done in another; its entry is in the log after all that the handle had seen
+abbrev pub IsAdvanced : Opening → Ask → Advanced → Type 0
+IsAdvanced opening ask (advanced.Began number receipt) = WasDue opening ask (act.Begin number) × WasBegun opening ask number (Ok receipt) × IsLogged opening ask.front receipt
+IsAdvanced opening ask (advanced.Published version receipt) =
+    (step : List Move) × WasDue opening ask (act.Publish step) × WasPublished opening ask step (Ok (version, receipt)) × IsLogged opening ask.front receipt
+IsAdvanced opening ask (advanced.Worked number done) =
+    WasDue opening ask (act.Work number) × ((read : Reading) × WasRead opening ask number read × WasCommitted opening ask read (Ok done)) × IsLogged opening ask.front done.receipt
+IsAdvanced opening ask (advanced.Waiting until) = WasDue opening ask (act.Wait until)
+IsAdvanced opening ask advanced.Finished = WasDue opening ask act.Nothing
+
+-- how many entries it added
+abbrev pub entries_of : Advanced → ℕ
+entries_of (advanced.Began number receipt) = 1
+entries_of (advanced.Published version receipt) = 1
+entries_of (advanced.Worked number done) = 1
+entries_of (advanced.Waiting until) = 0
+entries_of advanced.Finished = 0
+
+abbrev pub entries_in : Result Advanced OperatorFault → ℕ
+entries_in (Ok done) = entries_of done
+entries_in (Err why) = 0
+
+-- in a core no change was under way
+abbrev pub HasFinished : Opening → Ask → Type 0
+HasFinished opening ask = WasDue opening ask act.Nothing
+
+-- ---- an act at which others were first
+
+-- refusals of an act that was due, from which it follows that the state has moved on
+abbrev pub IsBegunElse : BeginFault → Type 0
+IsBegunElse begin_fault.MomentTooLarge = ⊥
+IsBegunElse begin_fault.NotWanted = Unit {0}
+IsBegunElse (begin_fault.StillUsed until) = Unit {0}
+IsBegunElse begin_fault.Begun = Unit {0}
+IsBegunElse begin_fault.BadCount = Unit {0}
+IsBegunElse begin_fault.Memory = ⊥
+
+abbrev pub IsPublishedElse : PublishFault → Type 0
+IsPublishedElse publish_fault.MomentTooLarge = ⊥
+IsPublishedElse (publish_fault.TooEarly earliest) = Unit {0}
+IsPublishedElse (publish_fault.Step why) = Unit {0}
+IsPublishedElse (publish_fault.Unfinished element) = Unit {0}
+IsPublishedElse publish_fault.VersionsSpent = ⊥
+IsPublishedElse publish_fault.Memory = ⊥
+
+abbrev pub IsReadElse : ReadFault → Type 0
+IsReadElse read_fault.NotWanted = Unit {0}
+IsReadElse (read_fault.View view_fault.BadPiece) = Unit {0}
+IsReadElse (read_fault.View view_fault.Spent) = Unit {0}
+IsReadElse (read_fault.View view_fault.BadLimit) = ⊥
+IsReadElse (read_fault.View view_fault.Memory) = ⊥
+
+abbrev pub IsWorkedElse : PieceFault → Type 0
+IsWorkedElse piece_fault.MomentTooLarge = ⊥
+IsWorkedElse piece_fault.NotWanted = Unit {0}
+IsWorkedElse piece_fault.WrongElement = Unit {0}
+IsWorkedElse (piece_fault.Moved cursor) = Unit {0}
+IsWorkedElse (piece_fault.Conflict key) = Unit {0}
+IsWorkedElse piece_fault.Memory = ⊥
+
+-- the next piece was not there any more, or what was read of it was not committed, since another had moved it or written there
+abbrev pub IsPieceElse : Opening → Ask → ℕ → Type 0
+IsPieceElse opening ask number =
+    WasLooked opening ask number (Ok None)
+    ⊎ (((why : ReadFault) × WasLooked opening ask number (Err why) × IsReadElse why)
+    ⊎ ((read : Reading) × (why : PieceFault) × (back : Reading) × WasRead opening ask number read × WasCommitted opening ask read (Err (why, back)) × IsWorkedElse why))
+
+-- the act was due in one core, and another refused it
+abbrev pub WasOvertaken : Opening → Ask → Act → Type 0
+WasOvertaken opening ask (act.Begin number) = WasDue opening ask (act.Begin number) × ((why : BeginFault) × WasBegun opening ask number (Err why) × IsBegunElse why)
+WasOvertaken opening ask (act.Publish step) = WasDue opening ask (act.Publish step) × ((why : PublishFault) × WasPublished opening ask step (Err why) × IsPublishedElse why)
+WasOvertaken opening ask (act.Work number) = WasDue opening ask (act.Work number) × IsPieceElse opening ask number
+WasOvertaken opening ask (act.Wait until) = ⊥
+WasOvertaken opening ask act.Nothing = ⊥
+
+abbrev pub WereOvertaken : Opening → Ask → ℕ → Type 0
+WereOvertaken opening ask times = (acts : List Act) × (length acts ≡ times) × All (WasOvertaken opening ask) acts
+
+-- ---- an act that was refused
+
+-- the moment is too large itself, or was it in a core
+abbrev pub IsTooLate : Opening → Ask → Type 0
+IsTooLate opening ask = (max_moment < ask.moment) ⊎ ((core : State) × IsCoreSince opening ask.front core × (max_moment < effective_moment core ask.moment))
+
+-- by what the handle knows afterwards: its front
+abbrev pub IsRefused : Opening → Ask → ℕ → OperatorFault → Type 0
+IsRefused opening ask front fault.BadCount = ¬ (AreNumbers ask.pieces ask.limit ask.tries)
+IsRefused opening ask front (fault.WentBack seen) = (seen < front) × WasLength opening seen
+IsRefused opening ask front fault.MomentTooLarge = IsTooLate opening ask
+IsRefused opening ask front fault.VersionsSpent = (step : List Move) × WasDue opening ask (act.Publish step) × WasPublished opening ask step (Err publish_fault.VersionsSpent)
+IsRefused opening ask front (fault.Busy tries) = (tries ≡ ask.tries) × WereOvertaken opening ask tries
+IsRefused opening ask front fault.Memory = Unit {0}

@@ -1,0 +1,131 @@
+-- Cited by private functions alone: of_begin, of_publish, of_look, of_read and 9 more.
+-- What one attempt comes to, by what the lock answered.
+use Rattle.std.specs.Prelude.{◌≡◌, ℕ, ◌+◌, ◌≤◌, List, [], ◌∷◌, length, All, Option, Some, None, Result, Ok, Err}
+use Rattle.std.specs.declared.alloc.AllocError.{AllocError}
+use Rattle.reorganise.specs.declared.fault.ViewFault.TheVariants as view_fault
+use Rattle.reorganise.specs.declared.read.Reading.{Reading}
+use Rattle.replay.specs.Replay.{Opening}
+use Rattle.world.specs.declared.begin_reorg.BeginFault.{BeginFault}
+use Rattle.world.specs.declared.begin_reorg.BeginFault.TheVariants as begin_fault
+use Rattle.world.specs.declared.entry.PieceDone.{PieceDone}
+use Rattle.world.specs.declared.entry.Receipt.{Receipt}
+use Rattle.world.specs.declared.piece.PieceFault.{PieceFault}
+use Rattle.world.specs.declared.piece.PieceFault.TheVariants as piece_fault
+use Rattle.world.specs.declared.piece.ReadFault.{ReadFault}
+use Rattle.world.specs.declared.piece.ReadFault.TheVariants as read_fault
+use Rattle.world.specs.declared.publish.PublishFault.{PublishFault}
+use Rattle.world.specs.declared.publish.PublishFault.TheVariants as publish_fault
+use Rattle.locked_store.specs.Known.{Known}
+use Rattle.locked_store.specs.Receipts.{IsLogged}
+use Rattle.locked_store.specs.declared.fault.SharedFault.{SharedFault}
+use Rattle.locked_store.specs.declared.fault.SharedFault.TheVariants as shared
+use Rattle.rollout.specs.declared.act.Act.{Act}
+use Rattle.rollout.specs.declared.advanced.Advanced.{Advanced}
+use Rattle.rollout.specs.declared.advanced.Advanced.TheVariants as advanced
+use Rattle.shared_rollout.specs.Operator.{HasFinished, IsAdvanced, IsRefused, WasOvertaken, entries_of}
+use Rattle.shared_rollout.specs.declared.ask.Ask.{Ask}
+use Rattle.shared_rollout.specs.declared.fault.OperatorFault.{OperatorFault}
+use Rattle.shared_rollout.specs.declared.fault.OperatorFault.TheVariants as fault
+
+-- an act, none if another was first, or a refusal
+abbrev pub Attempt : Type 0
+Attempt = Result (Option Advanced) OperatorFault
+
+abbrev pub of_begin : ℕ → Result Receipt (SharedFault BeginFault) → Attempt
+of_begin element (Ok receipt) = Ok (Some (advanced.Began element receipt))
+of_begin element (Err (shared.WentBack seen)) = Err (fault.WentBack seen)
+of_begin element (Err (shared.World begin_fault.MomentTooLarge)) = Err fault.MomentTooLarge
+of_begin element (Err (shared.World begin_fault.NotWanted)) = Ok None
+of_begin element (Err (shared.World (begin_fault.StillUsed until))) = Ok None
+of_begin element (Err (shared.World begin_fault.Begun)) = Ok None
+of_begin element (Err (shared.World begin_fault.BadCount)) = Ok None
+of_begin element (Err (shared.World begin_fault.Memory)) = Err fault.Memory
+
+abbrev pub of_publish : Result (ℕ × Receipt) (SharedFault PublishFault) → Attempt
+of_publish (Ok done) = Ok (Some (advanced.Published done.0 done.1))
+of_publish (Err (shared.WentBack seen)) = Err (fault.WentBack seen)
+of_publish (Err (shared.World publish_fault.MomentTooLarge)) = Err fault.MomentTooLarge
+of_publish (Err (shared.World (publish_fault.TooEarly earliest))) = Ok None
+of_publish (Err (shared.World (publish_fault.Step why))) = Ok None
+of_publish (Err (shared.World (publish_fault.Unfinished element))) = Ok None
+of_publish (Err (shared.World publish_fault.VersionsSpent)) = Err fault.VersionsSpent
+of_publish (Err (shared.World publish_fault.Memory)) = Err fault.Memory
+
+abbrev pub of_look : SharedFault AllocError → OperatorFault
+of_look (shared.WentBack seen) = fault.WentBack seen
+of_look (shared.World why) = fault.Memory
+
+abbrev pub of_read : SharedFault ReadFault → Attempt
+of_read (shared.WentBack seen) = Err (fault.WentBack seen)
+of_read (shared.World read_fault.NotWanted) = Ok None
+of_read (shared.World (read_fault.View view_fault.BadPiece)) = Ok None
+of_read (shared.World (read_fault.View view_fault.Spent)) = Ok None
+of_read (shared.World (read_fault.View view_fault.BadLimit)) = Err fault.Memory
+of_read (shared.World (read_fault.View view_fault.Memory)) = Err fault.Memory
+
+abbrev pub of_refusal : SharedFault PieceFault → Attempt
+of_refusal (shared.WentBack seen) = Err (fault.WentBack seen)
+of_refusal (shared.World piece_fault.MomentTooLarge) = Err fault.MomentTooLarge
+of_refusal (shared.World piece_fault.NotWanted) = Ok None
+of_refusal (shared.World piece_fault.WrongElement) = Ok None
+of_refusal (shared.World (piece_fault.Moved cursor)) = Ok None
+of_refusal (shared.World (piece_fault.Conflict key)) = Ok None
+of_refusal (shared.World piece_fault.Memory) = Err fault.Memory
+
+abbrev pub of_commit : ℕ → Result PieceDone (SharedFault PieceFault × Reading) → Attempt
+of_commit element (Ok done) = Ok (Some (advanced.Worked element done))
+of_commit element (Err refusal) = of_refusal refusal.0
+
+-- ---- what is known of an attempt, from the handle before it to the handle after it
+
+abbrev pub Says : Opening → Ask → Known → Attempt → Known → Type 0
+Says opening ask v (Ok (Some done)) w = IsAdvanced opening ask done × (w.count ≡ v.count + entries_of done)
+Says opening ask v (Ok None) w = ((what : Act) × WasOvertaken opening ask what) × (w.count ≡ v.count)
+Says opening ask v (Err why) w = IsRefused opening ask w.front why × (w.count ≡ v.count)
+
+pub record Attempts (opening : Opening) (ask : Ask) (v : Known) (attempt : Attempt) (w : Known) : Type 0 where
+  pub same : w.id ≡ v.id
+  pub rises : v.front ≤ w.front
+  pub says : Says opening ask v attempt w
+
+-- ---- what is known of an act
+
+abbrev pub ActSays : Opening → Ask → Known → Result Advanced OperatorFault → Known → Type 0
+ActSays opening ask v (Ok done) w = IsAdvanced opening ask done × (w.count ≡ v.count + entries_of done)
+ActSays opening ask v (Err why) w = IsRefused opening ask w.front why × (w.count ≡ v.count)
+
+pub record Acts (opening : Opening) (ask : Ask) (v : Known) (result : Result Advanced OperatorFault) (w : Known) : Type 0 where
+  pub same : w.id ≡ v.id
+  pub rises : v.front ≤ w.front
+  pub says : ActSays opening ask v result w
+
+-- ---- what is kept of an act
+
+-- the moment of the next one; none if no change is under way
+abbrev pub next_of : ℕ → Advanced → Option ℕ
+next_of moment (advanced.Began number receipt) = Some moment
+next_of moment (advanced.Published version receipt) = Some moment
+next_of moment (advanced.Worked number done) = Some moment
+next_of moment (advanced.Waiting until) = Some until
+next_of moment advanced.Finished = None
+
+abbrev pub receipts_of : Advanced → List Receipt
+receipts_of (advanced.Began number receipt) = receipt ∷ []
+receipts_of (advanced.Published version receipt) = receipt ∷ []
+receipts_of (advanced.Worked number done) = done.receipt ∷ []
+receipts_of (advanced.Waiting until) = []
+receipts_of advanced.Finished = []
+
+-- ---- what is known of a turn: the moment of the next act, none if no change is under way
+
+abbrev pub TurnSays : Opening → Ask → ℕ → Result (Option ℕ) OperatorFault → Type 0
+TurnSays opening ask front (Ok (Some next)) = ask.moment ≤ next
+TurnSays opening ask front (Ok None) = HasFinished opening ask
+TurnSays opening ask front (Err why) = IsRefused opening ask front why
+
+pub record Turns (opening : Opening) (ask : Ask) (v : Known) (old : List Receipt) (turn : Result (Option ℕ) OperatorFault) (w : Known) (new : List Receipt) : Type 0 where
+  pub same : w.id ≡ v.id
+  pub rises : v.front ≤ w.front
+  pub says : TurnSays opening ask w.front turn
+  pub counted : w.count + length old ≡ v.count + length new
+  pub logged : All (IsLogged opening ask.front) old → All (IsLogged opening ask.front) new
