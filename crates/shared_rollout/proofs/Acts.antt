@@ -30,9 +30,15 @@ still_same v w is = (ap (λ (k : Known). k.id) is, ap (λ (k : Known). k.count) 
 pub too_late : (opening : Opening) (ask : Ask) (v w : Known) → w ≡ v → max_moment < ask.moment → Acts opening ask v (Err fault.MomentTooLarge) w
 too_late opening ask v w is late = let s = still_same v w is in record { same = s.0; rises = s.2; says = (inl late, s.1) }
 
-pub done_at_last : (opening : Opening) (ask : Ask) (v u w : Known) (done : Advanced) → IsStill v u → Attempts opening ask u (Ok (Some done)) w → Acts opening ask v (Ok done) w
-done_at_last opening ask v u w done s a =
+last_done : (opening : Opening) (ask : Ask) (v u w : Known) (done : Advanced) → IsStill v u → Attempts opening ask u (Ok (Some done)) w → Acts opening ask v (Ok done) w
+last_done opening ask v u w done s a =
     record { same = a.same ∙ s.0; rises = omega (arith, a.rises, s.2); says = (a.says.0, a.says.1 ∙ ap (λ n. n + entries_of done) s.1) }
+
+pub done_at_last : (opening : Opening) (ask : Ask) (v u w : Known) (found : Option Advanced) (done : Advanced) → found ≡ Some done → IsStill v u → Attempts opening ask u (Ok found) w → Acts opening ask v (Ok done) w
+done_at_last opening ask v u w found done is s a = last_done opening ask v u w done s (subst (λ (o : Option Advanced). Attempts opening ask u (Ok o) w) is a)
+
+pub none_done : (opening : Opening) (ask : Ask) (u w : Known) (found : Option Advanced) → found ≡ None → Attempts opening ask u (Ok found) w → Attempts opening ask u (Ok None) w
+none_done opening ask u w found is a = subst (λ (o : Option Advanced). Attempts opening ask u (Ok o) w) is a
 
 pub refused_at_last : (opening : Opening) (ask : Ask) (v u w : Known) (why : OperatorFault) → IsStill v u → Attempts opening ask u (Err why) w → Acts opening ask v (Err why) w
 refused_at_last opening ask v u w why s a = record { same = a.same ∙ s.0; rises = omega (arith, a.rises, s.2); says = (a.says.0, a.says.1 ∙ s.1) }
@@ -101,7 +107,7 @@ no_room opening ask v w old new is same =
 
 -- ---- until no change is under way
 
--- some turns, in which the moment did not fall
+-- some turns
 pub record Went (opening : Opening) (front : ℕ) (v : Known) (old : List Receipt) (w : Known) (new : List Receipt) : Type 0 where
   pub same : w.id ≡ v.id
   pub rises : v.front ≤ w.front
@@ -117,6 +123,22 @@ one_turn_more opening ask front v u w old mid new turn is went t =
       counted = omega (arith, went.counted, t.counted);
       logged = λ all. subst (λ f. All (IsLogged opening f) mid → All (IsLogged opening f) new) is t.logged (went.logged all);
     }
+
+pub no_turn : (opening : Opening) (front : ℕ) (v : Known) (old : List Receipt) → Went opening front v old v old
+no_turn opening front v old = record { same = refl; rises = omega arith; counted = refl; logged = λ all. all }
+
+pub goes_on : (opening : Opening) (ask : Ask) (v w : Known) (old new : List Receipt) (turn : Option ℕ) (next : ℕ) → turn ≡ Some next → Turns opening ask v old (Ok turn) w new → ask.moment ≤ next
+goes_on opening ask v w old new turn next is t = subst (λ (n : Option ℕ). TurnSays opening ask w.front (Ok n)) is t.says
+
+pub finished_at : (opening : Opening) (now pieces limit tries front own : ℕ) (v w : Known) (old new : List Receipt) (turn : Option ℕ) → turn ≡ None → front ≡ own → Turns opening (asked now pieces limit tries front) v old (Ok turn) w new
+    → HasFinished opening (asked now pieces limit tries own)
+finished_at opening now pieces limit tries front own v w old new turn none is t =
+    let at : HasFinished opening (asked now pieces limit tries front) = subst (λ (n : Option ℕ). TurnSays opening (asked now pieces limit tries front) w.front (Ok n)) none t.says in
+    subst (λ f. HasFinished opening (asked now pieces limit tries f)) is at
+
+pub refused_at : (opening : Opening) (now pieces limit tries front own : ℕ) (v w : Known) (old new : List Receipt) (why : OperatorFault) → front ≡ own → Turns opening (asked now pieces limit tries front) v old (Err why) w new
+    → IsRefused opening (asked now pieces limit tries own) w.front why
+refused_at opening now pieces limit tries front own v w old new why is t = subst (λ f. IsRefused opening (asked now pieces limit tries f) w.front why) is t.says
 
 -- ---- the calls
 

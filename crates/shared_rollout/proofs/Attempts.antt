@@ -30,7 +30,7 @@ use Rattle.locked_store.specs.Known.{Known}
 use Rattle.locked_store.specs.Receipts.{IsLogged}
 use Rattle.locked_store.specs.declared.fault.SharedFault.{SharedFault}
 use Rattle.locked_store.specs.declared.fault.SharedFault.TheVariants as shared
-use Rattle.locked_store.proofs.Logging.{logged_after, reads_rise, same_front, stays}
+use Rattle.locked_store.proofs.Logging.{logged_after, same_front, stays}
 use Rattle.piece_work.specs.WorkOff.{NextStep}
 use Rattle.rollout.specs.declared.act.Act.{Act}
 use Rattle.rollout.specs.declared.act.Act.TheVariants as act
@@ -72,13 +72,17 @@ later opening ask v u w attempt id count front a =
     by (Err why) s = (s.0, s.1 ∙ count)
 
 -- a call that only looks keeps the handle's number and its share
-pub quiet : {T E : Type 0} (opening : Opening) (v w : Known) (answer : Result T (SharedFault E)) (says : State → Result T E → Type 0)
+quiet : {T E : Type 0} (opening : Opening) (v w : Known) (answer : Result T (SharedFault E)) (says : State → Result T E → Type 0)
     → Answers opening v answer w (λ c r d. says c r × (d ≡ c)) no_place → (w.id ≡ v.id) × (w.count ≡ v.count) × (v.front ≤ w.front)
 quiet opening v w (Ok x) says a = (a.2.5.0, a.2.5.1, stays v w a.0 a.1 a.2.2 a.2.4 a.2.3.1)
 quiet opening v w (Err (shared.World why)) says a = (a.2.5.0, a.2.5.1, stays v w a.0 a.1 a.2.2 a.2.4 a.2.3.1)
 quiet opening v w (Err (shared.WentBack seen)) says a = (ap (λ (k : Known). k.id) a.2, ap (λ (k : Known). k.count) a.2, same_front v w a.2)
 
 -- ---- the look
+
+pub due_quiet : (opening : Opening) (ask : Ask) (v w : Known) (answer : Result Act (SharedFault AllocError))
+    → Answers opening v answer w (λ c r d. IfOk r (λ a. IsDue (facts_of c) (effective_moment c ask.moment) a) × (d ≡ c)) no_place → (w.id ≡ v.id) × (w.count ≡ v.count) × (v.front ≤ w.front)
+due_quiet opening ask v w answer a = quiet opening v w answer (λ c r. IfOk r (λ x. IsDue (facts_of c) (effective_moment c ask.moment) x)) a
 
 pub was_due : (opening : Opening) (ask : Ask) (v w : Known) (what : Act) → ask.front ≤ v.front
     → Answers opening v (let r : Result Act (SharedFault AllocError) = Ok what in r) w (λ c r d. IfOk r (λ a. IsDue (facts_of c) (effective_moment c ask.moment) a) × (d ≡ c)) no_place
@@ -158,6 +162,10 @@ pub was_read : (opening : Opening) (ask : Ask) (v w : Known) (element : ℕ) (fo
     → Answers opening v (let r : Result (Option Reading) (SharedFault ReadFault) = Ok found in r) w (λ c r d. NextStep c element ask.limit r × (d ≡ c)) no_place
     → WasLooked opening ask element (Ok found)
 was_read opening ask v w element found seen a = (a.0, a.1, since opening ask.front v a.0 seen a.2.0 a.2.2, a.2.3)
+
+pub next_quiet : (opening : Opening) (ask : Ask) (v w : Known) (element : ℕ) (answer : Result (Option Reading) (SharedFault ReadFault))
+    → Answers opening v answer w (λ c r d. NextStep c element ask.limit r × (d ≡ c)) no_place → (w.id ≡ v.id) × (w.count ≡ v.count) × (v.front ≤ w.front)
+next_quiet opening ask v w element answer a = quiet opening v w answer (λ c r. NextStep c element ask.limit r) a
 
 -- no piece was left
 pub none_left : (opening : Opening) (ask : Ask) (v w : Known) (element : ℕ) → WasDue opening ask (act.Work element) → WasLooked opening ask element (Ok None)

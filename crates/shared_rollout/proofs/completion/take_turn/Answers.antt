@@ -10,5 +10,5 @@ returns-in-Ok g c =
     turned g.L.SharedLedger.opening c.args.ask.now c.args.me.now c.do_act.new.me c.args.receipts.now.items c.reserve.new.self.items c.keep.new.receipts.items c.in-Ok.done c.keep.result
     c.reserve.ensures.items c.in-Ok.ensures c.keep.ensures.next c.keep.ensures.receipts
 
-pub returns : goal.returns
-returns g c = turn_refused g.L.SharedLedger.opening c.args.ask.now c.args.me.now c.do_act.new.me c.args.receipts.now.items c.reserve.new.self.items c.in-Err.fault c.reserve.ensures.items c.in-Err.ensures
+pub returns-in-Err : goal.returns-in-Err
+returns-in-Err g c = turn_refused g.L.SharedLedger.opening c.args.ask.now c.args.me.now c.do_act.new.me c.args.receipts.now.items c.reserve.new.self.items c.in-Err.fault c.reserve.ensures.items c.in-Err.ensures
