@@ -1,4 +1,4 @@
--- Cited by private functions alone: pieces_of, next_items, commit, rollout::piece_count.
+-- Cited by private functions alone: pieces_of, next_items, commit.
 -- What the work knows between two rounds.
 use Rattle.std.specs.Prelude.{◌≡◌, ℕ, ◌<◌, length, Some, Err}
 use Rattle.reorganise.specs.declared.work.Progress.{Progress}

@@ -12,6 +12,9 @@ loop-piece-preserved c = record {
   within = omega (arith, c.loop-piece-test.true);
 }
 
+pub returns-in-Err : goal.returns-in-Err
+returns-in-Err c = c.in-Err.ensures.refused c.args.limit
+
 pub returns-in-Err-next_items : goal.returns-in-Err-next_items
 returns-in-Err-next_items c =
     next_refused c.args.world.now c.args.element c.in-Ok.pieces c.loop-piece.piece c.args.limit c.in-Err-next_items.fault c.loop-piece.invariant.at c.loop-piece-test.true c.in-Err-next_items.ensures.refused c.in-Err-next_items.ensures.other

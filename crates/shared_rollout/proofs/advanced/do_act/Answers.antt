@@ -14,8 +14,7 @@ returns-in-Ok-Some g c = done_at_last g.L.SharedLedger.opening c.args.ask.now c.
 
 pub loop-failed-preserved : goal.loop-failed-preserved
 loop-failed-preserved g c =
-    let a = none_done g.L.SharedLedger.opening c.args.ask.now c.loop-failed.me c.attempt_act.new.me c.in-Ok-None.field-0 c.in-Ok-None.field-0-is c.in-Ok-None.ensures in
-    (
+    let a = none_done g.L.SharedLedger.opening c.args.ask.now c.loop-failed.me c.attempt_act.new.me c.in-Ok-None.field-0 c.in-Ok-None.field-0-is c.in-Ok-None.ensures in (
       still_later g.L.SharedLedger.opening c.args.ask.now c.args.me.now c.loop-failed.me c.attempt_act.new.me c.loop-failed.invariant.0 a,
       omega (arith, c.loop-failed-test.true),
       one_more_overtaken g.L.SharedLedger.opening c.args.ask.now c.loop-failed.failed c.loop-failed.invariant.2 a.says.0,

@@ -12,8 +12,7 @@ loop-i-init g c = (no_turn g.L.SharedLedger.opening c.args.me.now.front c.args.m
 
 pub loop-i-preserved : goal.loop-i-preserved
 loop-i-preserved g c =
-    let at = goes_on g.L.SharedLedger.opening (asked c.loop-i.now c.args.pieces c.args.limit c.args.tries c.front-front.result) c.loop-i.me c.take_turn.new.me c.loop-i.receipts.items c.take_turn.new.receipts.items c.in-Ok-Some.field-0 c.in-Ok-Some.next c.in-Ok-Some.field-0-is c.in-Ok-Some.ensures in
-    (
+    let at = goes_on g.L.SharedLedger.opening (asked c.loop-i.now c.args.pieces c.args.limit c.args.tries c.front-front.result) c.loop-i.me c.take_turn.new.me c.loop-i.receipts.items c.take_turn.new.receipts.items c.in-Ok-Some.field-0 c.in-Ok-Some.next c.in-Ok-Some.field-0-is c.in-Ok-Some.ensures in (
       one_turn_more g.L.SharedLedger.opening (asked c.loop-i.now c.args.pieces c.args.limit c.args.tries c.front-front.result) c.args.me.now.front c.args.me.now c.loop-i.me c.take_turn.new.me c.args.receipts.now.items c.loop-i.receipts.items c.take_turn.new.receipts.items (Ok c.in-Ok-Some.field-0) c.front-front.ensures c.loop-i.invariant.0 c.in-Ok-Some.ensures,
       omega (arith, c.loop-i.invariant.1, at),
       omega (arith, c.loop-i.invariant.2, c.in-Ok-Some.ensures.rises),
