@@ -3,7 +3,7 @@ from speed_of.case import Case, Missing
 from speed_of.run import timed
 from speed_of.scripts import HEAD, script
 
-ROWS = 20_000
+ROWS = 10_000
 COLUMNS = 32
 INDEXES = 16
 
