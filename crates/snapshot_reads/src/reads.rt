@@ -72,9 +72,11 @@ fn read_all<R: Threads + Sync>(
     rows: u32,
     done: &AtomicU64,
 ) -> Result<u64, Fault> {
-    let each = map_vec(rt, snapshots, &|(first, snapshot): (u32, Snapshot)| {
-        ask_all(alloc, &snapshot, first, queries, rows)
-    });
+    let each = map_vec(
+        rt,
+        snapshots,
+        &|(first, snapshot): (u32, Snapshot)| { ask_all(alloc, &snapshot, first, queries, rows) },
+    );
     done.store(1, Ordering::SeqCst);
     let mut found = 0u64;
     for one in each? {

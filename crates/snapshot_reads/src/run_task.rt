@@ -39,10 +39,7 @@ fn run_reads<R: Threads + Sync, W: Write>(
     subject.fill(alloc, OPERATIONS)?;
     let snapshots = snapshots(alloc, &subject, threads)?;
     say(writer, "ready\n")?;
-    let Found {
-        rows,
-        commits,
-    } = read_beside_writes(rt, alloc, &mut subject, snapshots, queries)?;
+    let Found { rows, commits } = read_beside_writes(rt, alloc, &mut subject, snapshots, queries)?;
     let line = format!(in alloc; "found {rows}\n")?;
     say(writer, line.as_str())?;
     Ok(commits)

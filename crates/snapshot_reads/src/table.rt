@@ -32,9 +32,7 @@ fn indexes(alloc: Global, is_indexed: bool) -> Result<List<(Text, List<Text>)>, 
         return Ok(List::new(Vec::new(alloc)));
     }
     let columns = List::new(vec![in alloc; text_of(alloc, "a")?]?);
-    Ok(List::new(
-        vec![in alloc; (text_of(alloc, "i")?, columns)]?,
-    ))
+    Ok(List::new(vec![in alloc; (text_of(alloc, "i")?, columns)]?))
 }
 
 // table t (id int key, a int)
