@@ -1,4 +1,5 @@
 """Runs of a program: how long they take, how much memory they take, and how long it is between the lines that they write."""
+import functools
 import os
 import subprocess
 import sys
@@ -6,6 +7,8 @@ import tempfile
 import time
 
 from speed_of.case import Missing
+
+FOLDER = tempfile.TemporaryDirectory()
 
 
 def beside(program, name):
@@ -47,19 +50,33 @@ def peak_of(words, text):
     return int(ended([sys.executable, "-E", "-S", "-c", LAUNCH, *words], text)[2].split()[-1])
 
 
+@functools.cache
+def stamps():
+    """The library that notes the moment of each write (stamp_writes.c)."""
+    out = os.path.join(FOLDER.name, "stamp_writes.so")
+    source = os.path.join(os.path.dirname(os.path.realpath(__file__)), "stamp_writes.c")
+    try:
+        run = subprocess.run(["gcc", "-O2", "-shared", "-fPIC", "-o", out, source], capture_output=True, text=True)
+    except OSError as error:
+        raise Missing(str(error)) from error
+    if run.returncode != 0:
+        raise Missing(run.stderr.strip().splitlines()[0])
+    return out
+
+
 def lines_of(words):
-    """The lines that a run writes, each with the moment at which it came. Lines that come together have the same moment."""
-    run = subprocess.Popen(words, stdin=subprocess.DEVNULL, stdout=subprocess.PIPE, stderr=subprocess.PIPE)
-    blocks = []
-    while block := os.read(run.stdout.fileno(), 65536):
-        blocks.append((time.perf_counter(), block))
-    said = run.stderr.read().decode()
-    run.stdout.close()
-    run.stderr.close()
-    if run.wait() != 0:
+    """The lines that a run writes, each with the moment in seconds at which it wrote it, and what it wrote to standard error."""
+    environment = {**os.environ, "LD_PRELOAD": stamps()}
+    run = subprocess.run(words, stdin=subprocess.DEVNULL, capture_output=True, text=True, env=environment)
+    if run.returncode != 0:
         raise Missing(f"{os.path.basename(words[0])} {' '.join(words[1:])} ended with status {run.returncode}")
-    lines, rest = [], b""
-    for moment, block in blocks:
-        *whole, rest = (rest + block).split(b"\n")
-        lines += [(moment, line.decode()) for line in whole]
-    return lines, said
+    lines, said = [], []
+    for line in run.stderr.splitlines():
+        if line.startswith("at "):
+            _, moment, text = line.split(" ", 2)
+            lines.append((float(moment), text))
+        else:
+            said.append(line)
+    if not lines:
+        raise Missing(f"no line of {words[0]} was noted")
+    return lines, "\n".join(said)
