@@ -20,7 +20,7 @@ use Rattle.schema_version.specs.Version.{Version, element_at, live, is_index}
 use Rattle.audit.specs.Audit.{Pair, given, is_same_pair, reason_by, has_reason}
 use Rattle.audit.specs.Encoded.{key_read, row_at}
 use Rattle.audit.specs.Meaning.{AreByteStrings}
-use Rattle.audit.specs.inner.Counted.{holds, is_present, gives, given_beside, has_plain_reason}
+use Rattle.audit.specs.inner.RowCounts.{holds, is_present, gives, given_beside, has_plain_reason}
 use Rattle.audit.proofs.Hits.{hit_by, index_reason, hits, has_index_reason, Hit, hit_says, Owner, owner_of, one_element, one_row}
 use Rattle.audit.proofs.Sums.{sum_same, sum_alike, sum_nothing, sum_added, sum_swap, sum_each, value_at, sum_at}
 use Rattle.audit.proofs.Zero.{sum_zero, all_values}

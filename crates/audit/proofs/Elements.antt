@@ -14,7 +14,7 @@ use Rattle.element_state.specs.Operations.{cells_of, fill_pair}
 use Rattle.element_state.specs.Sources.{source_in}
 use Rattle.audit.specs.declared.wanted.Made.{Made}
 use Rattle.audit.specs.Audit.{given, lacks, numbered}
-use Rattle.audit.specs.inner.Counted.{gives}
+use Rattle.audit.specs.inner.RowCounts.{gives}
 use Rattle.audit.specs.inner.Made.{definition_of, definition_in, given_by, IsMade, AreMade}
 
 module _ {X Y : Type 0} (f : X → Y) where

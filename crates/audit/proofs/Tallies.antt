@@ -13,7 +13,7 @@ use Rattle.audit.specs.declared.report.CheckReport.{CheckReport}
 use Rattle.audit.specs.Audit.{Pair, IsAudit, is_exists_pair, missing_beside, has_reason}
 use Rattle.audit.specs.Encoded.{key_read}
 use Rattle.audit.specs.Meaning.{AreByteStrings}
-use Rattle.audit.specs.inner.Counted.{IsByteString, AreStrings, given_beside, has_plain_reason, judged, added, tally}
+use Rattle.audit.specs.inner.RowCounts.{IsByteString, AreStrings, given_beside, has_plain_reason, judged, added, tally}
 use Rattle.audit.proofs.Counting.{counted_from_rows}
 use Rattle.audit.proofs.Zero.{all_found}
 

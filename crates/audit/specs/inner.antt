@@ -1,3 +1,3 @@
 pub mod Met
 pub mod Made
-pub mod Counted
+pub mod RowCounts

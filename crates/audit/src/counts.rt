@@ -1,6 +1,6 @@
 //! What pairs count for while an audit goes over them.
 ghost use Rattle.std.specs.Prelude.{◌≡◌, ◌≤◌, ◌+◌, ◌-◌, IfOk};
-ghost use Rattle.audit.specs.inner.Counted.{added};
+ghost use Rattle.audit.specs.inner.RowCounts.{added};
 
 use crate::report::CheckReport;
 use std::alloc::AllocError;

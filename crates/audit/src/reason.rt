@@ -6,7 +6,7 @@ ghost use Rattle.keycode.specs.Valid.{AreShort, AreValues};
 ghost use Rattle.row_map.specs.Keys.{IsKey};
 ghost use Rattle.audit.specs.inner.Met.{IsThere};
 ghost use Rattle.audit.specs.inner.Made.{definition_of, definition_in, AreMade};
-ghost use Rattle.audit.specs.inner.Counted.{has_plain_reason as has_plain_reason_of};
+ghost use Rattle.audit.specs.inner.RowCounts.{has_plain_reason as has_plain_reason_of};
 ghost use Rattle.audit.specs.Audit.{is_column_of_row};
 
 use crate::met::{MetRow, is_there};

@@ -3,7 +3,7 @@ ghost use Rattle.std.specs.Prelude.{◌≡◌, IfOk, Some};
 ghost use Rattle.row_map.specs.declared.key.KeyOf.TheVariants.{Exists};
 ghost use Rattle.audit.specs.Audit.{IsAudit, missing_by};
 ghost use Rattle.audit.specs.Meaning.{AreByteStrings};
-ghost use Rattle.audit.specs.inner.Counted.{IsByteString, AreStrings, given_beside, judged as judged_of, tally};
+ghost use Rattle.audit.specs.inner.RowCounts.{IsByteString, AreStrings, given_beside, judged as judged_of, tally};
 ghost use Rattle.audit.specs.inner.Made.{AreMade};
 ghost use Rattle.audit.specs.inner.Met.{IsThere};
 ghost use Rattle.std.specs.FinMap as map;

@@ -1,7 +1,7 @@
 //! The pairs that indexes and required columns give rows.
 ghost use Rattle.std.specs.Prelude.{◌≡◌, IfOk, Some, count_by};
 ghost use Rattle.audit.specs.Audit.{lacks as lacks_of};
-ghost use Rattle.audit.specs.inner.Counted.{is_present as is_present_of, gives as gives_of};
+ghost use Rattle.audit.specs.inner.RowCounts.{is_present as is_present_of, gives as gives_of};
 ghost use Rattle.audit.specs.inner.Made.{definition_of, given_by, IsMade, AreMade};
 ghost use Rattle.schema_version.specs.Version.{live};
 

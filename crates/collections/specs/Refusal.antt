@@ -1,4 +1,4 @@
--- Cited by the contracts of lease::Timeline::standing, reorganise::Progress::read_piece, row_query::one_refusal, row_write::prepare.
+-- Cited by the contracts of lease::Timeline::standing, reorganise::Progress::read_piece, row_query::lemma_one_refusal, row_write::prepare.
 -- The rule by which a call with several refusals gives one.
 use Rattle.std.specs.Prelude.{◌≡◌, ℕ, ◌<◌, ◌⊎◌}
 

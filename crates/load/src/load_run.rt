@@ -9,7 +9,9 @@ use crate::report::Report;
 use crate::table::{inserts, open_world};
 use collections::List;
 use command_line::LoadSize;
-use locked_store::{Handle, ReceiptFault, Shared, SharedLedger, receipts_are_the_log, reconcile};
+use locked_store::{
+    Handle, ReceiptFault, Shared, SharedLedger, lemma_receipts_are_the_log, reconcile,
+};
 use server::{Outcome, Request, ServeFault, Served, serve};
 use std::alloc::{AllocError, Global};
 use std::io::Write;
@@ -158,7 +160,7 @@ fn compare_counts(
 ) -> Result<(bool, Option<ReceiptFault>), LoadFault>
     ensures { IfOk result (λ r. r.0 ≡ true → r.1 ≡ None → AreTheLog world.now.log 0 receipts.now) }
 {
-    receipts_are_the_log();
+    lemma_receipts_are_the_log();
     let is_counted = receipts.len() == world.log().len();
     match reconcile(alloc, world, receipts) {
         Ok(()) => Ok((is_counted, None)),

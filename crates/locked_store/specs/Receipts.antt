@@ -1,4 +1,4 @@
--- Cited by the contracts of reconcile, receipts_are_the_log.
+-- Cited by the contracts of reconcile, lemma_receipts_are_the_log.
 -- Receipts against a log.
 use Rattle.std.specs.Prelude.{◌≡◌, ◌≢◌, ℕ, ◌+◌, ◌-◌, ◌<◌, ◌≤◌, List, length, Some, slice_get}
 use Rattle.replay.specs.declared.entry.Entry.{Entry}

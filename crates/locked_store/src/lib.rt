@@ -11,6 +11,6 @@ mod shared_ledger;
 
 pub use fault::{Missing, ReceiptFault, ShareFault, SharedFault, WentBack};
 pub use handle::{Handle, least_front};
-pub use receipts::{receipts_are_the_log, reconcile};
+pub use receipts::{lemma_receipts_are_the_log, reconcile};
 pub use shared::Shared;
 pub use shared_ledger::SharedLedger;

@@ -77,6 +77,6 @@ pub fn reconcile(alloc: Global, world: &World, receipts: &[Receipt]) -> Result<(
 
 /// Tells what receipts are that agree with a log, are as many as its entries after the first so
 /// many, and all come after those: each entry from there on has its receipt, and no other.
-pub fn receipts_are_the_log()
+pub fn lemma_receipts_are_the_log()
     ensures { ReceiptsAreTheLog }
 {}

@@ -212,5 +212,5 @@ module _ (facts : Facts) (now number pieces : ℕ) (element : ElementDef) (work 
   begin_kept_so =
       subst (λ (more : List Progress). IsKept (record (at facts now) { progress = facts.progress ++ more })) (sym (ap (λ (o : Option ElementDef). begun_of o facts.pairs pieces) there ∙ ap (λ (o : Option Work). begun_by element o facts.pairs pieces) wants)) one_more
 
-pub begins_keep : BeginsKeep
-begins_keep facts now number pieces element work later there wants settled new count kept = begin_kept_so facts now number pieces element work later there wants settled new count kept
+pub lemma_begins_keep : BeginsKeep
+lemma_begins_keep facts now number pieces element work later there wants settled new count kept = begin_kept_so facts now number pieces element work later there wants settled new count kept

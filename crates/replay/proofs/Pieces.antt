@@ -273,5 +273,5 @@ module _ (facts : Facts) (now number : ℕ) (read : Reading) (later : facts.mome
     in_pieces = in_pieces;
   }
 
-pub pieces_keep : PiecesKeep
-pieces_keep facts now number read later next kept = (lays facts now number read later next kept, piece_kept facts now number read later next kept)
+pub lemma_pieces_keep : PiecesKeep
+lemma_pieces_keep facts now number read later next kept = (lays facts now number read later next kept, piece_kept facts now number read later next kept)

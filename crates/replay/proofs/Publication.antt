@@ -390,5 +390,5 @@ module _ (facts : Facts) (step : List Move) (allowed : IsAllowed facts.newest st
         in_pieces = stay_in_pieces step facts.progress k.in_pieces;
       }
 
-pub publications_keep : PublicationsKeep
-publications_keep facts now step later within in_turn allowed finished k = published_kept facts step allowed finished k now within in_turn
+pub lemma_publications_keep : PublicationsKeep
+lemma_publications_keep facts now step later within in_turn allowed finished k = published_kept facts step allowed finished k now within in_turn

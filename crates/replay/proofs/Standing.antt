@@ -7,8 +7,8 @@ use Rattle.replay.specs.Laws.{ItemsStand}
 use Rattle.replay.proofs.Agree.{consistent}
 use Rattle.replay.proofs.Soundness.{lawful_entry}
 
-pub items_stand : ItemsStand
-items_stand facts number element work there kept =
+pub lemma_items_stand : ItemsStand
+lemma_items_stand facts number element work there kept =
     let own = (kept.sound.elements number element there).own in
     let lawful = lawful_entry facts.newest kept.sound number element there in
     items_empty facts.newest element work facts.pairs facts.rows (subst (HasRange element.table) (sym own) lawful.range)

@@ -1,4 +1,4 @@
--- Cited by the contracts of openings_keep, leases_keep, transactions_keep, publications_keep and 3 more.
+-- Cited by the contracts of lemma_openings_keep, lemma_leases_keep, lemma_transactions_keep, lemma_publications_keep and 3 more.
 -- What each accepted call keeps.
 use Rattle.std.specs.Prelude.{◌≡◌, ℕ, ◌≤◌, List, Option, Some, None, true, Contains, slice_get}
 use Rattle.lease.specs.declared.lease.Lease.{Lease}

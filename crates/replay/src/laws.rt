@@ -4,19 +4,19 @@ ghost use Rattle.replay.specs.Worked.{ALogSays, ALogFollows};
 ghost use Rattle.replay.specs.Laws.{OpeningsKeep, LeasesKeep, PublicationsKeep, OutcomesHold, TxnsKeep, RefusedWriteNothing, BeginsKeep, PiecesKeep, KeptAgrees, ItemsStand};
 
 /// An empty store under one sound version keeps all.
-pub fn openings_keep()
+pub fn lemma_openings_keep()
     ensures { OpeningsKeep }
 {}
 
 /// A lease keeps all, and so does time that goes by.
-pub fn leases_keep()
+pub fn lemma_leases_keep()
     ensures { LeasesKeep }
 {}
 
 /// A prepared transaction of a version that a lease may still use, whose reads hold, has the
 /// outcome that the rows of the log give, however old its reads are. If they accept it, its batch
 /// writes what its entry says and keeps all; if they refuse it, its batch writes nothing.
-pub fn transactions_keep()
+pub fn lemma_transactions_keep()
     ensures outcome { OutcomesHold }
     ensures done { TxnsKeep }
     ensures refused { RefusedWriteNothing }
@@ -24,30 +24,30 @@ pub fn transactions_keep()
 
 /// An allowed step, published if no lease on an older version than the newest can be in force and
 /// what its moves need is finished, keeps all.
-pub fn publications_keep()
+pub fn lemma_publications_keep()
     ensures { PublicationsKeep }
 {}
 
 /// A reorganisation that its element wants, begun if every version that a lease may still use has
 /// the element in that state, keeps all.
-pub fn begins_keep()
+pub fn lemma_begins_keep()
     ensures { BeginsKeep }
 {}
 
 /// If all is kept, the items of a live element's fill or clear are the pairs of their range whose
 /// value is empty.
-pub fn items_stand()
+pub fn lemma_items_stand()
     ensures { ItemsStand }
 {}
 
 /// A prepared piece of a begun reorganisation as it stands, whose expectation holds, writes what
 /// its entry says and keeps all.
-pub fn pieces_keep()
+pub fn lemma_pieces_keep()
     ensures { PiecesKeep }
 {}
 
 /// If all is kept, the pairs agree with the rows for every version that a lease may still use.
-pub fn kept_agrees()
+pub fn lemma_kept_agrees()
     ensures { KeptAgrees }
 {}
 

@@ -12,6 +12,7 @@ mod same;
 
 pub use entry::{Entry, What};
 pub use laws::{
-    a_log_says, begins_keep, headline, items_stand, kept_agrees, leases_keep, openings_keep,
-    pieces_keep, publications_keep, transactions_keep,
+    a_log_says, headline, lemma_begins_keep, lemma_items_stand, lemma_kept_agrees,
+    lemma_leases_keep, lemma_openings_keep, lemma_pieces_keep, lemma_publications_keep,
+    lemma_transactions_keep,
 };

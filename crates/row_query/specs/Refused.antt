@@ -1,4 +1,4 @@
--- Cited by the contracts of answer, one_refusal.
+-- Cited by the contracts of answer, lemma_one_refusal.
 -- Why a query is refused.
 use Rattle.std.specs.Prelude.{◌≡◌, ◌≢◌, ℕ, List, ◌∷◌, ◌++◌, Option, Some, None, IsTrue, IsNone, ◌⊎◌}
 use Rattle.std.specs.List.{AllByRecursion}

@@ -16,6 +16,6 @@ mod scan;
 
 pub use answer_query::answer;
 pub use fault::QueryFault;
-pub use laws::one_refusal;
+pub use laws::lemma_one_refusal;
 pub use path::path_of;
 pub use query::{Cond, Path, Query};

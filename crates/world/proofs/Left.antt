@@ -22,7 +22,7 @@ use Rattle.reorganise.proofs.Shares.{joined_le}
 use Rattle.replay.specs.Replay.{Facts, progress_of}
 use Rattle.replay.specs.Kept.{IsInPiece, IsReached, IsBegun, IsKept}
 use Rattle.replay.proofs.Begun.{found}
-use Rattle.replay.proofs.Standing.{items_stand}
+use Rattle.replay.proofs.Standing.{lemma_items_stand}
 use Rattle.world.specs.declared.world.World.TheInside.{Inside}
 use Rattle.world.specs.Inside.{state_of, IsHeld}
 use Rattle.world.specs.State.{State, facts_of}
@@ -82,7 +82,7 @@ left_is facts number p kept at =
     let begun = (found (IsBegun facts.newest) facts.progress number p kept.begun at).0 in
     let pieces = kept.in_pieces number p at in
     let range = scan_range_of p.element p.kind in
-    let stand = items_stand facts p.element.number p.element p.kind begun.element kept in
+    let stand = lemma_items_stand facts p.element.number p.element p.kind begun.element kept in
     let few = left_le facts.pairs (start range) (end range) p.pieces begun.joined pieces.reached pieces.cursors in
     record {
       counted = left_counted p.element p.kind facts.pairs stand (start range) p.pieces (le_itself (start range)) begun.joined pieces.reached;

@@ -12,7 +12,7 @@ use crate::entry::Receipt;
 use crate::world::World;
 use lease::MAX_MOMENT;
 use reorganise::{Progress, Work};
-use replay::{What, begins_keep, items_stand};
+use replay::{What, lemma_begins_keep, lemma_items_stand};
 use schema_version::ElementDef;
 use std::alloc::{AllocError, AllocFailed, Global};
 use thiserror::Error;
@@ -150,7 +150,7 @@ impl World {
         if pieces < 1 || pieces > MAX_PIECES {
             return Err(BeginFault::BadCount);
         }
-        items_stand();
+        lemma_items_stand();
         let element = element_copied(found)?;
         Ok(Progress::begin_ranked(alloc, element, work, &self.store, pieces)?)
     }
@@ -168,7 +168,7 @@ impl World {
         requires begins { Begins (facts_of self.old) now element pieces progress }
         ensures step { BeginAt self.old now element pieces result self.new }
     {
-        begins_keep();
+        lemma_begins_keep();
         let what = What::Begin { element, pieces };
         let draft = self.log.make_ready(alloc, now, what)?;
         self.begun.push(progress)?;

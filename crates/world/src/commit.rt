@@ -12,7 +12,7 @@ use crate::committed::Committed;
 use crate::world::World;
 use byte_map::Bytes;
 use lease::LeaseFault;
-use replay::{What, transactions_keep};
+use replay::{What, lemma_transactions_keep};
 use row_write::{Prepared, RowOutcome};
 use std::alloc::{AllocError, Global};
 use thiserror::Error;
@@ -134,7 +134,7 @@ impl World {
         requires serves { Serves (facts_of self.old).line prepared.now.lease now }
         ensures step { CommitAt self.old now prepared.now result self.new }
     {
-        transactions_keep();
+        lemma_transactions_keep();
         match prepared.outcome() {
             RowOutcome::Done => self.add_txn(alloc, now, prepared),
             RowOutcome::Refused { op, why } => {
@@ -159,7 +159,7 @@ impl World {
         requires done { prepared.now.reported ≡ RowOutcome.Done }
         ensures step { CommitAt self.old now prepared.now result self.new }
     {
-        transactions_keep();
+        lemma_transactions_keep();
         prepared.lemma_made();
         let what = txn_of(prepared)?;
         let draft = self.log.make_ready(alloc, now, what)?;

@@ -5,7 +5,7 @@ ghost use Rattle.world.specs.declared.grant.GrantFault.TheVariants.{Memory};
 
 use crate::entry::Grant;
 use crate::world::World;
-use replay::{What, leases_keep};
+use replay::{What, lemma_leases_keep};
 use std::alloc::{AllocError, Global};
 use thiserror::Error;
 
@@ -42,7 +42,7 @@ impl World {
             return Err(GrantFault::MomentTooLarge);
         };
         let schema = self.newest.clone()?;
-        leases_keep();
+        lemma_leases_keep();
         let draft = self.log.make_ready(alloc, now, What::Lease(lease))?;
         let receipt = self.log.enter(draft);
         Ok(Grant {

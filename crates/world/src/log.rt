@@ -1,4 +1,4 @@
-//! The log: its entries, the moment of the last one, and how an entry more comes to stand in it.
+//! The log: its entries, the moment of the last one, and how an entry is added.
 //! All that can be refused comes first, so that a call enters its entry when nothing can fail any
 //! more.
 ghost use Rattle.std.specs.Prelude.{◌≡◌, ◌<◌, ◌+◌, ◌++◌, ◌∷◌, [], length, IfOk, OnOk};

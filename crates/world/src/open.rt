@@ -11,7 +11,7 @@ use crate::log::Log;
 use crate::world::World;
 use collections::ArcValue;
 use lease::{MAX_LENGTH, Timeline, TimelineFault};
-use replay::openings_keep;
+use replay::lemma_openings_keep;
 use schema_version::{DeclareFault, Schema};
 use std::alloc::{AllocError, Global};
 use thiserror::Error;
@@ -83,7 +83,7 @@ impl World {
         let schema = declare(alloc, config)?;
         let line = begin(alloc, config)?;
         schema.lemma_known();
-        openings_keep();
+        lemma_openings_keep();
         let first = ArcValue::new(alloc, schema)?;
         let newest = first.clone()?;
         Ok(World {

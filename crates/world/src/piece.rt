@@ -15,7 +15,7 @@ use crate::world::World;
 use byte_map::Bytes;
 use lease::MAX_MOMENT;
 use reorganise::{PieceView, PreparedPiece, Progress, ViewFault, Work};
-use replay::{What, pieces_keep};
+use replay::{What, lemma_pieces_keep};
 use std::alloc::{AllocError, Global};
 use thiserror::Error;
 use txn_store::SetFault;
@@ -250,7 +250,7 @@ impl World {
         requires current { IsCurrent (facts_of self.old) now prepared.now }
         ensures step { PieceAt self.old now prepared.now result self.new }
     {
-        pieces_keep();
+        lemma_pieces_keep();
         prepared.lemma_made();
         let element = prepared.element().number;
         let piece = prepared.piece();

@@ -10,7 +10,7 @@ use crate::entry::Receipt;
 use crate::world::World;
 use collections::ArcValue;
 use lease::{MAX_MOMENT, TooEarly};
-use replay::{What, publications_keep};
+use replay::{What, lemma_publications_keep};
 use schema_version::{Schema, Step, StepFault, moves_element};
 use std::alloc::{AllocError, Global};
 use std::mem;
@@ -123,7 +123,7 @@ impl World {
         requires version { next ≡ after_step (facts_of self.old).newest step.now }
         ensures step { PublishAt self.old now step.now result self.new }
     {
-        publications_keep();
+        lemma_publications_keep();
         let next = ArcValue::new(alloc, next)?;
         let what = What::Publish(step.clone()?);
         let draft = self.log.make_ready(alloc, now, what)?;

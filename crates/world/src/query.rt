@@ -7,9 +7,9 @@ ghost use Rattle.world.specs.declared.query.QueryRefusal.TheVariants as refusal;
 use crate::world::World;
 use collections::List;
 use lease::{Lease, LeaseFault};
-use replay::{kept_agrees, leases_keep};
+use replay::{lemma_kept_agrees, lemma_leases_keep};
 use row_map::Row;
-use row_query::{Query, QueryFault, answer, one_refusal};
+use row_query::{Query, QueryFault, answer, lemma_one_refusal};
 use std::alloc::Global;
 use thiserror::Error;
 
@@ -74,9 +74,9 @@ impl World {
     ) -> Result<List<Row>, QueryRefusal>
         ensures { QueryStep self.now moment lease.now query.now result }
     {
-        one_refusal();
-        kept_agrees();
-        leases_keep();
+        lemma_one_refusal();
+        lemma_kept_agrees();
+        lemma_leases_keep();
         let now = self.effective_moment(moment);
         self.line.standing(lease, now)?;
         let schema = self.under(lease, now);

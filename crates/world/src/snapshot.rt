@@ -15,7 +15,7 @@ use crate::world::World;
 use audit::{CheckReport, audit};
 use collections::{ArcValue, List};
 use lease::{Lease, LeaseFault};
-use replay::{kept_agrees, leases_keep};
+use replay::{lemma_kept_agrees, lemma_leases_keep};
 use row_map::Row;
 use row_query::{Query, QueryFault, answer};
 use schema_version::Schema;
@@ -138,8 +138,8 @@ impl World {
     pub fn snapshot(&self, moment: u64, lease: &Lease) -> Result<Snapshot, SnapshotFault>
         ensures { SnapshotStep self.now moment lease.now result }
     {
-        kept_agrees();
-        leases_keep();
+        lemma_kept_agrees();
+        lemma_leases_keep();
         let now = self.effective_moment(moment);
         self.line.standing(lease, now)?;
         let schema = self.under(lease, now);

@@ -13,7 +13,7 @@ use crate::log::Log;
 use collections::ArcValue;
 use lease::{Lease, Timeline};
 use reorganise::Progress;
-use replay::{Entry, kept_agrees};
+use replay::{Entry, lemma_kept_agrees};
 use row_map::{Near, PairView, RankedView, Walk};
 use schema_version::Schema;
 use std::marker::Model;
@@ -142,7 +142,7 @@ impl World {
         ensures sound { IsSoundVersion (facts_of self.now).newest }
         ensures kept { IsKept (facts_of self.now) }
     {
-        kept_agrees();
+        lemma_kept_agrees();
         let _log = &self.log;
     }
 }

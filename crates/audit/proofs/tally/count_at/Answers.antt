@@ -2,7 +2,7 @@ use Rattle.std.proofs.Common.{◌≡◌, IfOk, subst}
 use Rattle.std.specs.Prelude.{count_by}
 use Rattle.row_map.specs.declared.shape.Row.{Row}
 use Rattle.schema_version.specs.Version.{live}
-use Rattle.audit.specs.inner.Counted.{gives}
+use Rattle.audit.specs.inner.RowCounts.{gives}
 use Rattle.audit.proofs.tally.count_at.Goals as goal
 
 pub returns-clause-given : goal.returns-clause-given

@@ -1,7 +1,7 @@
 use Rattle.std.proofs.Common.{◌≡◌, IfOk, Option, Some, subst, rules}
 use Rattle.row_map.specs.declared.key.KeyOf.{KeyOf}
 use Rattle.row_map.specs.declared.key.KeyOf.TheVariants.{Exists}
-use Rattle.audit.specs.inner.Counted.{given_beside}
+use Rattle.audit.specs.inner.RowCounts.{given_beside}
 use Rattle.audit.proofs.tally.count_row.Goals as goal
 
 pub returns-in-Some-Exists-clause-given : goal.returns-in-Some-Exists-clause-given

@@ -1,6 +1,6 @@
 use Rattle.std.proofs.Common.{◌≡◌, length}
 use Rattle.std.specs.FinMap as map
-use Rattle.audit.specs.inner.Counted.{added, tally}
+use Rattle.audit.specs.inner.RowCounts.{added, tally}
 use Rattle.audit.specs.inner.Met.{IsThere}
 use Rattle.audit.proofs.LastMet.{ArePresent}
 use Rattle.audit.proofs.Tallies.{AllStrings}

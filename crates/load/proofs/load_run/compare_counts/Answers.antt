@@ -6,4 +6,4 @@ pub returns-in-Ok : goal.returns-in-Ok
 returns-in-Ok c counted none =
     let same : length c.args.receipts.now ≡ length c.log.result.now = grind (arith, rules, counted) in
     let log : length c.log.result.now ≡ length c.args.world.now.log = ap (λ (es : _). length es) c.log.ensures in
-    c.receipts_are_the_log.ensures c.args.world.now.log 0 c.args.receipts.now c.in-Ok.ensures.ok (λ i r at. (c.in-Ok.ensures.ok.stands i r at).0) (omega (arith, same, log))
+    c.lemma_receipts_are_the_log.ensures c.args.world.now.log 0 c.args.receipts.now c.in-Ok.ensures.ok (λ i r at. (c.in-Ok.ensures.ok.stands i r at).0) (omega (arith, same, log))

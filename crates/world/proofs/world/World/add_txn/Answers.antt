@@ -36,7 +36,7 @@ invariant_of-self-2 c =
     let entered : IsLogged c.self.inside.log (txn_entry c.args.now c.args.prepared.now) c.enter-receipt.result c.enter-receipt.new.self
     = logged c.self.inside.log c.make_ready.new.self c.enter-receipt.new.self c.in_ok-draft.draft (txn_entry c.args.now c.args.prepared.now) c.enter-receipt.result c.in_ok-draft.ensures.entries (c.in_ok-draft.ensures.draft ∙ what)
     c.enter-receipt.ensures.entries c.enter-receipt.ensures.moment c.enter-receipt.ensures.receipt in
-    done_held c.self.inside c.args.now c.args.prepared.now c.test_and_set.new.self c.enter-receipt.new.self c.enter-receipt.result (record { outcome = c.transactions_keep.ensures.outcome; done = c.transactions_keep.ensures.done; refused = c.transactions_keep.ensures.refused }) v s c.requires.done entered
+    done_held c.self.inside c.args.now c.args.prepared.now c.test_and_set.new.self c.enter-receipt.new.self c.enter-receipt.result (record { outcome = c.lemma_transactions_keep.ensures.outcome; done = c.lemma_transactions_keep.ensures.done; refused = c.lemma_transactions_keep.ensures.refused }) v s c.requires.done entered
 
 pub returns : goal.returns
 returns c =
@@ -47,5 +47,5 @@ returns c =
     = logged c.self.inside.log c.make_ready.new.self c.enter-receipt.new.self c.in_ok-draft.draft (txn_entry c.args.now c.args.prepared.now) c.enter-receipt.result c.in_ok-draft.ensures.entries (c.in_ok-draft.ensures.draft ∙ what)
     c.enter-receipt.ensures.entries c.enter-receipt.ensures.moment c.enter-receipt.ensures.receipt in
     record {
-      step = step_done c.self.inside c.args.self.now c.args.now c.args.prepared.now c.test_and_set.new.self c.enter-receipt.new.self c.enter-receipt.result (record { outcome = c.transactions_keep.ensures.outcome; done = c.transactions_keep.ensures.done; refused = c.transactions_keep.ensures.refused }) c.self.view_is v s c.requires.done entered;
+      step = step_done c.self.inside c.args.self.now c.args.now c.args.prepared.now c.test_and_set.new.self c.enter-receipt.new.self c.enter-receipt.result (record { outcome = c.lemma_transactions_keep.ensures.outcome; done = c.lemma_transactions_keep.ensures.done; refused = c.lemma_transactions_keep.ensures.refused }) c.self.view_is v s c.requires.done entered;
     }

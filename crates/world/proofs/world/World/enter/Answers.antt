@@ -42,7 +42,7 @@ invariant_of-self-2 c =
       log_is = logged c.self.inside.log c.make_ready.new.self c.enter-receipt.new.self c.in_ok-draft.draft (publish_entry c.args.now c.args.step.now) c.enter-receipt.result c.in_ok-draft.ensures.entries (c.in_ok-draft.ensures.draft ∙ what)
           c.enter-receipt.ensures.entries c.enter-receipt.ensures.moment c.enter-receipt.ensures.receipt;
     } in
-    entered_held c.self.inside c.args.self.now c.args.now c.args.step.now (Some c.replace.result) c.replace.new.dest c.publish.new.self c.retain.new.self c.enter-receipt.new.self c.enter-receipt.result c.publications_keep.ensures c.self.invariant c.self.view_is c.requires.later c.requires.may entered
+    entered_held c.self.inside c.args.self.now c.args.now c.args.step.now (Some c.replace.result) c.replace.new.dest c.publish.new.self c.retain.new.self c.enter-receipt.new.self c.enter-receipt.result c.lemma_publications_keep.ensures c.self.invariant c.self.view_is c.requires.later c.requires.may entered
 
 pub returns : goal.returns
 returns c =

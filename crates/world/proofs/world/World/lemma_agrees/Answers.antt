@@ -5,7 +5,7 @@ use Rattle.world.proofs.world.World.lemma_agrees.Goals as goal
 pub returns : goal.returns
 returns c = record {
   replayed = replayed c.self.inside c.args.self.now c.self.invariant c.self.view_is;
-  agrees = agrees c.self.inside c.args.self.now c.self.invariant c.self.view_is (c.kept_agrees.ensures (facts_of c.args.self.now) (kept_of c.self.inside c.args.self.now c.self.invariant c.self.view_is));
+  agrees = agrees c.self.inside c.args.self.now c.self.invariant c.self.view_is (c.lemma_kept_agrees.ensures (facts_of c.args.self.now) (kept_of c.self.inside c.args.self.now c.self.invariant c.self.view_is));
   in_pieces = (kept_of c.self.inside c.args.self.now c.self.invariant c.self.view_is).in_pieces;
   valid = (kept_of c.self.inside c.args.self.now c.self.invariant c.self.view_is).valid;
   past = (kept_of c.self.inside c.args.self.now c.self.invariant c.self.view_is).since;

@@ -44,7 +44,7 @@ invariant_of-self-2 c =
     = logged c.self.inside.log c.make_ready.new.self c.enter-receipt.new.self c.in_ok-draft.draft (entry_of c.args.now c.args.prepared.now) c.enter-receipt.result c.in_ok-draft.ensures.entries (c.in_ok-draft.ensures.draft ∙ is)
     c.enter-receipt.ensures.entries c.enter-receipt.ensures.moment c.enter-receipt.ensures.receipt in
     let begun = c.in_ok-begun.ensures ∙ ap (each (moved_to c.element.result.now.number c.piece-piece.result c.in_ok-cursor.cursor)) c.as_slice-2.ensures.value ∙ (λ i. each (moved_to ((c.element.ensures i).number) (c.piece-piece.ensures i) (cursor i)) c.self.inside.begun.items) in
-    piece_held c.self.inside c.args.self.now c.args.now c.args.prepared.now c.test_and_set.new.self c.in_ok-begun.begun c.enter-receipt.new.self c.enter-receipt.result c.pieces_keep.ensures ready begun entered
+    piece_held c.self.inside c.args.self.now c.args.now c.args.prepared.now c.test_and_set.new.self c.in_ok-begun.begun c.enter-receipt.new.self c.enter-receipt.result c.lemma_pieces_keep.ensures ready begun entered
 
 pub returns : goal.returns
 returns c =
@@ -57,6 +57,6 @@ returns c =
     = logged c.self.inside.log c.make_ready.new.self c.enter-receipt.new.self c.in_ok-draft.draft (entry_of c.args.now c.args.prepared.now) c.enter-receipt.result c.in_ok-draft.ensures.entries (c.in_ok-draft.ensures.draft ∙ is)
     c.enter-receipt.ensures.entries c.enter-receipt.ensures.moment c.enter-receipt.ensures.receipt in
     record {
-      step = piece_done c.self.inside c.args.self.now c.args.now c.is_key-ended.result c.args.prepared.now c.test_and_set.new.self c.in_ok-begun.begun c.enter-receipt.new.self c.enter-receipt.result c.pieces_keep.ensures ready entered
+      step = piece_done c.self.inside c.args.self.now c.args.now c.is_key-ended.result c.args.prepared.now c.test_and_set.new.self c.in_ok-begun.begun c.enter-receipt.new.self c.enter-receipt.result c.lemma_pieces_keep.ensures ready entered
           (λ t. sym (c.as_slice.ensures ∙ cursor) ∙ c.is_key-ended.ensures.0 t ∙ c.bounds.ensures.high, λ e. c.is_key-ended.ensures.1 (c.as_slice.ensures ∙ cursor ∙ e ∙ sym c.bounds.ensures.high));
     }

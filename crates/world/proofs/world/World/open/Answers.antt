@@ -7,7 +7,7 @@ use Rattle.world.proofs.world.World.open.Goals as goal
 pub invariant_of-result : goal.invariant_of-result
 invariant_of-result c =
     opened_held (record { first = c.in_ok-first.first; before = None; newest = c.in_ok-newest.newest; line = c.in_ok-line.line; begun = c.new-2.result; store = c.new-3.result; log = c.new-4.result })
-    c.openings_keep.ensures
+    c.lemma_openings_keep.ensures
     (subst IsLength (sym (ap (λ l. l.length) c.in_ok-line.ensures.opened)) c.in_ok-line.ensures.length)
     (subst IsSoundVersion (sym c.in_ok-first.ensures) c.lemma_known.ensures)
     (c.in_ok-line.ensures.opened ∙ ap (λ l. opened l.length) (sym c.in_ok-line.ensures.opened))

@@ -9,7 +9,7 @@ pub begin_ranked-requires-clause-ranked : goal.begin_ranked-requires-clause-rank
 begin_ranked-requires-clause-ranked c =
     let w = follow_of c.self.inside c.args.self.now c.self.invariant c.self.view_is in
     let kept = kept_of c.self.inside c.args.self.now c.self.invariant c.self.view_is in
-    let stand = c.items_stand.ensures (facts_of c.args.self.now) c.args.number c.in-Some.found.now c.in-Some.work c.in-Some.ensures.found kept in
+    let stand = c.lemma_items_stand.ensures (facts_of c.args.self.now) c.args.number c.in-Some.found.now c.in-Some.work c.in-Some.ensures.found kept in
     subst (λ e. ItemsAreEmpty (scan_range_of e c.in-Some.work) c.self.inside.store) (sym c.in_ok-element.ensures)
     (subst (ItemsAreEmpty (scan_range_of c.in-Some.found.now c.in-Some.work)) (sym w.pairs) stand)
 

@@ -30,7 +30,7 @@ returns-in_err-answer c =
       schema_is = c.under-schema.ensures ∙ ap Some (sym c.get.ensures);
     } in
     let p = err_from_is_err_and c.from_residual-in_err-answer.result c.from_residual-in_err-answer.ensures.1 in
-    rw p.1 (query_faulty c.self.inside c.args.self.now c.args.moment c.effective_moment-now.result c.args.lease.now c.args.query.now c.get.result.now c.in_err-answer.field-0.0 p.0 served c.one_refusal.ensures.or_none c.in_err-answer.ensures.refused p.2)
+    rw p.1 (query_faulty c.self.inside c.args.self.now c.args.moment c.effective_moment-now.result c.args.lease.now c.args.query.now c.get.result.now c.in_err-answer.field-0.0 p.0 served c.lemma_one_refusal.ensures.or_none c.in_err-answer.ensures.refused p.2)
 
 pub returns : goal.returns
 returns c =
@@ -42,4 +42,4 @@ returns c =
       serves = serves_there c.self.inside c.args.self.now c.effective_moment-now.result c.args.lease.now c.args.lease.now c.self.invariant c.self.view_is refl (c.in_ok-standing.ensures.serves.0 refl);
       schema_is = c.under-schema.ensures ∙ ap Some (sym c.get.ensures);
     } in
-    query_answered c.self.inside c.args.self.now c.args.moment c.effective_moment-now.result c.args.lease.now c.args.query.now c.get.result.now c.in_ok-answer.field-0 c.leases_keep.ensures c.kept_agrees.ensures served c.one_refusal.ensures.or_none c.in_ok-answer.ensures.clear c.in_ok-answer.ensures.rows
+    query_answered c.self.inside c.args.self.now c.args.moment c.effective_moment-now.result c.args.lease.now c.args.query.now c.get.result.now c.in_ok-answer.field-0 c.lemma_leases_keep.ensures c.lemma_kept_agrees.ensures served c.lemma_one_refusal.ensures.or_none c.in_ok-answer.ensures.clear c.in_ok-answer.ensures.rows

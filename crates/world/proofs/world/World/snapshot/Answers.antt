@@ -69,4 +69,4 @@ returns c =
       serves = serves_there c.self.inside c.args.self.now c.effective_moment-now.result c.args.lease.now c.args.lease.now c.self.invariant c.self.view_is refl (c.in_ok-standing.ensures.serves.0 refl);
       schema_is = c.under-schema.ensures ∙ ap Some (sym c.in_ok-schema.ensures.cases);
     } in
-    snapshot_taken c.self.inside c.args.self.now c.args.moment c.effective_moment-now.result c.args.lease.now c.in_ok-schema.schema c.in_ok-newest.newest c.in_ok-pairs.pairs c.leases_keep.ensures c.kept_agrees.ensures served c.in_ok-newest.ensures.cases c.in_ok-pairs.ensures
+    snapshot_taken c.self.inside c.args.self.now c.args.moment c.effective_moment-now.result c.args.lease.now c.in_ok-schema.schema c.in_ok-newest.newest c.in_ok-pairs.pairs c.lemma_leases_keep.ensures c.lemma_kept_agrees.ensures served c.in_ok-newest.ensures.cases c.in_ok-pairs.ensures

@@ -1,5 +1,5 @@
 use Rattle.replay.proofs.Time.{lease_kept}
-use Rattle.replay.proofs.laws.leases_keep.Goals as goal
+use Rattle.replay.proofs.laws.lemma_leases_keep.Goals as goal
 
 pub returns : goal.returns
 returns c = lease_kept

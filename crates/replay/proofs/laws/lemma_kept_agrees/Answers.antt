@@ -1,5 +1,5 @@
 use Rattle.replay.proofs.Agree.{agrees}
-use Rattle.replay.proofs.laws.kept_agrees.Goals as goal
+use Rattle.replay.proofs.laws.lemma_kept_agrees.Goals as goal
 
 pub returns : goal.returns
 returns c = agrees

@@ -1,5 +1,5 @@
 use Rattle.replay.proofs.Transaction.{outcomes_hold, txns_keep, refused_write_nothing}
-use Rattle.replay.proofs.laws.transactions_keep.Goals as goal
+use Rattle.replay.proofs.laws.lemma_transactions_keep.Goals as goal
 
 pub returns-clause-outcome : goal.returns-clause-outcome
 returns-clause-outcome c = outcomes_hold
