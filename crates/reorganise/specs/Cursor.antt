@@ -1,4 +1,4 @@
--- Cited by the contracts of Progress::moved, Progress::span_of.
+-- Cited by the contracts of Progress::move_cursor, Progress::span_of.
 -- How a reorganisation goes on, and which of its pieces was read.
 use Rattle.std.specs.Prelude.{◌≡◌, ℕ, Some, slice_get}
 use Rattle.row_map.specs.Rows.{Bytes}

@@ -2,7 +2,7 @@
 //! whether it is done.
 ghost use Rattle.std.specs.Bool.{Decides};
 ghost use Rattle.std.specs.Option.{option_copied};
-ghost use Rattle.std.specs.Prelude.{◌≡◌, IfOk, MatchOption, slice_get, true};
+ghost use Rattle.std.specs.Prelude.{◌≡◌, MatchOption, slice_get, true};
 ghost use Rattle.reorganise.specs.declared.work.Span.{Span as SpanOf};
 ghost use Rattle.reorganise.specs.Laws.{with_cursor};
 ghost use Rattle.reorganise.specs.Cursor.{come_on, IsSpanOf};
@@ -13,14 +13,7 @@ use crate::work::{Progress, Span};
 use byte_map::Bytes;
 use collections::List;
 use schema_version::Work;
-use std::alloc::AllocError;
-
-/// A copy of a reorganisation.
-fn copy_bytes(progress: &Progress) -> Result<Progress, AllocError>
-    ensures { IfOk result (λ copy. copy ≡ progress.now) }
-{
-    progress.clone()
-}
+use std::alloc::Global;
 
 /// The pieces, with the cursor of the one of this number moved.
 fn with_moved(mut pieces: Vec<Span>, piece: u32, cursor: Bytes) -> Vec<Span>
@@ -42,22 +35,13 @@ fn is_key(one: &[u8], other: &[u8]) -> bool
 }
 
 impl Progress {
-    /// A copy, with the cursor of the piece of this number moved to `cursor`. If there is no such
-    /// piece, no cursor is moved. Refused only when out of memory.
-    pub fn moved(&self, piece: u32, cursor: &Bytes) -> Result<Progress, AllocError>
-        ensures { IfOk result (λ copy. copy ≡ come_on piece cursor.now self.now) }
+    /// Moves the cursor of the piece of this number to `cursor`, in place. If there is no such
+    /// piece, no cursor is moved. It takes no memory, and is never refused.
+    pub fn move_cursor(&mut self, alloc: Global, piece: u32, cursor: Bytes)
+        ensures { self.new ≡ come_on piece cursor self.old }
     {
-        let Progress {
-            element,
-            kind,
-            pieces,
-        } = copy_bytes(self)?;
-        let pieces = with_moved(pieces.into_vec(), piece, cursor.clone()?);
-        Ok(Progress {
-            element,
-            kind,
-            pieces: List::new(pieces),
-        })
+        let pieces = std::mem::replace(&mut self.pieces, List::new(Vec::new(alloc)));
+        self.pieces = List::new(with_moved(pieces.into_vec(), piece, cursor));
     }
 
     /// Whether this is what it does, and every piece has ended.

@@ -32,15 +32,15 @@ impl Numbers {
     }
 }
 
-/// How many changes a batch has: up to 32 may be made in place.
+/// How many changes a batch has: up to 1,024 may be made in place.
 fn size(choice: u64) -> usize {
     match choice {
         0 => 1,
         1 => 3,
-        2 => 32,
-        3 => 33,
-        4 => 400,
-        _ => 1000,
+        2 => 33,
+        3 => 400,
+        4 => 1024,
+        _ => 1025,
     }
 }
 

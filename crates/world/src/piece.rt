@@ -1,14 +1,16 @@
 //! The pieces of a begun reorganisation.
 ghost use Rattle.std.specs.Bool.{Decides};
-ghost use Rattle.std.specs.Prelude.{◌≡◌, ◌≤◌, IfOk, IfErr, OnOk};
+ghost use Rattle.std.specs.Prelude.{◌≡◌, ◌≤◌, ℕ, IfOk, IfErr, OnOk};
 ghost use mathlib.Core.List.{map as each};
 ghost use Rattle.collections.specs.Refusal.{IsRefusal};
+ghost use Rattle.row_map.specs.Rows.{Bytes as Key};
 ghost use Rattle.replay.specs.Replay.{moved_to};
 ghost use Rattle.world.specs.declared.piece.PieceFault.TheVariants.{Memory};
 ghost use Rattle.world.specs.declared.piece.ReadFault.TheVariants.{View as ViewOf};
 ghost use Rattle.world.specs.Piece.{standing_at, piece_standing, piece_standing_at, ReadStep, PieceStep, PieceAt, PieceCondition, IsCurrent, piece_rank};
 ghost use Rattle.world.specs.State.{facts_of};
 ghost use Rattle.world.specs.Faults.{piece_reported};
+ghost use Rattle.world.specs.inner.Cursors.{cursor_of};
 
 use crate::entry::PieceDone;
 use crate::world::World;
@@ -103,37 +105,48 @@ fn standing_of(progress: &Progress, piece: u32) -> Option<(Work, bool)>
     Some((progress.kind, span.cursor.cmp(&span.high).is_eq()))
 }
 
-/// A copy of a reorganisation, with that cursor come on if it is the one of this element.
-fn move_cursor(
+/// A further owner of the cursor, if the reorganisation is the one of this element.
+fn cursor_for(
     progress: &Progress,
     number: u32,
-    piece: u32,
     cursor: &Bytes,
-) -> Result<Progress, AllocError>
-    ensures { IfOk result (λ copy. copy ≡ moved_to number piece cursor.now progress.now) }
+) -> Result<Option<Bytes>, AllocError>
+    ensures { IfOk result (λ spare. spare ≡ cursor_of number cursor.now progress.now) }
 {
     if progress.element.number == number {
-        progress.moved(piece, cursor)
+        Ok(Some(cursor.clone()?))
     } else {
-        progress.clone()
+        Ok(None)
     }
 }
 
-/// The reorganisations, with that cursor come on.
-fn all_moved(
+/// What `move_cursors` is to lay: for each reorganisation a cursor, if it is of this element.
+fn cursors_for(
     alloc: Global,
     begun: &[Progress],
     number: u32,
-    piece: u32,
     cursor: &Bytes,
-) -> Result<Vec<Progress>, AllocError>
-    ensures { IfOk result (λ copies. copies.items ≡ each (moved_to number piece cursor.now) begun.now) }
+) -> Result<Vec<Option<Bytes>>, AllocError>
+    ensures { IfOk result (λ spare. spare.items ≡ each (cursor_of number cursor.now) begun.now) }
 {
-    let mut copies = Vec::new(alloc);
+    let mut spare = Vec::new(alloc);
     for progress in begun {
-        copies.push(move_cursor(progress, number, piece, cursor)?)?;
+        spare.push(cursor_for(progress, number, cursor)?)?;
     }
-    Ok(copies)
+    Ok(spare)
+}
+
+/// Moves the cursors in place, when nothing can be refused any more.
+fn move_cursors(alloc: Global, begun: &mut [Progress], piece: u32, mut spare: Vec<Option<Bytes>>)
+    ensures { (number : ℕ) (cursor : Key) → spare.items ≡ each (cursor_of number cursor) begun.old → begun.new ≡ each (moved_to number piece cursor) begun.old }
+{
+    let Some((last, front)) = begun.split_last_mut() else {
+        return;
+    };
+    if let Some(Some(cursor)) = spare.pop() {
+        last.move_cursor(alloc, piece, cursor);
+    }
+    move_cursors(alloc, front, piece, spare);
 }
 
 /// Whether two keys are the same.
@@ -256,7 +269,7 @@ impl World {
         let piece = prepared.piece();
         let cursor = copy_bytes(alloc, prepared.cursors().1)?;
         let ended = is_key(cursor.as_slice(), prepared.bounds().1);
-        let begun = all_moved(alloc, self.begun.as_slice(), element, piece, &cursor)?;
+        let spare = cursors_for(alloc, self.begun.as_slice(), element, &cursor)?;
         let what = What::Piece {
             element,
             piece,
@@ -265,7 +278,7 @@ impl World {
         let draft = self.log.make_ready(alloc, now, what)?;
         self.store
             .test_and_set(alloc, prepared.expect(), prepared.batch())?;
-        self.begun = begun;
+        move_cursors(alloc, self.begun.as_mut_slice(), piece, spare);
         let receipt = self.log.enter(draft);
         Ok(PieceDone { receipt, ended })
     }

@@ -7,7 +7,7 @@ use crate::fixtures::{FIRST, mark, opened};
 use crate::pieces::Refusal::{Moved, NotWanted, WrongElement};
 use crate::reported::{Reported, seen};
 use Act::{
-    Begin, ByHand, Check, Commit, Enter, Find, Go, Insert, Keep, LetGo, Look, LookOver, Read,
+    Begin, ByHand, Check, Commit, Enter, Find, Go, Insert, Keep, Left, LetGo, Look, LookOver, Read,
     Stand, State, Strange, Swap,
 };
 use lease::Lease;
@@ -125,7 +125,8 @@ fn under_refusal_two_versions(rt: HostRuntime) {
 }
 
 // A piece of a world whose element 2 is an index of another name.
-static OTHER: [Row; 6] = [
+static OTHER: [Row; 7] = [
+    (Left(None, None), 0),
     (Act::Lease(FIRST), 1),
     (Insert(FIRST, (7, 5)), 2),
     (Enter("j"), 3),
@@ -138,7 +139,7 @@ static OTHER: [Row; 6] = [
 // bad count comes before a fill that has begun only if none has. Of two readings of the world's own
 // piece the second has moved when the first is committed. The fill puts the row's pair, and only
 // then may the index become public.
-static FILL: [Row; 23] = [
+static FILL: [Row; 25] = [
     (Commit(Err(NotWanted)), 0),
     (Act::Lease(FIRST), 1),
     (Insert(FIRST, (7, 5)), 2),
@@ -154,6 +155,7 @@ static FILL: [Row; 23] = [
         5,
     ),
     (Stand(Some((Fill, 1, false))), 5),
+    (Left(Some(0), Some(1)), 5),
     (Read, 5),
     (Swap, 5),
     (Read, 5),
@@ -161,6 +163,7 @@ static FILL: [Row; 23] = [
     (Swap, 6),
     (Commit(Err(Moved)), 6),
     (Stand(Some((Fill, 1, true))), 6),
+    (Left(None, Some(0)), 6),
     (Go(2, Public, 30, Ok(4)), 7),
     (Stand(None), 7),
     (Begin(2, 1, Err(BeginFault::NotWanted)), 7),
