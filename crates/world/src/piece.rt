@@ -106,11 +106,7 @@ fn standing_of(progress: &Progress, piece: u32) -> Option<(Work, bool)>
 }
 
 /// A further owner of the cursor, if the reorganisation is the one of this element.
-fn cursor_for(
-    progress: &Progress,
-    number: u32,
-    cursor: &Bytes,
-) -> Result<Option<Bytes>, AllocError>
+fn cursor_for(progress: &Progress, number: u32, cursor: &Bytes) -> Result<Option<Bytes>, AllocError>
     ensures { IfOk result (λ spare. spare ≡ cursor_of number cursor.now progress.now) }
 {
     if progress.element.number == number {
@@ -136,6 +132,15 @@ fn cursors_for(
     Ok(spare)
 }
 
+/// Moves a cursor, if one was laid aside for this reorganisation.
+fn move_one(alloc: Global, progress: &mut Progress, piece: u32, given: Option<Bytes>)
+    ensures { (number : ℕ) (cursor : Key) → given ≡ cursor_of number cursor progress.old → progress.new ≡ moved_to number piece cursor progress.old }
+{
+    if let Some(cursor) = given {
+        progress.move_cursor(alloc, piece, cursor);
+    }
+}
+
 /// Moves the cursors in place, when nothing can be refused any more.
 fn move_cursors(alloc: Global, begun: &mut [Progress], piece: u32, mut spare: Vec<Option<Bytes>>)
     ensures { (number : ℕ) (cursor : Key) → spare.items ≡ each (cursor_of number cursor) begun.old → begun.new ≡ each (moved_to number piece cursor) begun.old }
@@ -143,9 +148,10 @@ fn move_cursors(alloc: Global, begun: &mut [Progress], piece: u32, mut spare: Ve
     let Some((last, front)) = begun.split_last_mut() else {
         return;
     };
-    if let Some(Some(cursor)) = spare.pop() {
-        last.move_cursor(alloc, piece, cursor);
-    }
+    let Some(given) = spare.pop() else {
+        return;
+    };
+    move_one(alloc, last, piece, given);
     move_cursors(alloc, front, piece, spare);
 }
 

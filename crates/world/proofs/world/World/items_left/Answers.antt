@@ -1,4 +1,4 @@
-use Rattle.std.proofs.Common.{◌≡◌, Some, sym, ap, ◌∙◌, option_map, arith}
+use Rattle.std.proofs.Common.{Some, sym, ap, ◌∙◌, option_map, arith}
 use Rattle.std.specs.Option.{option_copied}
 use Rattle.reorganise.specs.declared.work.Progress.{Progress}
 use Rattle.reorganise.specs.Left.{items_left}

@@ -1,4 +1,4 @@
-use Rattle.std.proofs.Common.{◌≡◌, sym, ap, ◌∙◌}
+use Rattle.std.proofs.Common.{sym, ap, ◌∙◌}
 use Rattle.std.specs.Option.{option_copied, option_and_then}
 use Rattle.reorganise.specs.declared.work.Progress.{Progress}
 use Rattle.reorganise.specs.Left.{open_from}
