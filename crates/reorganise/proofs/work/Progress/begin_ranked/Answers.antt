@@ -1,7 +1,8 @@
-use Rattle.std.proofs.Common.{List, sym, ap, subst}
+use Rattle.std.proofs.Common.{List, ◌≡◌, sym, ap, subst}
 use Rattle.reorganise.specs.declared.work.Progress.{Progress}
 use Rattle.reorganise.specs.declared.work.Span.{Span}
-use Rattle.reorganise.specs.ScanRanges.{scan_range_of, start, end}
+use Rattle.reorganise.specs.ScanRanges.{scan_range_of, start, end, items}
+use Rattle.reorganise.specs.Pieces.{spans}
 use Rattle.reorganise.specs.Partition.{AreJoined}
 use Rattle.reorganise.proofs.EmptyValues.{spans_counted}
 use Rattle.reorganise.proofs.Shares.{begun_joined, partition}
