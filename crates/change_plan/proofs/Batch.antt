@@ -28,12 +28,13 @@ use Rattle.change_plan.specs.declared.schedule.Transition.TheVariants.{Appear}
 use Rattle.change_plan.specs.declared.schedule.StatePath.TheVariants.{PlainIn, FilledIn}
 use Rattle.change_plan.specs.declared.schedule.Schedule.{Schedule}
 use Rattle.change_plan.specs.Schedule.{state_path_in, state_path_out, transition_at, move_of, out_schedule, schedule_out, index_schedule, column_schedule, schedule_of, schedules_from, schedules, wait_in, enters_at, enters_before, number_of}
-use Rattle.change_plan.proofs.StepEffects.{not_both}
+use Rattle.change_plan.proofs.MoveEffects.{not_both}
 use Rattle.change_plan.proofs.Named.{contains_cases, contains_middle, split_at, ordered}
-use Rattle.change_plan.proofs.Schedules.{is_in, appears, no_entry, entries}
+use Rattle.change_plan.proofs.Schedules.{is_in, appears}
+use Rattle.change_plan.proofs.ScheduleMoves.{no_entry, entries}
 use Rattle.change_plan.proofs.EntryNumbers.{count_first, count_split, one_if, before_next, before_more, none_before}
 use Rattle.change_plan.proofs.Leaving.{from_public, index_there, column_there, entering_there, Departs, departs}
-use Rattle.change_plan.proofs.Lawful.{next_at}
+use Rattle.change_plan.proofs.ScheduleRules.{next_at}
 
 -- ---- where a schedule comes from
 

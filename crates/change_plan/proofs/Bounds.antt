@@ -17,7 +17,8 @@ use Rattle.schema_version.specs.Edges.{edge, edge_by, is_filled}
 use Rattle.schema_version.proofs.Decides.{column_depends}
 use Rattle.schema_version.specs.Moves.{turned_back, after_step, moves_element, is_unready, IsIndexOn, IsLeastIndexOn}
 use Rattle.schema_version.specs.Steps.{IsOrdered, in_state_or_none}
-use Rattle.change_plan.proofs.StepEffects.{Becomes, Stays, Comes, Goes, Turns, Midway, AreReady, ready_go, after_allowed, not_both}
+use Rattle.change_plan.proofs.StepEffects.{Becomes, Stays, Comes, Goes, Turns, Midway, after_allowed}
+use Rattle.change_plan.proofs.MoveEffects.{AreReady, ready_go, not_both}
 use Rattle.change_plan.specs.declared.least_plan.PlanStep.{PlanStep}
 use Rattle.change_plan.specs.Plans.{after_plan, AreAllowed}
 

@@ -15,7 +15,7 @@ use Rattle.schema_version.specs.declared.element.ElementDef.{ElementDef}
 use Rattle.schema_version.specs.Version.{Version, element_at, indexed_columns, type_of_kind}
 use Rattle.schema_version.specs.Sound.{IsSoundVersion}
 use Rattle.schema_version.specs.Steps.{IsOrdered}
-use Rattle.change_plan.proofs.StepEffects.{not_both}
+use Rattle.change_plan.proofs.MoveEffects.{not_both}
 use Rattle.change_plan.specs.declared.change.Change.{Change}
 use Rattle.change_plan.specs.declared.change.Change.TheVariants.{AddIndex, AddColumn}
 use Rattle.change_plan.specs.declared.fault.PlanFault.{PlanFault}

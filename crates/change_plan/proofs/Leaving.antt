@@ -12,7 +12,7 @@ use Rattle.schema_version.specs.Version.{Version, element_at, is_index, is_colum
 use Rattle.schema_version.specs.Edges.{has_state, is_filled}
 use Rattle.schema_version.specs.Sound.{IsSoundVersion}
 use Rattle.schema_version.specs.Steps.{IsOrdered}
-use Rattle.change_plan.proofs.StepEffects.{not_both}
+use Rattle.change_plan.proofs.MoveEffects.{not_both}
 use Rattle.change_plan.specs.declared.change.Change.{Change}
 use Rattle.change_plan.specs.declared.change.Change.TheVariants.{AddIndex, DropIndex, AddColumn, DropColumn, Abandon}
 use Rattle.change_plan.specs.declared.fault.PlanFault.{PlanFault}

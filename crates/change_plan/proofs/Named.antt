@@ -11,7 +11,7 @@ use Rattle.schema_version.specs.Sound.{IsSoundVersion}
 use Rattle.schema_version.specs.Steps.{IsOrdered}
 use Rattle.schema_version.proofs.Live.{live_has, live_from}
 use Rattle.schema_version.proofs.Lists.{some_same}
-use Rattle.change_plan.proofs.StepEffects.{not_both}
+use Rattle.change_plan.proofs.MoveEffects.{not_both}
 use Rattle.change_plan.specs.Batches.{named, is_same_name}
 
 -- ---- elements of lists

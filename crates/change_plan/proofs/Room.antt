@@ -17,12 +17,13 @@ use Rattle.change_plan.specs.Batches.{dropped_element}
 use Rattle.change_plan.specs.Refusals.{IsPlannable, adds_like, is_addition, IsOver}
 use Rattle.change_plan.specs.declared.schedule.Schedule.{Schedule}
 use Rattle.change_plan.specs.Schedule.{move_of, out_schedule, schedule_out, index_schedule, column_schedule, schedule_of, schedules, planned_steps, enters_at, enters_before, number_of, column_number}
-use Rattle.change_plan.proofs.Schedules.{is_in, appears, no_entry, entries}
+use Rattle.change_plan.proofs.Schedules.{is_in, appears}
+use Rattle.change_plan.proofs.ScheduleMoves.{no_entry, entries}
 use Rattle.change_plan.proofs.EntryNumbers.{count_first, count_split, count_two, count_within, each_next, each_addition, none_before}
 use Rattle.change_plan.proofs.Leaving.{column_if, clear}
-use Rattle.change_plan.proofs.Lawful.{HasRoom, entered_like}
+use Rattle.change_plan.proofs.ScheduleRules.{HasRoom, entered_like}
 use Rattle.change_plan.proofs.Batch.{From, NewIndex, NewColumn, Leaves, comes_in, out_of, Placed, placed, counts, alone, Role, Enters, Goes, role}
-use Rattle.change_plan.proofs.Fits.{column_kind, Place, has_change}
+use Rattle.change_plan.proofs.Places.{column_kind, Place, has_change}
 use Rattle.change_plan.proofs.Target.{least_with_room}
 
 of_index : (index : Bool) (columns : List ℕ) → is_like index (Index columns) ≡ index

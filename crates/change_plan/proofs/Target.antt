@@ -10,7 +10,8 @@ use Rattle.schema_version.specs.declared.element.Kind.TheVariants.{Index}
 use Rattle.schema_version.specs.declared.element.ElementDef.{ElementDef}
 use Rattle.schema_version.specs.Version.{Version, element_at, is_index}
 use Rattle.schema_version.specs.Sound.{IsSoundVersion}
-use Rattle.change_plan.proofs.StepEffects.{not_both, not_given}
+use Rattle.change_plan.proofs.MoveEffects.{not_both}
+use Rattle.change_plan.proofs.StepEffects.{not_given}
 use Rattle.change_plan.specs.declared.change.Change.{Change}
 use Rattle.change_plan.specs.declared.change.Change.TheVariants.{AddIndex, DropIndex, AddColumn, DropColumn, Abandon}
 use Rattle.change_plan.specs.declared.fault.PlanFault.TheVariants.{Unknown}
@@ -22,10 +23,15 @@ use Rattle.change_plan.specs.Schedule.{duration, longest, out_schedule, index_sc
 use Rattle.change_plan.proofs.Named.{contains_first, contains_later, contains_cases, contains_none, ordered}
 use Rattle.change_plan.proofs.Leaving.{column_there, column_type, has_type, abandoned, departs, clear}
 use Rattle.change_plan.proofs.Least.{planned_short}
-use Rattle.change_plan.proofs.Schedules.{find_schedule, is_in, element_of, here, at_destination}
-use Rattle.change_plan.proofs.Lawful.{IsAt, HasRoom, AreSchedules, at_first, steps_allowed, after_steps, arrives_in, arrives_out}
+use Rattle.change_plan.proofs.ScheduleMoves.{find_schedule}
+use Rattle.change_plan.proofs.Schedules.{is_in, element_of, here, at_destination}
+use Rattle.change_plan.proofs.ScheduleRules.{IsAt, HasRoom, AreSchedules, at_first}
+use Rattle.change_plan.proofs.Lawful.{steps_allowed, after_steps}
+use Rattle.change_plan.proofs.Schedules.{arrives_in, arrives_out}
 use Rattle.change_plan.proofs.Batch.{From, NewIndex, NewColumn, Leaves, comes_in, out_of}
-use Rattle.change_plan.proofs.Fits.{made, made_leaving, made_added, own_name, index_named, column_named, is_true_if_not_false, are_schedules, moved_element, no_schedule_of, stays, column_kind, place_of, has_change, Place}
+use Rattle.change_plan.proofs.MadeSchedules.{made, made_leaving, made_added}
+use Rattle.change_plan.proofs.Places.{own_name, index_named, column_named, is_true_if_not_false, moved_element, no_schedule_of, stays, column_kind, place_of, has_change, Place}
+use Rattle.change_plan.proofs.Fits.{are_schedules}
 
 within_longest : (schedules : List Schedule) (schedule : Schedule) → Contains schedules schedule → duration schedule ≤ longest schedules
 within_longest [] schedule has = absurd (contains_none schedule has)
