@@ -8,7 +8,7 @@ use Rattle.world.specs.BeginReorg.{BeginStep}
 use Rattle.world.specs.Calls.{effective_moment}
 use Rattle.world.specs.Publish.{PublishStep, max_versions}
 use Rattle.world.specs.declared.entry.Receipt.{Receipt}
-use Rattle.world.specs.State.{State, facts_of}
+use Rattle.world.specs.State.{State, facts_of, IsReplayed}
 use Rattle.piece_work.specs.WorkOff.{Rounds, HasEnded}
 use Rattle.rollout.specs.declared.act.Act.{Act}
 use Rattle.rollout.specs.declared.act.Act.TheVariants as act
@@ -21,50 +21,67 @@ use Rattle.rollout.specs.Few.{acts_in}
 use Rattle.rollout.specs.Left.{acts_left, all_left, IsOnTheWay}
 use Rattle.rollout.proofs.Ended.{all_turns, worked_acts, completed, Carries, due_as, begin_carries, step_carries, work_carries}
 use Rattle.rollout.proofs.Few.{are_few_left, acts_then, turns_acts}
+use Rattle.rollout.proofs.NoMore.{AddsNone, begin_adds_none, step_adds_none, rounds_on}
 use Rattle.rollout.proofs.Way.{same_way, way_on, way_ends}
 
 -- ---- what is so between two acts
 
--- each element is where it was or further on its way, no row has changed, and an act that was done is one that is no longer left
-pub record IsCarried (old new : State) : Type 0 where
+-- each element is where it was or further on its way, no row has changed, an act that was done is one that is no longer left, and items that a
+-- piece took are no longer ahead
+pub record IsCarried (pieces limit : ℕ) (old new : State) : Type 0 where
   pub way : IsOnTheWay (facts_of old) (facts_of new)
   pub rows : (facts_of new).rows ≡ (facts_of old).rows
   pub few : acts_in new.log + acts_left (facts_of new) ≤ acts_in old.log + acts_left (facts_of old)
+  pub adds_none : AddsNone pieces limit old new
 
-pub carried_at_first : (s : State) → IsCarried s s
-carried_at_first s = record { way = same_way (facts_of s) (facts_of s) refl; rows = refl; few = omega arith }
+pub carried_at_first : (pieces limit : ℕ) (s : State) → IsCarried pieces limit s s
+carried_at_first pieces limit s = record { way = same_way (facts_of s) (facts_of s) refl; rows = refl; few = omega arith; adds_none = λ k. omega arith }
 
-carried_on : (old middle new : State) (now acts : ℕ) → IsCarried old middle → Carries (facts_of middle) (facts_of new) now acts → acts_in new.log ≡ acts_in middle.log + acts → IsCarried old new
-carried_on old middle new now acts so c log =
+adds_none_on : (pieces limit : ℕ) (old middle new : State) → AddsNone pieces limit old middle → AddsNone pieces limit middle new → AddsNone pieces limit old new
+adds_none_on pieces limit old middle new first then k = (let a = first k in let b = then k in omega (arith, a, b))
+
+carried_on : (pieces limit : ℕ) (old middle new : State) (now acts : ℕ) → IsCarried pieces limit old middle → Carries (facts_of middle) (facts_of new) now acts → acts_in new.log ≡ acts_in middle.log + acts → AddsNone pieces limit middle new
+    → IsCarried pieces limit old new
+carried_on pieces limit old middle new now acts so c log none =
     let before = so.few in
     let fewer = c.fewer in
-    record { way = way_on (facts_of old) (facts_of middle) (facts_of new) so.way c.way; rows = c.rows ∙ so.rows; few = omega (arith, log, before, fewer) }
+    record {
+      way = way_on (facts_of old) (facts_of middle) (facts_of new) so.way c.way;
+      rows = c.rows ∙ so.rows;
+      few = omega (arith, log, before, fewer);
+      adds_none = adds_none_on pieces limit old middle new so.adds_none none;
+    }
 
 -- the state after an act: it is carried on, less is left, and the moment has not passed
-pub record IsNextState (old middle new : State) (now : ℕ) : Type 0 where
-  pub carried : IsCarried old new
+pub record IsNextState (pieces limit : ℕ) (old middle new : State) (now : ℕ) : Type 0 where
+  pub carried : IsCarried pieces limit old new
   pub lower : all_left (facts_of new) now < all_left (facts_of middle) now
   pub past : (facts_of new).moment ≤ now
 
-pub begin_next : (old middle new : State) (now number pieces : ℕ) (receipt : Receipt) (what : Act) → IsCarried old middle → IsKept (facts_of middle) → (facts_of middle).moment ≤ now → what ≡ act.Begin number → IsDue (facts_of middle) (effective_moment middle now) what → BeginStep middle now number pieces (Ok receipt) new → IsNextState old middle new now
-begin_next old middle new now number pieces receipt what so kept past is due at =
-    let c = begin_carries middle new now number pieces receipt kept past (due_as (facts_of middle) (effective_moment middle now) what (act.Begin number) is due) at in
-    record { carried = carried_on old middle new now 1 so c (acts_then middle new (effective_moment middle now) (Begin number pieces) receipt at.1); lower = c.lower; past = c.past }
+pub begin_next : (old middle new : State) (now number pieces limit : ℕ) (receipt : Receipt) (what : Act) → AreCounts pieces limit → IsCarried pieces limit old middle → IsKept (facts_of middle) → (facts_of middle).moment ≤ now → what ≡ act.Begin number → IsDue (facts_of middle) (effective_moment middle now) what → BeginStep middle now number pieces (Ok receipt) new → IsNextState pieces limit old middle new now
+begin_next old middle new now number pieces limit receipt what counts so kept past is due at =
+    let due_so = due_as (facts_of middle) (effective_moment middle now) what (act.Begin number) is due in
+    let c = begin_carries middle new now number pieces receipt kept past due_so at in
+    let none = begin_adds_none middle new now number pieces limit receipt counts.piece_count kept due_so at in
+    record { carried = carried_on pieces limit old middle new now 1 so c (acts_then middle new (effective_moment middle now) (Begin number pieces) receipt at.1) none; lower = c.lower; past = c.past }
 
-pub step_next : (old middle new : State) (now : ℕ) (step : List Move) (done : ℕ × Receipt) (what : Act) → IsCarried old middle → IsKept (facts_of middle) → (facts_of middle).moment ≤ now → what ≡ act.Publish step → IsDue (facts_of middle) (effective_moment middle now) what → PublishStep middle now step (Ok done) new → IsNextState old middle new now
-step_next old middle new now step done what so kept past is due at =
-    let c = step_carries middle new now step done kept past (due_as (facts_of middle) (effective_moment middle now) what (act.Publish step) is due) at in
-    record { carried = carried_on old middle new now 1 so c (acts_then middle new (effective_moment middle now) (Publish step) done.1 at.2); lower = c.lower; past = c.past }
+pub step_next : (old middle new : State) (now pieces limit : ℕ) (step : List Move) (done : ℕ × Receipt) (what : Act) → IsCarried pieces limit old middle → IsKept (facts_of middle) → (facts_of middle).moment ≤ now → what ≡ act.Publish step → IsDue (facts_of middle) (effective_moment middle now) what → PublishStep middle now step (Ok done) new → IsNextState pieces limit old middle new now
+step_next old middle new now pieces limit step done what so kept past is due at =
+    let due_so = due_as (facts_of middle) (effective_moment middle now) what (act.Publish step) is due in
+    let c = step_carries middle new now step done kept past due_so at in
+    let none = step_adds_none middle new now step done pieces limit kept due_so at in
+    record { carried = carried_on pieces limit old middle new now 1 so c (acts_then middle new (effective_moment middle now) (Publish step) done.1 at.2) none; lower = c.lower; past = c.past }
 
-pub work_next : (old middle new : State) (now number limit : ℕ) (what : Act) → IsCarried old middle → IsKept (facts_of middle) → (facts_of middle).moment ≤ now → what ≡ act.Work number → IsDue (facts_of middle) (effective_moment middle now) what → (commits : ℕ) × Rounds commits middle number now limit new → HasEnded new number → IsNextState old middle new now
-work_next old middle new now number limit what so kept past is due turns ended =
+pub work_next : (old middle new : State) (now number pieces limit : ℕ) (what : Act) → IsCarried pieces limit old middle → IsKept (facts_of middle) → IsReplayed middle → (facts_of middle).moment ≤ now → what ≡ act.Work number → IsDue (facts_of middle) (effective_moment middle now) what → (commits : ℕ) × Rounds commits middle number now limit new → HasEnded new number → IsNextState pieces limit old middle new now
+work_next old middle new now number pieces limit what so kept replayed past is due turns ended =
     let c = work_carries middle new now number limit turns.0 kept past (due_as (facts_of middle) (effective_moment middle now) what (act.Work number) is due) turns.1 ended in
     let log = turns_acts turns.0 middle new number now limit turns.1 in
-    record { carried = carried_on old middle new now 0 so c (omega (arith, log)); lower = c.lower; past = c.past }
+    let on = rounds_on turns.0 pieces limit number now middle new turns.1 kept replayed in
+    record { carried = carried_on pieces limit old middle new now 0 so c (omega (arith, log)) on.adds_none; lower = c.lower; past = c.past }
 
 -- pieces that were worked before one was refused
-pub some_turns : (old middle new : State) (now number limit : ℕ) → IsCarried old middle → (commits : ℕ) × Rounds commits middle number now limit new → IsCarried old new
-some_turns old middle new now number limit so turns =
+pub some_turns : (old middle new : State) (now number pieces limit : ℕ) → IsCarried pieces limit old middle → IsKept (facts_of middle) → IsReplayed middle → (commits : ℕ) × Rounds commits middle number now limit new → IsCarried pieces limit old new
+some_turns old middle new now number pieces limit so kept replayed turns =
     let w = all_turns turns.0 middle new number now limit turns.1 in
     let log = turns_acts turns.0 middle new number now limit turns.1 in
     let left = worked_acts (facts_of middle) (facts_of new) now number w in
@@ -73,18 +90,19 @@ some_turns old middle new now number limit so turns =
       way = way_on (facts_of old) (facts_of middle) (facts_of new) so.way (same_way (facts_of middle) (facts_of new) w.newest);
       rows = w.rows ∙ so.rows;
       few = omega (arith, log, left, before);
+      adds_none = adds_none_on pieces limit old middle new so.adds_none (rounds_on turns.0 pieces limit number now middle new turns.1 kept replayed).adds_none;
     }
 
 -- ---- the call
 
-pub complete_step : (old new : State) (moment pieces limit : ℕ) (result : Result ℕ AdvanceFault) → IsCarried old new → CompleteAnswer old moment pieces limit result new → CompleteStep old moment pieces limit result new
+pub complete_step : (old new : State) (moment pieces limit : ℕ) (result : Result ℕ AdvanceFault) → IsCarried pieces limit old new → CompleteAnswer old moment pieces limit result new → CompleteStep old moment pieces limit result new
 complete_step old new moment pieces limit result so answer =
     let few = so.few in
     let most = are_few_left (facts_of old) in
-    record { way = so.way; rows = so.rows; few = omega (arith, few, most); answer = answer }
+    record { way = so.way; rows = so.rows; few = omega (arith, few, most); pieces_few = λ k. (let none = so.adds_none k in omega (arith, none)); answer = answer }
 
 -- out of memory
-pub memory_step : (old new : State) (moment pieces limit : ℕ) (result : Result ℕ AdvanceFault) → IsCarried old new → AreCounts pieces limit → result ≡ Err advance_fault.Memory → CompleteStep old moment pieces limit result new
+pub memory_step : (old new : State) (moment pieces limit : ℕ) (result : Result ℕ AdvanceFault) → IsCarried pieces limit old new → AreCounts pieces limit → result ≡ Err advance_fault.Memory → CompleteStep old moment pieces limit result new
 memory_step old new moment pieces limit result so counts is =
     subst (λ (r : Result ℕ AdvanceFault). CompleteStep old moment pieces limit r new) (sym is) (complete_step old new moment pieces limit (Err advance_fault.Memory) so counts)
 
@@ -99,13 +117,13 @@ refused_by old middle moment pieces limit advance_fault.MomentTooLarge counts du
 refused_by old middle moment pieces limit advance_fault.VersionsSpent counts due why = (counts, due, why.0 refl)
 refused_by old middle moment pieces limit advance_fault.Memory counts due why = counts
 
-pub refused_step : (old middle new : State) (moment pieces limit : ℕ) (fault : AdvanceFault) (result : Result ℕ AdvanceFault) → IsCarried old middle → new ≡ middle → AreCounts pieces limit → ((now : ℕ) × IsStepDue middle now) → IsStepRefused middle fault → result ≡ Err fault → CompleteStep old moment pieces limit result new
+pub refused_step : (old middle new : State) (moment pieces limit : ℕ) (fault : AdvanceFault) (result : Result ℕ AdvanceFault) → IsCarried pieces limit old middle → new ≡ middle → AreCounts pieces limit → ((now : ℕ) × IsStepDue middle now) → IsStepRefused middle fault → result ≡ Err fault → CompleteStep old moment pieces limit result new
 refused_step old middle new moment pieces limit fault result so same counts due why is =
     subst (λ (s : State). CompleteStep old moment pieces limit result s) (sym same)
     (subst (λ (r : Result ℕ AdvanceFault). CompleteStep old moment pieces limit r middle) (sym is)
     (complete_step old middle moment pieces limit (Err fault) so (refused_by old middle moment pieces limit fault counts due why)))
 
-pub nothing_step : (old s : State) (moment pieces limit now : ℕ) (what : Act) → IsCarried old s → AreCounts pieces limit → IsKept (facts_of s) → what ≡ act.Nothing → IsDue (facts_of s) (effective_moment s now) what → effective_moment old moment ≤ now → (facts_of s).moment ≤ now → now ≤ max_moment → CompleteStep old moment pieces limit (Ok now) s
+pub nothing_step : (old s : State) (moment pieces limit now : ℕ) (what : Act) → IsCarried pieces limit old s → AreCounts pieces limit → IsKept (facts_of s) → what ≡ act.Nothing → IsDue (facts_of s) (effective_moment s now) what → effective_moment old moment ≤ now → (facts_of s).moment ≤ now → now ≤ max_moment → CompleteStep old moment pieces limit (Ok now) s
 nothing_step old s moment pieces limit now what so counts kept is due since past le =
     complete_step old s moment pieces limit (Ok now) so
     (counts, completed (facts_of old) (facts_of s) kept (due_as (facts_of s) (effective_moment s now) what act.Nothing is due).0 (way_ends (facts_of old) (facts_of s) so.way), since, past, le)

@@ -88,7 +88,7 @@ lower_work e f u v o p w x a b c d = omega (arith, a, b, c, d)
 
 -- ---- a begin
 
-other_begun : (ps : List Progress) (q : Progress) (k : ℕ) → is_of k q ≡ false → progress_of (ps ++ q ∷ []) k ≡ progress_of ps k
+pub other_begun : (ps : List Progress) (q : Progress) (k : ℕ) → is_of k q ≡ false → progress_of (ps ++ q ∷ []) k ≡ progress_of ps k
 other_begun [] q k is = ap (λ (b : Bool). cond b (Some q) None) is
 other_begun (p ∷ ps) q k is = ap (λ (o : Option Progress). cond (is_of k p) (Some p) o) (other_begun ps q k is)
 
@@ -163,7 +163,7 @@ moved_some : (n piece : ℕ) (cursor : Bytes) (o : Option Progress) → is_some 
 moved_some n piece cursor None = refl
 moved_some n piece cursor (Some p) = refl
 
-one_turn : (old new : State) (number moment limit : ℕ) → Round old number moment limit new → IsWorked (facts_of old) (facts_of new) moment number
+pub one_turn : (old new : State) (number moment limit : ℕ) → Round old number moment limit new → IsWorked (facts_of old) (facts_of new) moment number
 one_turn old new number moment limit t =
     subst (λ (f : Facts). IsWorked (facts_of old) f moment number) (sym (facts_then old new (effective_moment old moment) (Piece t.read.element.number t.read.piece t.read.key_range.high) t.done.receipt t.committed.2))
     (record {

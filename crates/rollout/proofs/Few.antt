@@ -126,7 +126,7 @@ module _ (facts : Facts) (now : ℕ) (sound : IsSoundVersion facts.newest) where
       let old : edges_at facts.newest e.number ≡ edges_of (Some e) = ap edges_of g.there in
       acts_drop (edges_at then.newest e.number) (edges_at facts.newest e.number) (unbegun_at facts e.number) (unbegun_at then e.number) (omega (arith, new, fall, old)) (edges_most (element_at facts.newest e.number)) (unbegun_most then e.number)
 
-  stays_by : (n : ℕ) (new : Option ElementDef) → moves_element (ready_moves facts) n ≡ false → Change (ready_moves facts) facts.newest.next n (element_at facts.newest n) new → new ≡ element_at facts.newest n
+  pub stays_by : (n : ℕ) (new : Option ElementDef) → moves_element (ready_moves facts) n ≡ false → Change (ready_moves facts) facts.newest.next n (element_at facts.newest n) new → new ≡ element_at facts.newest n
   stays_by n new still (Stays e) = e
   stays_by n new still (Enters fresh to there le none is) = (let r = ready_says facts (Enter fresh to) sound there in not_go_enter fresh to r.0.number r.1.to r.1.is)
   stays_by n new still (Goes e to there was is) = absurd (not_both (any_from (is_move_of n) (ready_moves facts) (Go n to) there (its_go n to)) still)

@@ -10,3 +10,9 @@ pub mod Ended
 pub mod Carried
 pub mod Rises
 pub mod Taken
+pub mod Fewer
+pub mod Written
+pub mod Cursor
+pub mod Ahead
+pub mod Taking
+pub mod NoMore

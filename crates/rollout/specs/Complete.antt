@@ -12,6 +12,7 @@ use Rattle.rollout.specs.Advance.{AreCounts, IsStepDue}
 use Rattle.rollout.specs.Due.{IsUnderWay}
 use Rattle.rollout.specs.Few.{acts_in, changes_under_way}
 use Rattle.rollout.specs.Left.{AreCompleted, IsOnTheWay}
+use Rattle.rollout.specs.Pieces.{ArePiecesFew}
 
 -- a change is under way, and no version may be published before a moment above 2^62
 abbrev pub WaitsTooLong : State → Type 0
@@ -29,12 +30,13 @@ CompleteAnswer old moment pieces limit (Err advance_fault.MomentTooLarge) new = 
 CompleteAnswer old moment pieces limit (Err advance_fault.VersionsSpent) new = AreCounts pieces limit × ((now : ℕ) × IsStepDue new now) × (max_versions ≤ newest_number (facts_of new).line)
 CompleteAnswer old moment pieces limit (Err advance_fault.Memory) new = AreCounts pieces limit
 
--- refused or not, each element is where it was or further on its way, the rows are as before, and the log has at most three begins and
--- publications more for each element that was under way
+-- refused or not, each element is where it was or further on its way, the rows are as before, and the log has few entries more: at most three
+-- begins and publications for each element that was under way, and of each such element the pieces that its items need
 pub record CompleteStep (old : State) (moment pieces limit : ℕ) (result : Result ℕ AdvanceFault) (new : State) : Type 0 where
   pub way : IsOnTheWay (facts_of old) (facts_of new)
   pub rows : (facts_of new).rows ≡ (facts_of old).rows
   pub few : acts_in new.log ≤ acts_in old.log + 3 * changes_under_way (facts_of old)
+  pub pieces_few : ArePiecesFew pieces limit old new
   pub answer : CompleteAnswer old moment pieces limit result new
 
 -- what a refused call left, a later call completes

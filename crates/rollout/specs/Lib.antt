@@ -3,4 +3,5 @@ pub mod Due
 pub mod Left
 pub mod Advance
 pub mod Few
+pub mod Pieces
 pub mod Complete

@@ -25,17 +25,17 @@ returns-in_err-begin-in-Begin c =
     let p = err_from_is_err_and c.from_residual-in_err-begin-in-Begin.result c.from_residual-in_err-begin-in-Begin.ensures.1 in
     record {
       step = memory_step c.args.world.now c.begin.new.world c.args.moment c.args.pieces c.args.limit c.from_residual-in_err-begin-in-Begin.result
-          (subst (IsCarried c.args.world.now) (sym c.in_err-begin-in-Begin.ensures.same) c.acts.invariant.carried)
+          (subst (IsCarried c.args.pieces c.args.limit c.args.world.now) (sym c.in_err-begin-in-Begin.ensures.same) c.acts.invariant.carried)
           (c.are_counts.ensures.0 c.if-not-are_counts.false) (p.1 ∙ ap Err p.2);
     }
 
 pub acts-smaller-in-Begin : goal.acts-smaller-in-Begin
 acts-smaller-in-Begin c =
-    (begin_next c.args.world.now c.acts.world c.begin.new.world c.acts.now c.in-Begin.element c.args.pieces c.in_ok-begin-in-Begin.field-0 c.in_ok-element.field-0 c.acts.invariant.carried c.lemma_agrees.ensures.kept c.acts.invariant.past c.in-Begin.is c.in_ok-element.ensures c.in_ok-begin-in-Begin.ensures.step).lower
+    (begin_next c.args.world.now c.acts.world c.begin.new.world c.acts.now c.in-Begin.element c.args.pieces c.args.limit c.in_ok-begin-in-Begin.field-0 c.in_ok-element.field-0 (c.are_counts.ensures.0 c.if-not-are_counts.false) c.acts.invariant.carried c.lemma_agrees.ensures.kept c.acts.invariant.past c.in-Begin.is c.in_ok-element.ensures c.in_ok-begin-in-Begin.ensures.step).lower
 
 pub acts-preserved-in-Begin : goal.acts-preserved-in-Begin
 acts-preserved-in-Begin c =
-    let r = begin_next c.args.world.now c.acts.world c.begin.new.world c.acts.now c.in-Begin.element c.args.pieces c.in_ok-begin-in-Begin.field-0 c.in_ok-element.field-0 c.acts.invariant.carried c.lemma_agrees.ensures.kept c.acts.invariant.past c.in-Begin.is c.in_ok-element.ensures c.in_ok-begin-in-Begin.ensures.step in
+    let r = begin_next c.args.world.now c.acts.world c.begin.new.world c.acts.now c.in-Begin.element c.args.pieces c.args.limit c.in_ok-begin-in-Begin.field-0 c.in_ok-element.field-0 (c.are_counts.ensures.0 c.if-not-are_counts.false) c.acts.invariant.carried c.lemma_agrees.ensures.kept c.acts.invariant.past c.in-Begin.is c.in_ok-element.ensures c.in_ok-begin-in-Begin.ensures.step in
     record { carried = r.carried; past = r.past; since = c.acts.invariant.since; late = λ lt. absurd (omega (arith, lt, c.if-now-gt-MAX_MOMENT.false)) }
 
 pub returns-in_err-publish-in-Publish : goal.returns-in_err-publish-in-Publish
@@ -48,20 +48,20 @@ returns-in_err-publish-in-Publish c =
 
 pub acts-smaller-in-Publish : goal.acts-smaller-in-Publish
 acts-smaller-in-Publish c =
-    (step_next c.args.world.now c.acts.world c.publish.new.world c.acts.now c.in-Publish.step c.in_ok-publish-in-Publish.field-0 c.in_ok-element.field-0 c.acts.invariant.carried c.lemma_agrees.ensures.kept c.acts.invariant.past c.in-Publish.is c.in_ok-element.ensures c.in_ok-publish-in-Publish.ensures.step).lower
+    (step_next c.args.world.now c.acts.world c.publish.new.world c.acts.now c.args.pieces c.args.limit c.in-Publish.step c.in_ok-publish-in-Publish.field-0 c.in_ok-element.field-0 c.acts.invariant.carried c.lemma_agrees.ensures.kept c.acts.invariant.past c.in-Publish.is c.in_ok-element.ensures c.in_ok-publish-in-Publish.ensures.step).lower
 
 pub acts-preserved-in-Publish : goal.acts-preserved-in-Publish
 acts-preserved-in-Publish c =
-    let r = step_next c.args.world.now c.acts.world c.publish.new.world c.acts.now c.in-Publish.step c.in_ok-publish-in-Publish.field-0 c.in_ok-element.field-0 c.acts.invariant.carried c.lemma_agrees.ensures.kept c.acts.invariant.past c.in-Publish.is c.in_ok-element.ensures c.in_ok-publish-in-Publish.ensures.step in
+    let r = step_next c.args.world.now c.acts.world c.publish.new.world c.acts.now c.args.pieces c.args.limit c.in-Publish.step c.in_ok-publish-in-Publish.field-0 c.in_ok-element.field-0 c.acts.invariant.carried c.lemma_agrees.ensures.kept c.acts.invariant.past c.in-Publish.is c.in_ok-element.ensures c.in_ok-publish-in-Publish.ensures.step in
     record { carried = r.carried; past = r.past; since = c.acts.invariant.since; late = λ lt. absurd (omega (arith, lt, c.if-now-gt-MAX_MOMENT.false)) }
 
 pub acts-smaller-in-Continue-branch-5 : goal.acts-smaller-in-Continue-branch-5
 acts-smaller-in-Continue-branch-5 c =
-    (work_next c.args.world.now c.acts.world c.work_all.new.world c.acts.now c.in-Work.element c.args.limit c.in_ok-element.field-0 c.acts.invariant.carried c.lemma_agrees.ensures.kept c.acts.invariant.past c.in-Work.is c.in_ok-element.ensures c.in_ok-work_all-in-Work.ensures.turns c.in_ok-work_all-in-Work.ensures.ended).lower
+    (work_next c.args.world.now c.acts.world c.work_all.new.world c.acts.now c.in-Work.element c.args.pieces c.args.limit c.in_ok-element.field-0 c.acts.invariant.carried c.lemma_agrees.ensures.kept c.lemma_agrees.ensures.replayed c.acts.invariant.past c.in-Work.is c.in_ok-element.ensures c.in_ok-work_all-in-Work.ensures.turns c.in_ok-work_all-in-Work.ensures.ended).lower
 
 pub acts-preserved-in-Continue-branch-5 : goal.acts-preserved-in-Continue-branch-5
 acts-preserved-in-Continue-branch-5 c =
-    let r = work_next c.args.world.now c.acts.world c.work_all.new.world c.acts.now c.in-Work.element c.args.limit c.in_ok-element.field-0 c.acts.invariant.carried c.lemma_agrees.ensures.kept c.acts.invariant.past c.in-Work.is c.in_ok-element.ensures c.in_ok-work_all-in-Work.ensures.turns c.in_ok-work_all-in-Work.ensures.ended in
+    let r = work_next c.args.world.now c.acts.world c.work_all.new.world c.acts.now c.in-Work.element c.args.pieces c.args.limit c.in_ok-element.field-0 c.acts.invariant.carried c.lemma_agrees.ensures.kept c.lemma_agrees.ensures.replayed c.acts.invariant.past c.in-Work.is c.in_ok-element.ensures c.in_ok-work_all-in-Work.ensures.turns c.in_ok-work_all-in-Work.ensures.ended in
     record { carried = r.carried; past = r.past; since = c.acts.invariant.since; late = λ lt. absurd (omega (arith, lt, c.if-now-gt-MAX_MOMENT.false)) }
 
 pub returns-in_err-work_all-in-Work : goal.returns-in_err-work_all-in-Work
@@ -69,7 +69,7 @@ returns-in_err-work_all-in-Work c =
     let p = err_from_is_err_and c.from_residual-in_err-work_all-in-Work.result c.from_residual-in_err-work_all-in-Work.ensures.1 in
     record {
       step = memory_step c.args.world.now c.work_all.new.world c.args.moment c.args.pieces c.args.limit c.from_residual-in_err-work_all-in-Work.result
-          (some_turns c.args.world.now c.acts.world c.work_all.new.world c.acts.now c.in-Work.element c.args.limit c.acts.invariant.carried c.in_err-work_all-in-Work.ensures.turns)
+          (some_turns c.args.world.now c.acts.world c.work_all.new.world c.acts.now c.in-Work.element c.args.pieces c.args.limit c.acts.invariant.carried c.lemma_agrees.ensures.kept c.lemma_agrees.ensures.replayed c.in_err-work_all-in-Work.ensures.turns)
           (c.are_counts.ensures.0 c.if-not-are_counts.false) (p.1 ∙ ap Err p.2);
     }
 

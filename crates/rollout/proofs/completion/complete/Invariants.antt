@@ -9,7 +9,7 @@ use Rattle.rollout.proofs.completion.complete.Given as goal
 
 abbrev pub invariant-acts : goal.invariant-acts
 invariant-acts l = record {
-  carried : IsCarried l.fn.world l.world;
+  carried : IsCarried l.fn.pieces l.fn.limit l.fn.world l.world;
   past : (facts_of l.world).moment ≤ l.now;
   since : effective_moment l.fn.world l.fn.moment ≤ l.now;
   late : max_moment < l.now → IsTooLate l.fn.world l.fn.moment l.world;
