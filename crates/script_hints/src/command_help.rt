@@ -1,0 +1,82 @@
+//! What each command is for.
+use crate::table::row_of;
+use std::alloc::{AllocError, Global};
+
+/// A command: its word, what it does, its form by an example, and its refusals.
+const COMMANDS: &str = "\
+length|a lease lasts N moments (10 if no line says it)|length N|\n\
+table|declares a table: key columns first; types int, text, bool|table people (id int key, town \
+text)|\n\
+index|declares an index|index by_town on people (town)|\n\
+open|opens what was declared|open|BadTable, BadLength\n\
+lease|server a gets a lease|lease a at 5|MomentTooLarge\n\
+txn|reads, prepares and commits|txn a at 6: insert people (1) set town = 'Ulm'; update people \
+(2) set town = null; delete people (3)|NoServer, NoTable, NotPublic, WrongType, TooManyOps, \
+MomentTooLarge, BadLease, LeaseEnded, WrongSchema, Conflict\n\
+prepare|reads and prepares; commit w commits it|prepare w by a: insert people (1)|NoServer, \
+NoTable, NotPublic, WrongType, TooManyOps\n\
+commit|commits what prepare or piece has prepared|commit w at 7|NoWork, MomentTooLarge, \
+BadLease, LeaseEnded, WrongSchema, NotWanted, WrongElement, Moved, Conflict\n\
+query|rows by rising key; conditions =, >=, <=, between; explain tells the path|query a at 6: \
+select town from people where town = 'Ulm' and key = (1)|NoServer, MomentTooLarge, BadLease, \
+LeaseEnded, NoTable, NotPublic, WrongType\n\
+forge|gives server a a lease by hand, to see what becomes of it|forge a version 1 granted 0 \
+until 99|\n\
+plan|the fewest steps to these changes, and keeps them; plan alone shows what is left|plan: add \
+index i on people (town); add column age int default 0 on people; drop index j on people; \
+abandon people.k|Unknown, NameTaken, StillIndexed, InChange, Limit\n\
+next|publishes the next step of the plan|next at 20|NoPlan, TooEarly, Unfinished, and those of \
+publish\n\
+publish|publishes a version by one step|publish at 20: add index i on people (town) to \
+delete_only; move people.i to write_only; turn people.i|MomentTooLarge, TooEarly, Unknown, \
+NotAdjacent, WrongWay, Dependent, NameTaken, Limit, Unfinished, VersionsSpent\n\
+reorganise|begins the fill or the clear that people.i wants|reorganise people.i at 30 pieces \
+2|MomentTooLarge, NotWanted, StillUsed, Begun, BadCount\n\
+work|runs it to its end, 100 rows a commit|work people.i at 30 limit 100|NotWanted, BadLimit, \
+MomentTooLarge, WrongElement, Moved, Conflict\n\
+piece|prepares 100 rows of piece 0; commit w commits them|piece w of people.i 0 limit \
+100|NotWanted, BadPiece, Spent, BadLimit\n\
+check|compares the pairs with the rows|check|\n\
+pairs|prints each pair|pairs|\n\
+status|a line of JSON; describe and progress say it for people|status|\n\
+log|how many calls were accepted|log|\n\
+describe|the columns and indexes of a table, or of all|describe people|\n\
+leases|the leases of all servers|leases|\n\
+progress|what is being added or dropped, and what it waits for|progress|\n\
+advance|does the one act that is due: a begin, a version or a piece; forgets the kept \
+plan|advance at 20|MomentTooLarge, VersionsSpent\n\
+finish|carries all that is being added or dropped to its end, at later moments if it has to \
+wait|finish at 20|MomentTooLarge, VersionsSpent\n\
+timeline|the versions with their moments, and what is in progress|timeline|\n\
+explain|by which path the query is answered; explain plan: .. tells the steps, and keeps \
+none|explain query a: select town from people where town = 'Ulm'|\n\
+help|what a command is for|help query|\n\
+quit|ends the prompt|quit|\n";
+
+fn all_commands(alloc: Global) -> Result<String, AllocError> {
+    let mut out = "help COMMAND explains one; `at M` may be left out\n".to_string(alloc)?;
+    for line in COMMANDS.lines() {
+        let (name, rest) = line.split_once('|').unwrap_or((line, ""));
+        let (about, _) = rest.split_once('|').unwrap_or((rest, ""));
+        write!(out, "{name:<10}  {about}\n")?;
+    }
+    Ok(out)
+}
+
+/// What a command is for: its form, by an example, and its refusals; or all commands, a line each.
+/// Refused only when out of memory.
+///
+/// - `command`: the command's word; all if it is none.
+pub(crate) fn help_text(alloc: Global, command: &str) -> Result<String, AllocError> {
+    let Some(row) = row_of(COMMANDS, command) else {
+        return all_commands(alloc);
+    };
+    let (about, rest) = row.split_once('|').unwrap_or((row, ""));
+    let (form, refusals) = rest.split_once('|').unwrap_or((rest, ""));
+    let mut out = format!(in alloc; "{form}\n{about}")?;
+    if !refusals.is_empty() {
+        out.push_str("\nrefusals: ")?;
+        out.push_str(refusals)?;
+    }
+    Ok(out)
+}

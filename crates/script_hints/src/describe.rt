@@ -1,0 +1,125 @@
+//! The columns and indexes of tables, as aligned tables.
+use crate::named::table_names;
+use crate::near::push_nearest;
+use crate::types::type_word;
+use keycode::Text;
+use row_map::ColumnType;
+use schema_version::{ElementDef, Kind, MAX_TABLES, Schema, Way};
+use script_grammar::{push_value, state_word};
+use std::alloc::{AllocError, Global};
+
+fn push_key_columns(out: &mut String, key: &[(Text, ColumnType)]) -> Result<(), AllocError> {
+    for (name, column_type) in key {
+        let (name, word) = (name.as_str(), type_word(*column_type));
+        write!(out, "  {name:<16}  {word:<24}  key\n")?;
+    }
+    Ok(())
+}
+
+fn push_names(out: &mut String, schema: &Schema, numbers: &[u32]) -> Result<(), AllocError> {
+    for (i, number) in numbers.iter().enumerate() {
+        if i > 0 {
+            out.push_str(", ")?;
+        }
+        match schema.element(*number) {
+            Some(element) => out.push_str(element.name.as_str())?,
+            None => write!(out, "{number}")?,
+        }
+    }
+    Ok(())
+}
+
+// What an element is: its type with its default, or its columns.
+fn kind_text(alloc: Global, schema: &Schema, kind: &Kind) -> Result<String, AllocError> {
+    let mut out = String::new(alloc);
+    match kind {
+        Kind::Index(columns) => {
+            out.push_str("index (")?;
+            push_names(&mut out, schema, columns.as_slice())?;
+            out.push_str(")")?;
+        }
+        Kind::Optional(column) => out.push_str(type_word(*column))?,
+        Kind::Required { column, fallback } => {
+            out.push_str(type_word(*column))?;
+            out.push_str(" default ")?;
+            push_value(&mut out, fallback)?;
+        }
+    }
+    Ok(out)
+}
+
+/// The state of an element and its way, where it is on one: `write_only, adding`.
+pub(crate) fn push_standing(out: &mut String, element: &ElementDef) -> Result<(), AllocError> {
+    out.push_str(state_word(element.state))?;
+    match (element.way, element.state.is_public()) {
+        (Way::Adding, true) => Ok(()),
+        (Way::Adding, false) => out.push_str(", adding"),
+        (Way::Dropping, _) => out.push_str(", dropping"),
+    }
+}
+
+fn push_elements(
+    alloc: Global,
+    out: &mut String,
+    schema: &Schema,
+    table: u32,
+) -> Result<(), AllocError> {
+    for element in schema.elements() {
+        if element.table == table {
+            let name = element.name.as_str();
+            let kind = kind_text(alloc, schema, &element.kind)?;
+            let kind = kind.as_str();
+            write!(out, "  {name:<16}  {kind:<24}  ")?;
+            push_standing(out, element)?;
+            out.push_str("\n")?;
+        }
+    }
+    Ok(())
+}
+
+fn push_table(
+    alloc: Global,
+    out: &mut String,
+    schema: &Schema,
+    number: u32,
+) -> Result<(), AllocError> {
+    if let Some(name) = schema.table_name(number) {
+        write!(out, "{name}\n")?;
+        push_key_columns(out, schema.key_of(number).unwrap_or(&[]))?;
+        push_elements(alloc, out, schema, number)?;
+    }
+    Ok(())
+}
+
+fn all_tables(alloc: Global, schema: &Schema) -> Result<String, AllocError> {
+    let mut out = String::new(alloc);
+    for number in 1..=MAX_TABLES as u32 {
+        push_table(alloc, &mut out, schema, number)?;
+    }
+    Ok(out)
+}
+
+/// The columns and indexes of a table: name, type or columns, and state. Refused only when out of
+/// memory.
+///
+/// - `schema`: the newest version.
+/// - `table`: the table's name; all tables if it is empty.
+pub(crate) fn description(
+    alloc: Global,
+    schema: &Schema,
+    table: &str,
+) -> Result<String, AllocError> {
+    if table.is_empty() {
+        return all_tables(alloc, schema);
+    }
+    let mut out = String::new(alloc);
+    match schema.table(table) {
+        Some(number) => push_table(alloc, &mut out, schema, number)?,
+        None => {
+            write!(out, "there is no table {table}")?;
+            let names = table_names(alloc, schema)?;
+            push_nearest(alloc, &mut out, table, names.as_slice())?;
+        }
+    }
+    Ok(out)
+}

@@ -1,0 +1,110 @@
+//! The hint that goes with a reply.
+
+use crate::bad::unexpected;
+use crate::in_way::left_out;
+use crate::near::push_nearest;
+use crate::refused::{Refusal, opening_hint, refusal_hint};
+use script_grammar::{Command, read_command};
+use script_session::{Declarations, Session};
+use std::alloc::{AllocError, Global};
+
+/// The longest line, in bytes.
+const MAX_LINE: usize = 65_536;
+
+// Why an `index` line before `open` is bad: its table is not declared.
+fn undeclared(alloc: Global, declared: &Declarations, table: &str) -> Result<String, AllocError> {
+    let mut names = Vec::new(alloc);
+    for definition in declared.tables.as_slice() {
+        names.push(definition.name.as_str())?;
+    }
+    let mut out = format!(in alloc; "table {table} is not declared")?;
+    push_nearest(alloc, &mut out, table, names.as_slice())?;
+    Ok(out)
+}
+
+// Why a line that is a command is bad: it is on the wrong side of `open`.
+fn misplaced(alloc: Global, session: &Session, command: &Command) -> Result<String, AllocError> {
+    match (session, command) {
+        (Session::Declaring(declared), Command::Index { table, .. }) => {
+            undeclared(alloc, declared, table.as_str())
+        }
+        (Session::Declaring(_), _) => "1: this line comes after open".to_string(alloc),
+        (Session::Running(_), _) => "1: this line comes before open".to_string(alloc),
+    }
+}
+
+fn bad_hint(
+    alloc: Global,
+    session: &Session,
+    line: &str,
+    may_omit: bool,
+) -> Result<String, AllocError> {
+    if line.len() > MAX_LINE {
+        return "the line is longer than 65,536 bytes".to_string(alloc);
+    }
+    if let Ok(command) = read_command(alloc, line.as_bytes()) {
+        return misplaced(alloc, session, &command);
+    }
+    match unexpected(alloc, line, may_omit)? {
+        Some(out) => Ok(out),
+        None => "a number does not fit its place, or a key column comes after another".to_string(
+            alloc,
+        ),
+    }
+}
+
+fn refused_hint(
+    alloc: Global,
+    session: &Session,
+    line: &str,
+    reply: &str,
+) -> Result<String, AllocError> {
+    let (name, rest) = reply.split_once(' ').unwrap_or((reply, ""));
+    let (first, second) = rest.split_once(' ').unwrap_or((rest, ""));
+    let refusal = Refusal {
+        name,
+        first,
+        second,
+    };
+    match (session, read_command(alloc, line.as_bytes())) {
+        (Session::Running(opened), Ok(command)) => {
+            refusal_hint(alloc, opened, &command, refusal)
+        }
+        (Session::Declaring(_), Ok(_)) => opening_hint(alloc, refusal.name),
+        _ => Ok(String::new(alloc)),
+    }
+}
+
+// What an accepted plan leaves unfinished.
+fn accepted_hint(alloc: Global, session: &Session, reply: &str) -> Result<String, AllocError> {
+    match session {
+        Session::Running(opened) if reply.contains("ok plan ") => left_out(alloc, opened),
+        _ => Ok(String::new(alloc)),
+    }
+}
+
+/// The hint that goes with a reply: where a bad line stops being a command and what was expected
+/// there, what a refusal means and what may be done, or what an accepted plan leaves unfinished.
+/// Empty for any other reply.
+///
+/// - `session`: the session after the reply, which is only read.
+/// - `line`: the line that was answered, without its ending.
+/// - `reply`: the reply.
+/// - `may_omit`: whether `at M` may be left out.
+///
+/// Refused only when out of memory.
+pub fn hint_of(
+    alloc: Global,
+    session: &Session,
+    line: &str,
+    reply: &str,
+    may_omit: bool,
+) -> Result<String, AllocError> {
+    if reply == "bad line\n" {
+        return bad_hint(alloc, session, line, may_omit);
+    }
+    match reply.strip_prefix("refused ") {
+        Some(refusal) => refused_hint(alloc, session, line, refusal.trim_end()),
+        None => accepted_hint(alloc, session, reply),
+    }
+}

@@ -1,0 +1,50 @@
+//! The versions on a line of moments.
+use crate::progress::{progress, push_entered, push_moved, push_step};
+use replay::What;
+use schema_version::NewElement;
+use script_session::Opened;
+use std::alloc::{AllocError, Global};
+
+// The elements that entered by the log's publications.
+fn entered<'a>(alloc: Global, opened: &'a Opened) -> Result<Vec<&'a NewElement>, AllocError> {
+    let mut found = Vec::new(alloc);
+    for entry in opened.world.log() {
+        if let What::Publish(step) = entry.what.get() {
+            push_entered(&mut found, step)?;
+        }
+    }
+    Ok(found)
+}
+
+/// Each publication with its moment and moves, each begin of a fill or a clear, and what is in
+/// progress now. Refused only when out of memory.
+///
+/// - `opened`: the world.
+pub(crate) fn timeline(alloc: Global, opened: &Opened) -> Result<String, AllocError> {
+    let schema = opened.world.newest().get();
+    let entered = entered(alloc, opened)?;
+    let count = u32::try_from(entered.len()).unwrap_or(0);
+    let first = schema.next_number().wrapping_sub(count);
+    let mut out = "@0  version 1\n".to_string(alloc)?;
+    let mut version = 1u64;
+    for entry in opened.world.log() {
+        let moment = entry.moment;
+        match entry.what.get() {
+            What::Publish(step) => {
+                version = version.saturating_add(1);
+                write!(out, "@{moment}  version {version}: ")?;
+                push_step(&mut out, schema, (first, entered.as_slice()), step)?;
+            }
+            What::Begin { element, pieces } => {
+                write!(out, "@{moment}  reorganise ")?;
+                push_moved(&mut out, schema, (first, entered.as_slice()), *element)?;
+                write!(out, " pieces {pieces}\n")?;
+            }
+            _ => {}
+        }
+    }
+    let moment = opened.world.moment();
+    let now = progress(alloc, opened)?;
+    write!(out, "@{moment}  now\n{now}")?;
+    Ok(out)
+}
