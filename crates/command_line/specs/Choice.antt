@@ -4,7 +4,7 @@ use Rattle.std.specs.Prelude.{ℕ, List, [], ◌∷◌, Bool, false, IsTrue, Str
 use Rattle.std.specs.Str.{bytes_eq}
 use Rattle.std.specs.declared.alloc.Global.{Global}
 use Rattle.command_line.specs.declared.choice.Chosen.{Chosen}
-use Rattle.command_line.specs.declared.choice.Chosen.TheVariants.{Run, Load}
+use Rattle.command_line.specs.declared.choice.Chosen.TheVariants.{Run, Prompt, Load}
 use Rattle.command_line.specs.LoadSize.{IsLoadSize}
 
 -- whether the word after the program's own name is this one
@@ -13,7 +13,8 @@ is_named (program ∷ word ∷ rest) name = bytes_eq (string_bytes word) name
 is_named (program ∷ []) name = false
 is_named [] name = false
 
--- A run is chosen only by the word `run`, a load only by the word `load`, and each number of its size is in its range.
+-- Each is chosen only by its word, and each number of a load's size is in its range.
 abbrev pub IsChoiceOf : List (String Global) → Chosen → Type 0
-IsChoiceOf words Run = IsTrue (is_named words (codes "run"))
+IsChoiceOf words (Run file) = IsTrue (is_named words (codes "run"))
+IsChoiceOf words (Prompt file) = IsTrue (is_named words (codes "prompt"))
 IsChoiceOf words (Load size) = IsTrue (is_named words (codes "load")) × IsLoadSize size

@@ -12,24 +12,52 @@ use clap::error::ErrorKind;
 use clap::{Arg, ArgMatches, Command, Error, value_parser};
 use std::alloc::{AllocError, Global};
 
-/// What the program is to do.
+/// What the program is to do. A file is that of the script; without one it is on standard input.
 #[derive(Clone, Copy, PartialEq, Eq)]
-pub enum Chosen {
-    /// Run the script on standard input.
-    Run,
+pub enum Chosen<'a> {
+    /// Run a script.
+    Run {
+        /// The file of the script.
+        file: Option<&'a str>,
+    },
+    /// Answer each line as it comes.
+    Prompt {
+        /// The file of the lines.
+        file: Option<&'a str>,
+    },
     /// Let threads write rows while an index is added.
     Load(LoadSize),
+}
+
+fn file_arg<'a>(alloc: Global) -> Arg<'a> {
+    Arg::new(alloc, "FILE").help(help::FILE)
+}
+
+fn run_command<'a>(alloc: Global) -> Result<Command<'a>, AllocError> {
+    Command::new(alloc, "run")
+        .about(help::ABOUT_RUN)
+        .after_help(help::SCRIPTS)
+        .arg(file_arg(alloc))
+}
+
+fn prompt_command<'a>(alloc: Global) -> Result<Command<'a>, AllocError> {
+    Command::new(alloc, "prompt")
+        .about(help::ABOUT_PROMPT)
+        .after_help(help::PROMPTS)
+        .arg(file_arg(alloc))
 }
 
 // The option of a number from 1 to `most`.
 fn number<'a>(
     alloc: Global,
     name: &'a str,
+    short: char,
     most: u32,
     default: &'a str,
     about: &'a str,
 ) -> Arg<'a> {
     Arg::new(alloc, name)
+        .short(short)
         .long(name)
         .value_name("N")
         .value_parser(value_parser!(u32).range(1..=i64::from(most)))
@@ -41,11 +69,11 @@ fn load_command<'a>(alloc: Global) -> Result<Command<'a>, AllocError> {
     Command::new(alloc, "load")
         .about(help::ABOUT_LOAD)
         .after_help(help::LOADS)
-        .arg(number(alloc, "servers", MAX_SERVERS, "4", help::SERVERS))?
-        .arg(number(alloc, "rows", MAX_ROWS, "1000", help::ROWS))?
-        .arg(number(alloc, "pieces", MAX_PIECES, "6", help::PIECES))?
-        .arg(number(alloc, "workers", MAX_WORKERS, "3", help::WORKERS))?
-        .arg(number(alloc, "limit", MAX_LIMIT, "50", help::LIMIT))
+        .arg(number(alloc, "servers", 's', MAX_SERVERS, "4", help::SERVERS))?
+        .arg(number(alloc, "rows", 'r', MAX_ROWS, "1000", help::ROWS))?
+        .arg(number(alloc, "pieces", 'p', MAX_PIECES, "6", help::PIECES))?
+        .arg(number(alloc, "workers", 'w', MAX_WORKERS, "3", help::WORKERS))?
+        .arg(number(alloc, "limit", 'l', MAX_LIMIT, "50", help::LIMIT))
 }
 
 // The number of an option, or else the name of that option.
@@ -97,28 +125,38 @@ fn names(words: &[String], name: &str) -> bool
 /// print: the help that was asked for, or why the words are refused. What clap makes of words is
 /// said by no contract, and shown by tests: hence the words themselves are asked for what they
 /// choose.
-pub fn options(alloc: Global, words: &[String]) -> Result<Chosen, Error>
+pub fn options<'a>(alloc: Global, words: &'a [String]) -> Result<Chosen<'a>, Error>
     ensures { IfOk result (IsChoiceOf words.now) }
 {
-    let run = Command::new(alloc, "run")
-        .about(help::ABOUT_RUN)
-        .after_help(help::SCRIPTS);
     let mut command = Command::new(alloc, "shell")
+        .bin_name("shell")?
+        .version(help::VERSION)
         .about(help::ABOUT)
         .after_help(help::STATUSES)
         .subcommand_required(true)
-        .subcommand(run)?
+        .subcommand(run_command(alloc)?)?
+        .subcommand(prompt_command(alloc)?)?
         .subcommand(load_command(alloc)?)?;
     let matches = command.try_get_matches_from_mut(words)?;
     if names(words, "run") {
-        return Ok(Chosen::Run);
+        let run = matches.subcommand_matches("run");
+        let file = run.and_then(|run| run.get_str("FILE"));
+        return Ok(Chosen::Run { file });
+    }
+    if names(words, "prompt") {
+        let prompt = matches.subcommand_matches("prompt");
+        let file = prompt.and_then(|prompt| prompt.get_str("FILE"));
+        return Ok(Chosen::Prompt { file });
     }
     match matches.subcommand_matches("load") {
         Some(load) if names(words, "load") => match load_size(load) {
             Ok(size) => Ok(Chosen::Load(size)),
             Err(name) => Err(refusal(alloc, load, name)?),
         },
-        _ => Err(command.error(ErrorKind::InvalidSubcommand, "neither 'run' nor 'load'")?),
+        _ => Err(command.error(
+            ErrorKind::InvalidSubcommand,
+            "none of 'run', 'prompt' and 'load'",
+        )?),
     }
 }
 

@@ -2,8 +2,37 @@
 
 pub(crate) const ABOUT: &str = "A database in memory whose schema changes while servers write";
 
+pub(crate) const VERSION: &str = "1.0.0";
+
 pub(crate) const ABOUT_RUN: &str =
-    "Runs the script on standard input and writes a reply to each line to standard output";
+    "Runs a script and writes a reply to each line to standard output";
+
+pub(crate) const ABOUT_PROMPT: &str =
+    "Answers each line as it comes, and says what is wrong with it";
+
+pub(crate) const FILE: &str = "The file of the lines; standard input if it is left out";
+
+/// What a prompt is, by examples, and its exit statuses.
+pub(crate) const PROMPTS: &str = "\
+It takes the lines of `shell run --help`, and answers each before it reads the next. Lines that begin with `# `
+are remarks: what is wrong with a line, and what may be done. `at M` may be left out: it is the last moment then.
+
+Its own lines:
+  help [COMMAND]      describe [TABLE]      leases      progress
+  explain query S: select ..                plan        quit
+
+For example
+  shell prompt                 on a terminal the prompt is the newest version and the moment: v3 @20>
+  rlwrap shell prompt          the same with a history of lines
+  shell prompt < script        another program may drive it over a pipe: each reply is written at once
+
+Exit status:
+  0  every line was good (refusals are replies too)
+  1  a line was bad
+  2  a wrong command line
+  3  a line could not be read
+  4  a reply could not be written
+  5  out of memory";
 
 pub(crate) const ABOUT_LOAD: &str =
     "Inserts rows on many threads while an index is added, and checks what came of it";
@@ -17,15 +46,21 @@ For more information, try '--help'.
 
 /// The exit statuses of the program as a whole.
 pub(crate) const STATUSES: &str = "\
-`shell run --help` explains the script language, `shell load --help` what a load does and prints.
+`shell run --help` explains the script language, `shell prompt --help` its use line by line, and
+`shell load --help` what a load does and prints.
+
+For example
+  shell prompt
+  shell run examples/add_an_index.script
+  shell load --servers 8 --rows 20000
 
 Exit status:
   0  done (help, too)
-  1  `run`: a line was bad
+  1  `run`, `prompt`: a line was bad
   2  a wrong command line
-  3  `run`: the script could not be read, is longer than 16 MiB, or is not UTF-8
+  3  `run`, `prompt`: a line could not be read; `run`: it is longer than 16 MiB, or is not UTF-8
   4  a reply, or a line of `load`, could not be written
-  5  want of memory
+  5  out of memory
   6  `load`: a difference was found, a step was refused, or a thread came to another end than a
      committed row or a finished piece";
 
@@ -61,7 +96,7 @@ What stands:
   check    audits the store       pairs   prints it
   status   a line of JSON         log     how many calls were accepted
 
-For example, `shell run < examples/add_an_index.script` adds an index to a table while two servers write.
+For example, `shell run examples/add_an_index.script` adds an index to a table while two servers write.
 
 Exit status:
   0  every line was good (refusals are replies too)
@@ -69,7 +104,7 @@ Exit status:
   2  a wrong command line
   3  the script could not be read, is longer than 16 MiB, or is not UTF-8
   4  a reply could not be written
-  5  want of memory";
+  5  out of memory";
 
 pub(crate) const SERVERS: &str = "Threads that insert rows, 1 to 16";
 
@@ -102,6 +137,6 @@ Exit status (of several the first of 5, 4, 6):
   0  nothing is missing or extra, the counts are equal and the receipts ok
   2  a wrong command line
   4  a line could not be written
-  5  want of memory, of any call or thread; none of the five lines is printed
+  5  out of memory, of any call or thread; none of the five lines is printed
   6  a difference was found, a step was refused, or a thread came to another end than a committed row or
      a finished piece";

@@ -11,7 +11,7 @@ const LOADS: [(&str, [u32; 5]); 18] = [
     ("load --rows 5", [4, 5, 6, 3, 50]),
     ("load --rows=5", [4, 5, 6, 3, 50]),
     ("load --rows 007", [4, 7, 6, 3, 50]),
-    ("load --servers 1", [1, 1_000, 6, 3, 50]),
+    ("load -s 1", [1, 1_000, 6, 3, 50]),
     ("load --servers 16", [16, 1_000, 6, 3, 50]),
     ("load --rows 1", [4, 1, 6, 3, 50]),
     ("load --rows 100000", [4, 100_000, 6, 3, 50]),
@@ -21,7 +21,7 @@ const LOADS: [(&str, [u32; 5]); 18] = [
     ("load --workers 16", [4, 1_000, 6, 16, 50]),
     ("load --limit 1", [4, 1_000, 6, 3, 1]),
     ("load --limit 1000", [4, 1_000, 6, 3, 1_000]),
-    ("load --servers 2 --rows 30", [2, 30, 6, 3, 50]),
+    ("load -s 2 -r 30 -p 4 -w 5 -l 6", [2, 30, 4, 5, 6]),
     (
         "load --limit 5 --workers 4 --pieces 3 --rows 2 --servers 1",
         [1, 2, 3, 4, 5],
@@ -37,8 +37,16 @@ const LOADS: [(&str, [u32; 5]); 18] = [
     ),
 ];
 
+// Lines after the program's name that choose a script or a prompt.
+const SCRIPTS: [(&str, Chosen<'static>); 4] = [
+    ("run", Chosen::Run { file: None }),
+    ("run x", Chosen::Run { file: Some("x") }),
+    ("prompt", Chosen::Prompt { file: None }),
+    ("prompt x", Chosen::Prompt { file: Some("x") }),
+];
+
 // Whether the line is taken and chooses this.
-fn chooses(alloc: Global, line: &str, wanted: Chosen) -> Result<bool, AllocError> {
+fn chooses(alloc: Global, line: &str, wanted: Chosen<'_>) -> Result<bool, AllocError> {
     let mut words = Vec::new(alloc);
     words.push("shell".to_string(alloc)?)?;
     for word in line.split_whitespace() {
@@ -50,7 +58,7 @@ fn chooses(alloc: Global, line: &str, wanted: Chosen) -> Result<bool, AllocError
     })
 }
 
-fn load([servers, rows, pieces, workers, limit]: [u32; 5]) -> Chosen {
+fn load([servers, rows, pieces, workers, limit]: [u32; 5]) -> Chosen<'static> {
     Chosen::Load(LoadSize {
         servers,
         rows,
@@ -62,7 +70,12 @@ fn load([servers, rows, pieces, workers, limit]: [u32; 5]) -> Chosen {
 
 #[test]
 fn what_lines_choose(rt: HostRuntime) {
-    assert!(rt; matches!(chooses(rt.alloc(), "run", Chosen::Run), Ok(true)));
+    for (line, chosen) in SCRIPTS {
+        assert!(rt;
+            matches!(chooses(rt.alloc(), line, chosen), Ok(true)),
+            "{line}"
+        );
+    }
     for (line, numbers) in LOADS {
         assert!(rt;
             matches!(chooses(rt.alloc(), line, load(numbers)), Ok(true)),

@@ -4,27 +4,81 @@
 use clap::Error;
 use command_line::{Chosen, NOT_UTF8, options, status_of};
 use load::run_load;
+use prompt::{Streams, converse, prompt_status};
 use script::{run_script, script_status};
+use std::fs::File;
 use std::io;
-use std::io::ErrorKind;
+use std::io::{BufRead, BufReader, ErrorKind, IsTerminal, Read};
 use std::process::ExitCode;
 
 /// The exit status of a command line that is refused.
 const REFUSED: u8 = 2;
 
+/// The exit status if a file cannot be read.
+const UNREAD: u8 = 3;
+
 /// The exit status when memory ran out.
 const NO_MEMORY: u8 = 5;
 
-/// Runs the script on standard input. What the process's own reader and writer do is said by no
-/// contract: it is shown by the stored run.
-fn run_input(rt: &HostRuntime) -> u8 {
-    let mut input = rt.stdin();
+/// Runs the script of a reader. What the process's own reader and writer do is said by no contract:
+/// it is shown by the stored run.
+fn run_lines<R: Read>(rt: &HostRuntime, input: &mut R) -> u8 {
     let mut output = io::writer(rt);
-    let outcome = run_script(rt.alloc(), &mut input, &mut output);
+    let outcome = run_script(rt.alloc(), input, &mut output);
     if let Err(fault) = &outcome {
         let _ = eprintln!(rt; "fault: {fault}");
     }
     script_status(&outcome)
+}
+
+/// Runs the script of a file, or that on standard input.
+fn run_input(rt: &HostRuntime, file: Option<&str>) -> u8 {
+    match file {
+        None => run_lines(rt, &mut rt.stdin()),
+        Some(file) => match opened(rt, file) {
+            Ok(mut reader) => run_lines(rt, &mut reader),
+            Err(status) => status,
+        },
+    }
+}
+
+/// Answers the lines of a reader as they come. If there is a prompt, it is shown.
+fn answer_lines<R: BufRead + Drop>(rt: &HostRuntime, reader: R, is_shown: bool) -> u8 {
+    let mut streams = Streams {
+        reader,
+        writer: io::writer(rt),
+        is_flushed: false,
+    };
+    let outcome = converse(rt.alloc(), &mut streams, is_shown);
+    if let Err(fault) = &outcome {
+        let _ = eprintln!(rt; "fault: {fault}");
+    }
+    prompt_status(&outcome)
+}
+
+/// A reader of a file; or else the exit status, after standard error was told why.
+fn opened(rt: &HostRuntime, file: &str) -> Result<BufReader<File>, u8> {
+    match File::open(rt, file) {
+        Ok(opened) => BufReader::new(rt.alloc(), opened).map_err(|_| NO_MEMORY),
+        Err(fault) => {
+            let _ = eprintln!(rt; "fault: {file}: {fault}");
+            Err(UNREAD)
+        }
+    }
+}
+
+/// Answers the lines of a file, or those of standard input, with a prompt if it is a terminal.
+fn answer_input(rt: &HostRuntime, file: Option<&str>) -> u8 {
+    match file {
+        None => {
+            let is_shown = rt.stdin().is_terminal() && rt.stdout().is_terminal();
+            answer_lines(rt, rt.reader(), is_shown)
+        }
+        Some(file) => match opened(rt, file) {
+            Ok(reader) => answer_lines(rt, reader, false),
+            Err(status) => status,
+        },
+    }
 }
 
 /// Tells standard error why a load of this status was not reported, or why the command line was not
@@ -76,7 +130,8 @@ fn main(rt: HostRuntime) -> ExitCode {
         Err(status) => return ExitCode::from(status),
     };
     match options(alloc, words.as_slice()) {
-        Ok(Chosen::Run) => ExitCode::from(run_input(&rt)),
+        Ok(Chosen::Run { file }) => ExitCode::from(run_input(&rt, file)),
+        Ok(Chosen::Prompt { file }) => ExitCode::from(answer_input(&rt, file)),
         Ok(Chosen::Load(size)) => {
             let mut output = io::writer(&rt);
             let status = run_load(&rt, alloc, size, &mut output);

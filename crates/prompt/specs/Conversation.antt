@@ -1,0 +1,122 @@
+-- Cited by the contracts of converse and of the functions below it.
+-- What is read and written, line by line.
+use Rattle.std.specs.Prelude.{◌≡◌, ◌⊎◌, ◌++◌, ◌∷◌, ◌+◌, ◌==◌, ℕ, zero, suc, List, [], length, Option, Some, None, Result, Ok, Err, Bool, true, false, cond, codes, if◌then◌else◌}
+use Rattle.std.specs.Fmt.{decimal}
+use Rattle.std.specs.Io.KnownBytes.{Appends}
+use Rattle.std.specs.List.{flat_map}
+use Rattle.std.specs.Str.{IsUtf8}
+use Rattle.lease.specs.Timeline.{newest}
+use Rattle.script_grammar.specs.Commands.{command_at}
+use Rattle.script_grammar.specs.Silent.{is_silent}
+use Rattle.script_replies.specs.Texts.{bad_line}
+use Rattle.script_session.specs.Replies.{Reply}
+use Rattle.script_session.specs.Session.{Session, empty}
+use Rattle.script_session.specs.declared.session.Session.TheVariants.{Declaring, Running}
+use Rattle.script_tokens.specs.declared.fault.LineFault.TheVariants.{Malformed}
+use Rattle.script_tokens.specs.declared.token.Token.{Token}
+use Rattle.script_tokens.specs.Productions.{is_word}
+use Rattle.script_tokens.specs.Tokens.{tokens_of}
+use Rattle.world.specs.State.{facts_of}
+use Rattle.prompt.specs.Carry.{Carries}
+use Rattle.prompt.specs.Lines.{HasRead, IsNext}
+use Rattle.prompt.specs.declared.conversation.Summary.{Summary}
+use Rattle.prompt.specs.declared.fault.PromptFault.{PromptFault}
+use Rattle.prompt.specs.declared.fault.PromptFault.TheVariants.{Read, Write, Memory}
+
+-- the word `quit` alone
+abbrev pub quits : Option (List Token) → Bool
+quits None = false
+quits (Some []) = false
+quits (Some (t ∷ [])) = is_word (codes "quit") t
+quits (Some (t ∷ u ∷ ts)) = false
+
+-- a line that ends the conversation
+abbrev pub is_quit : List ℕ → Bool
+is_quit line = quits (tokens_of line)
+
+-- no line of a script: neither a command nor silent
+abbrev pub IsForeign : List ℕ → Type 0
+IsForeign line = (is_silent line ≡ false) × (command_at line ≡ Err Malformed)
+
+-- the moment of the last entry of the log
+abbrev pub last_moment : Session → ℕ
+last_moment (Declaring d) = 0
+last_moment (Running r) = (facts_of r.world).moment
+
+-- What the session is given for a line: the line, or, where that is no line of a script, the line with the last moment put into it.
+abbrev pub IsGiven : Session → List ℕ → List ℕ → Type 0
+IsGiven session line given =
+    (given ≡ line)
+    ⊎ (IsForeign line × ((front : List ℕ) × (back : List ℕ) × (line ≡ front ++ back) × (given ≡ (front ++ (codes " at " ++ decimal (last_moment session))) ++ back)))
+
+-- the session's reply to what it is given
+abbrev pub Answered : Session → List ℕ → List ℕ → Bool → Session → Type 0
+Answered old line reply bad new = (given : List ℕ) × IsGiven old line given × Reply old given reply bad new
+
+-- a line that has no reply, or is bad, without the session
+abbrev pub Passed : Session → List ℕ → List ℕ → Bool → Session → Type 0
+Passed old line reply bad new =
+    (new ≡ old) × ((IsForeign line × (reply ≡ []) × (bad ≡ false)) ⊎ ((IsUtf8 line → ⊥) × (reply ≡ bad_line) × (bad ≡ true)))
+
+-- a line of the prompt's own that carries changes on, with any reply
+abbrev pub Carried : Session → List ℕ → Bool → Session → Type 0
+Carried old line bad new = IsForeign line × Carries old new × (bad ≡ false)
+
+-- a byte of a remark, each of whose lines begins with `# `
+abbrev pub remark_byte : ℕ → List ℕ
+remark_byte b = if b == 10 then b ∷ codes "# " else b ∷ []
+
+abbrev pub remark_text : List ℕ → List ℕ
+remark_text [] = []
+remark_text (b ∷ bs) = codes "# " ++ flat_map remark_byte (b ∷ bs) ++ codes "\n"
+
+-- What is written for a line, which leaves new: the reply, and remarks.
+abbrev pub Turned : Session → List ℕ → List ℕ → Bool → Session → Type 0
+Turned old line text bad new =
+    (reply : List ℕ) × (remark : List ℕ) × (text ≡ reply ++ remark_text remark) × (Answered old line reply bad new ⊎ Passed old line reply bad new ⊎ Carried old line bad new)
+
+-- the newest version and the moment, where they are shown
+abbrev pub prompt_text : Bool → Session → List ℕ
+prompt_text false session = []
+prompt_text true (Declaring d) = codes "> "
+prompt_text true (Running r) = codes "v" ++ decimal (newest (facts_of r.world).line) ++ codes " @" ++ decimal (facts_of r.world).moment ++ codes "> "
+
+-- From old, the lines in turn may be given this text, each after a prompt, with so many bad lines, and leave new. None of them is `quit`.
+abbrev pub Turns : Bool → Session → List (List ℕ) → List ℕ → ℕ → Session → Type 0
+Turns shown old [] text bad new = (text ≡ []) × (bad ≡ 0) × (new ≡ old)
+Turns shown old (l ∷ ls) text bad new =
+    (turn : List ℕ) × (is_bad : Bool) × (mid : Session) × (more : List ℕ) × (others : ℕ)
+    × Turned old l turn is_bad mid × Turns shown mid ls more others new
+    × (is_quit l ≡ false) × (text ≡ prompt_text shown old ++ (turn ++ more)) × (bad ≡ cond is_bad 1 0 + others)
+
+-- All that is written until a line is waited for: the turns, and the next prompt.
+abbrev pub IsTranscript : Bool → List (List ℕ) → List ℕ → ℕ → Type 0
+IsTranscript shown lines out bad =
+    (text : List ℕ) × (new : Session) × Turns shown empty lines text bad new × (out ≡ text ++ prompt_text shown new)
+
+-- what is read at the end: nothing more, or a line `quit`
+abbrev pub Ends : Option (List ℕ) → Option (List ℕ) → Type 0
+Ends input rest = IsNext input rest None ⊎ ((line : List ℕ) × IsNext input rest (Some line) × (is_quit line ≡ true))
+
+-- known bytes grew by a start of the text
+abbrev pub AppendsPrefix : Option (List ℕ) → Option (List ℕ) → List ℕ → Type 0
+AppendsPrefix old new text = (out : List ℕ) × (cut : List ℕ) × Appends old new out × (text ≡ out ++ cut)
+
+-- What was read and written, and how the call ends.
+abbrev pub Conversed : Bool → Option (List ℕ) → Option (List ℕ) → Option (List ℕ) → Option (List ℕ) → Result Summary PromptFault → Type 0
+Conversed shown input rest old new (Ok s) =
+    (lines : List (List ℕ)) × (mid : Option (List ℕ)) × (out : List ℕ)
+    × HasRead input lines mid × Ends mid rest × IsTranscript shown lines out s.bad × Appends old new out × (s.lines ≡ length lines)
+Conversed shown input rest old new (Err fault) =
+    (lines : List (List ℕ)) × (text : List ℕ) × (bad : ℕ) × IsTranscript shown lines text bad × AppendsPrefix old new text
+
+abbrev pub with_bad : ℕ → ℕ
+with_bad zero = 0
+with_bad (suc n) = 1
+
+-- the exit status
+abbrev pub status_of : Result Summary PromptFault → ℕ
+status_of (Ok s) = with_bad s.bad
+status_of (Err Read) = 3
+status_of (Err Write) = 4
+status_of (Err Memory) = 5

@@ -1,0 +1,3 @@
+pub mod Carry
+pub mod Lines
+pub mod Conversation

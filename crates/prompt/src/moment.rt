@@ -1,0 +1,102 @@
+//! Lines whose `at M` was left out.
+ghost use Rattle.std.specs.Prelude.{◌≡◌, ◌++◌, IfOk, IfSome, codes, string_bytes, true};
+ghost use Rattle.std.specs.Fmt.{decimal};
+ghost use Rattle.prompt.specs.Conversation.{IsForeign, IsGiven, last_moment, is_quit};
+
+use script_grammar::{is_silent, read_command};
+use script_session::Session;
+use script_tokens::{LineFault, is_word, tokens_of};
+use std::alloc::{AllocError, Global};
+
+/// Whether a line ends the conversation: it is the word `quit` alone.
+///
+/// - `line`: the line without its ending.
+pub(crate) fn is_quit(alloc: Global, line: &[u8]) -> Result<bool, AllocError>
+    ensures { IfOk result (λ quits. quits ≡ is_quit line.now) }
+{
+    match tokens_of(alloc, line)? {
+        Some(tokens) => match tokens.as_slice() {
+            [only] => Ok(is_word(only, b"quit")),
+            _ => Ok(false),
+        },
+        None => Ok(false),
+    }
+}
+
+/// Whether a line is none that a script has: it is no command, and it is not silent.
+///
+/// - `line`: the line without its ending.
+pub(crate) fn is_foreign(alloc: Global, line: &[u8]) -> Result<bool, AllocError>
+    ensures { IfOk result (λ foreign. foreign ≡ true → IsForeign line.now) }
+{
+    if is_silent(line) {
+        return Ok(false);
+    }
+    match read_command(alloc, line) {
+        Ok(_) => Ok(false),
+        Err(LineFault::Malformed) => Ok(true),
+        Err(LineFault::Memory) => Err(AllocError),
+    }
+}
+
+// The moment that a left out one stands for: that of the log's last entry.
+fn last_moment(session: &Session) -> u64
+    ensures { result ≡ last_moment session.now }
+{
+    match session {
+        Session::Declaring(_) => 0,
+        Session::Running(opened) => opened.world.moment(),
+    }
+}
+
+// A line at the place of a left out moment: what is before it, the mark that follows it, and the
+// rest. It is before a colon or one of the words `pieces` and `limit`, or at the end.
+fn cut_at_moment(line: &str) -> Option<(&str, &'static str, &str)>
+    ensures { IfSome result (λ cut. line.entry.now ≡ cut.0.now ++ cut.1.now ++ cut.2.now) }
+{
+    let (command, _) = line.split_once(' ').unwrap_or((line, ""));
+    let mark = match command {
+        "lease" | "commit" | "next" => return Some((line, "", "")),
+        "txn" | "query" | "publish" | "publish:" => ":",
+        "reorganise" => " pieces",
+        "work" => " limit",
+        _ => return None,
+    };
+    let (front, back) = line.split_once(mark)?;
+    Some((front, mark, back))
+}
+
+fn with_moment(
+    alloc: Global,
+    front: &str,
+    moment: u64,
+    mark: &str,
+    back: &str,
+) -> Result<String, AllocError>
+    ensures { IfOk result (λ given. string_bytes given ≡ front.now ++ (codes " at " ++ decimal moment) ++ mark.now ++ back.now) }
+{
+    let mut given = front.to_string(alloc)?;
+    write!(given, " at {moment}")?;
+    given.push_str(mark)?;
+    given.push_str(back)?;
+    Ok(given)
+}
+
+/// What the session is given for a line: the line itself, or, if that is no command and one only
+/// because its `at M` was left out, the line with the moment of the log's last entry.
+///
+/// - `session`: the session, which is only read.
+/// - `line`: the line without its ending.
+pub(crate) fn given_line(alloc: Global, session: &Session, line: &str) -> Result<String, AllocError>
+    ensures { IfOk result (λ given. IsGiven session.now line.now (string_bytes given)) }
+{
+    if is_foreign(alloc, line.as_bytes())? {
+        if let Some((front, mark, back)) = cut_at_moment(line) {
+            let given = with_moment(alloc, front, last_moment(session), mark, back)?;
+            if read_command(alloc, given.as_str().as_bytes()).is_ok() {
+                return Ok(given);
+            }
+        }
+    }
+    line.to_string(alloc)
+}
