@@ -1,0 +1,57 @@
+"""Other programs that do the work of a load (tools/peers), beside loads."""
+import functools
+import os
+import re
+import subprocess
+import tempfile
+
+from speed_of.case import Case, Missing
+from speed_of.rows import load_time
+
+ROOT = os.path.dirname(os.path.dirname(os.path.dirname(os.path.realpath(__file__))))
+ROWS = 100_000
+SPENT = re.compile(r"(\d+) rows, ([\d.]+) s, ")
+FOLDER = tempfile.TemporaryDirectory()
+
+
+def own_time(words):
+    """The time that a peer measures by itself, without its start."""
+    try:
+        run = subprocess.run(words, capture_output=True, text=True, timeout=600)
+    except (OSError, subprocess.TimeoutExpired) as error:
+        raise Missing(str(error)) from error
+    found = SPENT.search(run.stdout)
+    if run.returncode != 0 or not found or int(found[1]) != ROWS:
+        lines = run.stderr.strip().splitlines()
+        raise Missing(lines[0] if lines else f"status {run.returncode}")
+    return float(found[2])
+
+
+@functools.cache
+def compiled(name, compiler, source, *libraries):
+    """The program made of a source of tools/peers."""
+    out = os.path.join(FOLDER.name, name)
+    try:
+        run = subprocess.run([*compiler.split(), "-o", out, f"{ROOT}/tools/peers/{source}", *libraries], capture_output=True, text=True)
+    except OSError as error:
+        raise Missing(str(error)) from error
+    if run.returncode != 0:
+        raise Missing(run.stderr.strip().splitlines()[0])
+    return out
+
+
+def cases():
+    """Loads with 4 servers and with 1, and the peers."""
+    found = []
+    for servers in (4, 1):
+        name = f"Cagzhomul, `load`, {servers} server{'s' if servers > 1 else ''} and 3 workers"
+        found.append(Case("peers", name, ROWS, load_time(ROWS, servers), work=ROWS, base="peers"))
+    peers = [
+        ("an ordered map under a mutex, 4 threads", lambda: compiled("map", "g++ -O2 -pthread", "map.cpp")),
+        ("SQLite in memory, 1 thread", lambda: compiled("sqlite", "gcc -O2", "sqlite.c", "-lsqlite3")),
+        ("PostgreSQL, 4 clients, no wait for the disk", lambda: f"{ROOT}/tools/peers/postgres"),
+    ]
+    for name, make in peers:
+        measure = lambda _, make=make: {"": own_time([make()])}
+        found.append(Case("peers", name, ROWS, measure, work=ROWS, base="peers", is_shared=True))
+    return found
