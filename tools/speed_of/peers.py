@@ -5,6 +5,7 @@ import re
 import subprocess
 import tempfile
 
+from speed_of import run as runs
 from speed_of.case import Case, Missing
 from speed_of.rows import load_time
 
@@ -15,7 +16,8 @@ FOLDER = tempfile.TemporaryDirectory()
 
 
 def own_time(words):
-    """The time that a peer measures by itself, without its start."""
+    """The time that a peer measures by itself, without its start; or the processor's time."""
+    begun = runs.spent()
     try:
         run = subprocess.run(words, capture_output=True, text=True, timeout=600)
     except (OSError, subprocess.TimeoutExpired) as error:
@@ -24,7 +26,14 @@ def own_time(words):
     if run.returncode != 0 or not found or int(found[1]) != ROWS:
         lines = run.stderr.strip().splitlines()
         raise Missing(lines[0] if lines else f"status {run.returncode}")
-    return float(found[2])
+    return runs.spent() - begun if runs.COUNTS_PROCESSOR else float(found[2])
+
+
+def of_postgres():
+    """The time of PostgreSQL, whose server is no child of this program."""
+    if runs.COUNTS_PROCESSOR:
+        raise Missing("the processor's time of its server is not known")
+    return {"": own_time([f"{ROOT}/tools/peers/postgres"])}
 
 
 @functools.cache
@@ -47,11 +56,10 @@ def cases():
         name = f"Cagzhomul, `load`, {servers} server{'s' if servers > 1 else ''} and 3 workers"
         found.append(Case("peers", name, ROWS, load_time(ROWS, servers), work=ROWS, base="peers"))
     peers = [
-        ("an ordered map under a mutex, 4 threads", lambda: compiled("map", "g++ -O2 -pthread", "map.cpp")),
-        ("SQLite in memory, 1 thread", lambda: compiled("sqlite", "gcc -O2", "sqlite.c", "-lsqlite3")),
-        ("PostgreSQL, 4 clients, no wait for the disk", lambda: f"{ROOT}/tools/peers/postgres"),
+        ("an ordered map under a mutex, 4 threads", lambda _: {"": own_time([compiled("map", "g++ -O2 -pthread", "map.cpp")])}),
+        ("SQLite in memory, 1 thread", lambda _: {"": own_time([compiled("sqlite", "gcc -O2", "sqlite.c", "-lsqlite3")])}),
+        ("PostgreSQL, 4 clients, no wait for the disk", lambda _: of_postgres()),
     ]
-    for name, make in peers:
-        measure = lambda _, make=make: {"": own_time([make()])}
+    for name, measure in peers:
         found.append(Case("peers", name, ROWS, measure, work=ROWS, base="peers", is_shared=True))
     return found
