@@ -92,11 +92,11 @@ abbrev pub ArePiecesFew : ℕ → ℕ → State → State → Type 0
 ArePiecesFew pieces limit old new =
     (number : ℕ) → limit * pieces_in number new.log ≤ limit * pieces_in number old.log + (items_ahead (facts_of old) number + limit * pieces_ahead (facts_of old) pieces number)
 
--- the entries that an element's pieces have taken so far and may still take, as items
+-- the pieces of an element in the log, each counted as `limit` items, and all that is ahead of it
 abbrev pub pieces_and_ahead : ℕ → ℕ → State → ℕ → ℕ
 pieces_and_ahead pieces limit state number = limit * pieces_in number state.log + (items_ahead (facts_of state) number + limit * pieces_ahead (facts_of state) pieces number)
 
--- no advance adds to them: a piece takes from what is ahead as much as its entry counts for
+-- no advance adds to these: what a piece counts for, it takes from what is ahead
 abbrev pub AdvancesTakeItems : Type 0
 AdvancesTakeItems =
     (old new : State) (moment pieces limit number : ℕ) (done : Advanced) → IsKept (facts_of old) → IsReplayed old → AreCounts pieces limit
