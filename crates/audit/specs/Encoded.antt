@@ -1,4 +1,4 @@
--- Cited by the definitions of Audit, Meaning, Met.
+-- Cited by the contracts of key_of, is_row, row_at, and by the definitions of Audit, Meaning, Met.
 -- The rows that the pairs of a store encode.
 use Rattle.std.specs.Prelude.{ℕ, ◌==◌, Bool, true, false, ◌&&◌, List, Option, Some, None, Result, Ok, Err, if◌then◌else◌, option_map, is_some, filter_map}
 use Rattle.std.specs.FinMap as map

@@ -12,8 +12,10 @@ use row_map::{
 use schema_version::{ElementDef, Schema};
 use std::alloc::{AllocError, Global};
 
-// What a key is the key of, if it is one.
-pub(crate) fn key_of(alloc: Global, key: &[u8]) -> Result<Option<KeyOf>, AllocError>
+/// What bytes are the key of, if they are a key. Refused only when out of memory.
+///
+/// - `key`: the key of a pair, in bytes.
+pub fn key_of(alloc: Global, key: &[u8]) -> Result<Option<KeyOf>, AllocError>
     ensures read { IfOk result (λ found. found ≡ key_read key.now) }
     ensures encoded { IfOk result (λ found. IfSome found (λ k. IsKey k × (key.now ≡ key_code k))) }
 {
@@ -37,8 +39,13 @@ fn is_row_at<V: PairView>(view: &V, near: &mut Near, at: &[u8], key: &[Value]) -
     view.get_near(at, near).is_some()
 }
 
-// Whether the store has the `exists` pair of a row.
-pub(crate) fn is_row<V: PairView>(
+/// Whether the store has the `exists` pair of a row. Refused only when out of memory.
+///
+/// - `view`: the store.
+/// - `near`: where the last look-up ended; the next one begins there.
+/// - `table`: the number of the row's table.
+/// - `key`: the values of the row's primary key.
+pub fn is_row<V: PairView>(
     alloc: Global,
     view: &V,
     near: &mut Near,
@@ -134,8 +141,15 @@ fn copy_values(alloc: Global, values: &[Value]) -> Result<Values, AllocError>
     Ok(List::new(copy))
 }
 
-// The row of a primary key, as the store's pairs encode it.
-pub(crate) fn row_at<V: PairView>(
+/// The row of a primary key, as the store's pairs encode it: the values of its table's public
+/// columns. Refused only when out of memory.
+///
+/// - `schema`: the version by which the pairs are read.
+/// - `view`: the store.
+/// - `near`: where the last look-up ended; the next one begins there.
+/// - `table`: the number of the row's table.
+/// - `key`: the values of the row's primary key.
+pub fn row_at<V: PairView>(
     alloc: Global,
     schema: &Schema,
     view: &V,

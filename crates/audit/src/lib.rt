@@ -10,6 +10,7 @@ mod report;
 mod tally;
 mod wanted;
 
+pub use encoded_rows::{is_row, key_of, row_at};
 pub use laws::{nothing_is_extra_when, nothing_is_missing_when};
 pub use report::CheckReport;
 pub use tally::audit;
