@@ -4,6 +4,7 @@ use Rattle.std.proofs.Common.{◌≡◌, ℕ, ◌+◌, ◌≤◌, Bool, true, fa
 use Rattle.std.specs.List.{AllByRecursion}
 use Rattle.std.specs.FinMap as map
 use Rattle.std.proofs.lemmas.List.{length-append}
+use Rattle.std.proofs.lemmas.List.Elements.{filter_map-append}
 use Rattle.byte_map.specs.Walk.{within}
 use Rattle.row_map.specs.Rows.{Bytes, Pairs}
 use Rattle.row_map.specs.Ranges.{is_within}
@@ -12,7 +13,7 @@ use Rattle.schema_version.specs.declared.element.ElementDef.{ElementDef}
 use Rattle.schema_version.specs.declared.element.Work.{Work}
 use Rattle.reorganise.specs.declared.work.Span.{Span}
 use Rattle.reorganise.specs.declared.work.Progress.{Progress}
-use Rattle.reorganise.specs.ScanRanges.{scan_range_of, start, end, ItemsAreEmpty}
+use Rattle.reorganise.specs.ScanRanges.{scan_range_of, start, end, items, ItemsAreEmpty}
 use Rattle.reorganise.specs.Partition.{AreJoined}
 use Rattle.reorganise.specs.Left.{left_in, items_left}
 use Rattle.reorganise.proofs.EmptyValues.{items_between}
@@ -26,7 +27,7 @@ use Rattle.replay.proofs.Standing.{lemma_items_stand}
 use Rattle.world.specs.declared.world.World.TheInside.{Inside}
 use Rattle.world.specs.Inside.{state_of, IsHeld}
 use Rattle.world.specs.State.{State, facts_of}
-use Rattle.world.specs.inner.Left.{empties_left}
+use Rattle.world.specs.inner.Left.{empties_left, empties_in}
 use Rattle.world.proofs.Invariant.{follow_of, kept_of, replayed}
 
 -- ---- by the values
@@ -71,6 +72,22 @@ left_le P low high (s ∷ ss) joined reached inside =
     let one = ap length (join P low s.cursor s.high at inside.0) ∙ length-append (key_range P low s.cursor) (key_range P s.cursor s.high) in
     omega (arith, all, one, empties_le (key_range P s.cursor s.high), left_le P s.high high ss joined.2 reached.1 inside.1)
 
+-- ---- all of them
+
+empties_both : (P : Pairs) (a b c : Bytes) → le a b ≡ true → le b c ≡ true → length (empties (key_range P a c)) ≡ length (empties (key_range P a b)) + length (empties (key_range P b c))
+empties_both P a b c ab bc =
+    ap (λ (ps : List Pair). length (empties ps)) (join P a b c ab bc)
+    ∙ ap length (filter_map-append empty_key (key_range P a b) (key_range P b c))
+    ∙ length-append (empties (key_range P a b)) (empties (key_range P b c))
+
+-- those of joined pieces are those of the range
+all_in : (P : Pairs) (low high : Bytes) (pieces : List Span) → AreJoined low high pieces → length (empties (key_range P low high)) ≡ empties_in P pieces
+all_in P low high [] joined = subst (λ (x : Bytes). length (empties (key_range P low x)) ≡ 0) joined (omega (arith, empties_both P low low low (le_itself low) (le_itself low)))
+all_in P low high (s ∷ ss) joined =
+    let from : le low s.high ≡ true = subst (λ (x : Bytes). le x s.high ≡ true) joined.0 joined.1 in
+    let here : length (empties (key_range P low s.high)) ≡ length (empties (key_range P s.low s.high)) = ap (λ (x : Bytes). length (empties (key_range P x s.high))) (sym joined.0) in
+    omega (arith, empties_both P low s.high high from (joined_le s.high high ss joined.2), here, all_in P s.high high ss joined.2)
+
 -- ---- a begun reorganisation
 
 pub record IsLeft (facts : Facts) (p : Progress) : Type 0 where
@@ -89,6 +106,22 @@ left_is facts number p kept at =
       few = omega (arith, few, within_le (start range) (end range) (map.entries facts.pairs), map.len-entries facts.pairs);
     }
 
+pub record IsWhole (facts : Facts) (p : Progress) : Type 0 where
+  pub counted : length (items (scan_range_of p.element p.kind) facts.pairs) ≡ empties_in facts.pairs p.pieces
+  pub few : empties_in facts.pairs p.pieces ≤ map.len facts.pairs
+
+pub whole_is : (facts : Facts) (number : ℕ) (p : Progress) → IsKept facts → progress_of facts.progress number ≡ Some p → IsWhole facts p
+whole_is facts number p kept at =
+    let begun = (found (IsBegun facts.newest) facts.progress number p kept.begun at).0 in
+    let range = scan_range_of p.element p.kind in
+    let stand = lemma_items_stand facts p.element.number p.element p.kind begun.element kept in
+    let all = all_in facts.pairs (start range) (end range) p.pieces begun.joined in
+    let few = empties_le (key_range facts.pairs (start range) (end range)) in
+    record {
+      counted = ap length (items_between range facts.pairs (start range) (end range) stand (le_itself (start range)) (le_itself (end range))) ∙ all;
+      few = omega (arith, all, few, within_le (start range) (end range) (map.entries facts.pairs), map.len-entries facts.pairs);
+    }
+
 -- in the fields of a World
 module _ (f : Inside) (s : State) (h : IsHeld f) (view : state_of f ≡ s) (number : ℕ) (p : Progress) (pieces : List Span) (at : progress_of (facts_of s).progress number ≡ Some p) (same : pieces ≡ p.pieces) where
   left : IsLeft (facts_of s) p
@@ -105,3 +138,12 @@ module _ (f : Inside) (s : State) (h : IsHeld f) (view : state_of f ≡ s) (numb
 
   pub few_pieces : length pieces ≤ 64
   few_pieces = subst (λ (ps : List Span). length ps ≤ 64) (sym same) ((kept_of f s h view).in_pieces number p at).few
+
+  whole : IsWhole (facts_of s) p
+  whole = whole_is (facts_of s) number p (kept_of f s h view) at
+
+  pub all_held : length (items (scan_range_of p.element p.kind) s.pairs) ≡ empties_in f.store pieces
+  all_held = ap (λ (P : Pairs). length (items (scan_range_of p.element p.kind) P)) (replayed f s h view) ∙ whole.counted ∙ (λ i. empties_in (sym store i) (sym same i))
+
+  pub few_in_all : empties_in f.store pieces ≤ map.len f.store
+  few_in_all = subst (λ (P : Pairs). empties_in P pieces ≤ map.len P) (sym store) (subst (λ (ps : List Span). empties_in (facts_of s).pairs ps ≤ map.len (facts_of s).pairs) (sym same) whole.few)

@@ -2,9 +2,10 @@
 ghost use Rattle.std.specs.Prelude.{◌≡◌, ◌≤◌, ◌<◌, ◌^◌, length, option_map};
 ghost use Rattle.std.specs.Option.{option_and_then};
 ghost use Rattle.reorganise.specs.Left.{items_left, open_from};
+ghost use Rattle.reorganise.specs.ScanRanges.{items, scan_range_of};
 ghost use Rattle.replay.specs.Replay.{progress_of};
 ghost use Rattle.world.specs.State.{facts_of};
-ghost use Rattle.world.specs.inner.Left.{empties_left};
+ghost use Rattle.world.specs.inner.Left.{empties_in, empties_left};
 
 use crate::world::World;
 use reorganise::Span;
@@ -38,6 +39,18 @@ fn count_left(store: &Store, pieces: &[Span]) -> usize
     left
 }
 
+/// How many pairs with an empty value there are in the pieces, from their starts on.
+fn count_all(store: &Store, pieces: &[Span]) -> usize
+    requires { empties_in store.now pieces.now < 2 ^ 64 }
+    ensures { result ≡ empties_in store.now pieces.now }
+{
+    let mut all = 0;
+    for piece in pieces {
+        all += store.count_empty(piece.low.as_slice(), piece.high.as_slice());
+    }
+    all
+}
+
 impl World {
     /// The number of the first piece of the begun reorganisation of an element that has not ended.
     /// None if all have, or if no reorganisation of the element has begun, or it is over. Never
@@ -63,5 +76,19 @@ impl World {
         let progress = self.begun_of(element)?;
         let _len = self.store.len();
         Some(count_left(&self.store, progress.pieces.as_slice()))
+    }
+
+    /// How many items the begun reorganisation of an element has, of those that are present: the
+    /// rows of a fill or of a column's clear, or the pairs of an index's clear. They are counted,
+    /// not walked over. None if no reorganisation of the element has begun, or it is over. Never
+    /// refused.
+    ///
+    /// - `element`: the number of the element.
+    pub fn items_in_all(&self, element: u32) -> Option<usize>
+        ensures { result ≡ option_map (λ p. length (items (scan_range_of p.element p.kind) self.now.pairs)) (progress_of (facts_of self.now).progress element) }
+    {
+        let progress = self.begun_of(element)?;
+        let _len = self.store.len();
+        Some(count_all(&self.store, progress.pieces.as_slice()))
     }
 }

@@ -48,9 +48,9 @@ pub(crate) enum Act {
     Commit(Result<(), Refusal>),
     /// How the reorganisation of the index stands.
     Stand(Option<(Work, usize, bool)>),
-    /// The first piece of the index's reorganisation that has not ended, and how many items are
-    /// left of all.
-    Left(Option<u32>, Option<usize>),
+    /// The first piece of the index's reorganisation that has not ended, how many items are left,
+    /// and how many there are in all.
+    Left(Option<u32>, Option<usize>, Option<usize>),
     /// The state of the index in a version, none if the version is not to be had.
     State(u64, Option<ElementState>),
     /// So many rows, with no pair missing and none without a reason.
@@ -187,9 +187,11 @@ pub(crate) fn acted(alloc: Global, world: &mut World, kept: &mut Kept, act: &Act
         Act::Swap => swaps(kept),
         Act::Commit(wanted) => commits(alloc, world, &mut kept.piece, wanted),
         Act::Stand(progress) => judged(world.progress(2) == *progress),
-        Act::Left(piece, items) => {
-            judged(world.next_piece(2) == *piece && world.items_left(2) == *items)
-        }
+        Act::Left(piece, left, all) => judged(
+            world.next_piece(2) == *piece
+                && world.items_left(2) == *left
+                && world.items_in_all(2) == *all,
+        ),
         Act::State(version, state) => judged(state_in(world, *version) == *state),
         Act::Check(rows) => checks(alloc, world, *rows),
     }

@@ -126,7 +126,7 @@ fn under_refusal_two_versions(rt: HostRuntime) {
 
 // A piece of a world whose element 2 is an index of another name.
 static OTHER: [Row; 7] = [
-    (Left(None, None), 0),
+    (Left(None, None, None), 0),
     (Act::Lease(FIRST), 1),
     (Insert(FIRST, (7, 5)), 2),
     (Enter("j"), 3),
@@ -155,7 +155,7 @@ static FILL: [Row; 25] = [
         5,
     ),
     (Stand(Some((Fill, 1, false))), 5),
-    (Left(Some(0), Some(1)), 5),
+    (Left(Some(0), Some(1), Some(1)), 5),
     (Read, 5),
     (Swap, 5),
     (Read, 5),
@@ -163,7 +163,7 @@ static FILL: [Row; 25] = [
     (Swap, 6),
     (Commit(Err(Moved)), 6),
     (Stand(Some((Fill, 1, true))), 6),
-    (Left(None, Some(0)), 6),
+    (Left(None, Some(0), Some(1)), 6),
     (Go(2, Public, 30, Ok(4)), 7),
     (Stand(None), 7),
     (Begin(2, 1, Err(BeginFault::NotWanted)), 7),
