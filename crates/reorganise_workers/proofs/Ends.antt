@@ -1,4 +1,4 @@
--- What the lock answered, as what a turn comes to.
+-- What the lock answered, as what an attempt comes to.
 use Rattle.std.proofs.Common.{◌≡◌, ◌≢◌, ℕ, ◌+◌, ◌<◌, ◌≤◌, ◌∷◌, [], ◌++◌, List, length, All, Bool, true, false, Option, Some, None, refl, sym, ap, ◌∙◌, subst, inl, inr, arith}
 use Rattle.std.specs.Prelude.{Result, Ok, Err}
 use Rattle.std.proofs.lemmas.List.{length_push}
@@ -22,8 +22,8 @@ use Rattle.locked_store.specs.Answers.{Answers, AnswersBack, BackBy, Finds, no_p
 use Rattle.locked_store.specs.Cores.{IsCore, IsCoreSince}
 use Rattle.locked_store.specs.Known.{Known}
 use Rattle.locked_store.specs.Receipts.{IsLogged}
-use Rattle.reorganise_workers.specs.Ends.{IsEndOf, IsTurn, IsFailedTry, FailedSoOften, Stood, WasRead, WasCommitted, WasUncommitted}
-use Rattle.reorganise_workers.specs.inner.Attempts.{WasSpent, unread_end, turn_of}
+use Rattle.reorganise_workers.specs.Ends.{IsEndOf, IsAttempt, IsFailedTry, FailedSoOften, Stood, WasRead, WasCommitted, WasUncommitted}
+use Rattle.reorganise_workers.specs.inner.Attempts.{WasSpent, unread_end, attempt_of}
 use Rattle.reorganise_workers.specs.declared.end.PieceEnd.{PieceEnd}
 use Rattle.reorganise_workers.specs.declared.end.PieceEnd.TheVariants as piece_end
 use Rattle.reorganise_workers.specs.declared.job.Job.{Job}
@@ -102,7 +102,7 @@ was_committed opening v w job piece read prepared done seen is was own a =
 pub brought_to_its_end : (opening : Opening) (job : Job) (piece : ℕ) (done : PieceDone) → WasCommitted opening job piece done → done.ended ≡ true → IsEndOf opening job piece piece_end.Finished
 brought_to_its_end opening job piece done was ended = inr (done, was, ended)
 
-pub more_left : (opening : Opening) (job : Job) (piece : ℕ) (done : PieceDone) → WasCommitted opening job piece done → done.ended ≡ false → IsTurn opening job piece attempt.More
+pub more_left : (opening : Opening) (job : Job) (piece : ℕ) (done : PieceDone) → WasCommitted opening job piece done → done.ended ≡ false → IsAttempt opening job piece attempt.More
 more_left opening job piece done was ended = (done, was, ended)
 
 was_uncommitted : (opening : Opening) (v w : Known) (job : Job) (piece : ℕ) (read prepared back : Reading) (fault : PieceFault)
@@ -123,7 +123,7 @@ was_uncommitted opening v w job piece read prepared back fault seen is was own a
 
 pub refused_by : (opening : Opening) (v w : Known) (job : Job) (piece : ℕ) (read prepared back : Reading) (fault : SharedFault PieceFault)
     → job.front ≤ v.front → prepared ≡ read → WasRead opening job piece read → read.kind ≡ job.kind
-    → BackBy {T = PieceDone} opening v fault back prepared w (λ c r d. PieceStep c job.moment prepared r d) piece_place → IsTurn opening job piece (turn_of fault)
+    → BackBy {T = PieceDone} opening v fault back prepared w (λ c r d. PieceStep c job.moment prepared r d) piece_place → IsAttempt opening job piece (attempt_of fault)
 refused_by opening v w job piece read prepared back (shared.WentBack seen) s is was own a = a.0.1
 refused_by opening v w job piece read prepared back (shared.World MomentTooLarge) s is was own a = inr (inr (tt, was_uncommitted opening v w job piece read prepared back MomentTooLarge s is was own a))
 refused_by opening v w job piece read prepared back (shared.World NotWanted) s is was own a = inr (inr (tt, was_uncommitted opening v w job piece read prepared back NotWanted s is was own a))
@@ -137,7 +137,7 @@ refused_by opening v w job piece read prepared back (shared.World Memory) s is w
 pub none_failed : (opening : Opening) (job : Job) (piece : ℕ) → FailedSoOften opening job piece 0
 none_failed opening job piece = ([], refl, All-nil (IsFailedTry opening job piece))
 
-pub one_more_failed : (opening : Opening) (job : Job) (piece times : ℕ) → FailedSoOften opening job piece times → IsTurn opening job piece attempt.Again → FailedSoOften opening job piece (times + 1)
+pub one_more_failed : (opening : Opening) (job : Job) (piece times : ℕ) → FailedSoOften opening job piece times → IsAttempt opening job piece attempt.Again → FailedSoOften opening job piece (times + 1)
 one_more_failed opening job piece times f t =
     (f.0 ++ t.0 ∷ [], length_push f.0 t.0 ∙ ap (λ n. n + 1) f.1, All-push (IsFailedTry opening job piece) f.0 t.0 f.2 t.1)
 

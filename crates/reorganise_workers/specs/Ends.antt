@@ -116,9 +116,9 @@ IsEndOf opening job piece piece_end.Held = Unit {0}
 IsEndOf opening job piece (piece_end.WentBack seen) = WasLength opening seen
 IsEndOf opening job piece piece_end.Memory = Unit {0}
 
--- a turn committed some items and left more; or failed; or found the piece at its end and then no longer there; or ended the piece
-abbrev pub IsTurn : Opening → Job → ℕ → Attempt → Type 0
-IsTurn opening job piece attempt.More = (done : PieceDone) × WasCommitted opening job piece done × (done.ended ≡ false)
-IsTurn opening job piece attempt.Again = (fault : PieceFault) × IsFailedTry opening job piece fault
-IsTurn opening job piece attempt.Reread = WasUnread opening job piece (read_fault.View view_fault.Spent)
-IsTurn opening job piece (attempt.Ended end) = IsEndOf opening job piece end
+-- an attempt committed some items and left more; or failed; or found the piece at its end and then no longer there; or ended the piece
+abbrev pub IsAttempt : Opening → Job → ℕ → Attempt → Type 0
+IsAttempt opening job piece attempt.More = (done : PieceDone) × WasCommitted opening job piece done × (done.ended ≡ false)
+IsAttempt opening job piece attempt.Again = (fault : PieceFault) × IsFailedTry opening job piece fault
+IsAttempt opening job piece attempt.Reread = WasUnread opening job piece (read_fault.View view_fault.Spent)
+IsAttempt opening job piece (attempt.Ended end) = IsEndOf opening job piece end

@@ -1,9 +1,9 @@
 //! The attempts of one piece: its next items are read, prepared and committed.
 ghost use Rattle.std.specs.Prelude.{◌≡◌, ◌+◌, ◌<◌, ◌≤◌, length, All, IfOk, IfErr};
 ghost use Rattle.locked_store.specs.Receipts.{IsLogged};
-ghost use Rattle.reorganise_workers.specs.Ends.{IsEndOf, IsTurn, WasRead};
+ghost use Rattle.reorganise_workers.specs.Ends.{IsEndOf, IsAttempt, WasRead};
 ghost use Rattle.reorganise_workers.specs.inner.Jobs.{IsJob};
-ghost use Rattle.reorganise_workers.specs.inner.Attempts.{WasSpent, unread_end, turn_of};
+ghost use Rattle.reorganise_workers.specs.inner.Attempts.{WasSpent, unread_end, attempt_of};
 
 use crate::end::PieceEnd;
 use crate::job::Job;
@@ -13,7 +13,7 @@ use std::alloc::Global;
 use std::sync::Wait;
 use world::{PieceDone, PieceFault, ReadFault, Receipt};
 
-/// What a turn came to.
+/// What an attempt came to.
 #[derive(Drop)]
 pub(crate) enum Attempt {
     /// Its items are committed, and more are left.
@@ -27,7 +27,7 @@ pub(crate) enum Attempt {
 }
 
 // The next items of a piece, if the work is of the kind with which the call began; an `Err` is what
-// the turn came to without them.
+// the attempt came to without them.
 fn next_items<L: SharedLedger, R: Wait>(
     rt: &R,
     alloc: Global,
@@ -42,7 +42,7 @@ fn next_items<L: SharedLedger, R: Wait>(
     ensures own { IfOk result (λ view. view.piece ≡ piece) }
     ensures kind { IfOk result (λ view. view.kind ≡ job.now.kind) }
     ensures read { IfOk result (λ view. WasRead L.opening job.now piece view) }
-    ensures attempt { IfErr result (λ attempt. IsTurn L.opening job.now piece attempt) }
+    ensures attempt { IfErr result (λ attempt. IsAttempt L.opening job.now piece attempt) }
 {
     match shared.read_piece(rt, alloc, me, job.element, piece, job.limit) {
         Ok(view) => {
@@ -88,7 +88,7 @@ fn look<L: SharedLedger, R: Wait>(
     requires spent { WasSpent L.opening job.now piece }
     ensures same { (me.new.id ≡ me.old.id) × (me.new.count ≡ me.old.count) }
     ensures rises { me.old.front ≤ me.new.front }
-    ensures attempt { IsTurn L.opening job.now piece result }
+    ensures attempt { IsAttempt L.opening job.now piece result }
 {
     match shared.piece_progress(rt, me, job.element, piece) {
         Ok(Some((kind, ended))) => {
@@ -107,7 +107,7 @@ fn look<L: SharedLedger, R: Wait>(
 
 // What a commit came to, by its refusal.
 fn refused(fault: SharedFault<PieceFault>) -> Attempt
-    ensures { result ≡ turn_of fault }
+    ensures { result ≡ attempt_of fault }
 {
     match fault {
         SharedFault::WentBack { seen } => Attempt::Ended(PieceEnd::WentBack { seen }),
@@ -143,7 +143,7 @@ fn commit_items<L: SharedLedger, R: Wait>(
     ensures rises { me.old.front ≤ me.new.front }
     ensures counted { me.new.count + length kept_receipts.old.items ≡ me.old.count + length kept_receipts.new.items }
     ensures logged { All (IsLogged L.opening job.now.front) kept_receipts.old.items → All (IsLogged L.opening job.now.front) kept_receipts.new.items }
-    ensures attempt { IsTurn L.opening job.now view.piece result }
+    ensures attempt { IsAttempt L.opening job.now view.piece result }
 {
     if kept_receipts.reserve(1).is_err() {
         return Attempt::Ended(PieceEnd::Memory);
@@ -165,7 +165,7 @@ fn commit_items<L: SharedLedger, R: Wait>(
 }
 
 // One attempt.
-fn take_turn<L: SharedLedger, R: Wait>(
+fn make_attempt<L: SharedLedger, R: Wait>(
     rt: &R,
     alloc: Global,
     shared: &Shared<L>,
@@ -179,7 +179,7 @@ fn take_turn<L: SharedLedger, R: Wait>(
     ensures rises { me.old.front ≤ me.new.front }
     ensures counted { me.new.count + length kept_receipts.old.items ≡ me.old.count + length kept_receipts.new.items }
     ensures logged { All (IsLogged L.opening job.now.front) kept_receipts.old.items → All (IsLogged L.opening job.now.front) kept_receipts.new.items }
-    ensures attempt { IsTurn L.opening job.now piece result }
+    ensures attempt { IsAttempt L.opening job.now piece result }
 {
     match next_items(rt, alloc, shared, me, job, piece) {
         Ok(view) => commit_items(rt, alloc, shared, me, kept_receipts, job, view),
@@ -187,7 +187,7 @@ fn take_turn<L: SharedLedger, R: Wait>(
     }
 }
 
-/// Works on one piece, turn by attempt, until it has ended or is given up.
+/// Works on one piece, attempt by attempt, until it has ended or is given up.
 pub(crate) fn work_piece<L: SharedLedger, R: Wait>(
     rt: &R,
     alloc: Global,
@@ -207,7 +207,7 @@ pub(crate) fn work_piece<L: SharedLedger, R: Wait>(
 {
     let mut failed = 0u32;
     for _i in rt.forever() {
-        match take_turn(rt, alloc, shared, me, kept_receipts, job, piece) {
+        match make_attempt(rt, alloc, shared, me, kept_receipts, job, piece) {
             Attempt::More | Attempt::Reread => {}
             Attempt::Again => {
                 failed += 1;

@@ -19,8 +19,8 @@ use Rattle.rollout.specs.Complete.{CompleteAnswer, CompleteStep}
 use Rattle.rollout.specs.Due.{IsDue}
 use Rattle.rollout.specs.Few.{acts_in}
 use Rattle.rollout.specs.Left.{acts_left, all_left, IsOnTheWay}
-use Rattle.rollout.proofs.Ended.{all_turns, worked_acts, completed, Carries, due_as, begin_carries, step_carries, work_carries}
-use Rattle.rollout.proofs.Few.{are_few_left, acts_then, turns_acts}
+use Rattle.rollout.proofs.Ended.{all_rounds, worked_acts, completed, Carries, due_as, begin_carries, step_carries, work_carries}
+use Rattle.rollout.proofs.Few.{are_few_left, acts_then, rounds_act}
 use Rattle.rollout.proofs.NoMore.{AddsNone, begin_adds_none, step_adds_none, rounds_on}
 use Rattle.rollout.proofs.Way.{same_way, way_on, way_ends}
 
@@ -73,24 +73,24 @@ step_next old middle new now pieces limit step done what so kept past is due at 
     record { carried = carried_on pieces limit old middle new now 1 so c (acts_then middle new (effective_moment middle now) (Publish step) done.1 at.2) none; lower = c.lower; past = c.past }
 
 pub work_next : (old middle new : State) (now number pieces limit : ℕ) (what : Act) → IsCarried pieces limit old middle → IsKept (facts_of middle) → IsReplayed middle → (facts_of middle).moment ≤ now → what ≡ act.Work number → IsDue (facts_of middle) (effective_moment middle now) what → (commits : ℕ) × Rounds commits middle number now limit new → HasEnded new number → IsNextState pieces limit old middle new now
-work_next old middle new now number pieces limit what so kept replayed past is due turns ended =
-    let c = work_carries middle new now number limit turns.0 kept past (due_as (facts_of middle) (effective_moment middle now) what (act.Work number) is due) turns.1 ended in
-    let log = turns_acts turns.0 middle new number now limit turns.1 in
-    let on = rounds_on turns.0 pieces limit number now middle new turns.1 kept replayed in
+work_next old middle new now number pieces limit what so kept replayed past is due rounds ended =
+    let c = work_carries middle new now number limit rounds.0 kept past (due_as (facts_of middle) (effective_moment middle now) what (act.Work number) is due) rounds.1 ended in
+    let log = rounds_act rounds.0 middle new number now limit rounds.1 in
+    let on = rounds_on rounds.0 pieces limit number now middle new rounds.1 kept replayed in
     record { carried = carried_on pieces limit old middle new now 0 so c (omega (arith, log)) on.adds_none; lower = c.lower; past = c.past }
 
 -- pieces that were worked before one was refused
-pub some_turns : (old middle new : State) (now number pieces limit : ℕ) → IsCarried pieces limit old middle → IsKept (facts_of middle) → IsReplayed middle → (commits : ℕ) × Rounds commits middle number now limit new → IsCarried pieces limit old new
-some_turns old middle new now number pieces limit so kept replayed turns =
-    let w = all_turns turns.0 middle new number now limit turns.1 in
-    let log = turns_acts turns.0 middle new number now limit turns.1 in
+pub some_rounds : (old middle new : State) (now number pieces limit : ℕ) → IsCarried pieces limit old middle → IsKept (facts_of middle) → IsReplayed middle → (commits : ℕ) × Rounds commits middle number now limit new → IsCarried pieces limit old new
+some_rounds old middle new now number pieces limit so kept replayed rounds =
+    let w = all_rounds rounds.0 middle new number now limit rounds.1 in
+    let log = rounds_act rounds.0 middle new number now limit rounds.1 in
     let left = worked_acts (facts_of middle) (facts_of new) now number w in
     let before = so.few in
     record {
       way = way_on (facts_of old) (facts_of middle) (facts_of new) so.way (same_way (facts_of middle) (facts_of new) w.newest);
       rows = w.rows ∙ so.rows;
       few = omega (arith, log, left, before);
-      adds_none = adds_none_on pieces limit old middle new so.adds_none (rounds_on turns.0 pieces limit number now middle new turns.1 kept replayed).adds_none;
+      adds_none = adds_none_on pieces limit old middle new so.adds_none (rounds_on rounds.0 pieces limit number now middle new rounds.1 kept replayed).adds_none;
     }
 
 -- ---- the call

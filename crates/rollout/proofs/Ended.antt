@@ -163,8 +163,8 @@ moved_some : (n piece : ℕ) (cursor : Bytes) (o : Option Progress) → is_some 
 moved_some n piece cursor None = refl
 moved_some n piece cursor (Some p) = refl
 
-pub one_turn : (old new : State) (number moment limit : ℕ) → Round old number moment limit new → IsWorked (facts_of old) (facts_of new) moment number
-one_turn old new number moment limit t =
+pub one_round : (old new : State) (number moment limit : ℕ) → Round old number moment limit new → IsWorked (facts_of old) (facts_of new) moment number
+one_round old new number moment limit t =
     subst (λ (f : Facts). IsWorked (facts_of old) f moment number) (sym (facts_then old new (effective_moment old moment) (Piece t.read.element.number t.read.piece t.read.key_range.high) t.done.receipt t.committed.2))
     (record {
       newest = refl;
@@ -178,13 +178,13 @@ one_turn old new number moment limit t =
     own : t.read.element.number ≡ number
     own = ap (λ (r : Reading). r.element.number) t.read_so.3.read_is ∙ its_number (facts_of old).progress number t.read_so.0 t.read_so.1
 
-pub all_turns : (n : ℕ) (old new : State) (number moment limit : ℕ) → Rounds n old number moment limit new → IsWorked (facts_of old) (facts_of new) moment number
-all_turns zero old new number moment limit same =
+pub all_rounds : (n : ℕ) (old new : State) (number moment limit : ℕ) → Rounds n old number moment limit new → IsWorked (facts_of old) (facts_of new) moment number
+all_rounds zero old new number moment limit same =
     subst (λ (s : State). IsWorked (facts_of old) (facts_of s) moment number) (sym same)
     (record { newest = refl; line = refl; rows = refl; past = λ le. le; begun = λ k. refl; others = λ k ne. refl })
-all_turns (suc n) old new number moment limit (middle, turns, last) =
-    let first = all_turns n old middle number moment limit turns in
-    let then = one_turn middle new number moment limit last in
+all_rounds (suc n) old new number moment limit (middle, rounds, last) =
+    let first = all_rounds n old middle number moment limit rounds in
+    let then = one_round middle new number moment limit last in
     record {
       newest = then.newest ∙ first.newest;
       line = then.line ∙ first.line;
@@ -282,8 +282,8 @@ step_carries old new now step done kept past d at =
     })
 
 pub work_carries : (old new : State) (now number limit commits : ℕ) → IsKept (facts_of old) → (facts_of old).moment ≤ now → IsDue (facts_of old) (effective_moment old now) (act.Work number) → Rounds commits old number now limit new → HasEnded new number → Carries (facts_of old) (facts_of new) now 0
-work_carries old new now number limit commits kept past d turns ended =
-    let w = all_turns commits old new number now limit turns in
+work_carries old new now number limit commits kept past d rounds ended =
+    let w = all_rounds commits old new number now limit rounds in
     let same = worked_acts (facts_of old) (facts_of new) now number w in
     record {
       lower = work_lower (facts_of old) (facts_of new) now number kept w d.0 ended;

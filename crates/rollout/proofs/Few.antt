@@ -196,11 +196,11 @@ pub acts_then : (old new : State) (now : ℕ) (what : What) (receipt : Receipt) 
 acts_then old new now what receipt a =
     ap (λ (s : State). acts_in s.log) a.state ∙ acts_more old.log receipt.entry ∙ ap (λ (e : Entry). acts_in old.log + act_of e.what) a.entry
 
-turn_acts : (old new : State) (number moment limit : ℕ) → Round old number moment limit new → acts_in new.log ≡ acts_in old.log
-turn_acts old new number moment limit t =
+round_acts : (old new : State) (number moment limit : ℕ) → Round old number moment limit new → acts_in new.log ≡ acts_in old.log
+round_acts old new number moment limit t =
     let more = acts_then old new (effective_moment old moment) (Piece t.read.element.number t.read.piece t.read.key_range.high) t.done.receipt t.committed.2 in
     omega (arith, more)
 
-pub turns_acts : (n : ℕ) (old new : State) (number moment limit : ℕ) → Rounds n old number moment limit new → acts_in new.log ≡ acts_in old.log
-turns_acts zero old new number moment limit same = ap (λ (s : State). acts_in s.log) same
-turns_acts (suc n) old new number moment limit (middle, turns, last) = turn_acts middle new number moment limit last ∙ turns_acts n old middle number moment limit turns
+pub rounds_act : (n : ℕ) (old new : State) (number moment limit : ℕ) → Rounds n old number moment limit new → acts_in new.log ≡ acts_in old.log
+rounds_act zero old new number moment limit same = ap (λ (s : State). acts_in s.log) same
+rounds_act (suc n) old new number moment limit (middle, rounds, last) = round_acts middle new number moment limit last ∙ rounds_act n old middle number moment limit rounds

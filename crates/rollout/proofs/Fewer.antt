@@ -22,7 +22,7 @@ use Rattle.reorganise.proofs.Order.{le_itself, less_le, less_of, lt_is, less_le_
 
 -- ---- keys that rise strictly
 
-not_itself : {A : Type 0} (x : Bytes) → bytes_cmp x x ≡ Less → A
+pub not_itself : {A : Type 0} (x : Bytes) → bytes_cmp x x ≡ Less → A
 not_itself x e = absurd (true≢false (sym (ap is_lt e) ∙ lt_is x x ∙ ap not (le_itself x)))
 
 abbrev pub AreStrict : List Bytes → Type 0
@@ -69,7 +69,7 @@ module _ (element : ElementDef) (work : Work) where
       by true is rest = here rest (subst (IsIn y) (item_keys-cons (scan_range_of element work) e es true is) m)
       by false is rest = rest (subst (IsIn y) (item_keys-cons (scan_range_of element work) e es false is) m)
 
-  keys_strict : (es : List Pair) → T (is_sorted bytes_cmp es) → AreStrict (item_keys (scan_range_of element work) es)
+  pub keys_strict : (es : List Pair) → T (is_sorted bytes_cmp es) → AreStrict (item_keys (scan_range_of element work) es)
   keys_strict [] h = tt
   keys_strict (e ∷ es) h = by (is_item (scan_range_of element work) e.0) refl (keys_strict es (other (below_all bytes_cmp e.0 es) (is_sorted bytes_cmp es) h))
     where

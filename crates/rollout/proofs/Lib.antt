@@ -16,3 +16,4 @@ pub mod Cursor
 pub mod Ahead
 pub mod Taking
 pub mod NoMore
+pub mod RowItems

@@ -36,10 +36,11 @@ use Rattle.world.specs.State.{State, facts_of, IsReplayed}
 use Rattle.piece_work.specs.WorkOff.{Round, Rounds}
 use Rattle.rollout.specs.declared.act.Act.TheVariants as act
 use Rattle.rollout.specs.Due.{IsDue, MayBegin, ready_moves}
-use Rattle.rollout.specs.Pieces.{piece_of, pieces_in}
+use Rattle.rollout.specs.declared.advanced.Advanced.TheVariants as advanced
+use Rattle.rollout.specs.Pieces.{piece_of, pieces_in, pieces_and_ahead, AdvancesTakeItems}
 use Rattle.rollout.proofs.Ahead.{ahead_by, begun_ahead, moved_ahead}
 use Rattle.rollout.proofs.CountLemmas.{facts_then, its_element, its_number, begun_made, not_of}
-use Rattle.rollout.proofs.Ended.{one_turn, other_begun}
+use Rattle.rollout.proofs.Ended.{one_round, other_begun}
 use Rattle.rollout.proofs.Falls.{landed}
 use Rattle.rollout.proofs.Few.{stays_by}
 use Rattle.rollout.proofs.Ready.{ready_says, step_allowed}
@@ -259,7 +260,7 @@ module _ (pieces limit number moment : ℕ) (old new : State) (t : Round old num
   apart k ne =
       subst (λ (f : Facts). facts_ahead pieces limit f k ≤ facts_ahead pieces limit (facts_of old) k) (sym entered)
       (taken_apart (facts_of old) kept number p t.read_so.1 t.piece limit some span t.read_so.3.here less now later holds pieces k ne
-      (sym (ap (λ (f : Facts). progress_of f.progress k) entered) ∙ (one_turn old new number moment limit t).others k ne))
+      (sym (ap (λ (f : Facts). progress_of f.progress k) entered) ∙ (one_round old new number moment limit t).others k ne))
 
   pub round_on : IsWorkedOn pieces limit old new
   round_on = record {
@@ -276,7 +277,26 @@ module _ (pieces limit number moment : ℕ) (old new : State) (t : Round old num
 
 pub rounds_on : (n pieces limit number moment : ℕ) (old new : State) → Rounds n old number moment limit new → IsKept (facts_of old) → IsReplayed old → IsWorkedOn pieces limit old new
 rounds_on zero pieces limit number moment old new same kept replayed = subst (IsWorkedOn pieces limit old) (sym same) (record { kept = kept; replayed = replayed; adds_none = λ k. omega arith })
-rounds_on (suc n) pieces limit number moment old new (middle, turns, last) kept replayed =
-    let first = rounds_on n pieces limit number moment old middle turns kept replayed in
+rounds_on (suc n) pieces limit number moment old new (middle, rounds, last) kept replayed =
+    let first = rounds_on n pieces limit number moment old middle rounds kept replayed in
     let then = round_on pieces limit number moment middle new last first.kept first.replayed in
     record { kept = then.kept; replayed = then.replayed; adds_none = λ k. (let a = first.adds_none k in let b = then.adds_none k in omega (arith, a, b)) }
+
+-- ---- one advance
+
+pub advances_take_items : AdvancesTakeItems
+advances_take_items old new moment pieces limit number (advanced.Began element receipt) kept replayed counts (due, at) = begin_adds_none old new moment element pieces limit receipt counts.piece_count kept due at number
+advances_take_items old new moment pieces limit number (advanced.Published version receipt) kept replayed counts (step, due, at) = step_adds_none old new moment step (version, receipt) pieces limit kept due at number
+advances_take_items old new moment pieces limit number (advanced.Worked element done) kept replayed counts (due, w) =
+    (round_on pieces limit element moment old new (record {
+      piece = w.piece;
+      next = w.was_read.0;
+      read = w.read;
+      read_so = w.was_read.1;
+      done = done;
+      committed = w.committed;
+    }) kept replayed).adds_none number
+advances_take_items old new moment pieces limit number (advanced.Waiting until) kept replayed counts (due, same) =
+    (let is : pieces_and_ahead pieces limit new number ≡ pieces_and_ahead pieces limit old number = ap (λ (s : State). pieces_and_ahead pieces limit s number) same in omega (arith, is))
+advances_take_items old new moment pieces limit number advanced.Finished kept replayed counts (due, same) =
+    (let is : pieces_and_ahead pieces limit new number ≡ pieces_and_ahead pieces limit old number = ap (λ (s : State). pieces_and_ahead pieces limit s number) same in omega (arith, is))

@@ -1,8 +1,9 @@
--- Cited by the definitions of Complete.
+-- Cited by the contracts of items_are_rows, advances_take_items.
 -- How few pieces complete all changes: each takes `limit` of the items that are ahead of its element, or is the last of one of the pieces in
 -- which they are worked. So a fill of 10 rows in 3 pieces, with a limit of 4, takes at most (10 + 4 * 3) / 4 = 5 entries of the log.
-use Rattle.std.specs.Prelude.{ℕ, ◌+◌, ◌*◌, ◌≤◌, ◌==◌, List, [], ◌∷◌, length, Bool, true, false, Option, Some, None, is_some, if◌then◌else◌}
-use Rattle.row_map.specs.Rows.{Pairs}
+use Rattle.std.specs.Prelude.{◌≡◌, ℕ, ◌+◌, ◌*◌, ◌≤◌, ◌==◌, List, [], ◌∷◌, length, Bool, true, false, Option, Some, None, is_some, if◌then◌else◌, filter}
+use Rattle.std.specs.FinMap.{entries}
+use Rattle.row_map.specs.Rows.{Cells, Pairs, RowKey, Rows}
 use Rattle.schema_version.specs.declared.element.ElementDef.{ElementDef}
 use Rattle.schema_version.specs.declared.element.Way.{Way}
 use Rattle.schema_version.specs.declared.element.Way.TheVariants.{Adding, Dropping}
@@ -18,8 +19,11 @@ use Rattle.reorganise.specs.ScanRanges.{scan_range_of, items}
 use Rattle.replay.specs.declared.entry.Entry.{Entry}
 use Rattle.replay.specs.declared.entry.What.{What}
 use Rattle.replay.specs.declared.entry.What.TheVariants.{Lease as Granted, Txn, Publish, Begin, Piece}
+use Rattle.replay.specs.Kept.{IsKept}
 use Rattle.replay.specs.Replay.{Facts, progress_of}
-use Rattle.world.specs.State.{State, facts_of}
+use Rattle.world.specs.State.{State, facts_of, IsReplayed}
+use Rattle.rollout.specs.declared.advanced.Advanced.{Advanced}
+use Rattle.rollout.specs.Advance.{AreCounts, Advances}
 use Rattle.rollout.specs.StatePath.{next_state}
 
 -- ---- in a log
@@ -87,3 +91,23 @@ pieces_ahead facts pieces number = pieces_by pieces (element_at facts.newest num
 abbrev pub ArePiecesFew : ℕ → ℕ → State → State → Type 0
 ArePiecesFew pieces limit old new =
     (number : ℕ) → limit * pieces_in number new.log ≤ limit * pieces_in number old.log + (items_ahead (facts_of old) number + limit * pieces_ahead (facts_of old) pieces number)
+
+-- the pieces of an element in the log, each counted as `limit` items, and all that is ahead of it
+abbrev pub pieces_and_ahead : ℕ → ℕ → State → ℕ → ℕ
+pieces_and_ahead pieces limit state number = limit * pieces_in number state.log + (items_ahead (facts_of state) number + limit * pieces_ahead (facts_of state) pieces number)
+
+-- no advance adds to these: what a piece counts for, it takes from what is ahead
+abbrev pub AdvancesTakeItems : Type 0
+AdvancesTakeItems =
+    (old new : State) (moment pieces limit number : ℕ) (done : Advanced) → IsKept (facts_of old) → IsReplayed old → AreCounts pieces limit
+    → Advances old moment pieces limit done new → pieces_and_ahead pieces limit new number ≤ pieces_and_ahead pieces limit old number
+
+-- ---- items are rows
+
+-- how many rows a table has
+abbrev pub rows_in : ℕ → Rows → ℕ
+rows_in table rows = length (filter (λ (row : RowKey × Cells). row.0.0 == table) (entries rows))
+
+-- no more items are ahead of an element than its table has rows
+abbrev pub ItemsAreRows : Type 0
+ItemsAreRows = (facts : Facts) (number : ℕ) (element : ElementDef) → IsKept facts → element_at facts.newest number ≡ Some element → items_ahead facts number ≤ rows_in element.table facts.rows

@@ -14,9 +14,9 @@ use world::World;
 /// then each element that was being added is public, and each that was being dropped is gone. If
 /// nothing can be done before a moment, it goes on at that moment.
 ///
-/// It always comes to an end, and whatever it returns, it took few entries of the log: at most three
-/// begins and publications for each element that was under way, and of each element no more pieces
-/// than its items need, since one takes `limit` of them or comes to its end.
+/// It always comes to an end. Whatever it returns, it adds few entries to the log: at most three
+/// begins and publications for each element that was under way, and few pieces. Each of these takes
+/// `limit` of the items that are ahead of its element, or is the last of its piece.
 ///
 /// - `moment`: the effective moment is the greater of it and the moment of the last entry.
 /// - `pieces`: in how many pieces a fill or a clear begins, 1 to 64.

@@ -3,6 +3,7 @@ ghost use Rattle.rollout.specs.Advance.{AreAccepted, AdvancesLower};
 ghost use Rattle.rollout.specs.Complete.{CallsGoOn};
 ghost use Rattle.rollout.specs.Few.{AreFewLeft};
 ghost use Rattle.rollout.specs.Left.{PiecesTakeItems};
+ghost use Rattle.rollout.specs.Pieces.{AdvancesTakeItems, ItemsAreRows};
 
 /// The world refuses no act that is due, except when out of memory or of versions.
 pub fn due_is_accepted()
@@ -32,4 +33,16 @@ pub fn calls_go_on()
 /// so items measure how far it is.
 pub fn pieces_take_items()
     ensures { PiecesTakeItems }
+{}
+
+/// No advance adds to the pieces of an element in the log and what is ahead of it, where an entry
+/// counts for `limit` items: a piece takes as many from what is ahead, or is the last of its piece.
+pub fn advances_take_items()
+    ensures { AdvancesTakeItems }
+{}
+
+/// No more items are ahead of an element than its table has rows: so the pieces that `complete`
+/// takes are bounded by the rows too.
+pub fn items_are_rows()
+    ensures { ItemsAreRows }
 {}

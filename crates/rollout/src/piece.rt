@@ -63,7 +63,7 @@ pub(crate) fn work_all(
     moment: u64,
     limit: u32,
 ) -> Result<(), AllocError>
-    ensures turns { (commits : ℕ) × Rounds commits world.old element moment limit world.new }
+    ensures rounds { (commits : ℕ) × Rounds commits world.old element moment limit world.new }
     ensures ended { OnOk result (HasEnded world.new element) }
 {
     match work_off(alloc, world, element, moment, limit) {

@@ -13,7 +13,7 @@ use Rattle.locked_store.specs.Receipts.{IsLogged}
 use Rattle.rollout.specs.declared.advanced.Advanced.{Advanced}
 use Rattle.rollout.specs.declared.advanced.Advanced.TheVariants as advanced
 use Rattle.shared_rollout.specs.Operator.{HasFinished, IsAdvanced, IsRefused, WereOvertaken, asked, entries_in, entries_of}
-use Rattle.shared_rollout.specs.inner.Attempts.{Acts, Attempts, TurnSays, Turns, next_of, receipts_of}
+use Rattle.shared_rollout.specs.inner.Attempts.{Acts, Attempts, NextSays, ActsAndKeeps, next_of, receipts_of}
 use Rattle.shared_rollout.specs.declared.ask.Ask.{Ask}
 use Rattle.shared_rollout.specs.declared.fault.OperatorFault.{OperatorFault}
 use Rattle.shared_rollout.specs.declared.fault.OperatorFault.TheVariants as fault
@@ -51,9 +51,9 @@ pub busy : (opening : Opening) (ask : Ask) (v w : Known) (failed : ℕ) → IsSt
 busy opening ask v w failed s within over were =
     let all : failed ≡ ask.tries = omega (arith, within, over) in record { same = s.0; rises = s.2; says = ((refl, subst (λ n. WereOvertaken opening ask n) all were), s.1) }
 
--- ---- turns
+-- ---- acts
 
-says_of : (opening : Opening) (ask : Ask) (front : ℕ) (done : Advanced) → IsAdvanced opening ask done → TurnSays opening ask front (Ok (next_of ask.moment done))
+says_of : (opening : Opening) (ask : Ask) (front : ℕ) (done : Advanced) → IsAdvanced opening ask done → NextSays opening ask front (Ok (next_of ask.moment done))
 says_of opening ask front (advanced.Began number receipt) d = omega arith
 says_of opening ask front (advanced.Published version receipt) d = omega arith
 says_of opening ask front (advanced.Worked number done) d = omega arith
@@ -77,21 +77,21 @@ are_logged opening ask (advanced.Worked number done) d = one_logged opening ask.
 are_logged opening ask (advanced.Waiting until) d = All-nil (IsLogged opening ask.front)
 are_logged opening ask advanced.Finished d = All-nil (IsLogged opening ask.front)
 
-pub turned : (opening : Opening) (ask : Ask) (v w : Known) (old mid new : List Receipt) (done : Advanced) (next : Option ℕ) → mid ≡ old → Acts opening ask v (Ok done) w → next ≡ next_of ask.moment done → new ≡ mid ++ receipts_of done
-    → Turns opening ask v old (Ok next) w new
-turned opening ask v w old mid new done next same a next_is new_is =
+pub acted : (opening : Opening) (ask : Ask) (v w : Known) (old mid new : List Receipt) (done : Advanced) (next : Option ℕ) → mid ≡ old → Acts opening ask v (Ok done) w → next ≡ next_of ask.moment done → new ≡ mid ++ receipts_of done
+    → ActsAndKeeps opening ask v old (Ok next) w new
+acted opening ask v w old mid new done next same a next_is new_is =
     let is : new ≡ old ++ receipts_of done = new_is ∙ ap (λ l. l ++ receipts_of done) same in
     record {
       same = a.same;
       rises = a.rises;
-      says = subst (λ (n : Option ℕ). TurnSays opening ask w.front (Ok n)) (sym next_is) (says_of opening ask w.front done a.says.0);
+      says = subst (λ (n : Option ℕ). NextSays opening ask w.front (Ok n)) (sym next_is) (says_of opening ask w.front done a.says.0);
       counted = omega (arith, a.says.1, ap (λ (l : List Receipt). length l) is, length-append old (receipts_of done), as_many done);
       logged = λ all.
           All-same (IsLogged opening ask.front) new (old ++ receipts_of done) is (All-append (IsLogged opening ask.front) old (receipts_of done) all (are_logged opening ask done a.says.0));
     }
 
-pub turn_refused : (opening : Opening) (ask : Ask) (v w : Known) (old new : List Receipt) (why : OperatorFault) → new ≡ old → Acts opening ask v (Err why) w → Turns opening ask v old (Err why) w new
-turn_refused opening ask v w old new why same a =
+pub act_refused : (opening : Opening) (ask : Ask) (v w : Known) (old new : List Receipt) (why : OperatorFault) → new ≡ old → Acts opening ask v (Err why) w → ActsAndKeeps opening ask v old (Err why) w new
+act_refused opening ask v w old new why same a =
     record {
       same = a.same;
       rises = a.rises;
@@ -101,22 +101,22 @@ turn_refused opening ask v w old new why same a =
     }
 
 -- no room for a receipt
-pub no_room : (opening : Opening) (ask : Ask) (v w : Known) (old new : List Receipt) → w ≡ v → new ≡ old → Turns opening ask v old (Err fault.Memory) w new
+pub no_room : (opening : Opening) (ask : Ask) (v w : Known) (old new : List Receipt) → w ≡ v → new ≡ old → ActsAndKeeps opening ask v old (Err fault.Memory) w new
 no_room opening ask v w old new is same =
-    let s = still_same v w is in turn_refused opening ask v w old new fault.Memory same (record { same = s.0; rises = s.2; says = (tt, s.1) })
+    let s = still_same v w is in act_refused opening ask v w old new fault.Memory same (record { same = s.0; rises = s.2; says = (tt, s.1) })
 
 -- ---- until no change is under way
 
--- some turns
+-- some acts
 pub record Went (opening : Opening) (front : ℕ) (v : Known) (old : List Receipt) (w : Known) (new : List Receipt) : Type 0 where
   pub same : w.id ≡ v.id
   pub rises : v.front ≤ w.front
   pub counted : w.count + length old ≡ v.count + length new
   pub logged : All (IsLogged opening front) old → All (IsLogged opening front) new
 
-pub one_turn_more : (opening : Opening) (ask : Ask) (front : ℕ) (v u w : Known) (old mid new : List Receipt) (turn : Result (Option ℕ) OperatorFault) → ask.front ≡ front → Went opening front v old u mid → Turns opening ask u mid turn w new
+pub one_act_more : (opening : Opening) (ask : Ask) (front : ℕ) (v u w : Known) (old mid new : List Receipt) (answer : Result (Option ℕ) OperatorFault) → ask.front ≡ front → Went opening front v old u mid → ActsAndKeeps opening ask u mid answer w new
     → Went opening front v old w new
-one_turn_more opening ask front v u w old mid new turn is went t =
+one_act_more opening ask front v u w old mid new answer is went t =
     record {
       same = t.same ∙ went.same;
       rises = omega (arith, went.rises, t.rises);
@@ -124,19 +124,19 @@ one_turn_more opening ask front v u w old mid new turn is went t =
       logged = λ all. subst (λ f. All (IsLogged opening f) mid → All (IsLogged opening f) new) is t.logged (went.logged all);
     }
 
-pub no_turn : (opening : Opening) (front : ℕ) (v : Known) (old : List Receipt) → Went opening front v old v old
-no_turn opening front v old = record { same = refl; rises = omega arith; counted = refl; logged = λ all. all }
+pub no_act : (opening : Opening) (front : ℕ) (v : Known) (old : List Receipt) → Went opening front v old v old
+no_act opening front v old = record { same = refl; rises = omega arith; counted = refl; logged = λ all. all }
 
-pub goes_on : (opening : Opening) (ask : Ask) (v w : Known) (old new : List Receipt) (turn : Option ℕ) (next : ℕ) → turn ≡ Some next → Turns opening ask v old (Ok turn) w new → ask.moment ≤ next
-goes_on opening ask v w old new turn next is t = subst (λ (n : Option ℕ). TurnSays opening ask w.front (Ok n)) is t.says
+pub goes_on : (opening : Opening) (ask : Ask) (v w : Known) (old new : List Receipt) (answer : Option ℕ) (next : ℕ) → answer ≡ Some next → ActsAndKeeps opening ask v old (Ok answer) w new → ask.moment ≤ next
+goes_on opening ask v w old new answer next is t = subst (λ (n : Option ℕ). NextSays opening ask w.front (Ok n)) is t.says
 
-pub finished_at : (opening : Opening) (now pieces limit tries front own : ℕ) (v w : Known) (old new : List Receipt) (turn : Option ℕ) → turn ≡ None → front ≡ own → Turns opening (asked now pieces limit tries front) v old (Ok turn) w new
+pub finished_at : (opening : Opening) (now pieces limit tries front own : ℕ) (v w : Known) (old new : List Receipt) (answer : Option ℕ) → answer ≡ None → front ≡ own → ActsAndKeeps opening (asked now pieces limit tries front) v old (Ok answer) w new
     → HasFinished opening (asked now pieces limit tries own)
-finished_at opening now pieces limit tries front own v w old new turn none is t =
-    let at : HasFinished opening (asked now pieces limit tries front) = subst (λ (n : Option ℕ). TurnSays opening (asked now pieces limit tries front) w.front (Ok n)) none t.says in
+finished_at opening now pieces limit tries front own v w old new answer none is t =
+    let at : HasFinished opening (asked now pieces limit tries front) = subst (λ (n : Option ℕ). NextSays opening (asked now pieces limit tries front) w.front (Ok n)) none t.says in
     subst (λ f. HasFinished opening (asked now pieces limit tries f)) is at
 
-pub refused_at : (opening : Opening) (now pieces limit tries front own : ℕ) (v w : Known) (old new : List Receipt) (why : OperatorFault) → front ≡ own → Turns opening (asked now pieces limit tries front) v old (Err why) w new
+pub refused_at : (opening : Opening) (now pieces limit tries front own : ℕ) (v w : Known) (old new : List Receipt) (why : OperatorFault) → front ≡ own → ActsAndKeeps opening (asked now pieces limit tries front) v old (Err why) w new
     → IsRefused opening (asked now pieces limit tries own) w.front why
 refused_at opening now pieces limit tries front own v w old new why is t = subst (λ f. IsRefused opening (asked now pieces limit tries f) w.front why) is t.says
 

@@ -2,7 +2,7 @@
 ghost use Rattle.std.specs.Prelude.{◌≡◌, ◌+◌, ◌<◌, ◌≤◌, ◌++◌, ℕ, All, IfOk, IfErr, length, vec_len, vec_capacity};
 ghost use Rattle.locked_store.specs.Receipts.{IsLogged};
 ghost use Rattle.shared_rollout.specs.Operator.{HasFinished, IsRefused, asked};
-ghost use Rattle.shared_rollout.specs.inner.Attempts.{Turns, next_of, receipts_of};
+ghost use Rattle.shared_rollout.specs.inner.Attempts.{ActsAndKeeps, next_of, receipts_of};
 
 use crate::advanced::do_act;
 use crate::ask::{Ask, are_numbers};
@@ -35,7 +35,7 @@ fn keep(done: Advanced, moment: u64, receipts: &mut Vec<Receipt>) -> Option<u64>
 }
 
 // One act. The receipt's room is made first.
-fn take_turn<L: SharedLedger, R: Wait>(
+fn act_and_keep<L: SharedLedger, R: Wait>(
     rt: &R,
     alloc: Global,
     shared: &Shared<L>,
@@ -44,7 +44,7 @@ fn take_turn<L: SharedLedger, R: Wait>(
     ask: &Ask,
 ) -> Result<Option<u64>, OperatorFault>
     requires seen { ask.now.front ≤ me.old.front }
-    ensures { Turns L.opening ask.now me.old receipts.old.items result me.new receipts.new.items }
+    ensures { ActsAndKeeps L.opening ask.now me.old receipts.old.items result me.new receipts.new.items }
 {
     if receipts.reserve(1).is_err() {
         return Err(OperatorFault::Memory);
@@ -104,7 +104,7 @@ pub fn complete<L: SharedLedger, R: Wait>(
             tries,
             front,
         };
-        match take_turn(rt, alloc, shared, me, receipts, &ask) {
+        match act_and_keep(rt, alloc, shared, me, receipts, &ask) {
             Ok(Some(next)) => now = next,
             Ok(None) => return Ok(now),
             Err(fault) => return Err(fault),

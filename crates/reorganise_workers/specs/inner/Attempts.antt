@@ -1,5 +1,5 @@
 -- Cited by private functions alone: unread_end, look, refused.
--- What a turn of a piece comes to, by what the lock answered. Only private functions cite this.
+-- What an attempt at a piece comes to, by what the lock answered. Only private functions cite this.
 use Rattle.std.specs.Prelude.{ℕ, Option, Some, None}
 use Rattle.replay.specs.Replay.{Opening}
 use Rattle.reorganise.specs.declared.fault.ViewFault.TheVariants as view_fault
@@ -30,11 +30,11 @@ unread_end (shared.World (read_fault.View view_fault.BadLimit)) = Some piece_end
 unread_end (shared.World (read_fault.View view_fault.Memory)) = Some piece_end.Memory
 
 -- what a refused commit comes to
-abbrev pub turn_of : SharedFault PieceFault → Attempt
-turn_of (shared.WentBack seen) = attempt.Ended (piece_end.WentBack seen)
-turn_of (shared.World MomentTooLarge) = attempt.Ended (piece_end.Refused MomentTooLarge)
-turn_of (shared.World NotWanted) = attempt.Ended (piece_end.Refused NotWanted)
-turn_of (shared.World WrongElement) = attempt.Ended (piece_end.Refused WrongElement)
-turn_of (shared.World (Moved cursor)) = attempt.Again
-turn_of (shared.World (Conflict key)) = attempt.Again
-turn_of (shared.World Memory) = attempt.Ended piece_end.Memory
+abbrev pub attempt_of : SharedFault PieceFault → Attempt
+attempt_of (shared.WentBack seen) = attempt.Ended (piece_end.WentBack seen)
+attempt_of (shared.World MomentTooLarge) = attempt.Ended (piece_end.Refused MomentTooLarge)
+attempt_of (shared.World NotWanted) = attempt.Ended (piece_end.Refused NotWanted)
+attempt_of (shared.World WrongElement) = attempt.Ended (piece_end.Refused WrongElement)
+attempt_of (shared.World (Moved cursor)) = attempt.Again
+attempt_of (shared.World (Conflict key)) = attempt.Again
+attempt_of (shared.World Memory) = attempt.Ended piece_end.Memory

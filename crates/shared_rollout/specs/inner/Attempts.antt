@@ -116,16 +116,16 @@ receipts_of (advanced.Worked number done) = done.receipt ∷ []
 receipts_of (advanced.Waiting until) = []
 receipts_of advanced.Finished = []
 
--- ---- what is known of a turn: the moment of the next act, none if no change is under way
+-- ---- what is known of an act: the moment of the next act, none if no change is under way
 
-abbrev pub TurnSays : Opening → Ask → ℕ → Result (Option ℕ) OperatorFault → Type 0
-TurnSays opening ask front (Ok (Some next)) = ask.moment ≤ next
-TurnSays opening ask front (Ok None) = HasFinished opening ask
-TurnSays opening ask front (Err why) = IsRefused opening ask front why
+abbrev pub NextSays : Opening → Ask → ℕ → Result (Option ℕ) OperatorFault → Type 0
+NextSays opening ask front (Ok (Some next)) = ask.moment ≤ next
+NextSays opening ask front (Ok None) = HasFinished opening ask
+NextSays opening ask front (Err why) = IsRefused opening ask front why
 
-pub record Turns (opening : Opening) (ask : Ask) (v : Known) (old : List Receipt) (turn : Result (Option ℕ) OperatorFault) (w : Known) (new : List Receipt) : Type 0 where
+pub record ActsAndKeeps (opening : Opening) (ask : Ask) (v : Known) (old : List Receipt) (answer : Result (Option ℕ) OperatorFault) (w : Known) (new : List Receipt) : Type 0 where
   pub same : w.id ≡ v.id
   pub rises : v.front ≤ w.front
-  pub says : TurnSays opening ask w.front turn
+  pub says : NextSays opening ask w.front answer
   pub counted : w.count + length old ≡ v.count + length new
   pub logged : All (IsLogged opening ask.front) old → All (IsLogged opening ask.front) new

@@ -1,6 +1,6 @@
 use Rattle.std.proofs.Common.{sym, subst}
 use Rattle.locked_store.proofs.Logging.{piece_logged}
-use Rattle.reorganise_workers.specs.Ends.{IsTurn}
+use Rattle.reorganise_workers.specs.Ends.{IsAttempt}
 use Rattle.reorganise_workers.specs.declared.attempt.Attempt.{Attempt}
 use Rattle.reorganise_workers.proofs.Ends.{still_logged, one_more_logged, was_committed, brought_to_its_end, more_left, refused_by}
 use Rattle.reorganise_workers.proofs.attempt.commit_items.Goals as goal
@@ -42,6 +42,6 @@ returns-clause-logged g c = still_logged g.L.SharedLedger.opening c.args.job.now
 
 pub returns-clause-attempt : goal.returns-clause-attempt
 returns-clause-attempt g c =
-    subst (λ (t : Attempt). IsTurn g.L.SharedLedger.opening c.args.job.now c.args.view.piece t) (sym c.refused.ensures)
+    subst (λ (t : Attempt). IsAttempt g.L.SharedLedger.opening c.args.job.now c.args.view.piece t) (sym c.refused.ensures)
     (refused_by g.L.SharedLedger.opening c.args.me.now c.commit_piece.new.me c.args.job.now c.args.view.piece c.args.view c.in-Ok.prepared c.in-Err.field-0-1 c.in-Err.fault
     c.requires.seen c.in-Ok.ensures.ok c.requires.read c.requires.kind c.in-Err.ensures)

@@ -7,16 +7,16 @@ loop-i-init g c = (refl, refl, omega arith, λ all. all, omega (arith, c.require
 
 pub loop-i-preserved-in-More : goal.loop-i-preserved-in-More
 loop-i-preserved-in-More g c = (
-  c.take_turn.ensures.same ∙ c.loop-i.invariant.0,
-  omega (arith, c.take_turn.ensures.counted, c.loop-i.invariant.1),
-  omega (arith, c.take_turn.ensures.rises, c.loop-i.invariant.2),
-  λ all. c.take_turn.ensures.logged (c.loop-i.invariant.3 all),
+  c.make_attempt.ensures.same ∙ c.loop-i.invariant.0,
+  omega (arith, c.make_attempt.ensures.counted, c.loop-i.invariant.1),
+  omega (arith, c.make_attempt.ensures.rises, c.loop-i.invariant.2),
+  λ all. c.make_attempt.ensures.logged (c.loop-i.invariant.3 all),
   c.loop-i.invariant.4,
   c.loop-i.invariant.5,
 )
 
 pub returns-then-failed-job-clause-logged : goal.returns-then-failed-job-clause-logged
-returns-then-failed-job-clause-logged g c = λ all. c.take_turn.ensures.logged (c.loop-i.invariant.3 all)
+returns-then-failed-job-clause-logged g c = λ all. c.make_attempt.ensures.logged (c.loop-i.invariant.3 all)
 
 pub returns-then-failed-job-clause-end : goal.returns-then-failed-job-clause-end
 returns-then-failed-job-clause-end g c =
@@ -24,13 +24,13 @@ returns-then-failed-job-clause-end g c =
 
 pub loop-i-preserved : goal.loop-i-preserved
 loop-i-preserved g c = (
-  c.take_turn.ensures.same ∙ c.loop-i.invariant.0,
-  omega (arith, c.take_turn.ensures.counted, c.loop-i.invariant.1),
-  omega (arith, c.take_turn.ensures.rises, c.loop-i.invariant.2),
-  λ all. c.take_turn.ensures.logged (c.loop-i.invariant.3 all),
+  c.make_attempt.ensures.same ∙ c.loop-i.invariant.0,
+  omega (arith, c.make_attempt.ensures.counted, c.loop-i.invariant.1),
+  omega (arith, c.make_attempt.ensures.rises, c.loop-i.invariant.2),
+  λ all. c.make_attempt.ensures.logged (c.loop-i.invariant.3 all),
   grind (arith, c.if-failed-job.false, rules),
   one_more_failed g.L.SharedLedger.opening c.args.job.now c.args.piece c.loop-i.failed c.loop-i.invariant.5 c.in-Again.ensures.attempt,
 )
 
 pub returns-in-Ended-clause-logged : goal.returns-in-Ended-clause-logged
-returns-in-Ended-clause-logged g c = λ all. c.take_turn.ensures.logged (c.loop-i.invariant.3 all)
+returns-in-Ended-clause-logged g c = λ all. c.make_attempt.ensures.logged (c.loop-i.invariant.3 all)

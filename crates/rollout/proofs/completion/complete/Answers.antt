@@ -3,7 +3,7 @@ use Rattle.std.proofs.lemmas.Result.{err_from_is_err_and}
 use Rattle.world.specs.Calls.{effective_moment}
 use Rattle.world.specs.State.{facts_of}
 use Rattle.rollout.specs.Due.{IsDue}
-use Rattle.rollout.proofs.Carried.{IsCarried, begin_next, step_next, work_next, some_turns, complete_step, memory_step, refused_step, nothing_step}
+use Rattle.rollout.proofs.Carried.{IsCarried, begin_next, step_next, work_next, some_rounds, complete_step, memory_step, refused_step, nothing_step}
 use Rattle.rollout.proofs.completion.complete.Goals as goal
 
 pub returns-then-now-gt-MAX_MOMENT : goal.returns-then-now-gt-MAX_MOMENT
@@ -57,11 +57,11 @@ acts-preserved-in-Publish c =
 
 pub acts-smaller-in-Continue-branch-5 : goal.acts-smaller-in-Continue-branch-5
 acts-smaller-in-Continue-branch-5 c =
-    (work_next c.args.world.now c.acts.world c.work_all.new.world c.acts.now c.in-Work.element c.args.pieces c.args.limit c.in_ok-element.field-0 c.acts.invariant.carried c.lemma_agrees.ensures.kept c.lemma_agrees.ensures.replayed c.acts.invariant.past c.in-Work.is c.in_ok-element.ensures c.in_ok-work_all-in-Work.ensures.turns c.in_ok-work_all-in-Work.ensures.ended).lower
+    (work_next c.args.world.now c.acts.world c.work_all.new.world c.acts.now c.in-Work.element c.args.pieces c.args.limit c.in_ok-element.field-0 c.acts.invariant.carried c.lemma_agrees.ensures.kept c.lemma_agrees.ensures.replayed c.acts.invariant.past c.in-Work.is c.in_ok-element.ensures c.in_ok-work_all-in-Work.ensures.rounds c.in_ok-work_all-in-Work.ensures.ended).lower
 
 pub acts-preserved-in-Continue-branch-5 : goal.acts-preserved-in-Continue-branch-5
 acts-preserved-in-Continue-branch-5 c =
-    let r = work_next c.args.world.now c.acts.world c.work_all.new.world c.acts.now c.in-Work.element c.args.pieces c.args.limit c.in_ok-element.field-0 c.acts.invariant.carried c.lemma_agrees.ensures.kept c.lemma_agrees.ensures.replayed c.acts.invariant.past c.in-Work.is c.in_ok-element.ensures c.in_ok-work_all-in-Work.ensures.turns c.in_ok-work_all-in-Work.ensures.ended in
+    let r = work_next c.args.world.now c.acts.world c.work_all.new.world c.acts.now c.in-Work.element c.args.pieces c.args.limit c.in_ok-element.field-0 c.acts.invariant.carried c.lemma_agrees.ensures.kept c.lemma_agrees.ensures.replayed c.acts.invariant.past c.in-Work.is c.in_ok-element.ensures c.in_ok-work_all-in-Work.ensures.rounds c.in_ok-work_all-in-Work.ensures.ended in
     record { carried = r.carried; past = r.past; since = c.acts.invariant.since; late = λ lt. absurd (omega (arith, lt, c.if-now-gt-MAX_MOMENT.false)) }
 
 pub returns-in_err-work_all-in-Work : goal.returns-in_err-work_all-in-Work
@@ -69,7 +69,7 @@ returns-in_err-work_all-in-Work c =
     let p = err_from_is_err_and c.from_residual-in_err-work_all-in-Work.result c.from_residual-in_err-work_all-in-Work.ensures.1 in
     record {
       step = memory_step c.args.world.now c.work_all.new.world c.args.moment c.args.pieces c.args.limit c.from_residual-in_err-work_all-in-Work.result
-          (some_turns c.args.world.now c.acts.world c.work_all.new.world c.acts.now c.in-Work.element c.args.pieces c.args.limit c.acts.invariant.carried c.lemma_agrees.ensures.kept c.lemma_agrees.ensures.replayed c.in_err-work_all-in-Work.ensures.turns)
+          (some_rounds c.args.world.now c.acts.world c.work_all.new.world c.acts.now c.in-Work.element c.args.pieces c.args.limit c.acts.invariant.carried c.lemma_agrees.ensures.kept c.lemma_agrees.ensures.replayed c.in_err-work_all-in-Work.ensures.rounds)
           (c.are_counts.ensures.0 c.if-not-are_counts.false) (p.1 ∙ ap Err p.2);
     }
 
