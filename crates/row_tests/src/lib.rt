@@ -1,9 +1,11 @@
 //! Tests of the layers over rows, as tables with answers from outside: transactions, queries,
-//! audits and reorganisations.
+//! audits, checks of one element and reorganisations.
 #![tactic(auto)]
 
 #[cfg(test)]
 mod audits;
+#[cfg(test)]
+mod element_checks;
 #[cfg(test)]
 mod fixtures;
 #[cfg(test)]
