@@ -17,7 +17,7 @@ prepare|reads and prepares; commit w commits it|prepare w by a: insert people (1
 NoTable, NotPublic, WrongType, TooManyOps\n\
 commit|commits what prepare or piece has prepared|commit w at 7|NoWork, MomentTooLarge, \
 BadLease, LeaseEnded, WrongSchema, NotWanted, WrongElement, Moved, Conflict\n\
-query|rows by rising key; conditions =, >=, <=, between; explain tells the path|query a at 6: \
+query|rows by rising key; conditions =, >=, <=, between; explain shows the path|query a at 6: \
 select town from people where town = 'Ulm' and key = (1)|NoServer, MomentTooLarge, BadLease, \
 LeaseEnded, NoTable, NotPublic, WrongType\n\
 forge|gives server a a lease by hand, to see what becomes of it|forge a version 1 granted 0 \
@@ -36,7 +36,8 @@ work|runs it to its end, 100 rows a commit|work people.i at 30 limit 100|NotWant
 MomentTooLarge, WrongElement, Moved, Conflict\n\
 piece|prepares 100 rows of piece 0; commit w commits them|piece w of people.i 0 limit \
 100|NotWanted, BadPiece, Spent, BadLimit\n\
-check|compares the pairs with the rows|check|\n\
+check|compares the pairs with the rows; check TABLE.NAME shows the rows and pairs of one element \
+that differ, in any state|check people.by_town|\n\
 pairs|prints each pair|pairs|\n\
 status|a line of JSON; describe and progress say it for people|status|\n\
 log|how many calls were accepted|log|\n\
@@ -48,7 +49,7 @@ plan|advance at 20|MomentTooLarge, VersionsSpent\n\
 finish|carries all that is being added or dropped to its end, at later moments if it has to \
 wait|finish at 20|MomentTooLarge, VersionsSpent\n\
 timeline|the versions with their moments, and what is in progress|timeline|\n\
-explain|by which path the query is answered; explain plan: .. tells the steps, and keeps \
+explain|by which path the query is answered; explain plan: .. shows the steps, and keeps \
 none|explain query a: select town from people where town = 'Ulm'|\n\
 help|what a command is for|help query|\n\
 quit|ends the prompt|quit|\n";

@@ -3,7 +3,7 @@
 use crate::bad::unexpected;
 use crate::in_way::left_out;
 use crate::near::push_nearest;
-use crate::refused::{Refusal, opening_hint, refusal_hint};
+use crate::refused::{opening_hint, refusal_hint, refusal_of};
 use script_grammar::{Command, read_command};
 use script_session::{Declarations, Session};
 use std::alloc::{AllocError, Global};
@@ -59,13 +59,7 @@ fn refused_hint(
     line: &str,
     reply: &str,
 ) -> Result<String, AllocError> {
-    let (name, rest) = reply.split_once(' ').unwrap_or((reply, ""));
-    let (first, second) = rest.split_once(' ').unwrap_or((rest, ""));
-    let refusal = Refusal {
-        name,
-        first,
-        second,
-    };
+    let refusal = refusal_of(reply);
     match (session, read_command(alloc, line.as_bytes())) {
         (Session::Running(opened), Ok(command)) => {
             refusal_hint(alloc, opened, &command, refusal)

@@ -1,7 +1,7 @@
 //! The unfinished change that is in the way of a plan, or that a plan leaves as it is.
 use crate::describe::push_standing;
+use crate::element_words::push_element;
 use crate::progress::{is_resting, push_waiting};
-use crate::refused::push_element;
 use keycode::Text;
 use schema_version::{ElementDef, Schema, moves_element};
 use script_grammar::{Command, NamedChange, New};
@@ -33,13 +33,13 @@ fn unfinished_column<'a>(
     None
 }
 
-// An index that lists the column, if one is being added or dropped.
+// An index on the column, if one is being added or dropped.
 fn unfinished_index<'a>(schema: &'a Schema, table: &Text, column: &Text) -> Option<&'a ElementDef> {
     let table = schema.table(table.as_str())?;
     let column = schema.by_name(table, column.as_str())?.number;
     for element in schema.elements() {
-        let mut listed = element.kind.indexed_columns().iter();
-        if !is_resting(element) && listed.any(|number| *number == column) {
+        let mut columns = element.kind.indexed_columns().iter();
+        if !is_resting(element) && columns.any(|number| *number == column) {
             return Some(element);
         }
     }

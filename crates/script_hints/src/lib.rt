@@ -5,10 +5,15 @@
 mod bad;
 mod command_help;
 mod describe;
+mod element_pairs;
+mod element_words;
 mod explain;
+mod explain_plan;
+mod fills;
 mod hint;
 mod in_way;
 mod meanings;
+mod moves;
 mod named;
 mod near;
 mod pieces;
@@ -17,9 +22,10 @@ mod refused;
 mod rules;
 mod table;
 mod timeline;
+mod tuples;
 mod types;
 mod views;
 
+pub use element_words::push_element;
 pub use hint::hint_of;
-pub use refused::push_element;
 pub use views::view_of;

@@ -27,7 +27,7 @@ NotWanted|it wants no such fill or clear now, or none has begun; progress shows 
 StillUsed|a version that has it in another state may be in use until moment {1}\n\
 Begun|it has begun; work {t} at {m} limit 1000 ends it\n\
 BadCount|1 to 64 pieces\n\
-BadPiece|it has no such piece; pieces are counted from 0\n\
+BadPiece|it has no such piece; the first is piece 0\n\
 Spent|the piece has ended\n\
 BadLimit|a limit is from 1 to 1000\n\
 WrongElement|it was prepared for another reorganisation\n\

@@ -4,7 +4,7 @@ use std::alloc::{AllocError, Global};
 /// A word, a number, a text in quotes or a mark.
 #[derive(Clone, Copy)]
 pub(crate) struct Piece<'a> {
-    /// Where it begins, in bytes, counted from 1.
+    /// Where it begins, in bytes, from 1.
     pub column: usize,
     /// Its bytes.
     pub text: &'a [u8],
@@ -67,7 +67,7 @@ pub(crate) fn pieces_of<'a>(alloc: Global, line: &'a [u8]) -> Result<Vec<Piece<'
     let mut pieces = Vec::new(alloc);
     let mut rest = line;
     let mut column = 1usize;
-    for _turn in line {
+    for _byte in line {
         let Some((first, after)) = rest.split_first() else {
             return Ok(pieces);
         };

@@ -1,11 +1,15 @@
 //! What is being added or dropped, and what is left of the plan.
 use crate::describe::push_standing;
-use crate::refused::push_element;
-use schema_version::{ElementDef, Move, NewElement, Schema, Step, Way, Work};
-use script_grammar::state_word;
+use crate::element_words::push_element;
+use crate::fills::{goes_over_rows, rows_of};
+use crate::moves::{push_entered, push_step};
+use schema_version::{ElementDef, NewElement, Step, Way, Work};
 use script_session::Opened;
 use std::alloc::{AllocError, Global};
 use world::World;
+
+/// How many places a bar has.
+const PLACES: usize = 20;
 
 fn work_word(work: Work) -> &'static str {
     match work {
@@ -29,6 +33,55 @@ fn count_ended(world: &World, number: u32, pieces: usize) -> u32 {
     ended
 }
 
+// How many of the rows that a begun reorganisation goes over are passed, and of how many. `None` of
+// a clear of an index: it deletes the pairs that it passes, so how many there were is not known.
+fn rows_passed(world: &World, element: &ElementDef, work: Work) -> Option<(usize, usize)> {
+    if !goes_over_rows(work, element) {
+        return None;
+    }
+    let all = world.items_in_all(element.number)?;
+    let left = world.items_left(element.number)?;
+    Some((all.saturating_sub(left), all))
+}
+
+fn push_begun(
+    out: &mut String,
+    world: &World,
+    element: &ElementDef,
+    work: Work,
+    pieces: usize,
+) -> Result<(), AllocError> {
+    let word = work_word(work);
+    let ended = count_ended(world, element.number, pieces);
+    write!(out, "{word}: {ended} of {pieces} pieces ended, ")?;
+    match rows_passed(world, element, work) {
+        Some((passed, all)) => write!(out, "{passed} of {all} rows passed"),
+        None => {
+            let left = world.items_left(element.number).unwrap_or(0);
+            write!(out, "{left} pairs left")
+        }
+    }
+}
+
+// When a fill or a clear may begin, and what a fill would read.
+fn push_beginning(
+    out: &mut String,
+    world: &World,
+    element: &ElementDef,
+    work: Work,
+) -> Result<(), AllocError> {
+    let word = work_word(work);
+    write!(out, "its {word} may begin")?;
+    if !world.is_settled(world.moment(), element.number) {
+        let earliest = world.timeline().earliest();
+        write!(out, " at {earliest}")?;
+    }
+    match (work, rows_of(world, element.table)) {
+        (Work::Fill, Some(rows)) => write!(out, ", and would read {rows} rows"),
+        _ => Ok(()),
+    }
+}
+
 /// Adds what an element that is being added or dropped waits for.
 pub(crate) fn push_waiting(
     out: &mut String,
@@ -37,37 +90,44 @@ pub(crate) fn push_waiting(
 ) -> Result<(), AllocError> {
     let earliest = world.timeline().earliest();
     match (world.progress(element.number), element.wanted_work()) {
-        (Some((work, pieces, _)), _) => {
-            let ended = count_ended(world, element.number, pieces);
-            let word = work_word(work);
-            let left = world.items_left(element.number).unwrap_or(0);
-            write!(
-                out,
-                "{word}: {ended} of {pieces} pieces ended, {left} items left"
-            )
-        }
-        (None, Some(work)) if world.is_settled(world.moment(), element.number) => {
-            let word = work_word(work);
-            write!(out, "its {word} may begin")
-        }
-        (None, Some(work)) => {
-            let word = work_word(work);
-            write!(out, "its {word} may begin at {earliest}")
-        }
+        (Some((work, pieces, _)), _) => push_begun(out, world, element, work, pieces),
+        (None, Some(work)) => push_beginning(out, world, element, work),
         (None, None) => write!(out, "its next state may be published at {earliest}"),
     }
+}
+
+// Adds a bar of how far the begun reorganisation of an element has come, by its rows or, if there
+// are none to go over, by its pieces; nothing if none is begun.
+fn push_bar(out: &mut String, world: &World, element: &ElementDef) -> Result<(), AllocError> {
+    let Some((work, pieces, _)) = world.progress(element.number) else {
+        return Ok(());
+    };
+    let (passed, all) = match rows_passed(world, element, work) {
+        Some((passed, all)) if all > 0 => (passed, all),
+        _ => (count_ended(world, element.number, pieces) as usize, pieces),
+    };
+    let full = passed.saturating_mul(PLACES) / all.max(1);
+    out.push_str("  [")?;
+    for place in 0..PLACES {
+        out.push_str(if place < full { "#" } else { "." })?;
+    }
+    out.push_str("]")
 }
 
 fn push_element_line(
     out: &mut String,
     world: &World,
     element: &ElementDef,
+    is_shown: bool,
 ) -> Result<(), AllocError> {
     push_element(out, world.newest().get(), element.number)?;
     out.push_str("  ")?;
     push_standing(out, element)?;
     out.push_str("  ")?;
     push_waiting(out, world, element)?;
+    if is_shown {
+        push_bar(out, world, element)?;
+    }
     out.push_str("\n")
 }
 
@@ -75,30 +135,22 @@ fn push_element_line(
 /// of memory.
 ///
 /// - `opened`: the world.
-pub(crate) fn progress(alloc: Global, opened: &Opened) -> Result<String, AllocError> {
+/// - `is_shown`: whether someone sees it on a terminal: with a bar for what is begun then.
+pub(crate) fn progress(
+    alloc: Global,
+    opened: &Opened,
+    is_shown: bool,
+) -> Result<String, AllocError> {
     let mut out = String::new(alloc);
     for element in opened.world.newest().get().elements() {
         if !is_resting(element) {
-            push_element_line(&mut out, &opened.world, element)?;
+            push_element_line(&mut out, &opened.world, element, is_shown)?;
         }
     }
     if out.is_empty() {
         out.push_str("nothing is being added or dropped")?;
     }
     Ok(out)
-}
-
-/// Adds the elements that enter in a step.
-pub(crate) fn push_entered<'a>(
-    entered: &mut Vec<&'a NewElement>,
-    step: &'a Step,
-) -> Result<(), AllocError> {
-    for made in step.as_slice() {
-        if let Move::Enter { fresh, .. } = made {
-            entered.push(fresh)?;
-        }
-    }
-    Ok(())
 }
 
 // The elements that the plan lets enter: their numbers follow those of the version.
@@ -108,71 +160,6 @@ fn entered<'a>(alloc: Global, plan: &'a [Step]) -> Result<Vec<&'a NewElement>, A
         push_entered(&mut found, step)?;
     }
     Ok(found)
-}
-
-fn push_fresh(out: &mut String, schema: &Schema, fresh: &NewElement) -> Result<(), AllocError> {
-    let table = schema.table_name(fresh.table).unwrap_or("");
-    let name = fresh.name.as_str();
-    write!(out, "{table}.{name}")
-}
-
-/// Adds the name of an element of the version, or of one that enters.
-///
-/// - `entered`: the number of the first that enters, and all that enter.
-pub(crate) fn push_moved(
-    out: &mut String,
-    schema: &Schema,
-    entered: (u32, &[&NewElement]),
-    number: u32,
-) -> Result<(), AllocError> {
-    let (first, entered) = entered;
-    let place = number.wrapping_sub(first) as usize;
-    match (schema.element(number), entered.get(place)) {
-        (None, Some(fresh)) => push_fresh(out, schema, *fresh),
-        _ => push_element(out, schema, number),
-    }
-}
-
-fn push_move(
-    out: &mut String,
-    schema: &Schema,
-    entered: (u32, &[&NewElement]),
-    made: &Move,
-) -> Result<(), AllocError> {
-    match made {
-        Move::Enter { fresh, to } => {
-            push_fresh(out, schema, fresh)?;
-            out.push_str(" ")?;
-            out.push_str(state_word(*to))
-        }
-        Move::Go { element, to } => {
-            push_moved(out, schema, entered, *element)?;
-            out.push_str(" ")?;
-            out.push_str(state_word(*to))
-        }
-        Move::Turn { element } => {
-            push_moved(out, schema, entered, *element)?;
-            out.push_str(" dropping")
-        }
-    }
-}
-
-/// Adds the moves of a step in one line.
-///
-/// - `entered`: the number of the first element that enters, and all that enter.
-pub(crate) fn push_step(
-    out: &mut String,
-    schema: &Schema,
-    entered: (u32, &[&NewElement]),
-    step: &Step,
-) -> Result<(), AllocError> {
-    for (i, made) in step.as_slice().iter().enumerate() {
-        if i > 0 {
-            out.push_str(", ")?;
-        }
-        push_move(out, schema, entered, made)?;
-    }
-    out.push_str("\n")
 }
 
 /// The steps that are left of the kept plan, the next one first. Refused only when out of memory.
@@ -185,7 +172,7 @@ pub(crate) fn plan_left(alloc: Global, opened: &Opened) -> Result<String, AllocE
     let entered = entered(alloc, opened.plan.as_slice())?;
     for step in opened.plan.as_slice() {
         let entered = (schema.next_number(), entered.as_slice());
-        push_step(&mut out, schema, entered, step)?;
+        push_step(&mut out, opened, entered, step)?;
     }
     if out.is_empty() {
         return "no step of a plan is left".to_string(alloc);

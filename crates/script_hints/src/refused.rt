@@ -1,12 +1,14 @@
 //! What a refusal means, and what may be done.
+use crate::element_words::push_element;
 use crate::in_way::in_the_way;
 use crate::meanings::meaning_of;
 use crate::named::{Wrong, missing_element, missing_table, wrong_operations, wrong_selection};
 use crate::near::push_nearest;
-use keycode::{Text, Value};
+use crate::tuples::push_tuple;
+use keycode::Text;
 use row_map::{KeyOf, read_key};
 use schema_version::Schema;
-use script_grammar::{Command, ElementName, NamedChange, NamedMove, New, push_value};
+use script_grammar::{Command, ElementName, NamedChange, NamedMove, New};
 use script_session::Opened;
 use std::alloc::{AllocError, Global};
 
@@ -21,6 +23,19 @@ pub(crate) struct Refusal<'a> {
     pub second: &'a str,
 }
 
+/// The refusal that these words are.
+///
+/// - `words`: a reply after its first word, without its line end.
+pub(crate) fn refusal_of(words: &str) -> Refusal<'_> {
+    let (name, rest) = words.split_once(' ').unwrap_or((words, ""));
+    let (first, second) = rest.split_once(' ').unwrap_or((rest, ""));
+    Refusal {
+        name,
+        first,
+        second,
+    }
+}
+
 // The name that comes first in a line: a server's or that of work.
 fn first_name(command: &Command) -> &str {
     match command {
@@ -30,22 +45,6 @@ fn first_name(command: &Command) -> &str {
         | Command::Query { server, .. } => server.as_str(),
         Command::Commit { name, .. } | Command::Piece { name, .. } => name.as_str(),
         _ => "",
-    }
-}
-
-/// Adds `TABLE.NAME` of an element of the version. Refused only when out of memory.
-///
-/// - `out`: the text after which it is put.
-/// - `schema`: the version.
-/// - `number`: the number of the element.
-pub fn push_element(out: &mut String, schema: &Schema, number: u32) -> Result<(), AllocError> {
-    match schema.element(number) {
-        Some(element) => {
-            let table = schema.table_name(element.table).unwrap_or("");
-            let name = element.name.as_str();
-            write!(out, "{table}.{name}")
-        }
-        None => write!(out, "element {number}"),
     }
 }
 
@@ -147,16 +146,6 @@ fn unhexed(alloc: Global, digits: &str) -> Result<Vec<u8>, AllocError> {
     Ok(bytes)
 }
 
-fn push_values(out: &mut String, values: &[Value]) -> Result<(), AllocError> {
-    for (i, value) in values.iter().enumerate() {
-        if i > 0 {
-            out.push_str(", ")?;
-        }
-        push_value(out, value)?;
-    }
-    Ok(())
-}
-
 // The row and the column of a key, or the entry of an index.
 fn push_conflict(
     alloc: Global,
@@ -176,16 +165,15 @@ fn push_conflict(
         ) => (table, key, element),
         Ok(KeyOf::Index { element, values }) => {
             push_element(out, schema, element)?;
-            out.push_str(" at (")?;
-            push_values(out, values.as_slice())?;
-            return out.push_str(") has changed since it was read; prepare it again");
+            out.push_str(" at ")?;
+            push_tuple(out, values.as_slice())?;
+            return out.push_str(" has changed since it was read; prepare it again");
         }
         Err(_) => return out.push_str("it has changed since it was read; prepare it again"),
     };
     out.push_str(schema.table_name(table).unwrap_or(""))?;
-    out.push_str(" row (")?;
-    push_values(out, key.as_slice())?;
-    out.push_str(")")?;
+    out.push_str(" row ")?;
+    push_tuple(out, key.as_slice())?;
     if let Some(column) = schema.element(element) {
         out.push_str(", column ")?;
         out.push_str(column.name.as_str())?;

@@ -9,7 +9,8 @@ pub(crate) const RULES: &str = "\
 end|END|\n\
 |open|end\n\
 |pairs|end\n\
-|check|end\n\
+|check|check\n\
+check|END|\n\
 |status|end\n\
 |log|end\n\
 |length|length\n\
@@ -230,6 +231,9 @@ pub(crate) const LEFT_OUT: &str = "\
 |finish|finish\n\
 finish|at|lease.2\n\
 finish|END|\n\
+check|TABLE|check.1\n\
+check.1|.|check.2\n\
+check.2|NAME|end\n\
 lease.1|END|\n\
 commit.1|END|\n\
 next|END|\n\

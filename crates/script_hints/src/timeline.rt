@@ -1,5 +1,6 @@
 //! The versions on a line of moments.
-use crate::progress::{progress, push_entered, push_moved, push_step};
+use crate::moves::{push_entered, push_moved, push_step};
+use crate::progress::progress;
 use replay::What;
 use schema_version::NewElement;
 use script_session::Opened;
@@ -20,7 +21,12 @@ fn entered<'a>(alloc: Global, opened: &'a Opened) -> Result<Vec<&'a NewElement>,
 /// progress now. Refused only when out of memory.
 ///
 /// - `opened`: the world.
-pub(crate) fn timeline(alloc: Global, opened: &Opened) -> Result<String, AllocError> {
+/// - `is_shown`: whether someone sees it on a terminal.
+pub(crate) fn timeline(
+    alloc: Global,
+    opened: &Opened,
+    is_shown: bool,
+) -> Result<String, AllocError> {
     let schema = opened.world.newest().get();
     let entered = entered(alloc, opened)?;
     let count = u32::try_from(entered.len()).unwrap_or(0);
@@ -33,18 +39,18 @@ pub(crate) fn timeline(alloc: Global, opened: &Opened) -> Result<String, AllocEr
             What::Publish(step) => {
                 version = version.saturating_add(1);
                 write!(out, "@{moment}  version {version}: ")?;
-                push_step(&mut out, schema, (first, entered.as_slice()), step)?;
+                push_step(&mut out, opened, (first, entered.as_slice()), step)?;
             }
             What::Begin { element, pieces } => {
                 write!(out, "@{moment}  reorganise ")?;
-                push_moved(&mut out, schema, (first, entered.as_slice()), *element)?;
+                push_moved(&mut out, opened, (first, entered.as_slice()), *element)?;
                 write!(out, " pieces {pieces}\n")?;
             }
             _ => {}
         }
     }
     let moment = opened.world.moment();
-    let now = progress(alloc, opened)?;
+    let now = progress(alloc, opened, is_shown)?;
     write!(out, "@{moment}  now\n{now}")?;
     Ok(out)
 }

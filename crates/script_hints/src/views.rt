@@ -1,9 +1,15 @@
 //! Where things stand: the lines of the prompt that no script has.
+ghost use Rattle.std.specs.Prelude.{◌≡◌, ◌++◌, IfOk, List, ℕ, Some, codes, option_map, string_bytes};
+ghost use Rattle.script_hints.specs.Explain.{ShowsPath, ShowsPathIn};
+
 use crate::command_help::help_text;
 use crate::describe::description;
-use crate::explain::{explanation, plan_explanation};
+use crate::element_pairs::element_pairs;
+use crate::explain::explanation;
+use crate::explain_plan::plan_explanation;
 use crate::progress::{plan_left, progress};
 use crate::timeline::timeline;
+use keycode::Text;
 use lease::LeaseFault;
 use script_session::{Opened, ServerLease, Session};
 use std::alloc::{AllocError, Global};
@@ -40,19 +46,36 @@ fn leases(alloc: Global, opened: &Opened) -> Result<String, AllocError> {
     Ok(out)
 }
 
+// `check TABLE.NAME`; `None` if the words are no such name.
+fn element_view(alloc: Global, opened: &Opened, name: &str) -> Result<Option<String>, AllocError> {
+    let Some((table, name)) = name.split_once('.') else {
+        return Ok(None);
+    };
+    let (table, name) = (table.trim(), name.trim());
+    if table.contains(' ') || name.contains(' ') {
+        return Ok(None);
+    }
+    let table = Text::new(table.to_string(alloc)?);
+    let name = Text::new(name.to_string(alloc)?);
+    Ok(Some(element_pairs(alloc, opened, &table, &name)?))
+}
+
 // A view of an opened world; `None` if the words are none of the prompt's.
 fn opened_view(
     alloc: Global,
     opened: &Opened,
     command: &str,
     rest: &str,
+    is_shown: bool,
 ) -> Result<Option<String>, AllocError> {
     match (command, rest) {
+        ("help", command) => Ok(Some(help_text(alloc, command)?)),
         ("describe", table) => Ok(Some(description(alloc, opened.world.newest().get(), table)?)),
+        ("check", name) => element_view(alloc, opened, name),
         ("leases", "") => Ok(Some(leases(alloc, opened)?)),
-        ("progress", "") => Ok(Some(progress(alloc, opened)?)),
+        ("progress", "") => Ok(Some(progress(alloc, opened, is_shown)?)),
         ("plan", "") => Ok(Some(plan_left(alloc, opened)?)),
-        ("timeline", "") => Ok(Some(timeline(alloc, opened)?)),
+        ("timeline", "") => Ok(Some(timeline(alloc, opened, is_shown)?)),
         ("explain", line) if line.starts_with("plan") => {
             Ok(Some(plan_explanation(alloc, opened, line)?))
         }
@@ -61,34 +84,90 @@ fn opened_view(
     }
 }
 
-// The view, maybe with line ends behind it.
-fn view(alloc: Global, session: &Session, line: &str) -> Result<Option<String>, AllocError> {
-    let line = line.trim();
-    let (command, rest) = line.split_once(' ').unwrap_or((line, ""));
-    let rest = rest.trim();
-    if command == "help" {
-        return Ok(Some(help_text(alloc, rest)?));
+// A view without line ends after it.
+fn trimmed(alloc: Global, view: Option<String>) -> Result<Option<String>, AllocError> {
+    match view {
+        Some(text) => Ok(Some(text.as_str().trim_end().to_string(alloc)?)),
+        None => Ok(None),
     }
-    match session {
-        Session::Running(opened) => Ok(opened_view(alloc, opened, command, rest)?),
-        Session::Declaring(_) => match command {
-            "describe" | "leases" | "progress" | "timeline" | "explain" | "advance" | "finish" => {
-                Ok(Some("nothing is open yet".to_string(alloc)?))
-            }
-            _ => Ok(None),
-        },
+}
+
+// The view of an opened world, by the words of the line.
+fn view_by_words(
+    alloc: Global,
+    opened: &Opened,
+    line: &str,
+    is_shown: bool,
+) -> Result<Option<String>, AllocError> {
+    let (command, rest) = line.split_once(' ').unwrap_or((line, ""));
+    let view = opened_view(alloc, opened, command, rest.trim(), is_shown)?;
+    trimmed(alloc, view)
+}
+
+// What a line asks to explain, if it begins with `explain query`.
+fn explained_query(line: &str) -> Option<&str>
+    ensures { (rest : List ℕ) → line.now ≡ codes "explain query" ++ rest → option_map (λ q. q.now) result ≡ Some (codes "query" ++ rest) }
+{
+    if !line.starts_with("explain query") {
+        return None;
+    }
+    let (_, query) = line.split_once(' ')?;
+    Some(query)
+}
+
+// The view after `open`.
+fn running_view(
+    alloc: Global,
+    opened: &Opened,
+    line: &str,
+    is_shown: bool,
+) -> Result<Option<String>, AllocError>
+    ensures { IfOk result (λ shown. ShowsPathIn opened.now line.now (option_map string_bytes shown)) }
+{
+    match explained_query(line) {
+        Some(query) => Ok(Some(explanation(alloc, opened, query)?)),
+        None => view_by_words(alloc, opened, line, is_shown),
+    }
+}
+
+// The view before `open`.
+fn declaring_view(alloc: Global, line: &str) -> Result<Option<String>, AllocError> {
+    let (command, rest) = line.split_once(' ').unwrap_or((line, ""));
+    match command {
+        "help" => {
+            let text = help_text(alloc, rest.trim())?;
+            trimmed(alloc, Some(text))
+        }
+        "describe"
+        | "leases"
+        | "progress"
+        | "timeline"
+        | "explain"
+        | "check"
+        | "advance"
+        | "finish" => Ok(Some("nothing is open yet".to_string(alloc)?)),
+        _ => Ok(None),
     }
 }
 
 /// What a line of the prompt's own shows: `help`, `describe`, `leases`, `progress`, `timeline`,
-/// `plan` alone, `explain query` and `explain plan`; `None` if the line is none of them. Refused
-/// only when out of memory.
+/// `plan` alone, `check TABLE.NAME`, `explain query` and `explain plan`; `None` if the line is none
+/// of them. White space around the line does not matter. Refused only when out of memory.
 ///
 /// - `session`: the session, which is only read.
 /// - `line`: the line without its ending.
-pub fn view_of(alloc: Global, session: &Session, line: &str) -> Result<Option<String>, AllocError> {
-    match view(alloc, session, line)? {
-        Some(text) => Ok(Some(text.as_str().trim_end().to_string(alloc)?)),
-        None => Ok(None),
+/// - `is_shown`: whether someone sees it on a terminal: `progress` and `timeline` have bars then.
+pub fn view_of(
+    alloc: Global,
+    session: &Session,
+    line: &str,
+    is_shown: bool,
+) -> Result<Option<String>, AllocError>
+    ensures { IfOk result (λ shown. ShowsPath session.now line.now (option_map string_bytes shown)) }
+{
+    let line = line.trim();
+    match session {
+        Session::Running(opened) => running_view(alloc, opened, line, is_shown),
+        Session::Declaring(_) => declaring_view(alloc, line),
     }
 }

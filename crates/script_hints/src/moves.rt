@@ -1,0 +1,118 @@
+//! The moves of steps, with the names of their elements.
+use crate::element_words::push_element;
+use change_plan::PlanStep;
+use schema_version::{Move, NewElement, Schema, Step};
+use script_grammar::state_word;
+use script_session::Opened;
+use std::alloc::{AllocError, Global};
+
+/// Adds the elements that enter in a step.
+pub(crate) fn push_entered<'a>(
+    entered: &mut Vec<&'a NewElement>,
+    step: &'a Step,
+) -> Result<(), AllocError> {
+    for made in step.as_slice() {
+        if let Move::Enter { fresh, .. } = made {
+            entered.push(fresh)?;
+        }
+    }
+    Ok(())
+}
+
+/// The elements that a plan lets enter: their numbers follow those of the version.
+pub(crate) fn entered_by<'a>(
+    alloc: Global,
+    steps: &'a [PlanStep],
+) -> Result<Vec<&'a NewElement>, AllocError> {
+    let mut found = Vec::new(alloc);
+    for step in steps {
+        push_entered(&mut found, &step.step)?;
+    }
+    Ok(found)
+}
+
+fn push_fresh(out: &mut String, schema: &Schema, fresh: &NewElement) -> Result<(), AllocError> {
+    let table = schema.table_name(fresh.table).unwrap_or("");
+    let name = fresh.name.as_str();
+    write!(out, "{table}.{name}")
+}
+
+// An older version that has the element, if one is at hand: the one before the newest, or that of a
+// server's lease. A number names one element for good.
+fn older_with(opened: &Opened, number: u32) -> Option<&Schema> {
+    let before = opened.world.timeline().newest().saturating_sub(1);
+    if let Some(schema) = opened.world.schema(before) {
+        if schema.get().element(number).is_some() {
+            return Some(schema.get());
+        }
+    }
+    for (_, held) in opened.leases.entries() {
+        if held.schema.get().element(number).is_some() {
+            return Some(held.schema.get());
+        }
+    }
+    None
+}
+
+/// Adds the name of an element of the newest version, of one that enters, or of one that has left
+/// since. One that was there at the opening is `element N` if no version at hand has it.
+///
+/// - `entered`: the number of the first that enters, and all that enter.
+pub(crate) fn push_moved(
+    out: &mut String,
+    opened: &Opened,
+    entered: (u32, &[&NewElement]),
+    number: u32,
+) -> Result<(), AllocError> {
+    let schema = opened.world.newest().get();
+    if schema.element(number).is_some() {
+        return push_element(out, schema, number);
+    }
+    let place = number.wrapping_sub(entered.0) as usize;
+    match entered.1.get(place) {
+        Some(fresh) => push_fresh(out, schema, *fresh),
+        None => push_element(out, older_with(opened, number).unwrap_or(schema), number),
+    }
+}
+
+fn push_move(
+    out: &mut String,
+    opened: &Opened,
+    entered: (u32, &[&NewElement]),
+    made: &Move,
+) -> Result<(), AllocError> {
+    match made {
+        Move::Enter { fresh, to } => {
+            push_fresh(out, opened.world.newest().get(), fresh)?;
+            out.push_str(" ")?;
+            out.push_str(state_word(*to))
+        }
+        Move::Go { element, to } => {
+            push_moved(out, opened, entered, *element)?;
+            out.push_str(" ")?;
+            out.push_str(state_word(*to))
+        }
+        Move::Turn { element } => {
+            push_moved(out, opened, entered, *element)?;
+            out.push_str(" dropping")
+        }
+    }
+}
+
+/// Adds the moves of a step in one line.
+///
+/// - `entered`: the number of the first element that enters, and all that enter.
+pub(crate) fn push_step(
+    out: &mut String,
+    opened: &Opened,
+    entered: (u32, &[&NewElement]),
+    step: &Step,
+) -> Result<(), AllocError> {
+    for (i, made) in step.as_slice().iter().enumerate() {
+        if i > 0 {
+            out.push_str(", ")?;
+        }
+        push_move(out, opened, entered, made)?;
+    }
+    out.push_str("\n")
+}
