@@ -1,2 +1,2 @@
-pub mod Turned
-pub mod Turns
+pub mod AnswerKinds
+pub mod Transcripts

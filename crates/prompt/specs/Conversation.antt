@@ -17,7 +17,8 @@ use Rattle.script_tokens.specs.declared.token.Token.{Token}
 use Rattle.script_tokens.specs.Productions.{is_word}
 use Rattle.script_tokens.specs.Tokens.{tokens_of}
 use Rattle.world.specs.State.{facts_of}
-use Rattle.prompt.specs.Carry.{Carries}
+use Rattle.prompt.specs.Carry.{CarriesOn, carry_in}
+use Rattle.prompt.specs.declared.carry.CarryLine.{CarryLine}
 use Rattle.prompt.specs.Lines.{HasRead, IsNext}
 use Rattle.prompt.specs.declared.conversation.Summary.{Summary}
 use Rattle.prompt.specs.declared.fault.PromptFault.{PromptFault}
@@ -49,18 +50,33 @@ IsGiven session line given =
     (given ≡ line)
     ⊎ (IsForeign line × ((front : List ℕ) × (back : List ℕ) × (line ≡ front ++ back) × (given ≡ (front ++ (codes " at " ++ decimal (last_moment session))) ++ back)))
 
+-- what an opened session is asked for by a line that no script has: to carry changes on
+abbrev pub carry_asked : Session → List ℕ → Option CarryLine
+carry_asked (Declaring d) line = None
+carry_asked (Running r) line = carry_in (tokens_of line)
+
+-- the line does not ask to carry changes on
+abbrev pub IsCalm : Session → List ℕ → Type 0
+IsCalm session line = IsForeign line → carry_asked session line ≡ None
+
 -- the session's reply to what it is given
-abbrev pub Answered : Session → List ℕ → List ℕ → Bool → Session → Type 0
-Answered old line reply bad new = (given : List ℕ) × IsGiven old line given × Reply old given reply bad new
+abbrev pub Replied : Session → List ℕ → List ℕ → Bool → Session → Type 0
+Replied old line reply bad new = IsCalm old line × ((given : List ℕ) × IsGiven old line given × Reply old given reply bad new)
 
 -- a line that has no reply, or is bad, without the session
 abbrev pub Passed : Session → List ℕ → List ℕ → Bool → Session → Type 0
 Passed old line reply bad new =
-    (new ≡ old) × ((IsForeign line × (reply ≡ []) × (bad ≡ false)) ⊎ ((IsUtf8 line → ⊥) × (reply ≡ bad_line) × (bad ≡ true)))
+    (new ≡ old) × ((IsForeign line × IsCalm old line × (reply ≡ []) × (bad ≡ false)) ⊎ ((IsUtf8 line → ⊥) × (reply ≡ bad_line) × (bad ≡ true)))
 
--- a line of the prompt's own that carries changes on, with any reply
-abbrev pub Carried : Session → List ℕ → Bool → Session → Type 0
-Carried old line bad new = IsForeign line × Carries old new × (bad ≡ false)
+abbrev pub CarriedBy : Session → Option CarryLine → List ℕ → Session → Type 0
+CarriedBy old None reply new = ⊥
+CarriedBy (Declaring d) (Some carry) reply new = ⊥
+CarriedBy (Running old) (Some carry) reply (Declaring d) = ⊥
+CarriedBy (Running old) (Some carry) reply (Running new) = CarriesOn old carry reply new
+
+-- a line that asks an opened session to carry changes on: it does so, by the call and at the moment of the line
+abbrev pub Carried : Session → List ℕ → List ℕ → Bool → Session → Type 0
+Carried old line reply bad new = IsForeign line × CarriedBy old (carry_asked old line) reply new × (bad ≡ false)
 
 -- a byte of a remark, each of whose lines begins with `# `
 abbrev pub remark_byte : ℕ → List ℕ
@@ -71,9 +87,11 @@ remark_text [] = []
 remark_text (b ∷ bs) = codes "# " ++ flat_map remark_byte (b ∷ bs) ++ codes "\n"
 
 -- What is written for a line, which leaves new: the reply, and remarks.
-abbrev pub Turned : Session → List ℕ → List ℕ → Bool → Session → Type 0
-Turned old line text bad new =
-    (reply : List ℕ) × (remark : List ℕ) × (text ≡ reply ++ remark_text remark) × (Answered old line reply bad new ⊎ Passed old line reply bad new ⊎ Carried old line bad new)
+pub record IsAnswered (old : Session) (line text : List ℕ) (bad : Bool) (new : Session) : Type 0 where
+  pub reply : List ℕ
+  pub remark : List ℕ
+  pub written : text ≡ reply ++ remark_text remark
+  pub kind : Replied old line reply bad new ⊎ Passed old line reply bad new ⊎ Carried old line reply bad new
 
 -- the newest version and the moment, where they are shown
 abbrev pub prompt_text : Bool → Session → List ℕ
@@ -81,18 +99,18 @@ prompt_text false session = []
 prompt_text true (Declaring d) = codes "> "
 prompt_text true (Running r) = codes "v" ++ decimal (newest (facts_of r.world).line) ++ codes " @" ++ decimal (facts_of r.world).moment ++ codes "> "
 
--- From old, the lines in turn may be given this text, each after a prompt, with so many bad lines, and leave new. None of them is `quit`.
-abbrev pub Turns : Bool → Session → List (List ℕ) → List ℕ → ℕ → Session → Type 0
-Turns shown old [] text bad new = (text ≡ []) × (bad ≡ 0) × (new ≡ old)
-Turns shown old (l ∷ ls) text bad new =
-    (turn : List ℕ) × (is_bad : Bool) × (mid : Session) × (more : List ℕ) × (others : ℕ)
-    × Turned old l turn is_bad mid × Turns shown mid ls more others new
-    × (is_quit l ≡ false) × (text ≡ prompt_text shown old ++ (turn ++ more)) × (bad ≡ cond is_bad 1 0 + others)
+-- From old, the lines in answer may be given this text, each after a prompt, with so many bad lines, and leave new. None of them is `quit`.
+abbrev pub AreAnswered : Bool → Session → List (List ℕ) → List ℕ → ℕ → Session → Type 0
+AreAnswered shown old [] text bad new = (text ≡ []) × (bad ≡ 0) × (new ≡ old)
+AreAnswered shown old (l ∷ ls) text bad new =
+    (answer : List ℕ) × (is_bad : Bool) × (mid : Session) × (more : List ℕ) × (others : ℕ)
+    × IsAnswered old l answer is_bad mid × AreAnswered shown mid ls more others new
+    × (is_quit l ≡ false) × (text ≡ prompt_text shown old ++ (answer ++ more)) × (bad ≡ cond is_bad 1 0 + others)
 
--- All that is written until a line is waited for: the turns, and the next prompt.
+-- All that is written until a line is waited for: the answers, and the next prompt.
 abbrev pub IsTranscript : Bool → List (List ℕ) → List ℕ → ℕ → Type 0
 IsTranscript shown lines out bad =
-    (text : List ℕ) × (new : Session) × Turns shown empty lines text bad new × (out ≡ text ++ prompt_text shown new)
+    (text : List ℕ) × (new : Session) × AreAnswered shown empty lines text bad new × (out ≡ text ++ prompt_text shown new)
 
 -- what is read at the end: nothing more, or a line `quit`
 abbrev pub Ends : Option (List ℕ) → Option (List ℕ) → Type 0

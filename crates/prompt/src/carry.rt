@@ -1,11 +1,16 @@
 //! The lines that carry changes on: `advance` and `finish`.
-ghost use Rattle.std.specs.Prelude.{IfOk};
-ghost use Rattle.prompt.specs.Carry.{IsAdvanced, IsFinished, IsCarried};
+ghost use Rattle.std.specs.Prelude.{◌≡◌, ◌++◌, IfOk, OnOk, Some, string_bytes};
+ghost use Rattle.prompt.specs.Carry.{IsAdvanced, IsFinished, CarriesOn, act_words, advanced_words, carry_in, carry_word, fault_name, finished_words, moment_in, piece_word};
+ghost use Rattle.script_replies.specs.Texts.{line, refused};
+ghost use Rattle.script_tokens.specs.Productions.{count_in};
+ghost use Rattle.script_tokens.specs.Tokens.{tokens_of};
 
 use collections::List;
 use rollout::{AdvanceFault, Advanced, advance, complete};
+use schema_version::Schema;
 use script_hints::push_element;
-use script_session::{Opened, Session};
+use script_session::Opened;
+use script_tokens::{Token, is_word, tokens_of};
 use std::alloc::{AllocError, Global};
 
 /// In how many pieces a fill or a clear is begun.
@@ -14,122 +19,187 @@ const PIECES: u32 = 1;
 /// How many items of a piece are worked at a time.
 const LIMIT: u32 = 1_000;
 
-// Whether a line finishes the changes or does one act, and at which moment; `None` if it is none of
-// these lines.
-//
-// - `last`: the moment of a line without one.
-fn carry_of(line: &str, last: u64) -> Option<(bool, u64)> {
-    let line = line.trim();
-    let (word, rest) = line.split_once(' ').unwrap_or((line, ""));
-    let is_finish = word == "finish";
-    if !is_finish && word != "advance" {
+/// What a line asks for.
+#[derive(Clone, Copy, PartialEq, Eq)]
+pub(crate) struct CarryLine {
+    /// Whether all changes are brought to their end, by `finish`; or one act is done, by `advance`.
+    pub(crate) is_finish: bool,
+    /// The moment, if the line has one.
+    pub(crate) at: Option<u64>,
+}
+
+fn carry_word(token: &Token<'_>) -> Option<bool>
+    ensures { result ≡ carry_word token.now }
+{
+    if is_word(token, b"advance") {
+        Some(false)
+    } else if is_word(token, b"finish") {
+        Some(true)
+    } else {
+        None
+    }
+}
+
+fn count_in(token: &Token<'_>) -> Option<u64>
+    ensures { result ≡ count_in token.now }
+{
+    match token {
+        Token::Number {
+            is_negative: false,
+            size,
+        } => Some(*size),
+        _ => None,
+    }
+}
+
+// The moment after the word, if there is one; `None` if there is something else.
+fn moment_in(tokens: &[Token<'_>]) -> Option<Option<u64>>
+    ensures { result ≡ moment_in tokens.now }
+{
+    match tokens {
+        [] => Some(None),
+        [word, number] => {
+            if is_word(word, b"at") {
+                Some(Some(count_in(number)?))
+            } else {
+                None
+            }
+        }
+        _ => None,
+    }
+}
+
+fn carry_in(tokens: &[Token<'_>]) -> Option<CarryLine>
+    ensures { result ≡ carry_in (Some tokens.now) }
+{
+    let [word, tokens @ ..] = tokens else {
         return None;
-    }
-    let rest = rest.trim();
-    if rest.is_empty() {
-        return Some((is_finish, last));
-    }
-    match rest.strip_prefix("at ")?.trim().parse::<u64>() {
-        Ok(moment) => Some((is_finish, moment)),
-        Err(_) => None,
-    }
-}
-
-fn refused_text(alloc: Global, fault: AdvanceFault) -> Result<String, AllocError> {
-    let text = match fault {
-        AdvanceFault::BadCount => "refused BadCount\n",
-        AdvanceFault::MomentTooLarge => "refused MomentTooLarge\n",
-        AdvanceFault::VersionsSpent => "refused VersionsSpent\n",
-        AdvanceFault::Memory => "refused Memory\n",
     };
-    text.to_string(alloc)
+    let is_finish = carry_word(word)?;
+    let at = moment_in(tokens)?;
+    Some(CarryLine { is_finish, at })
 }
 
-// What an act of an element is answered.
-fn element_text(
+/// What a line asks for, if it is `advance` or `finish`, alone or with `at M`. Refused only when out
+/// of memory.
+///
+/// - `line`: the line without its ending.
+pub(crate) fn carry_of(alloc: Global, line: &[u8]) -> Result<Option<CarryLine>, AllocError>
+    ensures { IfOk result (λ found. found ≡ carry_in (tokens_of line.now)) }
+{
+    match tokens_of(alloc, line)? {
+        Some(tokens) => Ok(carry_in(tokens.as_slice())),
+        None => Ok(None),
+    }
+}
+
+fn fault_name(fault: AdvanceFault) -> &'static str
+    ensures { result.now ≡ fault_name fault }
+{
+    match fault {
+        AdvanceFault::BadCount => "BadCount",
+        AdvanceFault::MomentTooLarge => "MomentTooLarge",
+        AdvanceFault::VersionsSpent => "VersionsSpent",
+        AdvanceFault::Memory => "Memory",
+    }
+}
+
+fn push_refused(out: &mut String, fault: AdvanceFault) -> Result<(), AllocError>
+    ensures { OnOk result (string_bytes out.new ≡ string_bytes out.old ++ refused (fault_name fault)) }
+{
+    out.push_str("refused ")?;
+    out.push_str(fault_name(fault))
+}
+
+fn piece_word(ended: bool) -> &'static str
+    ensures { result.now ≡ piece_word ended }
+{
+    if ended { " done" } else { " more" }
+}
+
+fn push_act(out: &mut String, schema: &Schema, done: &Advanced) -> Result<(), AllocError>
+    ensures { OnOk result (string_bytes out.new ≡ string_bytes out.old ++ act_words schema.now done.now) }
+{
+    match done {
+        Advanced::Began { element, .. } => {
+            out.push_str("ok begun ")?;
+            push_element(out, schema, *element)
+        }
+        Advanced::Published { version, .. } => write!(out, "ok version {version}"),
+        Advanced::Worked { element, done } => {
+            out.push_str("ok piece ")?;
+            push_element(out, schema, *element)?;
+            out.push_str(piece_word(done.ended))
+        }
+        Advanced::Waiting { until } => write!(out, "ok waiting {until}"),
+        Advanced::Finished => out.push_str("ok finished"),
+    }
+}
+
+fn advanced_line(
     alloc: Global,
-    opened: &Opened,
-    act: &str,
-    element: u32,
-    end: &str,
-) -> Result<String, AllocError> {
-    let mut text = act.to_string(alloc)?;
-    push_element(&mut text, opened.world.newest().get(), element)?;
-    text.push_str(end)?;
+    schema: &Schema,
+    outcome: &Result<Advanced, AdvanceFault>,
+) -> Result<String, AllocError>
+    ensures { IfOk result (λ text. string_bytes text ≡ line (advanced_words schema.now outcome.now)) }
+{
+    let mut text = String::new(alloc);
+    match outcome {
+        Ok(done) => push_act(&mut text, schema, done)?,
+        Err(fault) => push_refused(&mut text, *fault)?,
+    }
+    text.push_str("\n")?;
     Ok(text)
 }
 
-fn advanced_text(
-    alloc: Global,
-    opened: &Opened,
-    outcome: &Result<Advanced, AdvanceFault>,
-) -> Result<String, AllocError> {
+fn finished_line(alloc: Global, outcome: Result<u64, AdvanceFault>) -> Result<String, AllocError>
+    ensures { IfOk result (λ text. string_bytes text ≡ line (finished_words outcome)) }
+{
+    let mut text = String::new(alloc);
     match outcome {
-        Ok(Advanced::Began { element, .. }) => {
-            element_text(alloc, opened, "ok begun ", *element, "\n")
-        }
-        Ok(Advanced::Published { version, .. }) => format!(in alloc; "ok version {version}\n"),
-        Ok(Advanced::Worked { element, done }) => {
-            let end = if done.ended { " done\n" } else { " more\n" };
-            element_text(alloc, opened, "ok piece ", *element, end)
-        }
-        Ok(Advanced::Waiting { until }) => format!(in alloc; "ok waiting {until}\n"),
-        Ok(Advanced::Finished) => "ok finished\n".to_string(alloc),
-        Err(fault) => refused_text(alloc, *fault),
+        Ok(end) => write!(text, "ok finished {end}")?,
+        Err(fault) => push_refused(&mut text, fault)?,
     }
-}
-
-fn finished_text(alloc: Global, outcome: Result<u64, AdvanceFault>) -> Result<String, AllocError> {
-    match outcome {
-        Ok(end) => format!(in alloc; "ok finished {end}\n"),
-        Err(fault) => refused_text(alloc, fault),
-    }
+    text.push_str("\n")?;
+    Ok(text)
 }
 
 // `advance`: one act that is due is done, and the kept plan is forgotten.
 fn advance_line(alloc: Global, opened: &mut Opened, moment: u64) -> Result<String, AllocError>
-    ensures { IfOk result (λ text. IsAdvanced opened.old moment opened.new) }
+    ensures { IfOk result (λ text. IsAdvanced opened.old moment (string_bytes text) opened.new) }
 {
     let outcome = advance(alloc, &mut opened.world, moment, PIECES, LIMIT);
     opened.plan = List::new(Vec::new(alloc));
-    let text = advanced_text(alloc, opened, &outcome)?;
+    let text = advanced_line(alloc, opened.world.newest().get(), &outcome)?;
     Ok(text)
 }
 
 // `finish`: all changes are brought to their end, and the kept plan is forgotten.
 fn finish_line(alloc: Global, opened: &mut Opened, moment: u64) -> Result<String, AllocError>
-    ensures { IfOk result (λ text. IsFinished opened.old moment opened.new) }
+    ensures { IfOk result (λ text. IsFinished opened.old moment (string_bytes text) opened.new) }
 {
     let outcome = complete(alloc, &mut opened.world, moment, PIECES, LIMIT);
     opened.plan = List::new(Vec::new(alloc));
-    let text = finished_text(alloc, outcome)?;
+    let text = finished_line(alloc, outcome)?;
     Ok(text)
 }
 
-/// Carries changes on if the line asks for it, and answers its reply; `None` if it does not, and
-/// then nothing changes. Refused only when out of memory; discard the session then.
+/// Carries changes on as the line asks, and answers the reply. Refused only when out of memory;
+/// discard the session then.
 ///
-/// - `session`: the session.
-/// - `line`: the line without its ending.
-pub(crate) fn carried(
+/// - `opened`: the opened session.
+/// - `line`: the call, and its moment; without one it is that of the log's last entry.
+pub(crate) fn carry_on(
     alloc: Global,
-    session: &mut Session,
-    line: &str,
-) -> Result<Option<String>, AllocError>
-    ensures { IfOk result (λ found. IsCarried session.old found session.new) }
+    opened: &mut Opened,
+    line: CarryLine,
+) -> Result<String, AllocError>
+    ensures { IfOk result (λ text. CarriesOn opened.old line (string_bytes text) opened.new) }
 {
-    let Session::Running(opened) = session else {
-        return Ok(None);
-    };
-    match carry_of(line, opened.world.moment()) {
-        None => Ok(None),
-        Some((true, moment)) => {
-            let text = finish_line(alloc, opened, moment)?;
-            Ok(Some(text))
-        }
-        Some((false, moment)) => {
-            let text = advance_line(alloc, opened, moment)?;
-            Ok(Some(text))
-        }
+    let moment = line.at.unwrap_or(opened.world.moment());
+    if line.is_finish {
+        finish_line(alloc, opened, moment)
+    } else {
+        advance_line(alloc, opened, moment)
     }
 }

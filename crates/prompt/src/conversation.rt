@@ -3,9 +3,9 @@ ghost use Rattle.std.specs.Prelude.{◌≡◌, IfOk};
 ghost use Rattle.prompt.specs.Conversation.{Conversed};
 
 use crate::fault::PromptFault;
+use crate::line_answer::{answer_line, prompt_text};
 use crate::moment::is_quit;
 use crate::streams::Streams;
-use crate::turn::{answer_line, prompt_text};
 use script_session::Session;
 use std::alloc::Global;
 use std::io::{BufRead, Write};
@@ -47,9 +47,9 @@ pub fn converse<R: BufRead + Drop, W: Write + Drop>(
         if is_quit(alloc, line.as_slice())? {
             return Ok(Summary { lines, bad });
         }
-        let turn = answer_line(alloc, &mut session, line.as_slice())?;
-        streams.write(turn.bytes())?;
-        bad += u64::from(turn.is_bad);
+        let answer = answer_line(alloc, &mut session, line.as_slice(), is_shown)?;
+        streams.write(answer.bytes())?;
+        bad += u64::from(answer.is_bad);
     }
     Err(PromptFault::Read)
 }

@@ -4,9 +4,9 @@
 mod carry;
 mod conversation;
 mod fault;
+mod line_answer;
 mod moment;
 mod streams;
-mod turn;
 
 pub use conversation::{Summary, converse};
 pub use fault::{PromptFault, prompt_status};

@@ -1,5 +1,5 @@
 //! Lines whose `at M` was left out.
-ghost use Rattle.std.specs.Prelude.{◌≡◌, ◌++◌, IfOk, IfSome, codes, string_bytes, true};
+ghost use Rattle.std.specs.Prelude.{◌≡◌, ◌++◌, IfOk, IfSome, codes, string_bytes, true, false};
 ghost use Rattle.std.specs.Fmt.{decimal};
 ghost use Rattle.prompt.specs.Conversation.{IsForeign, IsGiven, last_moment, is_quit};
 
@@ -27,7 +27,8 @@ pub(crate) fn is_quit(alloc: Global, line: &[u8]) -> Result<bool, AllocError>
 ///
 /// - `line`: the line without its ending.
 pub(crate) fn is_foreign(alloc: Global, line: &[u8]) -> Result<bool, AllocError>
-    ensures { IfOk result (λ foreign. foreign ≡ true → IsForeign line.now) }
+    ensures yes { IfOk result (λ foreign. foreign ≡ true → IsForeign line.now) }
+    ensures no { IfOk result (λ foreign. foreign ≡ false → IsForeign line.now → ⊥) }
 {
     if is_silent(line) {
         return Ok(false);

@@ -18,7 +18,7 @@ pub struct Streams<R: Drop, W: Drop> {
     pub reader: R,
     /// Where replies go.
     pub writer: W,
-    /// Whether the writer was told to hand on all that was written.
+    /// Whether the writer was asked to hand on all that was written.
     pub is_flushed: bool,
 }
 

@@ -10,7 +10,7 @@ returns-then-is_ok c =
     let mark = c.in-Some.mark.now in
     let back = c.in-Some.back.now in
     inr (
-      subst IsForeign c.as_bytes.ensures.value (c.in_ok-is_foreign.ensures c.if-branch.true),
+      subst IsForeign c.as_bytes.ensures.value (c.in_ok-is_foreign.ensures.yes c.if-branch.true),
       (
         front,
         mark ++ back,
