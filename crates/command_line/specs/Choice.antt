@@ -4,7 +4,7 @@ use Rattle.std.specs.Prelude.{ℕ, List, [], ◌∷◌, Bool, false, IsTrue, Str
 use Rattle.std.specs.Str.{bytes_eq}
 use Rattle.std.specs.declared.alloc.Global.{Global}
 use Rattle.command_line.specs.declared.choice.Chosen.{Chosen}
-use Rattle.command_line.specs.declared.choice.Chosen.TheVariants.{Run, Prompt, Load}
+use Rattle.command_line.specs.declared.choice.Chosen.TheVariants.{Run, Prompt, Load, Rollout}
 use Rattle.command_line.specs.LoadSize.{IsLoadSize}
 
 -- whether the word after the program's own name is this one
@@ -17,4 +17,5 @@ is_named [] name = false
 abbrev pub IsChoiceOf : List (String Global) → Chosen → Type 0
 IsChoiceOf words (Run file) = IsTrue (is_named words (codes "run"))
 IsChoiceOf words (Prompt file) = IsTrue (is_named words (codes "prompt"))
-IsChoiceOf words (Load size) = IsTrue (is_named words (codes "load")) × IsLoadSize size
+IsChoiceOf words (Load size timed) = IsTrue (is_named words (codes "load")) × IsLoadSize size
+IsChoiceOf words Rollout = IsTrue (is_named words (codes "rollout"))

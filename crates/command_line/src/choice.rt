@@ -9,7 +9,7 @@ use crate::help;
 use crate::load_size::{LoadSize, MAX_LIMIT, MAX_PIECES, MAX_ROWS, MAX_SERVERS, MAX_WORKERS};
 use crate::number::count_in;
 use clap::error::ErrorKind;
-use clap::{Arg, ArgMatches, Command, Error, value_parser};
+use clap::{Arg, ArgAction, ArgMatches, Command, Error, value_parser};
 use std::alloc::{AllocError, Global};
 
 /// What the program is to do. A file is that of the script; without one it is on standard input.
@@ -26,11 +26,27 @@ pub enum Chosen<'a> {
         file: Option<&'a str>,
     },
     /// Let threads write rows while an index is added.
-    Load(LoadSize),
+    Load {
+        /// How many servers, rows, pieces and workers.
+        size: LoadSize,
+        /// Whether standard error is to have the time and the rate.
+        is_timed: bool,
+    },
+    /// Let threads write rows while an operator carries three changes to their end.
+    Rollout,
 }
 
 fn file_arg<'a>(alloc: Global) -> Arg<'a> {
     Arg::new(alloc, "FILE").help(help::FILE)
+}
+
+// An option without a value.
+fn flag<'a>(alloc: Global, name: &'a str, short: char, about: &'a str) -> Arg<'a> {
+    Arg::new(alloc, name)
+        .short(short)
+        .long(name)
+        .action(ArgAction::SetTrue)
+        .help(about)
 }
 
 fn run_command<'a>(alloc: Global) -> Result<Command<'a>, AllocError> {
@@ -73,7 +89,16 @@ fn load_command<'a>(alloc: Global) -> Result<Command<'a>, AllocError> {
         .arg(number(alloc, "rows", 'r', MAX_ROWS, "1000", help::ROWS))?
         .arg(number(alloc, "pieces", 'p', MAX_PIECES, "6", help::PIECES))?
         .arg(number(alloc, "workers", 'w', MAX_WORKERS, "3", help::WORKERS))?
-        .arg(number(alloc, "limit", 'l', MAX_LIMIT, "50", help::LIMIT))
+        .arg(number(alloc, "limit", 'l', MAX_LIMIT, "50", help::LIMIT))?
+        .arg(flag(alloc, "time", 't', help::TIME))
+}
+
+fn rollout_command<'a>(alloc: Global) -> Result<Command<'a>, AllocError> {
+    Ok(
+        Command::new(alloc, "rollout")
+            .about(help::ABOUT_ROLLOUT)
+            .after_help(help::ROLLOUTS),
+    )
 }
 
 // The number of an option, or else the name of that option.
@@ -121,14 +146,8 @@ fn names(words: &[String], name: &str) -> bool
     }
 }
 
-/// What the words of a command line choose, the program's own name first. An `Err` is what to
-/// print: the help that was asked for, or why the words are refused. What clap makes of words is
-/// said by no contract, and shown by tests: hence the words themselves are asked for what they
-/// choose.
-pub fn options<'a>(alloc: Global, words: &'a [String]) -> Result<Chosen<'a>, Error>
-    ensures { IfOk result (IsChoiceOf words.now) }
-{
-    let mut command = Command::new(alloc, "shell")
+fn command_of<'a>(alloc: Global) -> Result<Command<'a>, AllocError> {
+    Command::new(alloc, "shell")
         .bin_name("shell")?
         .version(help::VERSION)
         .about(help::ABOUT)
@@ -136,26 +155,54 @@ pub fn options<'a>(alloc: Global, words: &'a [String]) -> Result<Chosen<'a>, Err
         .subcommand_required(true)
         .subcommand(run_command(alloc)?)?
         .subcommand(prompt_command(alloc)?)?
-        .subcommand(load_command(alloc)?)?;
+        .subcommand(load_command(alloc)?)?
+        .subcommand(rollout_command(alloc)?)
+}
+
+// The file of a subcommand, if it names one.
+fn file_of<'a>(matches: &ArgMatches<'a>, name: &str) -> Option<&'a str> {
+    matches
+        .subcommand_matches(name)
+        .and_then(|matches| matches.get_str("FILE"))
+}
+
+// Whether an option of a subcommand that has no value is there.
+fn has_flag(matches: &ArgMatches<'_>, name: &str, option: &str) -> bool {
+    match matches.subcommand_matches(name) {
+        Some(matches) => matches.get_flag(option),
+        None => false,
+    }
+}
+
+/// What the words of a command line choose, the program's own name first. An `Err` is what to
+/// print: the help that was asked for, or why the words are refused. What clap makes of words is
+/// said by no contract, and shown by tests: hence the words themselves are asked for what they
+/// choose.
+pub fn options<'a>(alloc: Global, words: &'a [String]) -> Result<Chosen<'a>, Error>
+    ensures { IfOk result (IsChoiceOf words.now) }
+{
+    let mut command = command_of(alloc)?;
     let matches = command.try_get_matches_from_mut(words)?;
     if names(words, "run") {
-        let run = matches.subcommand_matches("run");
-        let file = run.and_then(|run| run.get_str("FILE"));
+        let file = file_of(&matches, "run");
         return Ok(Chosen::Run { file });
     }
     if names(words, "prompt") {
-        let prompt = matches.subcommand_matches("prompt");
-        let file = prompt.and_then(|prompt| prompt.get_str("FILE"));
+        let file = file_of(&matches, "prompt");
         return Ok(Chosen::Prompt { file });
     }
+    if names(words, "rollout") {
+        return Ok(Chosen::Rollout);
+    }
+    let is_timed = has_flag(&matches, "load", "time");
     match matches.subcommand_matches("load") {
         Some(load) if names(words, "load") => match load_size(load) {
-            Ok(size) => Ok(Chosen::Load(size)),
+            Ok(size) => Ok(Chosen::Load { size, is_timed }),
             Err(name) => Err(refusal(alloc, load, name)?),
         },
         _ => Err(command.error(
             ErrorKind::InvalidSubcommand,
-            "none of 'run', 'prompt' and 'load'",
+            "none of 'run', 'prompt', 'load' and 'rollout'",
         )?),
     }
 }

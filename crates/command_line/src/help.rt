@@ -12,6 +12,23 @@ pub(crate) const ABOUT_PROMPT: &str =
 
 pub(crate) const FILE: &str = "The file of the lines; standard input if it is left out";
 
+pub(crate) const TIME: &str = "Write the time and the rows a second to standard error";
+
+pub(crate) const ABOUT_ROLLOUT: &str =
+    "Carries three schema changes to their end while four servers write";
+
+/// What a rollout does and prints, and its exit statuses.
+pub(crate) const ROLLOUTS: &str = "\
+It opens a store with the table people (id int key, town text, age int) and 1000 rows. One operator adds an index
+and a column with a default, and drops a column, side by side: it does what is due and keeps no plan. Meanwhile
+four servers insert 1000 rows. What it prints is the same in every run: what the operator did, line by line, how
+many rows were inserted meanwhile, and what an audit of the store finds.
+
+Exit status:
+  0  done
+  4  a line could not be written
+  6  a call was refused, also if memory ran out";
+
 /// What a prompt is, by examples, and its exit statuses.
 pub(crate) const PROMPTS: &str = "\
 It takes the lines of `shell run --help`, and answers each before it reads the next. Lines that begin with `# `
@@ -19,7 +36,9 @@ are remarks: what is wrong with a line, and what may be done. `at M` may be left
 
 Its own lines:
   help [COMMAND]      describe [TABLE]      leases      progress
-  explain query S: select ..                plan        quit
+  explain query S: select ..                plan        timeline
+  explain plan: ..    check TABLE.NAME      advance     finish
+  quit
 
 For example
   shell prompt                 on a terminal the prompt is the newest version and the moment: v3 @20>
@@ -47,7 +66,7 @@ For more information, try '--help'.
 /// The exit statuses of the program as a whole.
 pub(crate) const STATUSES: &str = "\
 `shell run --help` explains the script language, `shell prompt --help` its use line by line, and
-`shell load --help` what a load does and prints.
+`shell load --help` and `shell rollout --help` what these do and print.
 
 For example
   shell prompt
@@ -59,10 +78,10 @@ Exit status:
   1  `run`, `prompt`: a line was bad
   2  a wrong command line
   3  `run`, `prompt`: a line could not be read; `run`: it is longer than 16 MiB, or is not UTF-8
-  4  a reply, or a line of `load`, could not be written
+  4  a reply, or a line of `load` or `rollout`, could not be written
   5  out of memory
   6  `load`: a difference was found, a step was refused, or a thread came to another end than a
-     committed row or a finished piece";
+     committed row or a finished piece; `rollout`: a call was refused";
 
 /// The script language in short, and the exit statuses of `run`.
 pub(crate) const SCRIPTS: &str = "\

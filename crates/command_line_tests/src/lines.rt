@@ -37,12 +37,13 @@ const LOADS: [(&str, [u32; 5]); 18] = [
     ),
 ];
 
-// Lines after the program's name that choose a script or a prompt.
-const SCRIPTS: [(&str, Chosen<'static>); 4] = [
+// Lines that choose no load.
+const OTHERS: [(&str, Chosen<'static>); 5] = [
     ("run", Chosen::Run { file: None }),
     ("run x", Chosen::Run { file: Some("x") }),
     ("prompt", Chosen::Prompt { file: None }),
     ("prompt x", Chosen::Prompt { file: Some("x") }),
+    ("rollout", Chosen::Rollout),
 ];
 
 // Whether the line is taken and chooses this.
@@ -58,19 +59,20 @@ fn chooses(alloc: Global, line: &str, wanted: Chosen<'_>) -> Result<bool, AllocE
     })
 }
 
-fn load([servers, rows, pieces, workers, limit]: [u32; 5]) -> Chosen<'static> {
-    Chosen::Load(LoadSize {
+fn load([servers, rows, pieces, workers, limit]: [u32; 5], is_timed: bool) -> Chosen<'static> {
+    let size = LoadSize {
         servers,
         rows,
         pieces,
         workers,
         limit,
-    })
+    };
+    Chosen::Load { size, is_timed }
 }
 
 #[test]
 fn what_lines_choose(rt: HostRuntime) {
-    for (line, chosen) in SCRIPTS {
+    for (line, chosen) in OTHERS {
         assert!(rt;
             matches!(chooses(rt.alloc(), line, chosen), Ok(true)),
             "{line}"
@@ -78,8 +80,11 @@ fn what_lines_choose(rt: HostRuntime) {
     }
     for (line, numbers) in LOADS {
         assert!(rt;
-            matches!(chooses(rt.alloc(), line, load(numbers)), Ok(true)),
+            matches!(chooses(rt.alloc(), line, load(numbers, false)), Ok(true)),
             "{line}"
         );
     }
+    let timed = load([4, 5, 6, 3, 50], true);
+    assert!(rt; matches!(chooses(rt.alloc(), "load --time -r 5", timed), Ok(true)));
+    assert!(rt; matches!(chooses(rt.alloc(), "load -r 5 -t", timed), Ok(true)));
 }

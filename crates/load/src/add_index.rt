@@ -1,5 +1,6 @@
 //! The index is added, step by step, while servers write.
 
+use crate::bar::Bar;
 use crate::fault::LoadFault;
 use crate::table::{INDEX, index_step, state_step};
 use collections::List;
@@ -10,7 +11,6 @@ use schema_version::{ElementState, Step};
 use std::alloc::Global;
 use std::sync::Wait;
 use std::thread::Threads;
-use tasks::FreeGate;
 use world::{BeginFault, GrantFault, PublishFault, Receipt};
 
 /// What became of the index, and all that it was added with.
@@ -121,14 +121,21 @@ fn check_finished(ends: &[(usize, PieceEnd)]) -> Result<(), LoadFault> {
 }
 
 // All pieces of the fill, run to its end by the workers.
-fn fill<L: SharedLedger + Send + Sync, R: Threads + Wait + Sync>(
+fn fill<L: SharedLedger + Send + Sync, R: Threads + Wait + Eprint + Sync>(
     rt: &R,
     alloc: Global,
     shared: &Shared<L>,
     fill_handles: Vec<Handle<L>>,
     size: LoadSize,
+    is_shown: bool,
 ) -> (Vec<Handle<L>>, Vec<List<Receipt>>, Result<(), LoadFault>) {
     let (limit, tries) = (size.limit, size.rows.saturating_add(1));
+    let bar = Bar {
+        rt,
+        what: "pieces",
+        total: size.pieces,
+        is_shown,
+    };
     match reorganise_all(
         rt,
         alloc,
@@ -138,7 +145,7 @@ fn fill<L: SharedLedger + Send + Sync, R: Threads + Wait + Sync>(
         INDEX,
         limit,
         tries,
-        &FreeGate,
+        &bar,
     ) {
         Ok(
             Reorganised {
@@ -158,13 +165,14 @@ fn fill<L: SharedLedger + Send + Sync, R: Threads + Wait + Sync>(
 }
 
 /// Adds the index while others write.
-pub(crate) fn add_index<L: SharedLedger + Send + Sync, R: Threads + Wait + Sync>(
+pub(crate) fn add_index<L: SharedLedger + Send + Sync, R: Threads + Wait + Eprint + Sync>(
     rt: &R,
     alloc: Global,
     shared: &Shared<L>,
     me: Handle<L>,
     fill_handles: Vec<Handle<L>>,
     size: LoadSize,
+    is_shown: bool,
 ) -> Added<L> {
     let mut me = me;
     let mut receipts = Vec::new(alloc);
@@ -178,7 +186,7 @@ pub(crate) fn add_index<L: SharedLedger + Send + Sync, R: Threads + Wait + Sync>
             outcome: entered,
         };
     }
-    let (fill_handles, pieces, filled) = fill(rt, alloc, shared, fill_handles, size);
+    let (fill_handles, pieces, filled) = fill(rt, alloc, shared, fill_handles, size, is_shown);
     let outcome = match filled {
         Ok(()) => open_up(rt, alloc, shared, &mut me, &mut receipts),
         Err(fault) => Err(fault),

@@ -3,9 +3,10 @@
 #![tactic(auto)]
 
 mod add_index;
+mod bar;
 mod fault;
 mod load_run;
 mod report;
 mod table;
 
-pub use load_run::run_load;
+pub use load_run::{run_load, run_load_shown};

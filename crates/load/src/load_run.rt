@@ -4,6 +4,7 @@ ghost use Rattle.command_line.specs.LoadSize.{IsLoadSize};
 ghost use Rattle.locked_store.specs.Receipts.{AreTheLog};
 
 use crate::add_index::{Added, add_index};
+use crate::bar::Bar;
 use crate::fault::LoadFault;
 use crate::report::Report;
 use crate::table::{inserts, open_world};
@@ -19,7 +20,6 @@ use std::marker::Brand;
 use std::sync::Wait;
 use std::sync::ledger::Blank;
 use std::thread::{Threads, join};
-use tasks::FreeGate;
 use world::{Receipt, World};
 
 /// How often a request is tried.
@@ -133,20 +133,27 @@ fn join_handles<L: SharedLedger>(
 }
 
 // Both sides at once.
-fn at_once<L: SharedLedger + Send + Sync, R: Threads + Wait + Sync>(
+fn at_once<L: SharedLedger + Send + Sync, R: Threads + Wait + Eprint + Sync>(
     rt: &R,
     alloc: Global,
     shared: &Shared<L>,
     handles: Vec<Handle<L>>,
     requests: &[Request],
     size: LoadSize,
+    is_shown: bool,
 ) -> Result<Done<L>, LoadFault> {
     let mut handles = handles;
     let (me, fill_handles) = split_handles(alloc, &mut handles, size.workers)?;
+    let bar = Bar {
+        rt,
+        what: "rows",
+        total: size.rows,
+        is_shown,
+    };
     let (served, added) = join(
         rt,
-        move || serve(rt, alloc, shared, handles, requests, TRIES, &FreeGate),
-        move || add_index(rt, alloc, shared, me, fill_handles, size),
+        move || serve(rt, alloc, shared, handles, requests, TRIES, &bar),
+        move || add_index(rt, alloc, shared, me, fill_handles, size, is_shown),
     );
     Ok(join_handles(alloc, served, added)?)
 }
@@ -194,13 +201,14 @@ fn check_receipts(
 }
 
 // The whole load over a world that is shared among so many handles.
-fn load_in<L: SharedLedger + Send + Sync, R: Threads + Wait + Sync>(
+fn load_in<L: SharedLedger + Send + Sync, R: Threads + Wait + Eprint + Sync>(
     rt: &R,
     alloc: Global,
     blank: Blank,
     world: World,
     count: u64,
     size: LoadSize,
+    is_shown: bool,
 ) -> Result<Report, LoadFault>
     requires name { blank.name ≡ L.name }
     requires parts { blank.parts ≡ L.parts }
@@ -214,7 +222,15 @@ fn load_in<L: SharedLedger + Send + Sync, R: Threads + Wait + Sync>(
         handles,
         receipts,
         outcome,
-    } = at_once(rt, alloc, &shared, handles, requests.as_slice(), size)?;
+    } = at_once(
+        rt,
+        alloc,
+        &shared,
+        handles,
+        requests.as_slice(),
+        size,
+        is_shown,
+    )?;
     match shared.close(handles) {
         Ok(world) => check_receipts(alloc, &world, receipts.as_slice(), outcome),
         Err(_) => Err(LoadFault::Refused),
@@ -222,16 +238,17 @@ fn load_in<L: SharedLedger + Send + Sync, R: Threads + Wait + Sync>(
 }
 
 // What a load of this size finds.
-fn load<R: Threads + Wait + Sync>(
+fn load<R: Threads + Wait + Eprint + Sync>(
     rt: &R,
     alloc: Global,
     size: LoadSize,
+    is_shown: bool,
 ) -> Result<Report, LoadFault>
     requires { IsLoadSize size }
 {
     let world = open_world(alloc)?;
     let count = u64::from(size.servers + size.workers + 1);
-    load_in::<Brand, R>(rt, alloc, Blank::new(count), world, count, size)
+    load_in::<Brand, R>(rt, alloc, Blank::new(count), world, count, size, is_shown)
 }
 
 /// Runs a load: it opens the table t (id int key, a int), has servers insert rows, each by a
@@ -250,7 +267,7 @@ fn load<R: Threads + Wait + Sync>(
 /// refused for another reason than memory, or an outcome was another than a committed row or a
 /// finished piece; 4 if the lines could not be written; 5 if any call or outcome found no memory,
 /// and then nothing is written. Of several the first in the order 5, 4, 6 is answered.
-pub fn run_load<R: Threads + Wait + Sync, W: Write>(
+pub fn run_load<R: Threads + Wait + Eprint + Sync, W: Write>(
     rt: &R,
     alloc: Global,
     size: LoadSize,
@@ -258,7 +275,23 @@ pub fn run_load<R: Threads + Wait + Sync, W: Write>(
 ) -> u8
     requires { IsLoadSize size }
 {
-    let report = match load(rt, alloc, size) {
+    run_load_shown(rt, alloc, size, false, writer)
+}
+
+/// Runs a load as `run_load` does, and shows a bar on standard error while it runs: how many rows
+/// were inserted, and how many pieces of the index were filled.
+///
+/// - `is_shown`: whether someone is to see the bar.
+pub fn run_load_shown<R: Threads + Wait + Eprint + Sync, W: Write>(
+    rt: &R,
+    alloc: Global,
+    size: LoadSize,
+    is_shown: bool,
+    writer: &mut W,
+) -> u8
+    requires { IsLoadSize size }
+{
+    let report = match load(rt, alloc, size, is_shown) {
         Ok(report) => report,
         Err(LoadFault::Memory) => return 5,
         Err(LoadFault::Refused) => return 6,

@@ -1,4 +1,4 @@
-//! The operator: it does what is due, and prints each act.
+//! The operator: it does what is due, and reports each act.
 
 use crate::table::{BEGIN, name_of};
 use locked_store::{Handle, Shared, SharedLedger};
@@ -7,7 +7,6 @@ use rollout::Advanced;
 use schema_version::{ElementState, Move};
 use shared_rollout::advance;
 use std::alloc::Global;
-use std::io::Write;
 use std::sync::Wait;
 use world::Receipt;
 
@@ -33,7 +32,7 @@ fn state_name(state: ElementState) -> &'static str {
 }
 
 // What one move does, after the others of its step.
-fn print_move<W: Write>(out: &mut W, mark: &str, moved: &Move) -> Option<()> {
+fn report_move(out: &mut String, mark: &str, moved: &Move) -> Option<()> {
     match moved {
         Move::Enter { fresh, to } => {
             let state = state_name(*to);
@@ -47,45 +46,45 @@ fn print_move<W: Write>(out: &mut W, mark: &str, moved: &Move) -> Option<()> {
     }
 }
 
-/// Prints a publication, by its receipt.
-pub(crate) fn print_step<W: Write>(out: &mut W, version: u64, receipt: &Receipt) -> Option<()> {
+/// Reports a publication, by its receipt.
+pub(crate) fn report_step(out: &mut String, version: u64, receipt: &Receipt) -> Option<()> {
     let moment = receipt.entry.moment;
     write!(out, "at {moment} published version {version}").ok()?;
     if let What::Publish(step) = receipt.entry.what.get() {
         let mut mark = ":";
         for moved in step.as_slice() {
-            print_move(out, mark, moved)?;
+            report_move(out, mark, moved)?;
             mark = ",";
         }
     }
-    writeln!(out, "").ok()
+    out.push_str("\n").ok()
 }
 
 // How far the work on an element is: the element, and how many of its pieces have ended.
 type Work = (u32, u32);
 
-// Prints that a piece ended, and counts it.
-fn print_piece<W: Write>(out: &mut W, work: &mut Work, element: u32) -> Option<()> {
+// Reports that a piece ended, and counts it.
+fn report_piece(out: &mut String, work: &mut Work, element: u32) -> Option<()> {
     let ended = if work.0 == element { work.1 } else { 0 };
     *work = (element, ended.saturating_add(1));
-    writeln!(out, "{}: {} of {PIECES} pieces", name_of(element), work.1).ok()
+    write!(out, "{}: {} of {PIECES} pieces\n", name_of(element), work.1).ok()
 }
 
-// Prints what was done, and gives the moment of the next act; none if no change is under way.
-fn print_act<W: Write>(
-    out: &mut W,
+// Reports what was done, and gives the moment of the next act; none if no change is under way.
+fn report_act(
+    out: &mut String,
     work: &mut Work,
     moment: u64,
     done: &Advanced,
 ) -> Option<Option<u64>> {
     match done {
         Advanced::Began { element, .. } => {
-            writeln!(out, "at {moment} began the work on {}", name_of(*element)).ok()?;
+            write!(out, "at {moment} began the work on {}\n", name_of(*element)).ok()?;
         }
-        Advanced::Published { version, receipt } => print_step(out, *version, receipt)?,
+        Advanced::Published { version, receipt } => report_step(out, *version, receipt)?,
         Advanced::Worked { element, done } => {
             if done.ended {
-                print_piece(out, work, *element)?;
+                report_piece(out, work, *element)?;
             }
         }
         Advanced::Waiting { until } => return Some(Some(*until)),
@@ -94,20 +93,20 @@ fn print_act<W: Write>(
     Some(Some(moment))
 }
 
-/// Carries all changes to their end; `None` if an act was refused or could not be printed.
-pub(crate) fn operate<L: SharedLedger, R: Wait, W: Write>(
+/// Carries all changes to their end; `None` if an act was refused or could not be reported.
+pub(crate) fn operate<L: SharedLedger, R: Wait>(
     rt: &R,
     alloc: Global,
     shared: &Shared<L>,
     me: Handle<L>,
-    out: &mut W,
+    out: &mut String,
 ) -> Option<Handle<L>> {
     let mut me = me;
     let mut moment = BEGIN;
     let mut work = (0, 0);
     for _act in 0..MOST_ACTS {
         let done = advance(rt, alloc, shared, &mut me, moment, PIECES, LIMIT, TRIES).ok()?;
-        match print_act(out, &mut work, moment, &done)? {
+        match report_act(out, &mut work, moment, &done)? {
             Some(next) => moment = next,
             None => return Some(me),
         }

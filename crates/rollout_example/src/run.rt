@@ -1,12 +1,11 @@
 //! The servers and the operator at once, and what the world has when both are done.
 ghost use Rattle.std.specs.Prelude.{◌≡◌, length};
 
-use crate::operate::{operate, print_step};
+use crate::operate::{operate, report_step};
 use crate::table::{inserts, world_with_changes};
 use locked_store::{Handle, Shared, SharedLedger};
 use server::{Outcome, Request, Served, serve};
 use std::alloc::Global;
-use std::io::Write;
 use std::marker::Brand;
 use std::sync::Wait;
 use std::sync::ledger::Blank;
@@ -29,19 +28,18 @@ fn count_done(outcomes: &[(usize, Outcome)]) -> usize {
 }
 
 // Both at once: all handles, and how many requests were committed.
-fn at_once<L, R, W>(
+fn at_once<L, R>(
     rt: &R,
     alloc: Global,
     shared: &Shared<L>,
     servers: Vec<Handle<L>>,
     operator: Handle<L>,
     requests: &[Request],
-    out: &mut W,
+    out: &mut String,
 ) -> Option<(Vec<Handle<L>>, usize)>
 where
     L: SharedLedger + Send + Sync,
     R: Threads + Wait + Sync,
-    W: Write + Send,
 {
     let (served, operator) = join(
         rt,
@@ -58,18 +56,17 @@ where
 }
 
 // The world that comes back, and how many requests were committed.
-fn share<L, R, W>(
+fn share<L, R>(
     rt: &R,
     alloc: Global,
     blank: Blank,
     world: World,
     requests: &[Request],
-    out: &mut W,
+    out: &mut String,
 ) -> Option<(World, usize)>
 where
     L: SharedLedger + Send + Sync,
     R: Threads + Wait + Sync,
-    W: Write + Send,
     requires name { blank.name ≡ L.name }
     requires parts { blank.parts ≡ L.parts }
     requires picked { (L.handles ≡ 5) × (L.handles ≡ L.parts) × (L.opening ≡ world.opening) × (L.since ≡ length world.log) }
@@ -80,25 +77,25 @@ where
     Some((shared.close(handles).ok()?, done))
 }
 
-/// Runs the example; `None` if a call was refused or a line could not be printed.
-pub(crate) fn run<R, W>(rt: &R, alloc: Global, out: &mut W) -> Option<()>
+/// Lets four servers write while one operator adds an index and a required column and drops a
+/// column, and answers what the operator did, line by line, and what the world then has. It is the
+/// same in every run, whatever the threads do. `None` if a call was refused, also when out of
+/// memory.
+///
+/// - `rt`: what starts threads and waits.
+pub fn rollout_report<R>(rt: &R, alloc: Global) -> Option<String>
 where
     R: Threads + Wait + Sync,
-    W: Write + Send,
 {
+    let mut out = String::new(alloc);
     let (world, receipt) = world_with_changes(alloc, ROWS)?;
-    print_step(out, 2, &receipt)?;
+    report_step(&mut out, 2, &receipt)?;
     let requests = inserts(alloc, ROWS, ROWS).ok()?;
-    let (world, done) = share::<Brand, R, W>(
-        rt,
-        alloc,
-        Blank::new(5),
-        world,
-        requests.as_slice(),
-        out,
-    )?;
-    writeln!(out, "servers committed {done} inserts meanwhile").ok()?;
+    let blank = Blank::new(5);
+    let (world, done) = share::<Brand, R>(rt, alloc, blank, world, requests.as_slice(), &mut out)?;
+    write!(out, "servers committed {done} inserts meanwhile\n").ok()?;
     let found = world.check(alloc).ok()?;
     let (rows, missing, extra) = (found.rows, found.missing, found.extra);
-    writeln!(out, "rows {rows} missing {missing} extra {extra}").ok()
+    write!(out, "rows {rows} missing {missing} extra {extra}\n").ok()?;
+    Some(out)
 }

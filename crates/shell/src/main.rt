@@ -3,13 +3,15 @@
 
 use clap::Error;
 use command_line::{Chosen, NOT_UTF8, options, status_of};
-use load::run_load;
+use load::run_load_shown;
 use prompt::{Streams, converse, prompt_status};
+use rollout_example::rollout_report;
 use script::{run_script, script_status};
 use std::fs::File;
 use std::io;
 use std::io::{BufRead, BufReader, ErrorKind, IsTerminal, Read};
 use std::process::ExitCode;
+use std::time::Instant;
 
 /// The exit status of a command line that is refused.
 const REFUSED: u8 = 2;
@@ -17,8 +19,14 @@ const REFUSED: u8 = 2;
 /// The exit status if a file cannot be read.
 const UNREAD: u8 = 3;
 
+/// The exit status if a line could not be written.
+const UNWRITTEN: u8 = 4;
+
 /// The exit status when memory ran out.
 const NO_MEMORY: u8 = 5;
+
+/// The exit status if a call of a rollout was refused.
+const REFUSED_CALL: u8 = 6;
 
 /// Runs the script of a reader. What the process's own reader and writer do is said by no contract:
 /// it is shown by the stored run.
@@ -56,7 +64,7 @@ fn answer_lines<R: BufRead + Drop>(rt: &HostRuntime, reader: R, is_shown: bool) 
     prompt_status(&outcome)
 }
 
-/// A reader of a file; or else the exit status, after standard error was told why.
+/// A reader of a file; or else the exit status, after standard error has why.
 fn opened(rt: &HostRuntime, file: &str) -> Result<BufReader<File>, u8> {
     match File::open(rt, file) {
         Ok(opened) => BufReader::new(rt.alloc(), opened).map_err(|_| NO_MEMORY),
@@ -81,9 +89,9 @@ fn answer_input(rt: &HostRuntime, file: Option<&str>) -> u8 {
     }
 }
 
-/// Tells standard error why a load of this status was not reported, or why the command line was not
-/// read.
-fn tell_fault(rt: &HostRuntime, status: u8) {
+/// Reports on standard error why a load of this status was not reported, or why the command line
+/// was not read.
+fn report_fault(rt: &HostRuntime, status: u8) {
     let fault = match status {
         4 => "write",
         NO_MEMORY => "memory",
@@ -93,7 +101,7 @@ fn tell_fault(rt: &HostRuntime, status: u8) {
 }
 
 /// The words of the command line, the program's own name first. If they cannot be had, standard
-/// error is reported why, and the `Err` is the exit status.
+/// error has why, and the `Err` is the exit status.
 fn words_of(rt: &HostRuntime) -> Result<Vec<String>, u8> {
     match std::env::args(rt) {
         Ok(words) => {
@@ -108,19 +116,52 @@ fn words_of(rt: &HostRuntime) -> Result<Vec<String>, u8> {
             }
         }
     }
-    tell_fault(rt, NO_MEMORY);
+    report_fault(rt, NO_MEMORY);
     Err(NO_MEMORY)
 }
 
 /// Prints why the words choose nothing, or the help that they ask for, and answers the exit status.
-fn tell_choice(rt: &HostRuntime, error: &Error) -> u8 {
+fn print_choice(rt: &HostRuntime, error: &Error) -> u8 {
     let status = status_of(error);
     if status == NO_MEMORY {
-        tell_fault(rt, status);
+        report_fault(rt, status);
     } else {
         let _ = error.print(rt);
     }
     status
+}
+
+/// Reports on standard error how long so many rows took, and how many that is a second.
+fn report_rate(rt: &HostRuntime, rows: u32, started: &Instant) {
+    let Ok(took) = started.elapsed(rt) else {
+        return;
+    };
+    let millis = took
+        .as_secs()
+        .saturating_mul(1_000)
+        .saturating_add(u64::from(took.subsec_millis()));
+    let rate = u64::from(rows).saturating_mul(1_000) / millis.max(1);
+    let _ = eprintln!(rt; "{rows} rows in {millis} ms: {rate} rows a second");
+}
+
+/// Ends a load: its fault is reported on standard error, and if it is timed, its rate.
+fn end_load(rt: &HostRuntime, status: u8, rows: u32, started: Option<Instant>) -> u8 {
+    report_fault(rt, status);
+    if let Some(started) = started {
+        report_rate(rt, rows, &started);
+    }
+    status
+}
+
+/// Prints what a rollout of three changes did.
+fn print_rollout(rt: &HostRuntime, text: Option<String>) -> u8 {
+    let Some(text) = text else {
+        return REFUSED_CALL;
+    };
+    match print!(rt; "{text}") {
+        Ok(()) => 0,
+        Err(_) => UNWRITTEN,
+    }
 }
 
 fn main(rt: HostRuntime) -> ExitCode {
@@ -132,12 +173,21 @@ fn main(rt: HostRuntime) -> ExitCode {
     match options(alloc, words.as_slice()) {
         Ok(Chosen::Run { file }) => ExitCode::from(run_input(&rt, file)),
         Ok(Chosen::Prompt { file }) => ExitCode::from(answer_input(&rt, file)),
-        Ok(Chosen::Load(size)) => {
+        Ok(Chosen::Load { size, is_timed }) => {
+            let started = if is_timed {
+                Instant::now(&rt).ok()
+            } else {
+                None
+            };
+            let is_shown = rt.stderr().is_terminal();
             let mut output = io::writer(&rt);
-            let status = run_load(&rt, alloc, size, &mut output);
-            tell_fault(&rt, status);
-            ExitCode::from(status)
+            let status = run_load_shown(&rt, alloc, size, is_shown, &mut output);
+            ExitCode::from(end_load(&rt, status, size.rows, started))
         }
-        Err(error) => ExitCode::from(tell_choice(&rt, &error)),
+        Ok(Chosen::Rollout) => {
+            let text = rollout_report(&rt, alloc);
+            ExitCode::from(print_rollout(&rt, text))
+        }
+        Err(error) => ExitCode::from(print_choice(&rt, &error)),
     }
 }

@@ -1,5 +1,5 @@
 use Rattle.std.specs.Prelude.{length}
-use Rattle.rollout_example.proofs.run.run.Given as goal
+use Rattle.rollout_example.proofs.run.rollout_report.Given as goal
 
 abbrev pub ghosts-share-L-Ledger : goal.ghosts-share-L-Ledger
 ghosts-share-L-Ledger g a = record { name = a.blank.name; parts = a.blank.parts }
