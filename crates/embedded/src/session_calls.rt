@@ -1,0 +1,69 @@
+//! The calls of a session behind a handle.
+ghost use Rattle.std.specs.Prelude.{◌≡◌};
+ghost use Rattle.embedded.specs.Calls.{Opens, RepliesTo, RepliesFrom, Closes};
+
+use crate::engine::{Conversation, Engine};
+use crate::handle::Handle;
+use crate::outcome::{Outcome, lay};
+use crate::status::{ALREADY_OPEN, CLOSED, OK, OUT_OF_MEMORY};
+use std::alloc::Global;
+
+impl Handle {
+    /// Opens a session.
+    pub(crate) fn open(&mut self, alloc: Global) -> i32
+        ensures { Opens self.old.place.value result self.new.place.value }
+    {
+        if self.is_open {
+            return ALREADY_OPEN;
+        }
+        let engine = Engine::Session(Conversation::new(alloc));
+        let Ok(engine) = Box::new(alloc, engine) else {
+            return OUT_OF_MEMORY;
+        };
+        self.put(engine);
+        OK
+    }
+
+    /// Answers a line.
+    pub(crate) fn reply_to(&mut self, alloc: Global, line: &[u8], out: &mut [u8]) -> Outcome
+        ensures { RepliesTo self.old.place.value line.now out.old result out.new self.new.place.value }
+    {
+        let Some(mut engine) = self.take(alloc) else {
+            return Outcome::refusal(CLOSED);
+        };
+        let Engine::Session(conversation) = &mut *engine;
+        let outcome = conversation.reply_to(alloc, line, out);
+        if outcome.status != OUT_OF_MEMORY {
+            self.put(engine);
+        }
+        outcome
+    }
+
+    /// Writes the last reply from one of its bytes on.
+    pub(crate) fn reply_from(&mut self, alloc: Global, from: usize, out: &mut [u8]) -> Outcome
+        ensures replies { RepliesFrom self.old.place.value from out.old result out.new }
+        ensures same { self.new.place.value ≡ self.old.place.value }
+    {
+        let Some(engine) = self.take(alloc) else {
+            return Outcome::refusal(CLOSED);
+        };
+        let Engine::Session(conversation) = &*engine;
+        let reply = conversation.reply.as_str().as_bytes();
+        let length = reply.len();
+        if from < length {
+            lay(out, reply.split_at(from).1);
+        }
+        self.put(engine);
+        Outcome { status: OK, length }
+    }
+
+    /// Frees what the handle holds.
+    pub(crate) fn close(&mut self, alloc: Global) -> i32
+        ensures { Closes self.old.place.value result self.new.place.value }
+    {
+        match self.take(alloc) {
+            Some(_) => OK,
+            None => CLOSED,
+        }
+    }
+}
