@@ -1,7 +1,7 @@
 """Random input to the prompt, from fixed seeds."""
 import random
 
-from language import is_silent, lines_of, replies_in
+from language import replies_in
 from noise import random_ascii, random_bytes, random_changes, random_lines, random_text, random_tokens
 from program import SHORT_SECONDS, run
 
@@ -13,7 +13,7 @@ def without_remarks(out):
 def ends_fault(ended):
     """A prompt ends at the end of its input: with status 1 if it answered `bad line`, and it writes no errors."""
     wanted = 1 if b"bad line\n" in ended.out.splitlines(keepends=True) else 0
-    if (ended.status, ended.err) != (wanted, b""):
+    if (ended.status, ended.err, ended.reports) != (wanted, b"", []):
         return f"expected status {wanted} and no errors, got {ended}"
     if ended.out and not ended.out.endswith(b"\n"):
         return f"its last line has no end: {ended}"
@@ -32,7 +32,7 @@ def answered(make, first, count):
 def as_run(make, first, count):
     """Lines that are none of the prompt's own and bad nowhere get the replies of `run`."""
     for seed in range(first, first + count):
-        lines = [line for line in lines_of(make(random.Random(seed))) if not is_silent(line)]
+        lines = make(random.Random(seed)).split(b"\n")
         replies, _ = replies_in(run(data=b"\n".join(lines)).out)
         good = b"\n".join(line for line, reply in zip(lines, replies) if reply != b"bad line\n")
         ran, prompted = run(data=good), run(("prompt",), good)
