@@ -1,9 +1,11 @@
 //! A shared world under one thread and under two: what no clause says of its calls, and receipts
-//! against its log.
+//! against its log. And changes that are carried on, alone and beside servers.
 #![tactic(auto)]
 
 #[cfg(test)]
 mod acts;
+#[cfg(test)]
+mod carried_on;
 #[cfg(test)]
 mod fixtures;
 #[cfg(test)]

@@ -2,7 +2,7 @@
 //! twice.
 ghost use Rattle.std.specs.Prelude.{◌≡◌, length};
 
-use crate::fixtures::{is_whole, request, states, with_changes};
+use crate::carried_on::fixtures::{is_whole, request, states, with_changes};
 use collections::List;
 use locked_store::{Handle, Shared, SharedLedger, reconcile};
 use replay::What;

@@ -1,7 +1,7 @@
 //! One operator goes on where another stopped, after an element was abandoned in mid-course; also
 //! if a call is out of memory.
 
-use crate::fixtures::{is_whole, mark, states, with_changes};
+use crate::carried_on::fixtures::{is_whole, mark, states, with_changes};
 use collections::List;
 use rollout::{AdvanceFault, advance, complete};
 use schema_version::{ElementState, Move};

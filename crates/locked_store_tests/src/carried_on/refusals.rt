@@ -1,6 +1,6 @@
 //! Bad numbers are refused by name, and a call that stopped for a moment is gone on with.
 
-use crate::fixtures::{states, with_changes};
+use crate::carried_on::fixtures::{states, with_changes};
 use lease::MAX_MOMENT;
 use rollout::{AdvanceFault, advance, complete};
 use schema_version::ElementState;

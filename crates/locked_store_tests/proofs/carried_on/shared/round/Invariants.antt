@@ -1,5 +1,5 @@
 use Rattle.std.specs.Prelude.{length}
-use Rattle.rollout_tests.proofs.shared.round.Given as goal
+use Rattle.locked_store_tests.proofs.carried_on.shared.round.Given as goal
 
 abbrev pub ghosts-driven-L-Ledger : goal.ghosts-driven-L-Ledger
 ghosts-driven-L-Ledger g a = record { name = a.blank.name; parts = a.blank.parts }

@@ -1,7 +1,7 @@
 //! An index and a required column are added and a column is dropped, all begun in one step:
 //! advances do the rest, at the moments that they report.
 
-use crate::fixtures::{is_whole, states, with_changes};
+use crate::carried_on::fixtures::{is_whole, states, with_changes};
 use rollout::{Advanced, advance};
 use schema_version::ElementState;
 use std::alloc::Global;
