@@ -25,7 +25,8 @@ pub record IsRead (scan_range : ScanRange) (pairs : Pairs) (cursor high : Bytes)
   pub all : so_far ≡ part pairs cursor at
   pub counted : length (item_keys scan_range (key_range pairs cursor at)) + left ≡ limit
 
-no_part : (pairs : Pairs) (a : Bytes) → map.empty ≡ part pairs a a
+-- nothing lies between a key and itself
+pub no_part : (pairs : Pairs) (a : Bytes) → map.empty ≡ part pairs a a
 no_part pairs a = sym (map.empty_of_len (part pairs a a) (map.len-entries (part pairs a a) ∙ ap length (entries-part pairs a a ∙ key_range_itself pairs a)))
 
 -- what has been read, and the pairs that are left to read

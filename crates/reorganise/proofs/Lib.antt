@@ -14,3 +14,4 @@ pub mod Cursors
 pub mod EmptyValues
 pub mod Emptying
 pub mod Left
+mod ReadTo

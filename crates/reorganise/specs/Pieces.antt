@@ -1,4 +1,4 @@
--- Cited by the contracts of Progress::begin, Progress::finished, Progress::is_done, PreparedPiece::lemma_made and 3 more.
+-- Cited by the contracts of Progress::begin, Progress::finished, Progress::is_done, PreparedPiece::lemma_made and 4 more.
 -- The pieces that a reorganisation begins with, and what is read of one.
 use Rattle.std.specs.Prelude.{◌≡◌, ℕ, zero, suc, ◌+◌, ◌*◌, ◌/◌, ◌==◌, Bool, true, ◌&&◌, List, [], ◌∷◌, ◌++◌, length, Some, ◌⊎◌, if◌then◌else◌, slice_get, unwrap_or}
 use Rattle.std.specs.Ordering.{is_le, is_eq}
@@ -92,3 +92,29 @@ pub record ComesTo (scan_range : ScanRange) (cursor high to : Bytes) : Type 0 wh
 pub record IsReading (read : Reading) : Type 0 where
   pub comes : ComesTo (scan_range_of read.element read.kind) read.key_range.low read.high read.key_range.high
   pub inside : (key value : Bytes) → map.get read.key_range.pairs key ≡ Some value → is_within read.key_range.low read.key_range.high key ≡ true
+
+-- ---- reading as far as a key
+
+-- what is read of a piece as far as this key
+abbrev pub view_to : Progress → Pairs → ℕ → Bytes → Span → Reading
+view_to progress pairs piece to span = record {
+  element = progress.element;
+  kind = progress.kind;
+  piece = piece;
+  low = span.low;
+  high = span.high;
+  key_range = record { low = span.cursor; high = to; pairs = part pairs span.cursor to };
+}
+
+-- the piece of this number can come to this key
+pub record CanCome (progress : Progress) (piece : ℕ) (to : Bytes) : Type 0 where
+  pub span : Span
+  pub here : slice_get progress.pieces piece ≡ Some span
+  pub comes : ComesTo (scan_range_of progress.element progress.kind) span.cursor span.high to
+
+-- what is read of the piece of this number as far as this key
+pub record IsReadTo (progress : Progress) (pairs : Pairs) (piece : ℕ) (to : Bytes) (read : Reading) : Type 0 where
+  pub span : Span
+  pub here : slice_get progress.pieces piece ≡ Some span
+  pub comes : ComesTo (scan_range_of progress.element progress.kind) span.cursor span.high to
+  pub read_is : read ≡ view_to progress pairs piece to span

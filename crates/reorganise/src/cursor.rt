@@ -28,7 +28,7 @@ fn with_moved(mut pieces: Vec<Span>, piece: u32, cursor: Bytes) -> Vec<Span>
 }
 
 /// Whether two keys are the same.
-fn is_key(one: &[u8], other: &[u8]) -> bool
+pub(crate) fn is_key(one: &[u8], other: &[u8]) -> bool
     ensures { Decides result (one.now ≡ other.now) }
 {
     one == other

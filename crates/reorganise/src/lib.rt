@@ -15,6 +15,7 @@ mod prepare;
 mod prepared;
 mod ranks;
 mod read;
+mod read_to;
 mod row;
 mod scan_range;
 mod view;

@@ -71,7 +71,7 @@ fn read_key_range<V: PairView>(
 }
 
 /// A copy of the definition.
-fn element_copied(element: &ElementDef) -> Result<ElementDef, AllocError>
+pub(crate) fn element_copied(element: &ElementDef) -> Result<ElementDef, AllocError>
     ensures { IfOk result (λ copy. copy ≡ element.now) }
 {
     element.clone()

@@ -7,8 +7,8 @@ use byte_map::{Bytes, KeyMap};
 use schema_version::{ElementDef, Work};
 use std::marker::Model;
 
-/// The next items of a piece as they were read, to be prepared. `Progress::read_piece` alone makes
-/// one.
+/// The next items of a piece as they were read, to be prepared. `Progress::read_piece` and
+/// `Progress::read_piece_to` alone make one.
 #[derive(Drop)]
 pub struct PieceView {
     pub(crate) inside: Reading,
