@@ -1,4 +1,4 @@
--- Cited by the contracts of World::progress, World::piece_progress, World::read_piece, World::commit_piece and 4 more.
+-- Cited by the contracts of World::progress, World::piece_progress, World::read_piece, World::read_piece_to and 5 more.
 -- What the calls on a begun reorganisation answer.
 use Rattle.std.specs.Prelude.{◌≡◌, ◌≢◌, ℕ, ◌<◌, ◌≤◌, length, Bool, Option, Some, None, Result, Ok, Err, slice_get}
 use Rattle.std.specs.Bool.{Decides}
@@ -6,13 +6,14 @@ use Rattle.std.specs.Option.{option_map}
 use Rattle.lease.specs.Timeline.{max_moment}
 use Rattle.collections.specs.Refusal.{IsRefusal, IsClear}
 use Rattle.row_map.specs.Expect.{IsConflict, Holds}
+use Rattle.row_map.specs.Rows.{Bytes}
 use Rattle.schema_version.specs.declared.element.Work.{Work}
 use Rattle.reorganise.specs.declared.work.Span.{Span}
 use Rattle.reorganise.specs.declared.work.Progress.{Progress}
 use Rattle.reorganise.specs.declared.read.Reading.{Reading}
 use Rattle.reorganise.specs.declared.fault.ViewFault.TheVariants.{Memory as OutOfMemory}
 use Rattle.reorganise.specs.Cursor.{IsSpanOf}
-use Rattle.reorganise.specs.Pieces.{is_ended, are_ended, IsReadOf}
+use Rattle.reorganise.specs.Pieces.{is_ended, are_ended, IsReadOf, CanCome, IsReadTo}
 use Rattle.reorganise.specs.Batches.{expect_of}
 use Rattle.reorganise.specs.Refusals.{rank as view_rank, Condition as ViewCondition}
 use Rattle.replay.specs.declared.entry.What.TheVariants.{Piece}
@@ -54,6 +55,14 @@ ReadStep old number piece limit (Ok read) =
 ReadStep old number piece limit (Err read_fault.NotWanted) = progress_of (facts_of old).progress number ≡ None
 ReadStep old number piece limit (Err (read_fault.View fault)) =
     (progress : Progress) × (progress_of (facts_of old).progress number ≡ Some progress) × IsRefusal view_rank (ViewCondition progress piece limit) OutOfMemory fault
+
+-- the element's begun reorganisation has this piece, which can come to that key
+abbrev pub CanComeTo : State → ℕ → ℕ → Bytes → Type 0
+CanComeTo old number piece to = (progress : Progress) × (progress_of (facts_of old).progress number ≡ Some progress) × CanCome progress piece to
+
+-- it is read as far as that key, as it stands
+abbrev pub IsReadAsFar : State → ℕ → ℕ → Bytes → Reading → Type 0
+IsReadAsFar old number piece to read = (progress : Progress) × (progress_of (facts_of old).progress number ≡ Some progress) × IsReadTo progress old.pairs piece to read
 
 -- ---- committing a piece
 

@@ -1,13 +1,13 @@
 //! The pieces of a begun reorganisation.
 ghost use Rattle.std.specs.Bool.{Decides};
-ghost use Rattle.std.specs.Prelude.{◌≡◌, ◌≤◌, ℕ, IfOk, IfErr, OnOk};
+ghost use Rattle.std.specs.Prelude.{◌≡◌, ◌≤◌, ℕ, IfOk, IfErr, OnOk, MatchOption};
 ghost use mathlib.Core.List.{map as each};
 ghost use Rattle.collections.specs.Refusal.{IsRefusal};
 ghost use Rattle.row_map.specs.Rows.{Bytes as Key};
 ghost use Rattle.replay.specs.Replay.{moved_to};
 ghost use Rattle.world.specs.declared.piece.PieceFault.TheVariants.{Memory};
 ghost use Rattle.world.specs.declared.piece.ReadFault.TheVariants.{View as ViewOf};
-ghost use Rattle.world.specs.Piece.{standing_at, piece_standing, piece_standing_at, ReadStep, PieceStep, PieceAt, PieceCondition, IsCurrent, piece_rank};
+ghost use Rattle.world.specs.Piece.{standing_at, piece_standing, piece_standing_at, ReadStep, CanComeTo, IsReadAsFar, PieceStep, PieceAt, PieceCondition, IsCurrent, piece_rank};
 ghost use Rattle.world.specs.State.{facts_of};
 ghost use Rattle.world.specs.Faults.{piece_reported};
 ghost use Rattle.world.specs.inner.Cursors.{cursor_of};
@@ -208,6 +208,33 @@ impl World {
             return Err(ReadFault::NotWanted);
         };
         Ok(progress.read_piece(alloc, &self.store, piece, limit)?)
+    }
+
+    /// Reads the items of a piece as far as a given key, as another World did that was opened alike:
+    /// from the piece's cursor to below that key. None if no reorganisation of the element has
+    /// begun, if it has no such piece, or if the piece can't come to that key.
+    ///
+    /// A piece can come to any key that is not before its cursor and not after its upper bound, and
+    /// that is this bound or the key of an item, whether or not such an item is present.
+    ///
+    /// - `element`: the number of the element whose reorganisation it is.
+    /// - `piece`: the number of the piece, from 0.
+    /// - `to`: the key before which the reading ends.
+    ///
+    /// Refused only when out of memory.
+    pub fn read_piece_to(
+        &self,
+        alloc: Global,
+        element: u32,
+        piece: u32,
+        to: &Bytes,
+    ) -> Result<Option<PieceView>, AllocError>
+        ensures { IfOk result (λ found. MatchOption found (CanComeTo self.now element piece to.now → ⊥) (λ read. IsReadAsFar self.now element piece to.now read)) }
+    {
+        let Some(progress) = self.begun_of(element) else {
+            return Ok(None);
+        };
+        progress.read_piece_to(alloc, &self.store, piece, to)
     }
 
     /// Commits a prepared piece: its batch is written, and its cursor comes on.
