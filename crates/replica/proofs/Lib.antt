@@ -1,0 +1,6 @@
+mod Options
+mod Moments
+mod Txns
+mod Pieces
+mod Accepted
+mod Logs
