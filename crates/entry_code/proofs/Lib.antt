@@ -1,0 +1,5 @@
+pub mod Codes
+pub mod Loop
+pub mod Readers
+pub mod Reports
+pub mod Types

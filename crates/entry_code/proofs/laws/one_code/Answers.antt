@@ -1,0 +1,14 @@
+use Rattle.entry_code.proofs.Codes.{entry_tells, ops_tell, step_tells, opening_tells}
+use Rattle.entry_code.proofs.laws.one_code.Goals as goal
+
+pub returns-clause-entries : goal.returns-clause-entries
+returns-clause-entries c = entry_tells
+
+pub returns-clause-ops : goal.returns-clause-ops
+returns-clause-ops c = ops_tell
+
+pub returns-clause-steps : goal.returns-clause-steps
+returns-clause-steps c = step_tells
+
+pub returns-clause-openings : goal.returns-clause-openings
+returns-clause-openings c = opening_tells

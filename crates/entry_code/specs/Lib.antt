@@ -1,0 +1,5 @@
+pub mod Code
+pub mod Known
+pub mod Read
+pub mod Worked
+pub mod inner

@@ -1,0 +1,23 @@
+//! Entries of a log, operations, steps and openings as bytes: each has one code, and what is read of
+//! bytes has these bytes as its code.
+#![tactic(auto)]
+
+mod calls;
+mod encoded;
+mod entries;
+mod fault;
+mod laws;
+mod lists;
+mod numbers;
+mod ops;
+mod steps;
+mod tables;
+mod texts;
+mod values;
+mod whole;
+
+pub use calls::{
+    entry_bytes, entry_of, opening_bytes, opening_of, ops_bytes, ops_of, step_bytes, step_of,
+};
+pub use fault::CodeFault;
+pub use laws::{codes_say, one_code};
