@@ -50,7 +50,7 @@ pub cut_within : (input : List ℕ) (prefix left : List (List ℕ)) (out : List 
 cut_within input prefix left out bad s x more reply b t sent cut e l h r c =
     (prefix ++ x ∷ [], more, out ++ reply, bad + cond b 1 0, t, cut, e ∙ ap (λ y. prefix ++ y) l ∙ sym (append_assoc {A = List ℕ} prefix (x ∷ []) more), one_more empty prefix out bad s x reply b t h r, ap (λ y. out ++ y) c ∙ sym (append_assoc {A = ℕ} out sent cut))
 
-byte_is : (b : Bool) → bool_byte b ≡ cond b 1 0
+pub byte_is : (b : Bool) → bool_byte b ≡ cond b 1 0
 byte_is true = refl
 byte_is false = refl
 

@@ -1,2 +1,4 @@
 pub mod Script
 pub mod Status
+pub mod Watched
+pub mod OneLine

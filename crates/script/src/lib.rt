@@ -4,6 +4,8 @@
 
 mod run;
 mod status;
+mod watched;
 
 pub use run::{ScriptFault, Summary, run_script};
 pub use status::script_status;
+pub use watched::{Ending, Watch, run_watched, watched_status};

@@ -42,7 +42,7 @@ const LIMIT: usize = 16_777_216;
 
 /// All that is left to read, or the first fault. That a reader failed is its own to say, and no
 /// contract sees it: that `Read` isn't answered at random is shown by the tests.
-fn read_all<R: Read>(alloc: Global, reader: &mut R) -> Result<Vec<u8>, ScriptFault>
+pub(crate) fn read_all<R: Read>(alloc: Global, reader: &mut R) -> Result<Vec<u8>, ScriptFault>
     ensures read { IsRead (R.remaining reader.old) result }
     ensures bounded { IfOk result (λ bytes. length bytes.items ≤ limit) }
 {
@@ -67,7 +67,7 @@ fn read_all<R: Read>(alloc: Global, reader: &mut R) -> Result<Vec<u8>, ScriptFau
 
 /// Writes all of the text. At an `Err` a start of it went out. That a writer failed is its own to
 /// say, as with a reader.
-fn write_all<W: Write>(writer: &mut W, text: &[u8]) -> Result<(), ScriptFault>
+pub(crate) fn write_all<W: Write>(writer: &mut W, text: &[u8]) -> Result<(), ScriptFault>
     ensures ok { OnOk result (Appends (W.contents writer.old) (W.contents writer.new) text.now) }
     ensures err { IfErr result (λ fault. fault ≡ ScriptFault.Write) }
     ensures cut { OnErr result (AppendsPrefix (W.contents writer.old) (W.contents writer.new) text.now) }
