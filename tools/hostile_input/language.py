@@ -209,6 +209,9 @@ def unread_fault(ended, fault):
 
 def status_fault(ended, replies):
     wanted = 1 if b"bad line\n" in replies else 0
+    wrong = sum(reply == b"bad line\n" or reply.startswith(b"refused ") for reply in replies)
+    if len(ended.reports) != wrong or ended.reports != sorted(set(ended.reports)):
+        return f"{wrong} lines are bad or refused, and {len(ended.reports)} are reported: {ended}"
     if (ended.status, ended.err) == (wanted, b""):
         return None
     return f"expected status {wanted} and no errors, got {ended}"

@@ -1,5 +1,6 @@
 """Running the program, and what a run came to."""
 import os
+import re
 import signal
 import sys
 import time
@@ -23,11 +24,19 @@ def stop(_signal, _frame):
         os.kill(running, signal.SIGKILL)
 
 
+# what `run` writes on standard error of a line that is bad or refused
+REPORT = re.compile(rb"(?m)^line ([0-9]+): .*\n")
+
+
 class Ended:
-    """How a run ended: its status (below 0 the signal), what it wrote, and its seconds by the clock and of the processor."""
+    """How a run ended: its status (below 0 the signal), what it wrote, and its seconds by the clock and of the processor.
+
+    `reports` are the numbers of the lines that were reported as bad or refused, and `err` is the other errors."""
 
     def __init__(self, status, out, err, clock, processor):
-        self.status, self.out, self.err, self.clock, self.processor = status, out, err, clock, processor
+        self.status, self.out, self.clock, self.processor = status, out, clock, processor
+        self.reports = [int(number) for number in REPORT.findall(err)]
+        self.err = REPORT.sub(b"", err)
 
     def __str__(self):
         if self.status < 0:

@@ -13,7 +13,7 @@ def without_remarks(out):
 def ends_fault(ended):
     """A prompt ends at the end of its input: with status 1 if it answered `bad line`, and it writes no errors."""
     wanted = 1 if b"bad line\n" in ended.out.splitlines(keepends=True) else 0
-    if (ended.status, ended.err) != (wanted, b""):
+    if (ended.status, ended.err, ended.reports) != (wanted, b"", []):
         return f"expected status {wanted} and no errors, got {ended}"
     if ended.out and not ended.out.endswith(b"\n"):
         return f"its last line has no end: {ended}"

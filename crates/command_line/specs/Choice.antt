@@ -15,7 +15,7 @@ is_named [] name = false
 
 -- Each is chosen only by its word, and each number of a load's size is in its range.
 abbrev pub IsChoiceOf : List (String Global) → Chosen → Type 0
-IsChoiceOf words (Run file) = IsTrue (is_named words (codes "run"))
+IsChoiceOf words (Run file stops) = IsTrue (is_named words (codes "run"))
 IsChoiceOf words (Prompt file) = IsTrue (is_named words (codes "prompt"))
 IsChoiceOf words (Load size timed) = IsTrue (is_named words (codes "load")) × IsLoadSize size
 IsChoiceOf words Rollout = IsTrue (is_named words (codes "rollout"))

@@ -19,6 +19,8 @@ pub enum Chosen<'a> {
     Run {
         /// The file of the script.
         file: Option<&'a str>,
+        /// Whether it ends at the first line that is bad or refused.
+        stops: bool,
     },
     /// Answer each line as it comes.
     Prompt {
@@ -53,6 +55,7 @@ fn run_command<'a>(alloc: Global) -> Result<Command<'a>, AllocError> {
     Command::new(alloc, "run")
         .about(help::ABOUT_RUN)
         .after_help(help::SCRIPTS)
+        .arg(flag(alloc, "stop", 's', help::STOP))?
         .arg(file_arg(alloc))
 }
 
@@ -184,8 +187,9 @@ pub fn options<'a>(alloc: Global, words: &'a [String]) -> Result<Chosen<'a>, Err
     let mut command = command_of(alloc)?;
     let matches = command.try_get_matches_from_mut(words)?;
     if names(words, "run") {
+        let stops = has_flag(&matches, "run", "stop");
         let file = file_of(&matches, "run");
-        return Ok(Chosen::Run { file });
+        return Ok(Chosen::Run { file, stops });
     }
     if names(words, "prompt") {
         let file = file_of(&matches, "prompt");

@@ -12,6 +12,8 @@ pub(crate) const ABOUT_PROMPT: &str =
 
 pub(crate) const FILE: &str = "The file of the lines; standard input if it is left out";
 
+pub(crate) const STOP: &str = "End at the first line that is bad (status 1) or refused (status 7)";
+
 pub(crate) const TIME: &str = "Write the time and the rows a second to standard error";
 
 pub(crate) const ABOUT_ROLLOUT: &str =
@@ -81,7 +83,8 @@ Exit status:
   4  a reply, or a line of `load` or `rollout`, could not be written
   5  out of memory
   6  `load`: a difference was found, a step was refused, or a thread came to another end than a
-     committed row or a finished piece; `rollout`: a call was refused";
+     committed row or a finished piece; `rollout`: a call was refused
+  7  `run --stop`: a line was refused";
 
 /// The script language in short, and the exit statuses of `run`.
 pub(crate) const SCRIPTS: &str = "\
@@ -123,7 +126,11 @@ Exit status:
   2  a wrong command line
   3  the script could not be read, is longer than 16 MiB, or is not UTF-8
   4  a reply could not be written
-  5  out of memory";
+  5  out of memory
+  7  with --stop: a line was refused
+
+Standard error has a line `line N: ..` for each line that is bad or refused: what is wrong with it, and
+what may be done.";
 
 pub(crate) const SERVERS: &str = "Threads that insert rows, 1 to 16";
 

@@ -37,10 +37,17 @@ const LOADS: [(&str, [u32; 5]); 18] = [
     ),
 ];
 
-// Lines that choose no load.
-const OTHERS: [(&str, Chosen<'static>); 5] = [
-    ("run", Chosen::Run { file: None }),
-    ("run x", Chosen::Run { file: Some("x") }),
+// Lines that choose a script, its file, and whether the run stops.
+const RUNS: [(&str, Option<&str>, bool); 5] = [
+    ("run", None, false),
+    ("run x", Some("x"), false),
+    ("run --stop", None, true),
+    ("run -s x", Some("x"), true),
+    ("run x --stop", Some("x"), true),
+];
+
+// Lines that choose a prompt or a rollout.
+const OTHERS: [(&str, Chosen<'static>); 3] = [
     ("prompt", Chosen::Prompt { file: None }),
     ("prompt x", Chosen::Prompt { file: Some("x") }),
     ("rollout", Chosen::Rollout),
@@ -72,6 +79,13 @@ fn load([servers, rows, pieces, workers, limit]: [u32; 5], is_timed: bool) -> Ch
 
 #[test]
 fn what_lines_choose(rt: HostRuntime) {
+    for (line, file, stops) in RUNS {
+        let chosen = Chosen::Run { file, stops };
+        assert!(rt;
+            matches!(chooses(rt.alloc(), line, chosen), Ok(true)),
+            "{line}"
+        );
+    }
     for (line, chosen) in OTHERS {
         assert!(rt;
             matches!(chooses(rt.alloc(), line, chosen), Ok(true)),

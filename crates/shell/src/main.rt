@@ -6,7 +6,7 @@ use command_line::{Chosen, NOT_UTF8, options, status_of};
 use load::run_load_shown;
 use prompt::{Streams, converse, prompt_status};
 use rollout_example::rollout_report;
-use script::{run_script, script_status};
+use script::{Watch, run_watched, watched_status};
 use std::fs::File;
 use std::io;
 use std::io::{BufRead, BufReader, ErrorKind, IsTerminal, Read};
@@ -28,23 +28,25 @@ const NO_MEMORY: u8 = 5;
 /// The exit status if a call of a rollout was refused.
 const REFUSED_CALL: u8 = 6;
 
-/// Runs the script of a reader. What the process's own reader and writer do is said by no contract:
-/// it is shown by the stored run.
-fn run_lines<R: Read>(rt: &HostRuntime, input: &mut R) -> u8 {
+/// Runs the script of a reader, and reports what is wrong with its lines on standard error. What
+/// the process's own reader and writer do is said by no contract: it is shown by the stored run.
+fn run_lines<R: Read>(rt: &HostRuntime, input: &mut R, stops: bool) -> u8 {
     let mut output = io::writer(rt);
-    let outcome = run_script(rt.alloc(), input, &mut output);
+    let errors = rt.stderr();
+    let mut watch = Watch { errors, stops };
+    let outcome = run_watched(rt.alloc(), input, &mut output, &mut watch);
     if let Err(fault) = &outcome {
         let _ = eprintln!(rt; "fault: {fault}");
     }
-    script_status(&outcome)
+    watched_status(&outcome)
 }
 
 /// Runs the script of a file, or that on standard input.
-fn run_input(rt: &HostRuntime, file: Option<&str>) -> u8 {
+fn run_input(rt: &HostRuntime, file: Option<&str>, stops: bool) -> u8 {
     match file {
-        None => run_lines(rt, &mut rt.stdin()),
+        None => run_lines(rt, &mut rt.stdin(), stops),
         Some(file) => match opened(rt, file) {
-            Ok(mut reader) => run_lines(rt, &mut reader),
+            Ok(mut reader) => run_lines(rt, &mut reader, stops),
             Err(status) => status,
         },
     }
@@ -171,7 +173,7 @@ fn main(rt: HostRuntime) -> ExitCode {
         Err(status) => return ExitCode::from(status),
     };
     match options(alloc, words.as_slice()) {
-        Ok(Chosen::Run { file }) => ExitCode::from(run_input(&rt, file)),
+        Ok(Chosen::Run { file, stops }) => ExitCode::from(run_input(&rt, file, stops)),
         Ok(Chosen::Prompt { file }) => ExitCode::from(answer_input(&rt, file)),
         Ok(Chosen::Load { size, is_timed }) => {
             let started = if is_timed {
