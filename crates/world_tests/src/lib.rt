@@ -13,6 +13,8 @@ mod leases;
 #[cfg(test)]
 mod pieces;
 #[cfg(test)]
+mod replicas;
+#[cfg(test)]
 mod reported;
 #[cfg(test)]
 mod transactions;

@@ -5,6 +5,7 @@
 use crate::acts::{Act, Kept, acted};
 use crate::fixtures::{FIRST, mark, opened};
 use crate::pieces::Refusal::{Moved, NotWanted, WrongElement};
+use crate::replicas::are_alike;
 use crate::reported::{Reported, seen};
 use Act::{
     Begin, ByHand, Check, Commit, Enter, Find, Go, Insert, Keep, Left, LetGo, Look, LookOver, Read,
@@ -41,10 +42,22 @@ fn walked(alloc: Global, world: &mut World, kept: &mut Kept, rows: &[Row]) -> us
     rows.len()
 }
 
-// The same on a world of its own.
+// Whether a world that was opened alike repeats the log of this one, and then is as it is.
+fn is_repeated(alloc: Global, world: &World) -> bool {
+    match opened(alloc) {
+        Ok(mut again) => are_alike(alloc, world, &mut again),
+        Err(_) => false,
+    }
+}
+
+// How many of the acts are answered as they have to be on a world of their own, whose log is then
+// repeated.
 fn walked_anew(alloc: Global, kept: &mut Kept, rows: &[Row]) -> usize {
     match opened(alloc) {
-        Ok(mut world) => walked(alloc, &mut world, kept, rows),
+        Ok(mut world) => {
+            let place = walked(alloc, &mut world, kept, rows);
+            if is_repeated(alloc, &world) { place } else { 0 }
+        }
         Err(_) => 0,
     }
 }
