@@ -2,7 +2,7 @@
 ghost use Rattle.std.specs.Prelude.{◌≡◌, IfOk, OnOk};
 ghost use Rattle.keycode.specs.Valid.{IsValue, IsStorable};
 ghost use Rattle.entry_code.specs.Code.{entry_code, ops_code, step_code, opening_code};
-ghost use Rattle.entry_code.specs.Known.{IsEntry, AreOps, AreMoves, IsOpening, IsTable, IsList, IsU64};
+ghost use Rattle.entry_code.specs.Known.{IsEntry, AreOps, AreMoves, IsOpening};
 ghost use Rattle.entry_code.specs.Read.{IsRead, IsAccepted};
 
 use crate::encoded::Encoded;
@@ -81,7 +81,7 @@ pub fn opening_bytes(
     tables: &List<TableDef>,
 ) -> Result<Vec<u8>, AllocError>
     ensures code { IfOk result (λ bytes. bytes.items ≡ opening_code (length, tables.now)) }
-    ensures known { OnOk result (IsList IsTable tables.now) }
+    ensures known { OnOk result (IsOpening (length, tables.now)) }
 {
     let mut out = Vec::new(alloc);
     out.push(1)?;
