@@ -120,6 +120,29 @@ Ends input rest = IsNext input rest None ⊎ ((line : List ℕ) × IsNext input 
 abbrev pub AppendsPrefix : Option (List ℕ) → Option (List ℕ) → List ℕ → Type 0
 AppendsPrefix old new text = (out : List ℕ) × (cut : List ℕ) × Appends old new out × (text ≡ out ++ cut)
 
+-- the next line that is to be answered; none at the end, and at a line `quit`
+abbrev pub IsAwaited : Option (List ℕ) → Option (List ℕ) → Option (List ℕ) → Type 0
+IsAwaited input rest None = Ends input rest
+IsAwaited input rest (Some line) = IsNext input rest (Some line) × (is_quit line ≡ false)
+
+-- The line was answered, which leaves new, and all of the answer was written.
+pub record IsTold (old : Session) (line : List ℕ) (bad : Bool) (new : Session) (before after : Option (List ℕ)) : Type 0 where
+  pub text : List ℕ
+  pub answered : IsAnswered old line text bad new
+  pub written : Appends before after text
+
+-- What an answer that was cut leaves: a start of it was written.
+pub record IsCut (old : Session) (line : List ℕ) (before after : Option (List ℕ)) : Type 0 where
+  pub text : List ℕ
+  pub bad : Bool
+  pub new : Session
+  pub answered : IsAnswered old line text bad new
+  pub written : AppendsPrefix before after text
+
+-- nothing was written for the line, or a start of its answer
+abbrev pub IsToldInPart : Session → List ℕ → Option (List ℕ) → Option (List ℕ) → Type 0
+IsToldInPart old line before after = Appends before after [] ⊎ IsCut old line before after
+
 -- What was read and written, and how the call ends.
 abbrev pub Conversed : Bool → Option (List ℕ) → Option (List ℕ) → Option (List ℕ) → Option (List ℕ) → Result Summary PromptFault → Type 0
 Conversed shown input rest old new (Ok s) =

@@ -1,6 +1,8 @@
 //! The loop over the lines.
-ghost use Rattle.std.specs.Prelude.{◌≡◌, IfOk};
-ghost use Rattle.prompt.specs.Conversation.{Conversed};
+ghost use Rattle.std.specs.Prelude.{◌≡◌, true, IfOk, OnOk, OnErr};
+ghost use Rattle.std.specs.Option.{option_map};
+ghost use Rattle.std.specs.Io.KnownBytes.{Appends};
+ghost use Rattle.prompt.specs.Conversation.{AppendsPrefix, Conversed, IsAwaited, IsTold, IsToldInPart, prompt_text};
 
 use crate::fault::PromptFault;
 use crate::line_answer::{answer_line, prompt_text};
@@ -17,6 +19,58 @@ pub struct Summary {
     pub lines: u64,
     /// How many of them were bad.
     pub bad: u64,
+}
+
+// The next line that is to be answered: `None` at the end of the input and at a line `quit`.
+fn next_to_answer<R: BufRead + Drop, W: Write + Drop>(
+    alloc: Global,
+    streams: &mut Streams<R, W>,
+) -> Result<Option<Vec<u8>>, PromptFault>
+    requires flushed { streams.old.is_flushed ≡ true }
+    ensures line { IfOk result (λ found. IsAwaited (R.remaining streams.old.reader) (R.remaining streams.new.reader) (option_map (λ line. line.items) found)) }
+    ensures writer { streams.new.writer ≡ streams.old.writer }
+{
+    let Some(line) = streams.next_line(alloc)? else {
+        return Ok(None);
+    };
+    if is_quit(alloc, line.as_slice())? {
+        return Ok(None);
+    }
+    Ok(Some(line))
+}
+
+// Writes the prompt, flushes all that was written, and reads the next line that is to be answered.
+fn ask<R: BufRead + Drop, W: Write + Drop>(
+    alloc: Global,
+    streams: &mut Streams<R, W>,
+    session: &Session,
+    is_shown: bool,
+) -> Result<Option<Vec<u8>>, PromptFault>
+    ensures line { IfOk result (λ found. IsAwaited (R.remaining streams.old.reader) (R.remaining streams.new.reader) (option_map (λ line. line.items) found)) }
+    ensures shown { OnOk result (Appends (W.contents streams.old.writer) (W.contents streams.new.writer) (prompt_text is_shown session.now)) }
+    ensures cut { OnErr result (AppendsPrefix (W.contents streams.old.writer) (W.contents streams.new.writer) (prompt_text is_shown session.now)) }
+{
+    let prompt = prompt_text(alloc, session, is_shown)?;
+    streams.write(prompt.as_str().as_bytes())?;
+    streams.flush()?;
+    next_to_answer(alloc, streams)
+}
+
+// Answers a line, writes the answer, and gives whether the line is bad.
+fn tell<R: BufRead + Drop, W: Write + Drop>(
+    alloc: Global,
+    streams: &mut Streams<R, W>,
+    session: &mut Session,
+    line: &[u8],
+    is_shown: bool,
+) -> Result<bool, PromptFault>
+    ensures told { IfOk result (λ bad. IsTold session.old line.now bad session.new (W.contents streams.old.writer) (W.contents streams.new.writer)) }
+    ensures cut { OnErr result (IsToldInPart session.old line.now (W.contents streams.old.writer) (W.contents streams.new.writer)) }
+    ensures reader { streams.new.reader ≡ streams.old.reader }
+{
+    let answer = answer_line(alloc, session, line, is_shown)?;
+    streams.write(answer.bytes())?;
+    Ok(answer.is_bad)
 }
 
 /// Answers each line as it comes: its reply is written, and after it the remarks, lines that begin
@@ -38,18 +92,11 @@ pub fn converse<R: BufRead + Drop, W: Write + Drop>(
     let mut session = Session::new(alloc);
     let mut bad = 0u64;
     for lines in 0..u64::MAX {
-        let prompt = prompt_text(alloc, &session, is_shown)?;
-        streams.write(prompt.as_str().as_bytes())?;
-        streams.flush()?;
-        let Some(line) = streams.next_line(alloc)? else {
+        let Some(line) = ask(alloc, streams, &session, is_shown)? else {
             return Ok(Summary { lines, bad });
         };
-        if is_quit(alloc, line.as_slice())? {
-            return Ok(Summary { lines, bad });
-        }
-        let answer = answer_line(alloc, &mut session, line.as_slice(), is_shown)?;
-        streams.write(answer.bytes())?;
-        bad += u64::from(answer.is_bad);
+        let is_bad = tell(alloc, streams, &mut session, line.as_slice(), is_shown)?;
+        bad += u64::from(is_bad);
     }
     Err(PromptFault::Read)
 }
