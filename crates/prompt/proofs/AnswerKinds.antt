@@ -5,7 +5,8 @@ use Rattle.script_replies.specs.Texts.{bad_line}
 use Rattle.script_session.specs.Session.{Session}
 use Rattle.script_session.specs.Replies.{Reply}
 use Rattle.prompt.specs.declared.carry.CarryLine.{CarryLine}
-use Rattle.prompt.specs.Conversation.{IsAnswered, IsGiven, IsForeign, IsCalm, CarriedBy, carry_asked, remark_text}
+use Rattle.prompt.specs.Conversation.{IsAnswered, IsCalm, CarriedBy, carry_asked, remark_text}
+use Rattle.prompt.specs.Moment.{IsForeign, IsGiven}
 
 pub answered_by : (old new : Session) (line given reply remark text : List ℕ) (bad is_bad : Bool) → IsCalm old line → IsGiven old line given → Reply old given reply bad new → text ≡ reply ++ remark_text remark → is_bad ≡ bad
     → IsAnswered old line text is_bad new

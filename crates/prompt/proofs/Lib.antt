@@ -1,2 +1,3 @@
 pub mod AnswerKinds
+pub mod Cuts
 pub mod Transcripts

@@ -181,7 +181,7 @@ pub on_err : {T E : Type 0} (r : Result T E) {P : Type 0} → P → OnErr r P
 on_err (Ok x) p = tt
 on_err (Err e) p = p
 
--- The whole prompt was written, and flushed or not.
+-- The whole prompt was written and kept.
 pub prompt_kept : (before after flushed : Option (List ℕ)) (text prompt : List ℕ) → Appends before after text → text ≡ prompt → Keeps after flushed → Appends before flushed prompt
 prompt_kept before after flushed text prompt a e k = Appends-kept before after flushed prompt (subst (Appends before after) e a) k
 

@@ -6,13 +6,10 @@ use Rattle.std.specs.Io.KnownBytes.{Appends}
 use Rattle.std.specs.List.{flat_map}
 use Rattle.std.specs.Str.{IsUtf8}
 use Rattle.lease.specs.Timeline.{newest}
-use Rattle.script_grammar.specs.Commands.{command_at}
-use Rattle.script_grammar.specs.Silent.{is_silent}
 use Rattle.script_replies.specs.Texts.{bad_line}
 use Rattle.script_session.specs.Replies.{Reply}
 use Rattle.script_session.specs.Session.{Session, empty}
 use Rattle.script_session.specs.declared.session.Session.TheVariants.{Declaring, Running}
-use Rattle.script_tokens.specs.declared.fault.LineFault.TheVariants.{Malformed}
 use Rattle.script_tokens.specs.declared.token.Token.{Token}
 use Rattle.script_tokens.specs.Productions.{is_word}
 use Rattle.script_tokens.specs.Tokens.{tokens_of}
@@ -20,6 +17,7 @@ use Rattle.world.specs.State.{facts_of}
 use Rattle.prompt.specs.Carry.{CarriesOn, carry_in}
 use Rattle.prompt.specs.declared.carry.CarryLine.{CarryLine}
 use Rattle.prompt.specs.Lines.{HasRead, IsNext}
+use Rattle.prompt.specs.Moment.{IsForeign, IsGiven}
 use Rattle.prompt.specs.declared.conversation.Summary.{Summary}
 use Rattle.prompt.specs.declared.fault.PromptFault.{PromptFault}
 use Rattle.prompt.specs.declared.fault.PromptFault.TheVariants.{Read, Write, Memory}
@@ -34,21 +32,6 @@ quits (Some (t ∷ u ∷ ts)) = false
 -- a line that ends the conversation
 abbrev pub is_quit : List ℕ → Bool
 is_quit line = quits (tokens_of line)
-
--- no line of a script: neither a command nor silent
-abbrev pub IsForeign : List ℕ → Type 0
-IsForeign line = (is_silent line ≡ false) × (command_at line ≡ Err Malformed)
-
--- the moment of the last entry of the log
-abbrev pub last_moment : Session → ℕ
-last_moment (Declaring d) = 0
-last_moment (Running r) = (facts_of r.world).moment
-
--- What the session is given for a line: the line, or, where that is no line of a script, the line with the last moment put into it.
-abbrev pub IsGiven : Session → List ℕ → List ℕ → Type 0
-IsGiven session line given =
-    (given ≡ line)
-    ⊎ (IsForeign line × ((front : List ℕ) × (back : List ℕ) × (line ≡ front ++ back) × (given ≡ (front ++ (codes " at " ++ decimal (last_moment session))) ++ back)))
 
 -- what an opened session is asked for by a line that no script has: to carry changes on
 abbrev pub carry_asked : Session → List ℕ → Option CarryLine

@@ -1,3 +1,4 @@
 pub mod Carry
 pub mod Lines
+pub mod Moment
 pub mod Conversation

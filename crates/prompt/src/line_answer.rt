@@ -1,7 +1,8 @@
 //! What one line is answered.
 ghost use Rattle.std.specs.Prelude.{◌≡◌, ◌++◌, IfOk, OnOk, Some, None, string_bytes};
 ghost use Rattle.std.specs.List.{flat_map};
-ghost use Rattle.prompt.specs.Conversation.{IsForeign, IsCalm, IsAnswered, carry_asked, remark_text, remark_byte, prompt_text};
+ghost use Rattle.prompt.specs.Conversation.{IsCalm, IsAnswered, carry_asked, remark_text, remark_byte, prompt_text};
+ghost use Rattle.prompt.specs.Moment.{IsForeign};
 
 use crate::carry::{CarryLine, carry_of, carry_on};
 use crate::moment::{given_line, is_foreign};

@@ -1,7 +1,10 @@
 //! Lines whose `at M` was left out.
-ghost use Rattle.std.specs.Prelude.{◌≡◌, ◌++◌, IfOk, IfSome, codes, string_bytes, true, false};
+ghost use Rattle.std.specs.Prelude.{◌≡◌, ◌++◌, ◌==◌, IfOk, codes, string_bytes, true, false};
 ghost use Rattle.std.specs.Fmt.{decimal};
-ghost use Rattle.prompt.specs.Conversation.{IsForeign, IsGiven, last_moment, is_quit};
+ghost use Rattle.std.specs.List.{before_first};
+ghost use Rattle.std.specs.Option.{option_map};
+ghost use Rattle.prompt.specs.Conversation.{is_quit};
+ghost use Rattle.prompt.specs.Moment.{IsForeign, IsCutAt, IsGiven, first_word, is_command, last_moment, moment_mark};
 
 use script_grammar::{is_silent, read_command};
 use script_session::Session;
@@ -50,19 +53,39 @@ fn last_moment(session: &Session) -> u64
     }
 }
 
-// A line at the place of a left out moment: what is before it, the mark that follows it, and the
-// rest. It is before a colon or one of the words `pieces` and `limit`, or at the end.
-fn cut_at_moment(line: &str) -> Option<(&str, &'static str, &str)>
-    ensures { IfSome result (λ cut. line.entry.now ≡ cut.0.now ++ cut.1.now ++ cut.2.now) }
+// What a line has before its first space.
+fn first_word(line: &str) -> &str
+    ensures { result.now ≡ first_word line.entry.now }
 {
-    let (command, _) = line.split_once(' ').unwrap_or((line, ""));
-    let mark = match command {
-        "lease" | "commit" | "next" => return Some((line, "", "")),
-        "txn" | "query" | "publish" | "publish:" => ":",
-        "reorganise" => " pieces",
-        "work" => " limit",
-        _ => return None,
-    };
+    match line.split_once(' ') {
+        Some((word, _)) => word,
+        None => line,
+    }
+}
+
+// What follows a left out moment, by the first word of the line: a colon, one of the words `pieces`
+// and `limit`, or nothing.
+fn moment_mark(word: &str) -> Option<&'static str>
+    ensures { option_map (λ mark. mark.now) result ≡ moment_mark word.now }
+{
+    match word {
+        "lease" | "commit" | "next" => Some(""),
+        "txn" | "query" | "publish" | "publish:" => Some(":"),
+        "reorganise" => Some(" pieces"),
+        "work" => Some(" limit"),
+        _ => None,
+    }
+}
+
+// A line at the place of a left out moment: what is before it, the mark that follows it, and the
+// rest.
+fn cut_at_moment(line: &str) -> Option<(&str, &'static str, &str)>
+    ensures { IsCutAt (moment_mark (first_word line.entry.now)) line.entry.now (option_map (λ cut. (cut.0.now, (cut.1.now, cut.2.now))) result) }
+{
+    let mark = moment_mark(first_word(line))?;
+    if mark.is_empty() {
+        return Some((line, "", ""));
+    }
     let (front, back) = line.split_once(mark)?;
     Some((front, mark, back))
 }
@@ -83,21 +106,37 @@ fn with_moment(
     Ok(given)
 }
 
+// Whether a line is a command.
+fn is_command(alloc: Global, line: &[u8]) -> Result<bool, AllocError>
+    ensures { IfOk result (λ found. found ≡ is_command line.now) }
+{
+    match read_command(alloc, line) {
+        Ok(_) => Ok(true),
+        Err(LineFault::Malformed) => Ok(false),
+        Err(LineFault::Memory) => Err(AllocError),
+    }
+}
+
 /// What the session is given for a line: the line itself, or, if that is no command and one only
 /// because its `at M` was left out, the line with the moment of the log's last entry.
 ///
 /// - `session`: the session, which is only read.
 /// - `line`: the line without its ending.
+///
+/// Refused only when out of memory.
 pub(crate) fn given_line(alloc: Global, session: &Session, line: &str) -> Result<String, AllocError>
     ensures { IfOk result (λ given. IsGiven session.now line.now (string_bytes given)) }
 {
-    if is_foreign(alloc, line.as_bytes())? {
-        if let Some((front, mark, back)) = cut_at_moment(line) {
-            let given = with_moment(alloc, front, last_moment(session), mark, back)?;
-            if read_command(alloc, given.as_str().as_bytes()).is_ok() {
-                return Ok(given);
-            }
-        }
+    if !is_foreign(alloc, line.as_bytes())? {
+        return line.to_string(alloc);
     }
-    line.to_string(alloc)
+    let Some((front, mark, back)) = cut_at_moment(line) else {
+        return line.to_string(alloc);
+    };
+    let given = with_moment(alloc, front, last_moment(session), mark, back)?;
+    if is_command(alloc, given.as_str().as_bytes())? {
+        Ok(given)
+    } else {
+        line.to_string(alloc)
+    }
 }

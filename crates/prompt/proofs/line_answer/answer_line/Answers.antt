@@ -1,6 +1,7 @@
 use Rattle.std.proofs.Common.{◌≡◌, IfOk, subst, sym}
 use Rattle.std.specs.Prelude.{codes}
-use Rattle.prompt.specs.Conversation.{IsAnswered, IsForeign}
+use Rattle.prompt.specs.Conversation.{IsAnswered}
+use Rattle.prompt.specs.Moment.{IsForeign}
 use Rattle.prompt.proofs.AnswerKinds.{answered_bad}
 use Rattle.prompt.proofs.line_answer.answer_line.Goals as goal
 
