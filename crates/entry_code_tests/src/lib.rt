@@ -1,0 +1,5 @@
+//! Tests of the codes of entries, operations, steps and openings.
+#![tactic(auto)]
+
+#[cfg(test)]
+mod codes;
