@@ -1,13 +1,22 @@
--- Cited by the contracts of cagzhomul_open, cagzhomul_reply_to, cagzhomul_reply_from, cagzhomul_close and cagzhomul_text_of, and of what they call.
+-- Cited by the contracts of the exported functions, and of what they call.
 -- What each call does, by what the handle holds before and after it.
-use Rattle.std.specs.Prelude.{◌≡◌, ℕ, ◌⊎◌, List, [], ◌++◌, take, drop, length, min, Bool, Option, Some, None, ℤ, string_bytes, IsUtf8}
-use Rattle.script_session.specs.Session.{empty}
+use Rattle.std.specs.Prelude.{◌≡◌, ℕ, zero, suc, ◌⊎◌, List, [], ◌++◌, take, drop, length, min, slice_get, Bool, Option, Some, None, Result, ℤ, string_bytes, IsUtf8}
+use Rattle.keycode.specs.Valid.{IsStorable}
+use Rattle.replay.specs.declared.entry.Entry.{Entry}
+use Rattle.world.specs.State.{State}
+use Rattle.world.specs.declared.entry.Receipt.{Receipt}
+use Rattle.entry_code.specs.Code.{entry_code}
+use Rattle.entry_code.specs.Known.{IsEntry}
+use Rattle.replica.specs.Next.{RepeatStep}
+use Rattle.replica.specs.declared.fault.RepeatFault.{RepeatFault}
+use Rattle.script_session.specs.Session.{Session, empty}
 use Rattle.script_session.specs.Replies.{Reply}
+use Rattle.script_session.specs.declared.session.Session.TheVariants.{Declaring, Running}
 use Rattle.embedded.specs.declared.engine.Conversation.{Conversation}
 use Rattle.embedded.specs.declared.engine.Engine.{Engine}
 use Rattle.embedded.specs.declared.engine.Engine.TheVariants as engine
 use Rattle.embedded.specs.declared.outcome.Outcome.{Outcome}
-use Rattle.embedded.specs.Statuses.{ok, closed, already_open, not_utf8, out_of_memory, reply_status, status_text}
+use Rattle.embedded.specs.Statuses.{ok, closed, already_open, not_utf8, out_of_memory, not_opened, no_entry, bad_entry, reply_status, repeat_status, status_text}
 
 -- as much of the text as fits lies over what was there
 abbrev pub laid : List ℕ → List ℕ → List ℕ
@@ -49,6 +58,55 @@ abbrev pub RepliesFrom : Option Engine → ℕ → List ℕ → Outcome → List
 RepliesFrom None from out outcome out' = Refuses closed out outcome out'
 RepliesFrom (Some (engine.Session c)) from out outcome out' =
     (outcome ≡ record { status = ok; length = length (string_bytes c.reply) }) × (out' ≡ laid out (drop from (string_bytes c.reply)))
+
+-- ---- replicas
+
+-- the entry of a place in a log, of which the first is 1
+abbrev pub entry_at : List Entry → ℕ → Option Entry
+entry_at log zero = None
+entry_at log (suc before) = slice_get log before
+
+-- the entry's code lies in the caller's bytes, unless there is no entry or memory ran out
+abbrev pub ShowsCode : Option Entry → List ℕ → Outcome → List ℕ → Type 0
+ShowsCode None out outcome out' = Refuses no_entry out outcome out'
+ShowsCode (Some entry) out outcome out' =
+    ((outcome ≡ record { status = ok; length = length (entry_code entry) }) × (out' ≡ laid out (entry_code entry))) ⊎ Refuses out_of_memory out outcome out'
+
+-- before its line `open` a session has no world
+abbrev pub ShowsEntryIn : Session → ℕ → List ℕ → Outcome → List ℕ → Type 0
+ShowsEntryIn (Declaring declared) place out outcome out' = Refuses not_opened out outcome out'
+ShowsEntryIn (Running opened) place out outcome out' = ShowsCode (entry_at opened.world.log place) out outcome out'
+
+abbrev pub ShowsEntry : Option Engine → ℕ → List ℕ → Outcome → List ℕ → Type 0
+ShowsEntry None place out outcome out' = Refuses closed out outcome out'
+ShowsEntry (Some (engine.Session c)) place out outcome out' = ShowsEntryIn c.session place out outcome out'
+
+-- the bytes are the code of no entry that a world could have
+abbrev pub IsNoCode : List ℕ → Type 0
+IsNoCode bytes = (entry : Entry) → IsEntry IsStorable entry → bytes ≡ entry_code entry → ⊥
+
+-- the bytes are the code of an entry, which is repeated or refused
+abbrev pub RepeatsCode : State → List ℕ → ℤ → State → Type 0
+RepeatsCode old bytes status new =
+    (entry : Entry) × (result : Result Receipt RepeatFault)
+    × IsEntry IsStorable entry × (bytes ≡ entry_code entry) × (status ≡ repeat_status result) × RepeatStep old entry result new
+
+-- or of none, or memory ran out before they were read
+abbrev pub RepeatsBytes : State → List ℕ → ℤ → State → Type 0
+RepeatsBytes old bytes status new =
+    ((status ≡ bad_entry) × IsNoCode bytes × (new ≡ old)) ⊎ ((status ≡ out_of_memory) × (new ≡ old)) ⊎ RepeatsCode old bytes status new
+
+-- in a session, of which all but the world stays
+abbrev pub RepeatsIn : Session → List ℕ → ℤ → Session → Type 0
+RepeatsIn (Declaring declared) bytes status new = (status ≡ not_opened) × (new ≡ Declaring declared)
+RepeatsIn (Running opened) bytes status new =
+    (world : State) × RepeatsBytes opened.world bytes status world × (new ≡ Running (record opened { world = world }))
+
+-- behind a handle, which stays open, with the last reply
+abbrev pub Repeats : Option Engine → List ℕ → ℤ → Option Engine → Type 0
+Repeats None bytes status new = (status ≡ closed) × (new ≡ None)
+Repeats (Some (engine.Session c)) bytes status new =
+    (session : Session) × RepeatsIn c.session bytes status session × (new ≡ Some (engine.Session (record c { session = session })))
 
 abbrev pub Closes : Option Engine → ℤ → Option Engine → Type 0
 Closes None status new = (status ≡ closed) × (new ≡ None)

@@ -1,6 +1,9 @@
 -- Cited by the contracts of text_of and of the exported functions.
 -- The statuses by their numbers, and their texts.
-use Rattle.std.specs.Prelude.{ℕ, zero, suc, ℤ, pos, List, Bool, true, false, codes}
+use Rattle.std.specs.Prelude.{ℕ, zero, suc, ℤ, pos, List, Bool, true, false, codes, Result, Ok, Err}
+use Rattle.world.specs.declared.entry.Receipt.{Receipt}
+use Rattle.replica.specs.declared.fault.RepeatFault.{RepeatFault}
+use Rattle.replica.specs.declared.fault.RepeatFault.TheVariants.{NotNext, Memory}
 
 abbrev pub ok : ℤ
 ok = pos 0
@@ -20,10 +23,28 @@ not_utf8 = pos 4
 abbrev pub out_of_memory : ℤ
 out_of_memory = pos 5
 
+abbrev pub not_opened : ℤ
+not_opened = pos 6
+
+abbrev pub no_entry : ℤ
+no_entry = pos 7
+
+abbrev pub bad_entry : ℤ
+bad_entry = pos 8
+
+abbrev pub not_next : ℤ
+not_next = pos 9
+
 -- the status of a line that has its reply
 abbrev pub reply_status : Bool → ℤ
 reply_status true = bad_line
 reply_status false = ok
+
+-- the status of an entry that was to be repeated
+abbrev pub repeat_status : Result Receipt RepeatFault → ℤ
+repeat_status (Ok receipt) = ok
+repeat_status (Err NotNext) = not_next
+repeat_status (Err Memory) = out_of_memory
 
 abbrev pub text_at : ℕ → List ℕ
 text_at zero = codes "ok"
@@ -32,6 +53,10 @@ text_at (suc (suc zero)) = codes "the handle is closed"
 text_at (suc (suc (suc zero))) = codes "the handle is open already"
 text_at (suc (suc (suc (suc zero)))) = codes "the line is not UTF-8"
 text_at (suc (suc (suc (suc (suc zero))))) = codes "out of memory"
+text_at (suc (suc (suc (suc (suc (suc zero)))))) = codes "no world is open yet"
+text_at (suc (suc (suc (suc (suc (suc (suc zero))))))) = codes "the log has no such place"
+text_at (suc (suc (suc (suc (suc (suc (suc (suc zero)))))))) = codes "the bytes are the code of no entry"
+text_at (suc (suc (suc (suc (suc (suc (suc (suc (suc zero))))))))) = codes "no call of this world would add the entry"
 text_at _ = codes "no status"
 
 abbrev pub status_text : ℤ → List ℕ

@@ -3,12 +3,14 @@
 #![tactic(auto)]
 
 ghost use Rattle.std.specs.Prelude.{◌≡◌};
-ghost use Rattle.embedded.specs.Calls.{Opens, RepliesTo, RepliesFrom, Closes, ShowsText};
+ghost use Rattle.embedded.specs.Calls.{Opens, RepliesTo, RepliesFrom, ShowsEntry, Repeats, Closes, ShowsText};
 
 mod engine;
+mod entries;
 mod handle;
 mod outcome;
 mod place;
+mod replica_calls;
 mod session_calls;
 mod status;
 
@@ -53,6 +55,32 @@ pub extern "C" fn cagzhomul_reply_from(
     ensures same { handle.new.place.value ≡ handle.old.place.value }
 {
     handle.reply_from(alloc, from, out)
+}
+
+/// Writes as much of the code of the entry of this place in the session's log to `out` as fits;
+/// places count from 1. `OK`, with the length of the whole code; else `CLOSED`, `NOT_OPENED`,
+/// `NO_ENTRY` or `OUT_OF_MEMORY`.
+#[unsafe(no_mangle)]
+pub extern "C" fn cagzhomul_entry(
+    alloc: Global,
+    handle: &mut Handle,
+    place: usize,
+    out: &mut [u8],
+) -> Outcome
+    ensures shows { ShowsEntry handle.old.place.value place out.old result out.new }
+    ensures same { handle.new.place.value ≡ handle.old.place.value }
+{
+    handle.entry(alloc, place, out)
+}
+
+/// Repeats the entry whose code these bytes are in the session's world; the rest of the session
+/// stays. `OK`; else `CLOSED`, `NOT_OPENED`, `BAD_ENTRY`, `NOT_NEXT`, or `OUT_OF_MEMORY`, which may
+/// come in place of the two before it. A refusal changes nothing.
+#[unsafe(no_mangle)]
+pub extern "C" fn cagzhomul_repeat(alloc: Global, handle: &mut Handle, entry: &[u8]) -> i32
+    ensures { Repeats handle.old.place.value entry.now result handle.new.place.value }
+{
+    handle.repeat(alloc, entry)
 }
 
 /// Frees what the handle holds, and closes it. `OK`; else `CLOSED`.

@@ -17,6 +17,14 @@ pub(crate) const ALREADY_OPEN: i32 = 3;
 pub(crate) const NOT_UTF8: i32 = 4;
 /// Memory ran out.
 pub(crate) const OUT_OF_MEMORY: i32 = 5;
+/// The session has no world yet.
+pub(crate) const NOT_OPENED: i32 = 6;
+/// The log has no such place.
+pub(crate) const NO_ENTRY: i32 = 7;
+/// The bytes are the code of no entry.
+pub(crate) const BAD_ENTRY: i32 = 8;
+/// No accepted call of this world would add the entry.
+pub(crate) const NOT_NEXT: i32 = 9;
 
 // The text of a status.
 fn text_of(status: i32) -> &'static str
@@ -29,6 +37,10 @@ fn text_of(status: i32) -> &'static str
         ALREADY_OPEN => "the handle is open already",
         NOT_UTF8 => "the line is not UTF-8",
         OUT_OF_MEMORY => "out of memory",
+        NOT_OPENED => "no world is open yet",
+        NO_ENTRY => "the log has no such place",
+        BAD_ENTRY => "the bytes are the code of no entry",
+        NOT_NEXT => "no call of this world would add the entry",
         _ => "no status",
     }
 }
