@@ -13,9 +13,9 @@
  * - malloc, realloc and free are of one allocator, and align as C asks. No call comes from a signal
  *   handler, or from the forked child of a process with threads.
  *
- * Who owns what: the caller owns the handle, the line and `out`, and the library keeps no pointer
- * to them after a call. What an open handle points to is the library's, and cagzhomul_close frees
- * it.
+ * Who owns what: the caller owns the handle, the line, the entry and `out`, and the library keeps
+ * no pointer to them after a call. What an open handle points to is the library's, and
+ * cagzhomul_close frees it.
  *
  * Of the refusals of a function the first in its list that applies is given. A refused call
  * changes neither the handle nor `out`, except that CAGZHOMUL_OUT_OF_MEMORY of cagzhomul_reply_to
@@ -35,11 +35,15 @@ extern "C" {
 /* The statuses. Any other number is none. */
 enum {
     CAGZHOMUL_OK = 0,
-    CAGZHOMUL_BAD_LINE = 1,     /* the line has its reply, which is `bad line` */
-    CAGZHOMUL_CLOSED = 2,       /* the handle is closed */
-    CAGZHOMUL_ALREADY_OPEN = 3, /* the handle is open */
-    CAGZHOMUL_NOT_UTF8 = 4,     /* the line is not UTF-8 */
-    CAGZHOMUL_OUT_OF_MEMORY = 5 /* malloc or realloc refused */
+    CAGZHOMUL_BAD_LINE = 1,      /* the line has its reply, which is `bad line` */
+    CAGZHOMUL_CLOSED = 2,        /* the handle is closed */
+    CAGZHOMUL_ALREADY_OPEN = 3,  /* the handle is open */
+    CAGZHOMUL_NOT_UTF8 = 4,      /* the line is not UTF-8 */
+    CAGZHOMUL_OUT_OF_MEMORY = 5, /* malloc or realloc refused */
+    CAGZHOMUL_NOT_OPENED = 6,    /* the session has no world yet: it is before its line `open` */
+    CAGZHOMUL_NO_ENTRY = 7,      /* the log has no such place */
+    CAGZHOMUL_BAD_ENTRY = 8,     /* the bytes are the code of no entry */
+    CAGZHOMUL_NOT_NEXT = 9       /* no accepted call of this world would add the entry */
 };
 
 /* All zeros is closed. Its fields are the library's. */
@@ -51,7 +55,7 @@ typedef struct cagzhomul_handle {
 /* What a call answers. */
 typedef struct cagzhomul_outcome {
     int32_t status;
-    size_t length; /* of the whole reply, however much of it fitted; 0 after a refusal */
+    size_t length; /* of the whole reply or code, however much of it fitted; 0 after a refusal */
 } cagzhomul_outcome;
 
 /* Opens a session, at its start: before the line `open`.
@@ -74,6 +78,25 @@ cagzhomul_outcome cagzhomul_reply_to(cagzhomul_handle *handle, const uint8_t *li
  * CAGZHOMUL_OK, with the length of the whole reply. Refusal: CAGZHOMUL_CLOSED. */
 cagzhomul_outcome cagzhomul_reply_from(cagzhomul_handle *handle, size_t from, uint8_t *out,
                                        size_t out_length);
+
+/* Writes the code of an entry of the session's log, as far as it fits in `out`; the bytes of `out`
+ * after it stay. `place` counts from 1, as in the reply `ok done PLACE`, so the last one is the
+ * number that the line `log` reports. A place keeps its entry, and an entry has one code.
+ * CAGZHOMUL_OK, with the length of the whole code. Refusals: CAGZHOMUL_CLOSED;
+ * CAGZHOMUL_NOT_OPENED; CAGZHOMUL_NO_ENTRY; CAGZHOMUL_OUT_OF_MEMORY. The session and its last reply
+ * are as before after each of them, and after CAGZHOMUL_OK. */
+cagzhomul_outcome cagzhomul_entry(cagzhomul_handle *handle, size_t place, uint8_t *out,
+                                  size_t out_length);
+
+/* Repeats an entry of another session's log, given by its code: makes the call that added it again
+ * in this session's world, at the entry's moment, so that the log has exactly this entry more.
+ * Leases, prepared work, the kept plan and the last reply stay. The bytes may come from anywhere.
+ * A session that had the same declarations and repeats each entry once, in the order of its place,
+ * has an equal world; an entry that is handed in again may be accepted again.
+ * CAGZHOMUL_OK. Refusals: CAGZHOMUL_CLOSED; CAGZHOMUL_NOT_OPENED; CAGZHOMUL_BAD_ENTRY;
+ * CAGZHOMUL_NOT_NEXT; CAGZHOMUL_OUT_OF_MEMORY, which may come in place of the two before it, and
+ * after which the call may be made again. */
+int32_t cagzhomul_repeat(cagzhomul_handle *handle, const uint8_t *entry, size_t entry_length);
 
 /* Frees the session and closes the handle, which may be opened again.
  * CAGZHOMUL_OK. Refusal: CAGZHOMUL_CLOSED. */

@@ -1,7 +1,8 @@
-/* Refuses each allocation of a short session, one in each run (linked with --wrap for malloc,
-   calloc and realloc), and looks at what the call that met the refusal left: a status, and a handle
-   that is closed, or usable with nothing changed. Also the calls' other refusals. It prints how many
-   allocations were refused, and ends with 0 if all was as include/cagzhomul.h says. */
+/* Refuses each allocation of a short session, and of another one that repeats its log, one in each
+   run (linked with --wrap for malloc, calloc and realloc), and looks at what the call that met the
+   refusal left: a status, and a handle that is closed, or usable with nothing changed. Also the
+   calls' other refusals. It prints how many allocations were refused, and ends with 0 if all was as
+   include/cagzhomul.h says. */
 #include "cagzhomul.h"
 #include <stdio.h>
 #include <stdlib.h>
@@ -25,12 +26,12 @@ static const char *const LINES[] = {
     "log",
     "check",
 };
-enum { MANY = sizeof LINES / sizeof *LINES, OPEN = 2 };
+enum { MANY = sizeof LINES / sizeof *LINES, OPEN = 2, ENTRIES = 6 };
 
 static char replies[MANY][ROOM];
 static long count, refused;
-static int is_reached, wrong;
-static long ended, refused_lines;
+static int is_reached, is_ample, wrong;
+static long ended, refused_lines, refused_calls;
 
 void *__real_malloc(size_t);
 void *__real_calloc(size_t, size_t);
@@ -40,7 +41,7 @@ void *__wrap_calloc(size_t, size_t);
 void *__wrap_realloc(void *, size_t);
 
 static int is_refused(void) {
-    if (++count != refused) return 0;
+    if (is_ample || ++count != refused) return 0;
     is_reached = 1;
     return 1;
 }
@@ -70,8 +71,11 @@ static int is_closed(cagzhomul_handle *handle) {
     uint8_t out[ROOM];
     cagzhomul_outcome line = ask(handle, "check", out);
     cagzhomul_outcome rest = cagzhomul_reply_from(handle, 0, out, ROOM);
+    cagzhomul_outcome entry = cagzhomul_entry(handle, 1, out, ROOM);
     return line.status == CAGZHOMUL_CLOSED && line.length == 0 && rest.status == CAGZHOMUL_CLOSED &&
-           rest.length == 0 && out[0] == FILL && cagzhomul_close(handle) == CAGZHOMUL_CLOSED;
+           rest.length == 0 && entry.status == CAGZHOMUL_CLOSED && entry.length == 0 &&
+           out[0] == FILL && cagzhomul_repeat(handle, out, 1) == CAGZHOMUL_CLOSED &&
+           cagzhomul_close(handle) == CAGZHOMUL_CLOSED;
 }
 
 /* One line, of which any allocation may be refused. Gives the line to go on with. */
@@ -93,16 +97,64 @@ static int step(cagzhomul_handle *handle, int at) {
     return wrong ? MANY : at == OPEN ? 0 : at;
 }
 
-static void run(void) {
-    cagzhomul_handle handle = {0};
-    int32_t opened = cagzhomul_open(&handle);
+/* A session that has had so many of the lines. */
+static void begin(cagzhomul_handle *handle, int many) {
+    int32_t opened = cagzhomul_open(handle);
     if (opened != CAGZHOMUL_OK) {
         check(is_reached && opened == CAGZHOMUL_OUT_OF_MEMORY, "open is refused for memory");
-        check(is_closed(&handle), "the handle stays closed");
-        check(cagzhomul_open(&handle) == CAGZHOMUL_OK, "and is opened then");
+        check(is_closed(handle), "the handle stays closed");
+        check(cagzhomul_open(handle) == CAGZHOMUL_OK, "and is opened then");
     }
-    for (int at = 0; at < MANY;) at = step(&handle, at);
+    for (int at = 0; at < many;) at = step(handle, at);
+}
+
+/* The code of an entry, of which any allocation may be refused. */
+static size_t code_of(cagzhomul_handle *handle, size_t place, uint8_t *out) {
+    memset(out, FILL, ROOM);
+    cagzhomul_outcome outcome = cagzhomul_entry(handle, place, out, ROOM);
+    if (outcome.status == CAGZHOMUL_OUT_OF_MEMORY) {
+        refused_calls++;
+        check(is_reached && outcome.length == 0 && out[0] == FILL, "no code is written without memory");
+        outcome = cagzhomul_entry(handle, place, out, ROOM);
+    }
+    check(outcome.status == CAGZHOMUL_OK && outcome.length < ROOM && out[outcome.length] == FILL, "a code that fits");
+    return outcome.length < ROOM ? outcome.length : 0;
+}
+
+/* An entry is repeated, of which any allocation may be refused. */
+static void repeat(cagzhomul_handle *handle, size_t place, const uint8_t *code, size_t length) {
+    uint8_t out[ROOM];
+    int32_t status = cagzhomul_repeat(handle, code, length);
+    if (status == CAGZHOMUL_OUT_OF_MEMORY) {
+        refused_calls++;
+        check(is_reached, "memory runs out only after a refusal");
+        check(cagzhomul_entry(handle, place, out, ROOM).status == CAGZHOMUL_NO_ENTRY, "the log is as it was");
+        status = cagzhomul_repeat(handle, code, length);
+    }
+    check(status == CAGZHOMUL_OK, "the entry is repeated");
+    check(cagzhomul_entry(handle, place + 1, out, ROOM).status == CAGZHOMUL_NO_ENTRY, "and is the last one");
+}
+
+/* Whether both sessions have this reply to the line. */
+static int reply_alike(cagzhomul_handle *one, cagzhomul_handle *other, const char *line) {
+    uint8_t first[ROOM], second[ROOM];
+    cagzhomul_outcome it = ask(one, line, first), same = ask(other, line, second);
+    return it.status == CAGZHOMUL_OK && same.status == CAGZHOMUL_OK && it.length == same.length &&
+           memcmp(first, second, ROOM) == 0;
+}
+
+static void run(void) {
+    cagzhomul_handle handle = {0}, replica = {0};
+    uint8_t code[ROOM];
+    begin(&handle, MANY);
+    begin(&replica, OPEN + 1);
+    for (size_t place = 1; place <= ENTRIES && !wrong; place++)
+        repeat(&replica, place, code, code_of(&handle, place, code));
+    is_ample = 1;
+    check(reply_alike(&handle, &replica, "pairs") && reply_alike(&handle, &replica, "status"), "the worlds are equal");
+    is_ample = 0;
     check(cagzhomul_close(&handle) == CAGZHOMUL_OK, "it is closed");
+    check(cagzhomul_close(&replica) == CAGZHOMUL_OK, "and so is the other one");
 }
 
 static void note_replies(void) {
@@ -141,14 +193,47 @@ static void look_at_refusals(void) {
     check(cagzhomul_text_of(INT32_MIN, text, 2) == 9 && !memcmp(text, "not", 3), "a text that does not fit");
 }
 
+static void look_at_entries(void) {
+    cagzhomul_handle handle = {0};
+    uint8_t out[ROOM], code[ROOM] = {0};
+    cagzhomul_open(&handle);
+    check(cagzhomul_entry(&handle, 0, out, ROOM).status == CAGZHOMUL_NOT_OPENED, "no log before `open`");
+    check(cagzhomul_repeat(&handle, code, 0) == CAGZHOMUL_NOT_OPENED, "and no world");
+    ask(&handle, "table people (id int key)", out);
+    ask(&handle, "open", out);
+    ask(&handle, "lease a at 5", out);
+    memset(out, FILL, ROOM);
+    const size_t none[] = {0, 2, SIZE_MAX};
+    for (int at = 0; at < 3; at++) {
+        cagzhomul_outcome outcome = cagzhomul_entry(&handle, none[at], out, ROOM);
+        check(outcome.status == CAGZHOMUL_NO_ENTRY && outcome.length == 0 && out[0] == FILL, "no such place");
+    }
+    cagzhomul_outcome outcome = cagzhomul_entry(&handle, 1, out, 9);
+    check(outcome.status == CAGZHOMUL_OK && outcome.length == 34 && out[8] == 5 && out[9] == FILL, "a part of a code");
+    outcome = cagzhomul_entry(&handle, 1, code, ROOM);
+    check(outcome.status == CAGZHOMUL_OK && !memcmp(code, out, 9) && code[9] == 0 && code[33] == 15, "the whole of it");
+    for (size_t length = 0; length < 34; length++)
+        check(cagzhomul_repeat(&handle, code, length) == CAGZHOMUL_BAD_ENTRY, "a part is no entry");
+    check(cagzhomul_repeat(&handle, code, 35) == CAGZHOMUL_BAD_ENTRY, "nor is more");
+    code[8] = 4;
+    check(cagzhomul_repeat(&handle, code, 34) == CAGZHOMUL_NOT_NEXT, "a moment that is too low");
+    code[8] = code[25] = 6, code[33] = 16;
+    check(cagzhomul_repeat(&handle, code, 34) == CAGZHOMUL_OK, "a later lease");
+    memset(out, FILL, ROOM);
+    check(is_reply(cagzhomul_reply_from(&handle, 0, out, ROOM), out, "ok lease 1 5 15\n"), "the last reply stays");
+    cagzhomul_close(&handle);
+}
+
 int main(void) {
     note_replies();
     look_at_refusals();
+    look_at_entries();
     do {
         count = is_reached = 0;
         refused++;
         run();
     } while (is_reached && !wrong);
-    printf("%ld allocations were refused: %ld ended the session, %ld a line\n", refused - 1, ended, refused_lines);
-    return wrong || !ended || !refused_lines;
+    printf("%ld allocations were refused: %ld ended the session, %ld a line, %ld an entry\n",
+           refused - 1, ended, refused_lines, refused_calls);
+    return wrong || !ended || !refused_lines || !refused_calls;
 }
