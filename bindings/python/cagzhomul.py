@@ -20,9 +20,12 @@ import threading
 from types import TracebackType
 from typing import Optional, Type, Union
 
-__all__ = ["AlreadyOpen", "BadLine", "CagzhomulError", "Closed", "NotUtf8", "OutOfMemory", "Session", "open", "text_of"]
+__all__ = [
+    "AlreadyOpen", "BadEntry", "BadLine", "CagzhomulError", "Closed", "NoEntry", "NotOpened", "NotUtf8", "OutOfMemory", "Session", "open", "text_of",
+]
 
 _ROOM = 4096
+_NOT_NEXT = 9
 
 
 class _Handle(ctypes.Structure):
@@ -45,6 +48,8 @@ def _load() -> ctypes.CDLL:
         ("open", ctypes.c_int32, [handle]),
         ("reply_to", _Outcome, [handle, text, size, text, size]),
         ("reply_from", _Outcome, [handle, size, text, size]),
+        ("entry", _Outcome, [handle, size, text, size]),
+        ("repeat", ctypes.c_int32, [handle, text, size]),
         ("close", ctypes.c_int32, [handle]),
         ("text_of", size, [ctypes.c_int32, text, size]),
     ):
@@ -88,10 +93,24 @@ class NotUtf8(CagzhomulError):
 
 
 class OutOfMemory(CagzhomulError, MemoryError):
-    """Memory ran out, and the session is closed."""
+    """Memory ran out. If it did over a line, the session is closed; else it is as it was."""
 
 
-_ERRORS: dict[int, Type[CagzhomulError]] = {1: BadLine, 2: Closed, 3: AlreadyOpen, 4: NotUtf8, 5: OutOfMemory}
+class NotOpened(CagzhomulError):
+    """The session has no world yet: it is before its line `open`."""
+
+
+class NoEntry(CagzhomulError):
+    """The log has no such place."""
+
+
+class BadEntry(CagzhomulError):
+    """The bytes are the code of no entry; the session is as it was."""
+
+
+_ERRORS: dict[int, Type[CagzhomulError]] = {
+    1: BadLine, 2: Closed, 3: AlreadyOpen, 4: NotUtf8, 5: OutOfMemory, 6: NotOpened, 7: NoEntry, 8: BadEntry,
+}
 
 
 def _check(status: int) -> None:
@@ -123,6 +142,34 @@ class Session:
             out = ctypes.create_string_buffer(outcome.length)
             _check(_library.cagzhomul_reply_from(self._handle, 0, out, outcome.length).status)
             return out.raw.decode()
+
+    def entry(self, place: int) -> bytes:
+        """The code of the log's entry of this place; places count from 1, as in `ok done PLACE`.
+
+        Raises Closed, NotOpened, NoEntry or OutOfMemory, and the session is as it was.
+        """
+        at = place if 0 < place < 2**63 else 0  # place 0 has no entry
+        with self._lock:
+            outcome = _library.cagzhomul_entry(self._handle, at, self._out, _ROOM)
+            _check(outcome.status)
+            if outcome.length <= _ROOM:
+                return ctypes.string_at(self._out, outcome.length)
+            out = ctypes.create_string_buffer(outcome.length)
+            _check(_library.cagzhomul_entry(self._handle, at, out, outcome.length).status)
+            return out.raw
+
+    def repeat(self, entry: bytes) -> bool:
+        """Repeats an entry of another session's log, given by its code, in this session's world.
+
+        False if no accepted call of this world would add the entry. Raises Closed, NotOpened,
+        BadEntry or OutOfMemory. In each of these cases the session is as it was.
+        """
+        with self._lock:
+            status = _library.cagzhomul_repeat(self._handle, entry, len(entry))
+        if status == _NOT_NEXT:
+            return False
+        _check(status)
+        return True
 
     def close(self) -> None:
         """Frees the session. A session that is closed stays so."""

@@ -5,6 +5,26 @@ import unittest
 
 import cagzhomul
 
+# Each has its version, 1, and then the moment. A lease is version 1 from 5 until 15.
+LEASE = "01 0000000000000005 00 0000000000000001 0000000000000005 000000000000000f"
+# The lease and one operation: into table 1, the key 1 and, in column 1, 'Ulm'.
+INSERTION = """01 0000000000000006 01 0000000000000001 0000000000000005 000000000000000f 0000000000000001
+    00 00000001 0000000000000001 02 8000000000000001 0000000000000001 00000001 03 556c6d 0001"""
+DECLARATIONS = ("length 10", "table people (id int key, town text)", "open")
+
+
+def opened() -> cagzhomul.Session:
+    session = cagzhomul.open()
+    for line in DECLARATIONS:
+        session.reply_to(line)
+    return session
+
+
+def log_of(session: cagzhomul.Session) -> list[bytes]:
+    """The codes of all entries."""
+    count = int(session.reply_to("log").split()[2])
+    return [session.entry(place) for place in range(1, count + 1)]
+
 
 class Sessions(unittest.TestCase):
     def test_a_table_is_declared_written_and_queried(self) -> None:
@@ -48,8 +68,9 @@ class Sessions(unittest.TestCase):
 
     def test_every_number_has_a_text(self) -> None:
         texts = ["ok", "bad line", "the handle is closed", "the handle is open already", "the line is not UTF-8", "out of memory"]
-        self.assertEqual([cagzhomul.text_of(status) for status in range(6)], texts)
-        self.assertEqual({cagzhomul.text_of(status) for status in (-1, 6, 2**31 - 1, -(2**31))}, {"no status"})
+        texts += ["no world is open yet", "the log has no such place", "the bytes are the code of no entry", "no call of this world would add the entry"]
+        self.assertEqual([cagzhomul.text_of(status) for status in range(10)], texts)
+        self.assertEqual({cagzhomul.text_of(status) for status in (-1, 10, 2**31 - 1, -(2**31))}, {"no status"})
 
     def test_threads_share_a_session(self) -> None:
         with cagzhomul.open() as session:
@@ -66,6 +87,77 @@ class Sessions(unittest.TestCase):
             for thread in threads:
                 thread.join()
             self.assertEqual(session.reply_to("check"), "ok rows 200 missing 0 extra 0\n")
+
+
+class Replicas(unittest.TestCase):
+    def test_entries_have_the_codes_worked_out_by_hand(self) -> None:
+        with opened() as session:
+            session.reply_to("lease a at 5")
+            self.assertEqual(session.reply_to("txn a at 6: insert people (1) set town = 'Ulm'"), "ok done 2\n")
+            self.assertEqual(log_of(session), [bytes.fromhex(LEASE), bytes.fromhex(INSERTION)])
+
+    def test_entries_written_by_hand_are_repeated(self) -> None:
+        with opened() as session:
+            of_version_2 = LEASE.replace("0000000000000001", "0000000000000002")
+            self.assertFalse(session.repeat(bytes.fromhex(of_version_2)))
+            self.assertEqual(session.reply_to("log"), "ok log 0\n")
+            self.assertTrue(session.repeat(bytes.fromhex(LEASE)))
+            self.assertTrue(session.repeat(bytes.fromhex(INSERTION)))
+            self.assertFalse(session.repeat(bytes.fromhex(INSERTION)))
+            self.assertFalse(session.repeat(bytes.fromhex(LEASE)))
+            self.assertEqual(session.reply_to("lease b at 6"), "ok lease 1 6 16\n")
+            self.assertEqual(session.reply_to("query b at 6: select town from people"), "row (1) town = 'Ulm'\nok rows 1\n")
+
+    def test_a_session_that_repeats_a_log_has_an_equal_world(self) -> None:
+        lines = ("lease a at 5", "txn a at 5: insert people (1) set town = 'Ulm'; insert people (2) set town = 'Bonn'",
+                 "plan: add index by_town on people (town)", "next at 10", "txn a at 14: insert people (3) set town = 'Ulm'", "next at 20",
+                 "reorganise people.by_town at 30 pieces 2", "work people.by_town at 30 limit 1", "next at 30", "lease b at 30")
+        with opened() as session, opened() as replica:
+            for line in lines:
+                self.assertNotIn("refused", session.reply_to(line))
+            log = log_of(session)
+            self.assertGreater(len(log), 8)
+            for place, entry in enumerate(log[:-1], 1):
+                self.assertFalse(replica.repeat(log[-1]))
+                self.assertTrue(replica.repeat(entry))
+                self.assertEqual(replica.entry(place), entry)
+            self.assertTrue(replica.repeat(log[-1]))
+            for line in ("status", "pairs", "log", "check"):
+                self.assertEqual(replica.reply_to(line), session.reply_to(line))
+            # servers' leases are the session's own
+            self.assertEqual(replica.reply_to("query b at 30: select town from people"), "refused NoServer\n")
+
+    def test_a_long_entry_comes_whole(self) -> None:
+        with opened() as session, opened() as replica:
+            session.reply_to("lease a at 5")
+            inserts = "; ".join(f"insert people ({key}) set town = '{'x' * 1000}'" for key in range(20))
+            self.assertEqual(session.reply_to(f"txn a at 5: {inserts}"), "ok done 2\n")
+            log = log_of(session)
+            # an operation has 1,037 bytes: 1 and 4, 8 and 9, 8 and 4, and 1 and 1,000 and 2
+            self.assertEqual(len(log[1]), 42 + 20 * 1037)
+            self.assertEqual([replica.repeat(entry) for entry in log], [True, True])
+            self.assertEqual(replica.reply_to("pairs"), session.reply_to("pairs"))
+
+    def test_errors(self) -> None:
+        session = cagzhomul.open()
+        for call in (lambda: session.entry(1), lambda: session.repeat(b"")):
+            with self.assertRaises(cagzhomul.NotOpened) as early:
+                call()
+        self.assertEqual((early.exception.status, str(early.exception)), (6, "no world is open yet"))
+        for line in (*DECLARATIONS, "lease a at 5"):
+            session.reply_to(line)
+        lease = session.entry(1)
+        for place in (0, 2, -1, 2**63, 2**64 + 1):
+            with self.assertRaises(cagzhomul.NoEntry):
+                session.entry(place)
+        for entry in (b"", b"\2" + lease[1:], lease[:-1], lease + b"\0", bytes(8)):
+            with self.assertRaises(cagzhomul.BadEntry):
+                session.repeat(entry)
+        self.assertEqual(session.reply_to("log"), "ok log 1\n")
+        session.close()
+        for call in (lambda: session.entry(1), lambda: session.repeat(lease)):
+            with self.assertRaises(cagzhomul.Closed):
+                call()
 
 
 if __name__ == "__main__":
