@@ -1,0 +1,78 @@
+"""Entries of a log as bytes, in the code of docs/REPLICAS.md: version, moment, kind, fields."""
+
+from __future__ import annotations
+
+import struct
+from typing import Iterable, Mapping, Sequence, Union
+
+Value = Union[None, bool, int, str]
+
+
+def value(it: Value) -> bytes:
+    """A value as the engine's key code spells it."""
+    if it is None:
+        return b"\1"
+    if isinstance(it, bool):
+        return b"\4" + bytes([it])
+    if isinstance(it, int):
+        return b"\2" + struct.pack(">Q", (it + (1 << 63)) % (1 << 64))
+    return b"\3" + it.encode().replace(b"\0", b"\0\xff") + b"\0\1"
+
+
+def listed(items: Iterable[bytes]) -> bytes:
+    """A list: the number of its items, and the items."""
+    items = list(items)
+    return struct.pack(">Q", len(items)) + b"".join(items)
+
+
+def _row(kind: int, table: int, key: Sequence[Value]) -> bytes:
+    return struct.pack(">BI", kind, table) + listed(value(it) for it in key)
+
+
+def _cells(cells: Mapping[int, Value]) -> bytes:
+    return listed(struct.pack(">I", column) + value(it) for column, it in sorted(cells.items()))
+
+
+def insert(table: int, key: Sequence[Value], cells: Mapping[int, Value]) -> bytes:
+    """The insertion of a row: its key, and values by column number."""
+    return _row(0, table, key) + _cells(cells)
+
+
+def update(table: int, key: Sequence[Value], cells: Mapping[int, Value]) -> bytes:
+    """New values of a row, by column number."""
+    return _row(1, table, key) + _cells(cells)
+
+
+def delete(table: int, key: Sequence[Value]) -> bytes:
+    """The deletion of a row."""
+    return _row(2, table, key)
+
+
+class Lease:
+    """A lease on a schema version, in moments."""
+
+    def __init__(self, version: int, granted: int, length: int) -> None:
+        self.version, self.granted, self.until = version, granted, granted + length
+
+    def bytes(self) -> bytes:
+        return struct.pack(">QQQ", self.version, self.granted, self.until)
+
+
+def grant(lease: Lease) -> bytes:
+    """The entry that grants a lease."""
+    return struct.pack(">BQB", 1, lease.granted, 0) + lease.bytes()
+
+
+def transaction(moment: int, lease: Lease, operations: Sequence[bytes]) -> bytes:
+    """The entry that commits operations under a lease."""
+    return struct.pack(">BQB", 1, moment, 1) + lease.bytes() + listed(operations)
+
+
+def moment_of(entry: bytes) -> int:
+    """The moment of an entry."""
+    return struct.unpack(">Q", entry[1:9])[0]
+
+
+def at_moment(entry: bytes, moment: int) -> bytes:
+    """The same entry at another moment."""
+    return entry[:1] + struct.pack(">Q", moment) + entry[9:]
