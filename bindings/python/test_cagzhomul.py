@@ -127,6 +127,32 @@ class Replicas(unittest.TestCase):
             # servers' leases are the session's own
             self.assertEqual(replica.reply_to("query b at 30: select town from people"), "refused NoServer\n")
 
+    def test_an_item_may_go_between_the_read_of_a_piece_and_its_commit(self) -> None:
+        with opened() as session, opened() as replica:
+            replies = {
+                "lease a at 5": "ok lease 1 5 15\n",
+                "txn a at 5: insert people (1) set town = 'Ulm'; insert people (2) set town = 'Bonn'; insert people (3) set town = 'Ulm'": "ok done 2\n",
+                "publish at 10: add index by_town on people (town)": "ok version 2\n",
+                "publish at 20: move people.by_town to write_only": "ok version 3\n",
+                "reorganise people.by_town at 30 pieces 1": "ok begun fill 1\n",
+                "lease b at 30": "ok lease 3 30 40\n",
+                # the piece comes to row 2, which is gone when it is committed
+                "piece w of people.by_town 0 limit 1": "ok prepared\n",
+                "txn b at 30: delete people (2)": "ok done 7\n",
+                "commit w at 30": "ok piece 8 more\n",
+                "work people.by_town at 30 limit 1": "ok work 1\n",
+                "publish at 30: move people.by_town to public": "ok version 4\n",
+            }
+            for line, reply in replies.items():
+                self.assertEqual(session.reply_to(line), reply)
+            log = log_of(session)
+            # the cursor is the key of row 2, which was not there: 52, table 1, primary key 2, exists
+            self.assertIn(bytes.fromhex("028000000000000002"), log[7])
+            for entry in log:
+                self.assertTrue(replica.repeat(entry))
+            for line in ("status", "pairs", "log", "check"):
+                self.assertEqual(replica.reply_to(line), session.reply_to(line))
+
     def test_a_long_entry_comes_whole(self) -> None:
         with opened() as session, opened() as replica:
             session.reply_to("lease a at 5")
