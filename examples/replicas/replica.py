@@ -197,7 +197,9 @@ class Process:
                 if len(coded) > CHUNK:
                     self.say(f"filled {min(at + CHUNK, len(coded))} of {len(coded)} pieces")
             if is_added:
-                self.say(line.split(" at {now}")[0] + line.partition("{now}")[2] + f", at slot {self.replica.slot - 1}")
+                version = json.loads(self.replica.ask("status"))["version"]
+                done = line.split(" at {now}")[0] + line.partition("{now}")[2]
+                self.say(f"{done}: version {version}, moment {self.replica.moment}, slot {self.replica.slot - 1}")
                 return
 
     def operate(self) -> None:
