@@ -107,12 +107,12 @@ def in_dribs(script, replies):
 
 
 def bounded(blocks):
-    """Output to a file that may have so many blocks of 1,024 bytes; writing behind them fails."""
+    """Output to a file that may have so many blocks of 1,024 bytes; writing behind them fails. No line is bad: reports are held to the same size."""
     lines = blocks * 200 + 100
     taken = file_of("bounded")
     command = f'ulimit -f {blocks}; trap "" XFSZ; exec "$0" run'
-    ended = run(("-c", command, PROGRAM), b"x\n" * lines, stdout=taken, program=shutil.which("bash"))
-    wanted = (b"bad line\n" * lines)[:blocks * 1_024]
+    ended = run(("-c", command, PROGRAM), FRONT + b"log\n" * lines, stdout=taken, program=shutil.which("bash"))
+    wanted = (FRONT_REPLIES + b"ok log 1\n" * lines)[:blocks * 1_024]
     got = held(taken)
     if (ended.status, ended.err) != (4, b"fault: write\n") or got != wanted:
         return f"expected status 4, errors 'fault: write' and {len(wanted)} bytes, got {ended} and {len(got)} bytes", 1
