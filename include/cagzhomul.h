@@ -43,7 +43,12 @@ enum {
     CAGZHOMUL_NOT_OPENED = 6,    /* the session has no world yet: it is before its line `open` */
     CAGZHOMUL_NO_ENTRY = 7,      /* the log has no such place */
     CAGZHOMUL_BAD_ENTRY = 8,     /* the bytes are the code of no entry */
-    CAGZHOMUL_NOT_NEXT = 9       /* no accepted call of this world would add the entry */
+    CAGZHOMUL_NOT_NEXT = 9,      /* no accepted call of this world would add the entry */
+    CAGZHOMUL_WAITING = 10,      /* changes are under way, and nothing can be done yet */
+    CAGZHOMUL_FINISHED = 11,     /* no change is under way */
+    CAGZHOMUL_BAD_COUNT = 12,    /* the pieces are not 1 to 64, or the limit is not 1 to 1,000 */
+    CAGZHOMUL_MOMENT_TOO_LARGE = 13, /* the moment is above 2^62 */
+    CAGZHOMUL_VERSIONS_SPENT = 14    /* a publication is due, and there are 1,000,000 versions */
 };
 
 /* All zeros is closed. Its fields are the library's. */
@@ -57,6 +62,12 @@ typedef struct cagzhomul_outcome {
     int32_t status;
     size_t length; /* of the whole reply or code, however much of it fitted; 0 after a refusal */
 } cagzhomul_outcome;
+
+/* What an advance did. */
+typedef struct cagzhomul_advanced {
+    int32_t status;
+    uint64_t until; /* at CAGZHOMUL_WAITING the moment before which nothing can be done; else 0 */
+} cagzhomul_advanced;
 
 /* Opens a session, at its start: before the line `open`.
  * CAGZHOMUL_OK. Refusals: CAGZHOMUL_ALREADY_OPEN; CAGZHOMUL_OUT_OF_MEMORY, and the handle is closed
@@ -97,6 +108,18 @@ cagzhomul_outcome cagzhomul_entry(cagzhomul_handle *handle, size_t place, uint8_
  * CAGZHOMUL_NOT_NEXT; CAGZHOMUL_OUT_OF_MEMORY, which may come in place of the two before it, and
  * after which the call may be made again. */
 int32_t cagzhomul_repeat(cagzhomul_handle *handle, const uint8_t *entry, size_t entry_length);
+
+/* Does the one act that is due of the schema changes under way, whoever began them: begins a fill or
+ * a clear in `pieces` pieces (1 to 64), publishes a step in which all elements that are ready move
+ * on, or works `limit` items of a piece (1 to 1,000). `moment` is the present one. Leases, prepared
+ * work, the kept plan and the last reply stay.
+ * CAGZHOMUL_OK, and the log has exactly one entry more; CAGZHOMUL_WAITING, with the moment, or
+ * CAGZHOMUL_FINISHED, and nothing changed. Refusals: CAGZHOMUL_CLOSED; CAGZHOMUL_NOT_OPENED;
+ * CAGZHOMUL_BAD_COUNT; CAGZHOMUL_MOMENT_TOO_LARGE; CAGZHOMUL_VERSIONS_SPENT;
+ * CAGZHOMUL_OUT_OF_MEMORY, which may come in place of the one before it, and after which the call
+ * may be made again. */
+cagzhomul_advanced cagzhomul_advance(cagzhomul_handle *handle, uint64_t moment, uint32_t pieces,
+                                     uint32_t limit);
 
 /* Frees the session and closes the handle, which may be opened again.
  * CAGZHOMUL_OK. Refusal: CAGZHOMUL_CLOSED. */

@@ -21,11 +21,11 @@ from types import TracebackType
 from typing import Optional, Type, Union
 
 __all__ = [
-    "AlreadyOpen", "BadEntry", "BadLine", "CagzhomulError", "Closed", "NoEntry", "NotOpened", "NotUtf8", "OutOfMemory", "Session", "open", "text_of",
+    "AlreadyOpen", "BadCount", "BadEntry", "BadLine", "CagzhomulError", "Closed", "MomentTooLarge", "NoEntry", "NotOpened", "NotUtf8", "OutOfMemory", "Session", "VersionsSpent", "open", "text_of",
 ]
 
 _ROOM = 4096
-_NOT_NEXT = 9
+_NOT_NEXT, _WAITING, _FINISHED = 9, 10, 11
 
 
 class _Handle(ctypes.Structure):
@@ -34,6 +34,10 @@ class _Handle(ctypes.Structure):
 
 class _Outcome(ctypes.Structure):
     _fields_ = [("status", ctypes.c_int32), ("length", ctypes.c_size_t)]
+
+
+class _Advanced(ctypes.Structure):
+    _fields_ = [("status", ctypes.c_int32), ("until", ctypes.c_uint64)]
 
 
 def _load() -> ctypes.CDLL:
@@ -50,6 +54,7 @@ def _load() -> ctypes.CDLL:
         ("reply_from", _Outcome, [handle, size, text, size]),
         ("entry", _Outcome, [handle, size, text, size]),
         ("repeat", ctypes.c_int32, [handle, text, size]),
+        ("advance", _Advanced, [handle, ctypes.c_uint64, ctypes.c_uint32, ctypes.c_uint32]),
         ("close", ctypes.c_int32, [handle]),
         ("text_of", size, [ctypes.c_int32, text, size]),
     ):
@@ -108,8 +113,21 @@ class BadEntry(CagzhomulError):
     """The bytes are the code of no entry; the session is as it was."""
 
 
+class BadCount(CagzhomulError):
+    """The pieces are not 1 to 64, or the limit is not 1 to 1,000; the session is as it was."""
+
+
+class MomentTooLarge(CagzhomulError):
+    """The moment is above 2^62; the session is as it was."""
+
+
+class VersionsSpent(CagzhomulError):
+    """A publication is due, and there are 1,000,000 versions; the session is as it was."""
+
+
 _ERRORS: dict[int, Type[CagzhomulError]] = {
     1: BadLine, 2: Closed, 3: AlreadyOpen, 4: NotUtf8, 5: OutOfMemory, 6: NotOpened, 7: NoEntry, 8: BadEntry,
+    12: BadCount, 13: MomentTooLarge, 14: VersionsSpent,
 }
 
 
@@ -169,6 +187,22 @@ class Session:
         if status == _NOT_NEXT:
             return False
         _check(status)
+        return True
+
+    def advance(self, moment: int, pieces: int = 8, limit: int = 1000) -> Union[bool, int]:
+        """Does the one act that is due of the schema changes under way, in the session's world.
+
+        True: it was done, and the log has one entry more. False: no change is under way. Else a
+        number: nothing can be done before that moment. Raises Closed, NotOpened, BadCount,
+        MomentTooLarge, VersionsSpent or OutOfMemory, and the session is as it was.
+        """
+        if not (0 <= moment < 2**64 and 0 <= pieces < 2**32 and 0 <= limit < 2**32):
+            raise OverflowError("moment, pieces and limit have 64, 32 and 32 bits")
+        with self._lock:
+            done = _library.cagzhomul_advance(self._handle, moment, pieces, limit)
+        if done.status in (_WAITING, _FINISHED):
+            return done.until if done.status == _WAITING else False
+        _check(done.status)
         return True
 
     def close(self) -> None:

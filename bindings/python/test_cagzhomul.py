@@ -69,8 +69,10 @@ class Sessions(unittest.TestCase):
     def test_every_number_has_a_text(self) -> None:
         texts = ["ok", "bad line", "the handle is closed", "the handle is open already", "the line is not UTF-8", "out of memory"]
         texts += ["no world is open yet", "the log has no such place", "the bytes are the code of no entry", "no call of this world would add the entry"]
-        self.assertEqual([cagzhomul.text_of(status) for status in range(10)], texts)
-        self.assertEqual({cagzhomul.text_of(status) for status in (-1, 10, 2**31 - 1, -(2**31))}, {"no status"})
+        texts += ["changes are under way, and nothing can be done yet", "no change is under way", "the pieces are not 1 to 64, or the limit is not 1 to 1,000"]
+        texts += ["the moment is above 2^62", "no version is left"]
+        self.assertEqual([cagzhomul.text_of(status) for status in range(15)], texts)
+        self.assertEqual({cagzhomul.text_of(status) for status in (-1, 15, 2**31 - 1, -(2**31))}, {"no status"})
 
     def test_threads_share_a_session(self) -> None:
         with cagzhomul.open() as session:
@@ -153,6 +155,22 @@ class Replicas(unittest.TestCase):
             for line in ("status", "pairs", "log", "check"):
                 self.assertEqual(replica.reply_to(line), session.reply_to(line))
 
+    def test_a_change_is_carried_to_its_end(self) -> None:
+        with opened() as session:
+            for line in ("lease a at 5", "txn a at 5: insert people (1) set town = 'Ulm'; insert people (2)", "publish at 10: add index by_town on people (town)"):
+                self.assertNotIn("refused", session.reply_to(line))
+            # the next version at 20, the begin when no lease on version 2 can be in force, two items one by one, and the last version
+            acts = [(10, 20), (20, True), (20, 30), (30, True), (30, True), (30, True), (30, True), (30, False)]
+            self.assertEqual([session.advance(moment, pieces=1, limit=1) for moment, _ in acts], [done for _, done in acts])
+            self.assertEqual(session.reply_to("log"), "ok log 8\n")
+            self.assertEqual(session.reply_to("check"), "ok rows 2 missing 0 extra 0\n")
+            for more, error in (({"pieces": 0}, cagzhomul.BadCount), ({"limit": 1001}, cagzhomul.BadCount), ({}, cagzhomul.MomentTooLarge)):
+                with self.assertRaises(error):
+                    session.advance(30 if more else 2**62 + 1, **more)
+            with self.assertRaises(OverflowError):
+                session.advance(-1)
+            self.assertEqual(session.reply_to("log"), "ok log 8\n")
+
     def test_a_long_entry_comes_whole(self) -> None:
         with opened() as session, opened() as replica:
             session.reply_to("lease a at 5")
@@ -166,7 +184,7 @@ class Replicas(unittest.TestCase):
 
     def test_errors(self) -> None:
         session = cagzhomul.open()
-        for call in (lambda: session.entry(1), lambda: session.repeat(b"")):
+        for call in (lambda: session.entry(1), lambda: session.repeat(b""), lambda: session.advance(0)):
             with self.assertRaises(cagzhomul.NotOpened) as early:
                 call()
         self.assertEqual((early.exception.status, str(early.exception)), (6, "no world is open yet"))
@@ -181,7 +199,7 @@ class Replicas(unittest.TestCase):
                 session.repeat(entry)
         self.assertEqual(session.reply_to("log"), "ok log 1\n")
         session.close()
-        for call in (lambda: session.entry(1), lambda: session.repeat(lease)):
+        for call in (lambda: session.entry(1), lambda: session.repeat(lease), lambda: session.advance(0)):
             with self.assertRaises(cagzhomul.Closed):
                 call()
 

@@ -8,6 +8,9 @@ from typing import Iterable, Mapping, Sequence, Union
 Value = Union[None, bool, int, str]
 
 
+PIECE = 4  # the kind of an entry that worked a piece
+
+
 def value(it: Value) -> bytes:
     """A value as the engine's key code spells it."""
     if it is None:
@@ -71,6 +74,11 @@ def transaction(moment: int, lease: Lease, operations: Sequence[bytes]) -> bytes
 def moment_of(entry: bytes) -> int:
     """The moment of an entry."""
     return struct.unpack(">Q", entry[1:9])[0]
+
+
+def kind_of(entry: bytes) -> int:
+    """0 a lease, 1 a transaction, 2 a step, 3 a begin, 4 a piece."""
+    return entry[9]
 
 
 def at_moment(entry: bytes, moment: int) -> bytes:

@@ -11,7 +11,7 @@ import sys
 import threading
 import time
 import uuid
-from typing import List, Optional, Sequence
+from typing import List, Optional, Sequence, Union
 
 import cagzhomul
 import entries
@@ -21,7 +21,8 @@ LENGTH = 1_000  # of a lease, in moments, which are milliseconds here
 OPENING = [f"length {LENGTH}", "table people (id int key, town text, n int)", "open"]
 PEOPLE, TOWN, NUMBER = 1, 1, 2  # the table and its columns, by number
 TOWNS = ["Ulm", "Bonn", "Kiel", "Trier", "Jena", "Hof", "Celle"]
-PIECES, LIMIT, CHUNK = 8, 50, 8
+CHANGES = "publish at {now}: add index by_town on people (town); add column age int default 7 on people"
+PIECES, LIMIT, ACTS = 8, 500, 16  # of a fill; items of a piece at a time; acts a slot
 
 
 class Replica:
@@ -82,6 +83,15 @@ class Replica:
         # a first try whose answer was lost may have written it, so the slots decide
         self.slots.write(self.slot, json.dumps(data).encode())
         return self.catch_up(batch)
+
+    def length(self) -> int:
+        return int(self.ask("log").split()[-1])
+
+    def entries_after(self, place: int) -> List[bytes]:
+        """The entries after this place of the log; the world is then thrown away."""
+        found = [self.session.entry(it) for it in range(place + 1, self.length() + 1)]
+        self.session.close()
+        return found
 
     def summary(self) -> dict:
         pairs = hashlib.sha256(self.ask("pairs").encode()).hexdigest()
@@ -163,16 +173,25 @@ class Process:
 
     # ---- the operator
 
-    def entries_of(self, line: str) -> Optional[List[bytes]]:
-        """What a line would add to the log, found out in a world that is thrown away; None if it is refused."""
+    def begin(self, line: str) -> List[bytes]:
+        """What a line of the language adds to the log, found out in a world that is thrown away."""
         trial = Replica(self.slots, self.options.began)
         trial.catch_up()
-        before = int(trial.ask("log").split()[-1])
-        reply = trial.ask(line.format(now=trial.now()))
-        after = int(trial.ask("log").split()[-1])
-        found = [trial.session.entry(place) for place in range(before + 1, after + 1)]
-        trial.session.close()
-        return found if "refused" not in reply else None
+        before = trial.length()
+        trial.ask(line.format(now=trial.now()))
+        return trial.entries_after(before)
+
+    def carry_on(self) -> Union[List[bytes], int, None]:
+        """The next acts of the changes under way, found out so; or the moment to wait for; or None if no change is left."""
+        trial = Replica(self.slots, self.options.began)
+        trial.catch_up()
+        before, done = trial.length(), True
+        for _ in range(ACTS):
+            done = trial.session.advance(trial.now(), PIECES, LIMIT)
+            # where the pieces of a begin end depends on the rows that are there when it is in the log
+            if done is not True or entries.kind_of(trial.session.entry(trial.length())) != entries.PIECE:
+                break
+        return trial.entries_after(before) or (None if done is False else done)
 
     def add_all(self, coded: Sequence[bytes]) -> bool:
         """Proposes entries until a slot has them; the moment is that of each try. False: they were passed over."""
@@ -183,33 +202,25 @@ class Process:
                 return all(own["added"])
         return False
 
-    def act(self, line: str) -> None:
-        """Has a line of the language in the log, as soon as it is accepted."""
-        while not self.is_stopped.is_set():
-            coded = self.entries_of(line)
-            if coded is None:
-                time.sleep(0.2)
-                self.replica.catch_up()
-                continue
-            is_added = True
-            for at in range(0, len(coded), CHUNK):
-                is_added = self.add_all(coded[at : at + CHUNK]) and is_added
-                if len(coded) > CHUNK:
-                    self.say(f"filled {min(at + CHUNK, len(coded))} of {len(coded)} pieces")
-            if is_added:
-                version = json.loads(self.replica.ask("status"))["version"]
-                done = line.split(" at {now}")[0] + line.partition("{now}")[2]
-                self.say(f"{done}: version {version}, moment {self.replica.moment}, slot {self.replica.slot - 1}")
-                return
+    def report(self, coded: Sequence[bytes]) -> None:
+        """What entries did, and where the changes stand."""
+        kinds = [entries.kind_of(it) for it in coded]
+        did = [f"{name} {kinds.count(kind)}" for kind, name in enumerate(("", "", "published", "begun", "pieces worked")) if name and kind in kinds]
+        status = json.loads(self.replica.ask("status"))
+        states = [f"{it['name']} {it['state']}" for it in status["elements"] if it["name"] in ("by_town", "age")]
+        self.say(f"{', '.join(did)}: version {status['version']}, {', '.join(states)}, moment {self.replica.moment}, slot {self.replica.slot - 1}")
 
     def operate(self) -> None:
-        """Adds an index and a column with a default, while the servers write."""
-        self.act("publish at {now}: add index by_town on people (town); add column age int default 7 on people")
-        self.act("publish at {now}: move people.by_town to write_only; move people.age to write_only")
-        for name in ("by_town", "age"):
-            self.act(f"reorganise people.{name} at {{now}} pieces {PIECES}")
-            self.act(f"work people.{name} at {{now}} limit {LIMIT}")
-        self.act("publish at {now}: move people.by_town to public; move people.age to public")
+        """Adds an index and a column with a default, while the servers write; from their begin on the library says what is due."""
+        coded: Union[List[bytes], int, None] = self.begin(CHANGES)
+        while coded is not None and not self.is_stopped.is_set():
+            if isinstance(coded, list):
+                if self.add_all(coded):
+                    self.report(coded)
+            else:
+                time.sleep(max(coded - self.replica.now(), 0) / 1000)
+                self.replica.catch_up()
+            coded = self.carry_on()
         self.say("the index and the column are public")
         self.is_stopped.wait()
 

@@ -1,5 +1,5 @@
-/* Refuses each allocation of a short session, and of another one that repeats its log, one in each
-   run (linked with --wrap for malloc, calloc and realloc), and looks at what the call that met the
+/* Refuses each allocation of a short session, and of another one that repeats its log and
+   carries the change under way to its end, one in each run (linked with --wrap for malloc, calloc and realloc), and looks at what the call that met the
    refusal left: a status, and a handle that is closed, or usable with nothing changed. Also the
    calls' other refusals. It prints how many allocations were refused, and ends with 0 if all was as
    include/cagzhomul.h says. */
@@ -143,6 +143,23 @@ static int reply_alike(cagzhomul_handle *one, cagzhomul_handle *other, const cha
            memcmp(first, second, ROOM) == 0;
 }
 
+/* The change under way is carried to its end, of which any allocation may be refused. */
+static void advance(cagzhomul_handle *handle) {
+    uint64_t moment = 14;
+    for (int acts = 0; acts < MANY && !wrong; acts++) {
+        cagzhomul_advanced done = cagzhomul_advance(handle, moment, 2, 1);
+        if (done.status == CAGZHOMUL_OUT_OF_MEMORY) {
+            refused_calls++;
+            check(is_reached && done.until == 0, "memory runs out only after a refusal");
+            done = cagzhomul_advance(handle, moment, 2, 1);
+        }
+        if (done.status == CAGZHOMUL_FINISHED) return;
+        check(done.status == CAGZHOMUL_OK || (done.status == CAGZHOMUL_WAITING && done.until > moment), "an act, or a wait");
+        if (done.status == CAGZHOMUL_WAITING) moment = done.until;
+    }
+    check(0, "the change ends");
+}
+
 static void run(void) {
     cagzhomul_handle handle = {0}, replica = {0};
     uint8_t code[ROOM];
@@ -152,6 +169,10 @@ static void run(void) {
         repeat(&replica, place, code, code_of(&handle, place, code));
     is_ample = 1;
     check(reply_alike(&handle, &replica, "pairs") && reply_alike(&handle, &replica, "status"), "the worlds are equal");
+    is_ample = 0;
+    advance(&replica);
+    is_ample = 1;
+    check(is_reply(ask(&replica, "check", code), code, "ok rows 2 missing 0 extra 0\n"), "and no pair is missing");
     is_ample = 0;
     check(cagzhomul_close(&handle) == CAGZHOMUL_OK, "it is closed");
     check(cagzhomul_close(&replica) == CAGZHOMUL_OK, "and so is the other one");

@@ -1,3 +1,4 @@
 pub mod Calls
 pub mod Owned
 pub mod Statuses
+pub mod Advance

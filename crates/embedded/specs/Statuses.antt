@@ -35,6 +35,21 @@ bad_entry = pos 8
 abbrev pub not_next : ℤ
 not_next = pos 9
 
+abbrev pub waiting : ℤ
+waiting = pos 10
+
+abbrev pub finished : ℤ
+finished = pos 11
+
+abbrev pub bad_count : ℤ
+bad_count = pos 12
+
+abbrev pub moment_too_large : ℤ
+moment_too_large = pos 13
+
+abbrev pub versions_spent : ℤ
+versions_spent = pos 14
+
 -- the status of a line that has its reply
 abbrev pub reply_status : Bool → ℤ
 reply_status true = bad_line
@@ -57,6 +72,11 @@ text_at (suc (suc (suc (suc (suc (suc zero)))))) = codes "no world is open yet"
 text_at (suc (suc (suc (suc (suc (suc (suc zero))))))) = codes "the log has no such place"
 text_at (suc (suc (suc (suc (suc (suc (suc (suc zero)))))))) = codes "the bytes are the code of no entry"
 text_at (suc (suc (suc (suc (suc (suc (suc (suc (suc zero))))))))) = codes "no call of this world would add the entry"
+text_at (suc (suc (suc (suc (suc (suc (suc (suc (suc (suc zero)))))))))) = codes "changes are under way, and nothing can be done yet"
+text_at (suc (suc (suc (suc (suc (suc (suc (suc (suc (suc (suc zero))))))))))) = codes "no change is under way"
+text_at (suc (suc (suc (suc (suc (suc (suc (suc (suc (suc (suc (suc zero)))))))))))) = codes "the pieces are not 1 to 64, or the limit is not 1 to 1,000"
+text_at (suc (suc (suc (suc (suc (suc (suc (suc (suc (suc (suc (suc (suc zero))))))))))))) = codes "the moment is above 2^62"
+text_at (suc (suc (suc (suc (suc (suc (suc (suc (suc (suc (suc (suc (suc (suc zero)))))))))))))) = codes "no version is left"
 text_at _ = codes "no status"
 
 abbrev pub status_text : ℤ → List ℕ

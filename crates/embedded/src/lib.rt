@@ -3,8 +3,9 @@
 #![tactic(auto)]
 
 ghost use Rattle.std.specs.Prelude.{◌≡◌};
-ghost use Rattle.embedded.specs.Calls.{Opens, RepliesTo, RepliesFrom, ShowsEntry, Repeats, Closes, ShowsText};
+ghost use Rattle.embedded.specs.Calls.{Opens, RepliesTo, RepliesFrom, ShowsEntry, Repeats, Advances, Closes, ShowsText};
 
+mod advance;
 mod engine;
 mod entries;
 mod handle;
@@ -14,6 +15,7 @@ mod replica_calls;
 mod session_calls;
 mod status;
 
+pub use advance::AdvanceOutcome;
 pub use engine::{Conversation, Engine};
 pub use handle::Handle;
 pub use outcome::Outcome;
@@ -81,6 +83,25 @@ pub extern "C" fn cagzhomul_repeat(alloc: Global, handle: &mut Handle, entry: &[
     ensures { Repeats handle.old.place.value entry.now result handle.new.place.value }
 {
     handle.repeat(alloc, entry)
+}
+
+/// Does the act that is due of the changes under way in the session's world: begins a
+/// reorganisation in so many pieces, publishes a step in which all ready elements move on, or works
+/// so many items. `OK`, and the log has one entry more; `WAITING`, with the moment before which
+/// nothing can be done, or `FINISHED`, which change nothing; else `CLOSED`, `NOT_OPENED`,
+/// `BAD_COUNT`, `MOMENT_TOO_LARGE`, `VERSIONS_SPENT`, or `OUT_OF_MEMORY`, which may come in place of
+/// the one before it. A refusal changes nothing.
+#[unsafe(no_mangle)]
+pub extern "C" fn cagzhomul_advance(
+    alloc: Global,
+    handle: &mut Handle,
+    moment: u64,
+    pieces: u32,
+    limit: u32,
+) -> AdvanceOutcome
+    ensures { Advances handle.old.place.value moment pieces limit result handle.new.place.value }
+{
+    handle.advance(alloc, moment, pieces, limit)
 }
 
 /// Frees what the handle holds, and closes it. `OK`; else `CLOSED`.

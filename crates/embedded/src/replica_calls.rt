@@ -1,7 +1,8 @@
-//! The calls for replicas of a session behind a handle.
+//! The calls for replicas and for changes under way, of a session behind a handle.
 ghost use Rattle.std.specs.Prelude.{◌≡◌};
-ghost use Rattle.embedded.specs.Calls.{ShowsEntry, Repeats};
+ghost use Rattle.embedded.specs.Calls.{ShowsEntry, Repeats, Advances};
 
+use crate::advance::AdvanceOutcome;
 use crate::engine::Engine;
 use crate::handle::Handle;
 use crate::outcome::Outcome;
@@ -34,5 +35,24 @@ impl Handle {
         let status = conversation.repeat(alloc, entry);
         self.put(engine);
         status
+    }
+
+    /// Does the act that is due of the changes under way.
+    pub(crate) fn advance(
+        &mut self,
+        alloc: Global,
+        moment: u64,
+        pieces: u32,
+        limit: u32,
+    ) -> AdvanceOutcome
+        ensures { Advances self.old.place.value moment pieces limit result self.new.place.value }
+    {
+        let Some(mut engine) = self.take(alloc) else {
+            return AdvanceOutcome::of(CLOSED);
+        };
+        let Engine::Session(conversation) = &mut *engine;
+        let outcome = conversation.advance(alloc, moment, pieces, limit);
+        self.put(engine);
+        outcome
     }
 }

@@ -25,6 +25,16 @@ pub(crate) const NO_ENTRY: i32 = 7;
 pub(crate) const BAD_ENTRY: i32 = 8;
 /// No accepted call of this world would add the entry.
 pub(crate) const NOT_NEXT: i32 = 9;
+/// Changes are under way, and nothing can be done yet.
+pub(crate) const WAITING: i32 = 10;
+/// No change is under way.
+pub(crate) const FINISHED: i32 = 11;
+/// The pieces are not 1 to 64, or the limit is not 1 to 1,000.
+pub(crate) const BAD_COUNT: i32 = 12;
+/// The moment is above 2^62.
+pub(crate) const MOMENT_TOO_LARGE: i32 = 13;
+/// A publication is due, and no version is left.
+pub(crate) const VERSIONS_SPENT: i32 = 14;
 
 // The text of a status.
 fn text_of(status: i32) -> &'static str
@@ -41,6 +51,11 @@ fn text_of(status: i32) -> &'static str
         NO_ENTRY => "the log has no such place",
         BAD_ENTRY => "the bytes are the code of no entry",
         NOT_NEXT => "no call of this world would add the entry",
+        WAITING => "changes are under way, and nothing can be done yet",
+        FINISHED => "no change is under way",
+        BAD_COUNT => "the pieces are not 1 to 64, or the limit is not 1 to 1,000",
+        MOMENT_TOO_LARGE => "the moment is above 2^62",
+        VERSIONS_SPENT => "no version is left",
         _ => "no status",
     }
 }
