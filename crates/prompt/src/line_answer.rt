@@ -28,15 +28,23 @@ impl LineAnswer {
     }
 }
 
+// Adds a byte of a remark, and `# ` after a line feed.
+fn push_remark_byte(out: &mut Vec<u8>, byte: u8) -> Result<(), AllocError>
+    ensures { OnOk result (out.new.items ≡ out.old.items ++ remark_byte byte) }
+{
+    out.push(byte)?;
+    if byte == b'\n' {
+        out.extend_from_slice(b"# ")?;
+    }
+    Ok(())
+}
+
 // Adds the bytes of a remark, and `# ` after each line feed.
 fn push_remark(out: &mut Vec<u8>, remark: &[u8]) -> Result<(), AllocError>
     ensures { OnOk result (out.new.items ≡ out.old.items ++ flat_map remark_byte remark.now) }
 {
     for byte in remark {
-        out.push(*byte)?;
-        if *byte == b'\n' {
-            out.extend_from_slice(b"# ")?;
-        }
+        push_remark_byte(out, *byte)?;
     }
     Ok(())
 }
