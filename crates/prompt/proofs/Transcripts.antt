@@ -9,7 +9,7 @@ use Rattle.std.proofs.lemmas.List.{append-nil, map-append}
 use Rattle.std.proofs.lemmas.List.Folds.{concat-append}
 use Rattle.script_session.specs.Session.{Session, empty}
 use Rattle.prompt.specs.Lines.{HasRead, IsRaw, AreRaw, stripped}
-use Rattle.prompt.specs.Conversation.{IsAnswered, AreAnswered, AppendsPrefix, Conversed, IsAwaited, IsCut, IsTold, IsToldInPart, is_quit, prompt_text}
+use Rattle.prompt.specs.Conversation.{IsAnswered, AreAnswered, AppendsPrefix, Conversed, IsAwaited, IsCut, IsWritten, IsWrittenInPart, is_quit, prompt_text}
 use Rattle.prompt.specs.declared.conversation.Summary.{Summary}
 use Rattle.prompt.specs.declared.fault.PromptFault.{PromptFault}
 
@@ -98,9 +98,9 @@ so_far-empty shown input old s e = record {
   count = refl;
 }
 
--- One more line was asked for and told.
+-- One more line was asked for and answered.
 pub so_far-more : {shown : Bool} {input inner rest old mid at new : Option (List ℕ)} {n bad : ℕ} {s u : Session} {l : List ℕ} {b : Bool} (k : ℕ)
-    → IsSoFar shown input inner old mid n bad s → Appends mid at (prompt_text shown s) → IsAwaited inner rest (Some l) → IsTold s l b u at new → k ≡ bool_byte b
+    → IsSoFar shown input inner old mid n bad s → Appends mid at (prompt_text shown s) → IsAwaited inner rest (Some l) → IsWritten s l b u at new → k ≡ bool_byte b
     → IsSoFar shown input rest old new (n + 1) (bad + k) u
 so_far-more {shown} {input} {inner} {rest} {old} {mid} {at} {new} {n} {bad} {s} {u} {l} {b} k h p w t e = record {
   read = h.read ++ l ∷ [];
@@ -148,7 +148,7 @@ err_cut {shown} {input} {inner} {old} {mid} {at} {new} {n} {bad} {s} {l} x y e h
     )
 
 err_in_part : {shown : Bool} {input inner old mid : Option (List ℕ)} {n bad : ℕ} {s : Session} (rest at new x y : Option (List ℕ)) (l : List ℕ) (e : PromptFault)
-    → IsSoFar shown input inner old mid n bad s → Appends mid at (prompt_text shown s) → IsAwaited inner rest (Some l) → IsToldInPart s l at new → Conversed shown x y old new (Err e)
+    → IsSoFar shown input inner old mid n bad s → Appends mid at (prompt_text shown s) → IsAwaited inner rest (Some l) → IsWrittenInPart s l at new → Conversed shown x y old new (Err e)
 err_in_part {shown} {old = old} {mid = mid} {s = s} rest at new x y l e h p w (inl none) =
     let prompt = prompt_text shown s in
     err_in_prompt new x y e h (prompt ++ [], [], Appends-trans mid at new prompt [] p none, sym (append-nil prompt) ∙ sym (append-nil (prompt ++ [])))
@@ -162,7 +162,7 @@ err_asking new x y Q (Err e) f h p = err_in_prompt new x y e h p
 
 -- Telling failed.
 pub err_telling : {shown : Bool} {input inner old mid : Option (List ℕ)} {n bad : ℕ} {s : Session} (rest at new x y : Option (List ℕ)) (l : List ℕ) (Q : PromptFault → Type 0) (r : Result Summary PromptFault) → IsErrAnd r Q
-    → IsSoFar shown input inner old mid n bad s → Appends mid at (prompt_text shown s) → IsAwaited inner rest (Some l) → IsToldInPart s l at new → Conversed shown x y old new r
+    → IsSoFar shown input inner old mid n bad s → Appends mid at (prompt_text shown s) → IsAwaited inner rest (Some l) → IsWrittenInPart s l at new → Conversed shown x y old new r
 err_telling rest at new x y l Q (Ok v) f h p w t = absurd f
 err_telling rest at new x y l Q (Err e) f h p w t = err_in_part rest at new x y l e h p w t
 

@@ -109,7 +109,7 @@ IsAwaited input rest None = Ends input rest
 IsAwaited input rest (Some line) = IsNext input rest (Some line) × (is_quit line ≡ false)
 
 -- The line was answered, which leaves new, and all of the answer was written.
-pub record IsTold (old : Session) (line : List ℕ) (bad : Bool) (new : Session) (before after : Option (List ℕ)) : Type 0 where
+pub record IsWritten (old : Session) (line : List ℕ) (bad : Bool) (new : Session) (before after : Option (List ℕ)) : Type 0 where
   pub text : List ℕ
   pub answered : IsAnswered old line text bad new
   pub written : Appends before after text
@@ -123,8 +123,8 @@ pub record IsCut (old : Session) (line : List ℕ) (before after : Option (List 
   pub written : AppendsPrefix before after text
 
 -- nothing was written for the line, or a start of its answer
-abbrev pub IsToldInPart : Session → List ℕ → Option (List ℕ) → Option (List ℕ) → Type 0
-IsToldInPart old line before after = Appends before after [] ⊎ IsCut old line before after
+abbrev pub IsWrittenInPart : Session → List ℕ → Option (List ℕ) → Option (List ℕ) → Type 0
+IsWrittenInPart old line before after = Appends before after [] ⊎ IsCut old line before after
 
 -- What was read and written, and how the call ends.
 abbrev pub Conversed : Bool → Option (List ℕ) → Option (List ℕ) → Option (List ℕ) → Option (List ℕ) → Result Summary PromptFault → Type 0

@@ -2,7 +2,8 @@
 ghost use Rattle.std.specs.Prelude.{◌≡◌, true, IfOk, OnOk, OnErr};
 ghost use Rattle.std.specs.Option.{option_map};
 ghost use Rattle.std.specs.Io.KnownBytes.{Appends};
-ghost use Rattle.prompt.specs.Conversation.{AppendsPrefix, Conversed, IsAwaited, IsTold, IsToldInPart, prompt_text};
+ghost use Rattle.script_session.specs.Session.{empty};
+ghost use Rattle.prompt.specs.Conversation.{AppendsPrefix, Conversed, IsAwaited, IsWritten, IsWrittenInPart, prompt_text};
 
 use crate::fault::PromptFault;
 use crate::line_answer::{answer_line, prompt_text};
@@ -57,20 +58,41 @@ fn ask<R: BufRead + Drop, W: Write + Drop>(
 }
 
 // Answers a line, writes the answer, and gives whether the line is bad.
-fn tell<R: BufRead + Drop, W: Write + Drop>(
+fn write_answer<R: BufRead + Drop, W: Write + Drop>(
     alloc: Global,
     streams: &mut Streams<R, W>,
     session: &mut Session,
     line: &[u8],
     is_shown: bool,
 ) -> Result<bool, PromptFault>
-    ensures told { IfOk result (λ bad. IsTold session.old line.now bad session.new (W.contents streams.old.writer) (W.contents streams.new.writer)) }
-    ensures cut { OnErr result (IsToldInPart session.old line.now (W.contents streams.old.writer) (W.contents streams.new.writer)) }
+    ensures whole { IfOk result (λ bad. IsWritten session.old line.now bad session.new (W.contents streams.old.writer) (W.contents streams.new.writer)) }
+    ensures cut { OnErr result (IsWrittenInPart session.old line.now (W.contents streams.old.writer) (W.contents streams.new.writer)) }
     ensures reader { streams.new.reader ≡ streams.old.reader }
 {
     let answer = answer_line(alloc, session, line, is_shown)?;
     streams.write(answer.bytes())?;
     Ok(answer.is_bad)
+}
+
+// Answers each line, from the session at the start of a script.
+fn answer_all<R: BufRead + Drop, W: Write + Drop>(
+    alloc: Global,
+    streams: &mut Streams<R, W>,
+    session: &mut Session,
+    is_shown: bool,
+) -> Result<Summary, PromptFault>
+    requires start { session.old ≡ empty }
+    ensures { Conversed is_shown (R.remaining streams.old.reader) (R.remaining streams.new.reader) (W.contents streams.old.writer) (W.contents streams.new.writer) result }
+{
+    let mut bad = 0u64;
+    for lines in 0..u64::MAX {
+        let Some(line) = ask(alloc, streams, session, is_shown)? else {
+            return Ok(Summary { lines, bad });
+        };
+        let is_bad = write_answer(alloc, streams, session, line.as_slice(), is_shown)?;
+        bad += u64::from(is_bad);
+    }
+    Err(PromptFault::Read)
 }
 
 /// Answers each line as it comes: its reply is written, and after it the remarks, lines that begin
@@ -90,13 +112,5 @@ pub fn converse<R: BufRead + Drop, W: Write + Drop>(
     ensures { Conversed is_shown (R.remaining streams.old.reader) (R.remaining streams.new.reader) (W.contents streams.old.writer) (W.contents streams.new.writer) result }
 {
     let mut session = Session::new(alloc);
-    let mut bad = 0u64;
-    for lines in 0..u64::MAX {
-        let Some(line) = ask(alloc, streams, &session, is_shown)? else {
-            return Ok(Summary { lines, bad });
-        };
-        let is_bad = tell(alloc, streams, &mut session, line.as_slice(), is_shown)?;
-        bad += u64::from(is_bad);
-    }
-    Err(PromptFault::Read)
+    answer_all(alloc, streams, &mut session, is_shown)
 }

@@ -1,6 +1,6 @@
 use Rattle.std.proofs.Common.{◌≤◌}
 use Rattle.prompt.proofs.Transcripts.{IsSoFar}
-use Rattle.prompt.proofs.conversation.converse.Given as goal
+use Rattle.prompt.proofs.conversation.answer_all.Given as goal
 
 abbrev pub invariant-loop-lines : goal.invariant-loop-lines
 invariant-loop-lines g l = record {

@@ -1,7 +1,7 @@
 use Rattle.std.proofs.Common.{inr, subst}
 use Rattle.prompt.specs.Conversation.{AppendsPrefix}
 use Rattle.prompt.proofs.Transcripts.{on_err}
-use Rattle.prompt.proofs.conversation.tell.Goals as goal
+use Rattle.prompt.proofs.conversation.write_answer.Goals as goal
 
 pub returns-in_err-write-clause-cut : goal.returns-in_err-write-clause-cut
 returns-in_err-write-clause-cut g c =
