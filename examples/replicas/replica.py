@@ -161,6 +161,7 @@ class Process:
                 coded.append(entries.transaction(moment, lease, [operation]))
                 ids.append(f"{self.name}/{self.options.first_key}/{number}")
             own = self.replica.propose(self.name, coded, ids)
+            self.is_stopped.wait(self.options.pause / 1000)
             if own is None:
                 lease = None if lease and lease.granted == moment else lease
                 continue
@@ -232,6 +233,7 @@ def main() -> None:
     words.add_argument("--began", type=float, required=True, help="the time of moment 0, in seconds since 1970")
     words.add_argument("--operates", action="store_true", help="add the index and the column, and write no rows")
     words.add_argument("--batch", type=int, default=50, help="transactions a slot")
+    words.add_argument("--pause", type=int, default=10, help="how long a server rests after a slot, in milliseconds")
     words.add_argument("--first-key", type=int, default=0)
     words.add_argument("--seed", type=int, default=1)
     Process(words.parse_args()).run()

@@ -1,4 +1,4 @@
-"""replicas.py [--seconds N] [--servers N] [--batch N] [--seed N]: worlds in several processes that repeat one log.
+"""replicas.py [--seconds N] [--servers N] [--batch N] [--pause N] [--seed N]: worlds in several processes that repeat one log.
 
 The log lies in an etcd cluster of three nodes on this machine, which the program starts and ends, with its data in a temporary
 folder. Each process keeps a world of its own; one adds an index and a column while all others insert, update and delete rows. One
@@ -87,8 +87,9 @@ class Cluster:
 class Servers:
     """The processes with a world, and what they print."""
 
-    def __init__(self, endpoints: List[str], batch: int, seed: int) -> None:
-        self.words = ["--endpoints", ",".join(endpoints), "--began", str(time.time()), "--batch", str(batch), "--seed", str(seed)]
+    def __init__(self, endpoints: List[str], options: argparse.Namespace) -> None:
+        self.words = ["--endpoints", ",".join(endpoints), "--began", str(time.time())]
+        self.words += ["--batch", str(options.batch), "--pause", str(options.pause), "--seed", str(options.seed)]
         self.running: Dict[str, subprocess.Popen] = {}
         self.lines: "queue.Queue[str]" = queue.Queue()
         self.results: List[dict] = []
@@ -193,7 +194,7 @@ def run(options: argparse.Namespace, cluster: Cluster) -> Optional[str]:
     slots = Slots(cluster.endpoints, lambda text: print(f"example: {text}", flush=True))
     list(slots.read(0))
     print(cluster.leader(), flush=True)
-    servers = Servers(cluster.endpoints, options.batch, options.seed)
+    servers = Servers(cluster.endpoints, options)
     began = time.monotonic()
     names = [f"server {it + 1}" for it in range(options.servers)]
     for name in names:
@@ -211,7 +212,7 @@ def run(options: argparse.Namespace, cluster: Cluster) -> Optional[str]:
     servers.start(f"{names[0]} again")
     cluster.nodes[options.seed % 3] = cluster.start(options.seed % 3)
     print(f"etcd: node {options.seed % 3} is back", flush=True)
-    if not servers.wait_for("are public", options.seconds * 6):
+    if not servers.wait_for("are public", max(300, options.seconds * 10)):
         return "the change did not end in time"
     time.sleep(options.seconds / 6)
     servers.tell("stop")
@@ -237,6 +238,7 @@ def main() -> int:
     words.add_argument("--seconds", type=float, default=12, help="about how long the servers write")
     words.add_argument("--servers", type=int, default=3)
     words.add_argument("--batch", type=int, default=50, help="transactions a slot")
+    words.add_argument("--pause", type=int, default=10, help="how long a server rests after a slot, in milliseconds")
     words.add_argument("--seed", type=int, default=1)
     options = words.parse_args()
     with tempfile.TemporaryDirectory(prefix="cagzhomul-") as folder:
