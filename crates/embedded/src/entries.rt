@@ -7,7 +7,7 @@ use crate::engine::Conversation;
 use crate::outcome::{Outcome, lay};
 use crate::status::{BAD_ENTRY, NO_ENTRY, NOT_NEXT, NOT_OPENED, OK, OUT_OF_MEMORY};
 use entry_code::{CodeFault, entry_bytes, entry_of};
-use replica::RepeatFault;
+use replica::{Repeat, RepeatFault};
 use script_session::Session;
 use std::alloc::Global;
 use world::{Entry, Receipt, World};
@@ -52,7 +52,7 @@ fn repeat_bytes(alloc: Global, world: &mut World, bytes: &[u8]) -> i32
     ensures { RepeatsBytes world.old bytes.now result world.new }
 {
     match entry_of(alloc, bytes) {
-        Ok(entry) => repeat_status(&replica::repeat(world, alloc, &entry)),
+        Ok(entry) => repeat_status(&world.repeat(alloc, &entry)),
         Err(CodeFault::Memory) => OUT_OF_MEMORY,
         Err(_) => BAD_ENTRY,
     }

@@ -106,23 +106,30 @@ fn repeat_call(
     }
 }
 
-/// Repeats an entry of a world that was opened alike and had the same log: makes the call of the
-/// entry again at the entry's moment, so that the log has exactly this entry more and the pairs are
-/// those that it gives. The lease, the operations, the step or the piece are the entry's own, so
-/// nothing else is needed.
-///
-/// - `entry`: the entry, as the other world's log or receipt has it, or as it was rebuilt from
-///   bytes.
-///
-/// Refused with `NotNext` if no accepted call of this world would add the entry at its moment, for
-/// instance if the last entry has a later moment; or with `Memory`, which may come in its place. A
-/// refusal changes nothing.
-pub fn repeat(world: &mut World, alloc: Global, entry: &Entry) -> Result<Receipt, RepeatFault>
-    ensures step { RepeatStep world.old entry.now result world.new }
-{
-    let now = entry.moment;
-    if now < world.moment() {
-        return Err(RepeatFault::NotNext);
+/// A world that repeats the log of another one, entry by entry.
+pub trait Repeat {
+    /// Repeats an entry of a world that was opened alike and had the same log: makes the call of
+    /// the entry again at the entry's moment, so that the log has exactly this entry more and the
+    /// pairs are those that it gives. The lease, the operations, the step or the piece are the
+    /// entry's own, so nothing else is needed.
+    ///
+    /// - `entry`: the entry, as the other world's log or receipt has it, or as it was rebuilt from
+    ///   bytes.
+    ///
+    /// Refused with `NotNext` if no accepted call of this world would add the entry at its moment,
+    /// for instance if the last entry has a later moment; or with `Memory`, which may come in its
+    /// place. A refusal changes nothing.
+    fn repeat(&mut self, alloc: Global, entry: &Entry) -> Result<Receipt, RepeatFault>;
+}
+
+impl Repeat for World {
+    fn repeat(&mut self, alloc: Global, entry: &Entry) -> Result<Receipt, RepeatFault>
+        ensures step { RepeatStep self.old entry.now result self.new }
+    {
+        let now = entry.moment;
+        if now < self.moment() {
+            return Err(RepeatFault::NotNext);
+        }
+        repeat_call(self, alloc, now, entry.what.get())
     }
-    repeat_call(world, alloc, now, entry.what.get())
 }

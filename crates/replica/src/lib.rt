@@ -11,6 +11,6 @@ mod laws;
 mod piece;
 mod txn;
 
-pub use entry::repeat;
+pub use entry::Repeat;
 pub use fault::RepeatFault;
 pub use laws::{lemma_accepted_calls_repeat, lemma_logs_repeat, lemma_worlds_are_their_logs};

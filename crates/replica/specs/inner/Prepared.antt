@@ -1,3 +1,4 @@
+-- Cited by the contracts of private functions alone: prepare_again, commit_again.
 -- What is prepared of operations from what is present, or why they can't be.
 use Rattle.std.specs.Prelude.{◌≡◌, List, Option, Some, ◌↔◌}
 use Rattle.std.specs.FinMap as map
