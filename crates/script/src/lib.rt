@@ -8,4 +8,4 @@ mod watched;
 
 pub use run::{ScriptFault, Summary, run_script};
 pub use status::script_status;
-pub use watched::{Ending, Watch, run_watched, watched_status};
+pub use watched::{Ending, Report, Watch, run_watched, watched_status};

@@ -7,16 +7,34 @@ ghost use Rattle.script.specs.OneLine.{IsAnswered};
 ghost use Rattle.script.specs.Watched.{AnsweredUntil, RanUntil, is_refusal, is_wrong, watched_status};
 
 use crate::run::{ScriptFault, read_all, write_all};
-use script_hints::hint_of;
 use script_session::Session;
 use std::alloc::Global;
 use std::io::{Read, Write};
+
+/// Where reports on bad and refused lines go. A report that cannot be made is lost: the reply
+/// stands in any case.
+pub trait Report {
+    /// Reports what is wrong with a line.
+    ///
+    /// - `session`: the session after the line, which is only read.
+    /// - `number`: the number of the line, from 1.
+    /// - `line`: the line, without its ending.
+    /// - `reply`: its reply, which is `bad line` or begins with `refused `.
+    fn report(
+        &mut self,
+        alloc: Global,
+        session: &Session,
+        number: u64,
+        line: &str,
+        reply: &str,
+    );
+}
 
 /// Where reports go, and whether the first line that is bad or refused ends the run.
 #[derive(Drop)]
 pub struct Watch<E: Drop> {
     /// Where reports go.
-    pub errors: E,
+    pub reports: E,
     /// Whether the first line that is bad or refused ends the run.
     pub stops: bool,
 }
@@ -54,33 +72,14 @@ fn is_wrong(reply: &[u8], is_bad: bool) -> bool
     is_bad || is_refusal(reply)
 }
 
-// Reports what is wrong with a line. A report that finds no memory, or cannot be written, is lost:
-// the reply stands in any case.
-fn report<E: Write>(
-    alloc: Global,
-    errors: &mut E,
-    session: &Session,
-    number: u64,
-    line: &str,
-    reply: &str,
-) {
-    let Ok(hint) = hint_of(alloc, session, line, reply, false) else {
-        return;
-    };
-    let Ok(text) = format!(in alloc; "line {number}: {hint}\n") else {
-        return;
-    };
-    let _ = errors.write_all(text.as_str().as_bytes());
-}
-
 // Answers the line of this number, and reports it if it is bad or refused.
-fn answer_one<W: Write, E: Write>(
+fn answer_one<W: Write, E: Report>(
     alloc: Global,
     session: &mut Session,
     number: u64,
     line: &str,
     writer: &mut W,
-    errors: &mut E,
+    reports: &mut E,
 ) -> Result<Verdict, ScriptFault>
     ensures { IsAnswered session.old line.now session.new (W.contents writer.old) (W.contents writer.new) result }
 {
@@ -92,17 +91,17 @@ fn answer_one<W: Write, E: Write>(
     let is_bad = answer.is_bad;
     let is_wrong = is_wrong(reply.as_bytes(), is_bad);
     if is_wrong {
-        report(alloc, errors, session, number, line, reply);
+        reports.report(alloc, session, number, line, reply);
     }
     Ok(Verdict { is_bad, is_wrong })
 }
 
 /// Answers each line, and writes each answer before the next line is read.
-fn answer_watched<W: Write, E: Write>(
+fn answer_watched<W: Write, E: Report>(
     alloc: Global,
     text: &str,
     writer: &mut W,
-    errors: &mut E,
+    reports: &mut E,
     stops: bool,
 ) -> Result<Ending, ScriptFault>
     requires { length text.now ≤ limit }
@@ -113,7 +112,7 @@ fn answer_watched<W: Write, E: Write>(
     let mut bad = 0u64;
     for line in text.lines() {
         lines += 1;
-        let verdict = answer_one(alloc, &mut session, lines, line, writer, errors)?;
+        let verdict = answer_one(alloc, &mut session, lines, line, writer, reports)?;
         bad += u64::from(verdict.is_bad);
         if stops && verdict.is_wrong {
             let is_refused = !verdict.is_bad;
@@ -132,15 +131,15 @@ fn answer_watched<W: Write, E: Write>(
     })
 }
 
-/// Runs a script as `run_script` does, and reports each line that is bad or refused, as
-/// `line 3: ..`. The run may end at the first of them.
+/// Runs a script as `run_script` does, and reports each line that is bad or refused. The run may
+/// end at the first of them.
 ///
 /// - `reader`: where the script comes from; it is read to its end first.
 /// - `writer`: where replies go.
 /// - `watch`: where reports go, and whether the run ends at the first line that is bad or refused.
 ///
 /// Refused as `run_script` is.
-pub fn run_watched<R: Read, W: Write, E: Write + Drop>(
+pub fn run_watched<R: Read, W: Write, E: Report + Drop>(
     alloc: Global,
     reader: &mut R,
     writer: &mut W,
@@ -153,7 +152,7 @@ pub fn run_watched<R: Read, W: Write, E: Write + Drop>(
         return Err(ScriptFault::NotUtf8);
     };
     let stops = watch.stops;
-    answer_watched(alloc, text, writer, &mut watch.errors, stops)
+    answer_watched(alloc, text, writer, &mut watch.reports, stops)
 }
 
 /// The exit status after a watched script: 7 if a refused line ended it, and else that of a script.

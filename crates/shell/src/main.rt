@@ -1,6 +1,9 @@
 //! The program: it runs the script on standard input, or a load, as the command line chooses.
 #![tactic(auto)]
 
+mod reports;
+
+use crate::reports::Reports;
 use clap::Error;
 use command_line::{Chosen, NOT_UTF8, options, status_of};
 use load::run_load_shown;
@@ -33,7 +36,10 @@ const REFUSED_CALL: u8 = 6;
 fn run_lines<R: Read>(rt: &HostRuntime, input: &mut R, stops: bool) -> u8 {
     let mut output = io::writer(rt);
     let errors = rt.stderr();
-    let mut watch = Watch { errors, stops };
+    let mut watch = Watch {
+        reports: Reports { errors },
+        stops,
+    };
     let outcome = run_watched(rt.alloc(), input, &mut output, &mut watch);
     if let Err(fault) = &outcome {
         let _ = eprintln!(rt; "fault: {fault}");
