@@ -1,9 +1,11 @@
 //! Each call of the core once, and what no script can ask of it: work under another schema, pieces
-//! of another world, a run of events.
+//! of another world, a run of events; and the codes of entries.
 #![tactic(auto)]
 
 #[cfg(test)]
 mod acts;
+#[cfg(test)]
+mod codes;
 #[cfg(test)]
 mod events;
 #[cfg(test)]

@@ -2,7 +2,7 @@
 
 use crate::reported::seen;
 use replay::Entry;
-use replica::{RepeatFault, repeat};
+use replica::{Repeat, RepeatFault};
 use std::alloc::Global;
 use world::World;
 
@@ -10,8 +10,8 @@ use world::World;
 // once more.
 fn is_repeated(alloc: Global, world: &mut World, entry: &Entry) -> bool {
     let before = seen(world);
-    let reported = match repeat(world, alloc, entry) {
-        Err(RepeatFault::Memory) if seen(world) == before => repeat(world, alloc, entry),
+    let reported = match world.repeat(alloc, entry) {
+        Err(RepeatFault::Memory) if seen(world) == before => world.repeat(alloc, entry),
         reported => reported,
     };
     match reported {
@@ -25,7 +25,7 @@ fn is_first_refused(alloc: Global, world: &mut World, log: &[Entry]) -> bool {
     let before = seen(world);
     match log.first() {
         Some(entry) if entry.moment < world.moment() => {
-            matches!(repeat(world, alloc, entry), Err(RepeatFault::NotNext))
+            matches!(world.repeat(alloc, entry), Err(RepeatFault::NotNext))
                 && seen(world) == before
         }
         _ => true,
