@@ -77,6 +77,29 @@ where
     Some((shared.close(handles).ok()?, done))
 }
 
+// Lets the threads work on the world, and answers it and how many requests were committed.
+fn run_threads<R>(
+    rt: &R,
+    alloc: Global,
+    world: World,
+    out: &mut String,
+) -> Option<(World, usize)>
+where
+    R: Threads + Wait + Sync,
+{
+    let requests = inserts(alloc, ROWS, ROWS).ok()?;
+    let blank = Blank::new(5);
+    share::<Brand, R>(rt, alloc, blank, world, requests.as_slice(), out)
+}
+
+// Reports how many requests were committed, and what the world has.
+fn report_end(alloc: Global, world: &World, done: usize, out: &mut String) -> Option<()> {
+    write!(out, "servers committed {done} inserts meanwhile\n").ok()?;
+    let found = world.check(alloc).ok()?;
+    let (rows, missing, extra) = (found.rows, found.missing, found.extra);
+    write!(out, "rows {rows} missing {missing} extra {extra}\n").ok()
+}
+
 /// Lets four servers write while one operator adds an index and a required column and drops a
 /// column, and answers what the operator did, line by line, and what the world then has. It is the
 /// same in every run, whatever the threads do. `None` if a call was refused, also when out of
@@ -90,12 +113,7 @@ where
     let mut out = String::new(alloc);
     let (world, receipt) = world_with_changes(alloc, ROWS)?;
     report_step(&mut out, 2, &receipt)?;
-    let requests = inserts(alloc, ROWS, ROWS).ok()?;
-    let blank = Blank::new(5);
-    let (world, done) = share::<Brand, R>(rt, alloc, blank, world, requests.as_slice(), &mut out)?;
-    write!(out, "servers committed {done} inserts meanwhile\n").ok()?;
-    let found = world.check(alloc).ok()?;
-    let (rows, missing, extra) = (found.rows, found.missing, found.extra);
-    write!(out, "rows {rows} missing {missing} extra {extra}\n").ok()?;
+    let (world, done) = run_threads(rt, alloc, world, &mut out)?;
+    report_end(alloc, &world, done, &mut out)?;
     Some(out)
 }
