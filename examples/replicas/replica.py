@@ -105,11 +105,16 @@ class Process:
         self.name, self.options = options.name, options
         self.slots = Slots(options.endpoints.split(","), self.say)
         self.replica = Replica(self.slots, options.began)
-        self.acknowledged: List[str] = []
+        self.acknowledged = 0
         self.is_stopped = threading.Event()
 
     def say(self, text: str) -> None:
         print(f"{self.name}: {text}", flush=True)
+
+    def acknowledge(self, ids: Sequence[str]) -> None:
+        """Tells the caller, who keeps what a process that is killed had acknowledged, too."""
+        self.acknowledged += len(ids)
+        print("DONE " + json.dumps(ids), flush=True)
 
     def listen(self) -> None:
         """The word `stop`, or the end of the input, ends the work."""
@@ -121,12 +126,12 @@ class Process:
         self.replica.catch_up()
         self.say(f"has repeated {self.replica.slot} slots")
         self.operate() if self.options.operates else self.serve()
-        self.say(f"stops; {len(self.acknowledged)} transactions acknowledged")
+        self.say(f"stops; {self.acknowledged} transactions acknowledged")
         # what others still write after this process stopped
         slots = int(sys.stdin.readline() or 0)
         while self.replica.slot < slots:
             self.replica.catch_up()
-        print("RESULT " + json.dumps({"name": self.name, "acknowledged": self.acknowledged, **self.replica.summary()}), flush=True)
+        print("RESULT " + json.dumps({"name": self.name, **self.replica.summary()}), flush=True)
 
     # ---- a server
 
@@ -167,7 +172,7 @@ class Process:
                 continue
             rows = [it for it in rows + added if it not in gone]
             done = [it for it, is_added in zip(ids, own["added"]) if it and is_added]
-            self.acknowledged += done
+            self.acknowledge(done)
             if len(done) < self.options.batch:
                 self.say(f"{self.options.batch - len(done)} transactions of slot {self.replica.slot - 1} are not in the log")
                 rows, lease = [], None
