@@ -78,12 +78,7 @@ where
 }
 
 // Lets the threads work on the world, and answers it and how many requests were committed.
-fn run_threads<R>(
-    rt: &R,
-    alloc: Global,
-    world: World,
-    out: &mut String,
-) -> Option<(World, usize)>
+fn run_threads<R>(rt: &R, alloc: Global, world: World, out: &mut String) -> Option<(World, usize)>
 where
     R: Threads + Wait + Sync,
 {

@@ -20,14 +20,7 @@ pub trait Report {
     /// - `number`: the number of the line, from 1.
     /// - `line`: the line, without its ending.
     /// - `reply`: its reply, which is `bad line` or begins with `refused `.
-    fn report(
-        &mut self,
-        alloc: Global,
-        session: &Session,
-        number: u64,
-        line: &str,
-        reply: &str,
-    );
+    fn report(&mut self, alloc: Global, session: &Session, number: u64, line: &str, reply: &str);
 }
 
 /// Where reports go, and whether the first line that is bad or refused ends the run.

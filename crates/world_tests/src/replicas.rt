@@ -25,8 +25,7 @@ fn is_first_refused(alloc: Global, world: &mut World, log: &[Entry]) -> bool {
     let before = seen(world);
     match log.first() {
         Some(entry) if entry.moment < world.moment() => {
-            matches!(world.repeat(alloc, entry), Err(RepeatFault::NotNext))
-                && seen(world) == before
+            matches!(world.repeat(alloc, entry), Err(RepeatFault::NotNext)) && seen(world) == before
         }
         _ => true,
     }
