@@ -1,15 +1,15 @@
--- A line with a moment put into it, and a line that begins with `explain query`.
-use Rattle.std.proofs.Common.{option_map, Option, inl, inr, Some, None, unwrap_or, ◌≡◌, ◌≢◌, ◌++◌, ◌<◌, ℕ, suc, List, [], ◌∷◌, Bool, false, length, codes, Result, Ok, Err, IfOk, ap, refl, sym, subst, ◌∙◌, arith}
-use Rattle.std.specs.Prelude.{if◌then◌else◌, get_or}
+-- A line with a moment put into it, a line that begins with `explain query`, and the names of `check TABLE.NAME`.
+use Rattle.std.proofs.Common.{option_map, Bor, lit<, Option, inl, inr, Some, None, unwrap_or, ◌≡◌, ◌≢◌, ◌++◌, ℕ, suc, List, [], ◌∷◌, Bool, false, codes, Result, Ok, Err, IfOk, ap, refl, sym, subst, ◌∙◌, arith}
+use Rattle.std.specs.Prelude.{if◌then◌else◌}
 use Rattle.std.specs.List.{starts_with}
 use Rattle.std.proofs.Math.Dec.{eqb}
 use Rattle.std.proofs.lemmas.Bool.{false≢true}
 use Rattle.std.proofs.lemmas.Bool.Decides.{eqb_tells}
+use Rattle.std.proofs.lemmas.Str.Pattern.{IsSplitOnceResult, split_after}
+use Rattle.std.specs.Option.{MatchOption}
 use Rattle.script_session.specs.declared.session.Opened.{Opened}
+use Rattle.script_hints.specs.Check.{HasNo}
 use Rattle.script_hints.specs.Explain.{timed, ShowsPathIn}
-
-abbrev pub HasNo : ℕ → List ℕ → Type 0
-HasNo c bs = (i : ℕ) → i < length bs → get_or bs i 0 ≢ c
 
 not_equal : (a b : ℕ) → a ≢ b → eqb a b ≡ false
 not_equal a b apart = elim (eqb_tells a b) [ inl w ↦ absurd (apart w.1) | inr w ↦ w.0 ]
@@ -52,3 +52,8 @@ pub not_begun : {X E : Type 0} (bytes : X → List ℕ) (opened : Opened) (resul
     → IfOk result (λ shown. ShowsPathIn opened line (option_map bytes shown))
 not_begun bytes opened (Ok shown) line never = λ rest same. absurd (none_is_some (codes "query" ++ rest) (never rest same))
 not_begun bytes opened (Err short) line never = tt
+
+-- the first dot cuts the names apart
+pub cut_names : (names table name : List ℕ) (r : Option (Bor (List ℕ) × Bor (List ℕ))) → IsSplitOnceResult 46 names r → names ≡ table ++ 46 ∷ name → HasNo 46 table
+    → MatchOption r ⊥ (λ x. (x.0.now ≡ table) × (x.1.now ≡ name))
+cut_names names table name r cut same none = split_after 46 names table name r cut (lit< tt) same none

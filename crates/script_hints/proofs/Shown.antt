@@ -57,3 +57,13 @@ pub shown_running : {X E : Type 0} (bytes : X → List ℕ) (result : Result (Op
 shown_running bytes (Ok shown) session opened line trimmed same is h =
     subst (λ (s : Session). ShowsPath s line (option_map bytes shown)) (sym same) (subst (λ (l : List ℕ). ShowsPathIn opened l (option_map bytes shown)) is h)
 shown_running bytes (Err short) session opened line trimmed same is h = tt
+
+-- the same names, however they are lent
+pub shown_as : (world : State) (t n table name text : List ℕ) → t ≡ table → n ≡ name → ShowsElement world t n text → ShowsElement world table name text
+shown_as world t n table name text same_table same_name shows =
+    subst (λ (x : List ℕ). ShowsElement world x name text) same_table (subst (λ (y : List ℕ). ShowsElement world t y text) same_name shows)
+
+pub shown_pairs : {X E : Type 0} (bytes : X → List ℕ) (result : Result X E) (world : State) (t n table name : List ℕ) → t ≡ table → n ≡ name
+    → IfOk result (λ text. ShowsElement world t n (bytes text)) → IfOk result (λ text. ShowsElement world table name (bytes text))
+shown_pairs bytes (Ok text) world t n table name same_table same_name shows = shown_as world t n table name (bytes text) same_table same_name shows
+shown_pairs bytes (Err short) world t n table name same_table same_name shows = tt

@@ -1,9 +1,10 @@
--- Cited by the contracts of element_pairs and the functions below it.
+-- Cited by the contracts of element_pairs, view_of and the functions below them.
 -- What `check TABLE.NAME` shows of one element.
-use Rattle.std.specs.Prelude.{◌≡◌, ◌++◌, ℕ, List, ⊤, codes}
+use Rattle.std.specs.Prelude.{◌≡◌, ◌≢◌, ◌<◌, ◌++◌, ◌∷◌, ℕ, List, Option, length, get_or, ⊤, codes}
 use Rattle.std.specs.Fmt.{decimal}
 use Rattle.std.specs.List.{flat_map}
-use Rattle.std.specs.Option.{MatchOption}
+use Rattle.std.specs.Option.{MatchOption, IsSomeAnd}
+use Rattle.std.specs.Str.{trim}
 use mathlib.Core.List.{map as each}
 use Rattle.audit.specs.Audit.{numbered}
 use Rattle.element_check.specs.Check.{IsElementCheck}
@@ -15,6 +16,9 @@ use Rattle.schema_version.specs.declared.element.ElementDef.{ElementDef}
 use Rattle.script_grammar.specs.Print.{value_text}
 use Rattle.script_names.specs.Names.{table_number, element_number}
 use Rattle.script_replies.specs.Rows.{joined}
+use Rattle.script_session.specs.Session.{Session}
+use Rattle.script_session.specs.declared.session.Opened.{Opened}
+use Rattle.script_session.specs.declared.session.Session.TheVariants.{Declaring, Running}
 use Rattle.world.specs.State.{State, facts_of}
 
 -- `(VALUE, VALUE)`
@@ -52,3 +56,22 @@ number_of world table name = element_number (facts_of world).newest (table_numbe
 abbrev pub ShowsElement : State → List ℕ → List ℕ → List ℕ → Type 0
 ShowsElement world table name text =
     MatchOption (numbered (facts_of world).newest (number_of world table name)) ⊤ (λ element. IsElementText world (table ++ codes "." ++ name) element text)
+
+abbrev pub HasNo : ℕ → List ℕ → Type 0
+HasNo c bytes = (i : ℕ) → i < length bytes → get_or bytes i 0 ≢ c
+
+-- a name with no tab, no space and no dot in it, as every name of a schema is
+pub record IsBare (name : List ℕ) : Type 0 where
+  pub no_tab : HasNo 9 name
+  pub no_space : HasNo 32 name
+  pub no_dot : HasNo 46 name
+
+-- the line `check TABLE.NAME` shows the check of that element
+abbrev pub ShowsCheckIn : Opened → List ℕ → Option (List ℕ) → Type 0
+ShowsCheckIn opened line shown =
+    (table name : List ℕ) → IsBare table → IsBare name → line ≡ codes "check " ++ (table ++ 46 ∷ name) → IsSomeAnd shown (λ text. ShowsElement opened.world table name text)
+
+-- in an opened world, whatever white space is around the line
+abbrev pub ShowsCheck : Session → List ℕ → Option (List ℕ) → Type 0
+ShowsCheck (Declaring declared) line shown = ⊤
+ShowsCheck (Running opened) line shown = ShowsCheckIn opened (trim line) shown

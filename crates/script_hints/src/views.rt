@@ -1,5 +1,7 @@
 //! Where things stand: the lines of the prompt that no script has.
-ghost use Rattle.std.specs.Prelude.{◌≡◌, ◌++◌, IfOk, List, ℕ, Some, codes, option_map, string_bytes};
+ghost use Rattle.std.specs.Prelude.{◌≡◌, ◌++◌, ◌∷◌, IfOk, List, ℕ, Some, codes, option_map, string_bytes, true};
+ghost use Rattle.std.specs.Option.{IsSomeAnd};
+ghost use Rattle.script_hints.specs.Check.{HasNo, IsBare, ShowsCheck, ShowsCheckIn, ShowsElement};
 ghost use Rattle.script_hints.specs.Explain.{ShowsPath, ShowsPathIn};
 
 use crate::command_help::help_text;
@@ -46,7 +48,21 @@ fn leases(alloc: Global, opened: &Opened) -> Result<String, AllocError> {
     Ok(out)
 }
 
-// `check TABLE.NAME`; `None` if the words are no such name.
+// What the check of the element of these names shows.
+fn named_pairs(
+    alloc: Global,
+    opened: &Opened,
+    table: &str,
+    name: &str,
+) -> Result<String, AllocError>
+    ensures { IfOk result (λ text. ShowsElement opened.now.world table.now name.now (string_bytes text)) }
+{
+    let table = Text::new(table.to_string(alloc)?);
+    let name = Text::new(name.to_string(alloc)?);
+    element_pairs(alloc, opened, &table, &name)
+}
+
+// `check TABLE.NAME` with white space around its names; `None` if the words are no such name.
 fn element_view(alloc: Global, opened: &Opened, name: &str) -> Result<Option<String>, AllocError> {
     let Some((table, name)) = name.split_once('.') else {
         return Ok(None);
@@ -55,9 +71,7 @@ fn element_view(alloc: Global, opened: &Opened, name: &str) -> Result<Option<Str
     if table.contains(' ') || name.contains(' ') {
         return Ok(None);
     }
-    let table = Text::new(table.to_string(alloc)?);
-    let name = Text::new(name.to_string(alloc)?);
-    Ok(Some(element_pairs(alloc, opened, &table, &name)?))
+    Ok(Some(named_pairs(alloc, opened, table, name)?))
 }
 
 // A view of an opened world; `None` if the words are none of the prompt's.
@@ -115,8 +129,46 @@ fn explained_query(line: &str) -> Option<&str>
     Some(query)
 }
 
-// The view after `open`.
-fn running_view(
+// Whether a name has no white space in it.
+fn is_bare(name: &str) -> bool
+    ensures { HasNo 32 name.now → HasNo 9 name.now → result ≡ true }
+{
+    !name.contains(' ') && !name.contains('\t')
+}
+
+// The names of `check TABLE.NAME`, if there is no white space in them.
+fn checked_names(line: &str) -> Option<(&str, &str)>
+    ensures { (table name : List ℕ) → IsBare table → IsBare name → line.now ≡ codes "check " ++ (table ++ 46 ∷ name) → IsSomeAnd result (λ n. (n.0.now ≡ table) × (n.1.now ≡ name)) }
+{
+    if !line.starts_with("check ") {
+        return None;
+    }
+    let (_, names) = line.split_once(' ')?;
+    let (table, name) = names.split_once('.')?;
+    if is_bare(table) && is_bare(name) {
+        Some((table, name))
+    } else {
+        None
+    }
+}
+
+// The view of a line after `open` that may be `check TABLE.NAME`.
+fn checked_view(
+    alloc: Global,
+    opened: &Opened,
+    line: &str,
+    is_shown: bool,
+) -> Result<Option<String>, AllocError>
+    ensures { IfOk result (λ shown. ShowsCheckIn opened.now line.now (option_map string_bytes shown)) }
+{
+    match checked_names(line) {
+        Some((table, name)) => Ok(Some(named_pairs(alloc, opened, table, name)?)),
+        None => view_by_words(alloc, opened, line, is_shown),
+    }
+}
+
+// The view of a line after `open` that may be `explain query`.
+fn explained_view(
     alloc: Global,
     opened: &Opened,
     line: &str,
@@ -127,6 +179,23 @@ fn running_view(
     match explained_query(line) {
         Some(query) => Ok(Some(explanation(alloc, opened, query)?)),
         None => view_by_words(alloc, opened, line, is_shown),
+    }
+}
+
+// The view after `open`.
+fn running_view(
+    alloc: Global,
+    opened: &Opened,
+    line: &str,
+    is_shown: bool,
+) -> Result<Option<String>, AllocError>
+    ensures path { IfOk result (λ shown. ShowsPathIn opened.now line.now (option_map string_bytes shown)) }
+    ensures check { IfOk result (λ shown. ShowsCheckIn opened.now line.now (option_map string_bytes shown)) }
+{
+    if line.starts_with('c') {
+        checked_view(alloc, opened, line, is_shown)
+    } else {
+        explained_view(alloc, opened, line, is_shown)
     }
 }
 
@@ -163,7 +232,8 @@ pub fn view_of(
     line: &str,
     is_shown: bool,
 ) -> Result<Option<String>, AllocError>
-    ensures { IfOk result (λ shown. ShowsPath session.now line.now (option_map string_bytes shown)) }
+    ensures path { IfOk result (λ shown. ShowsPath session.now line.now (option_map string_bytes shown)) }
+    ensures check { IfOk result (λ shown. ShowsCheck session.now line.now (option_map string_bytes shown)) }
 {
     let line = line.trim();
     match session {

@@ -1,7 +1,7 @@
 use Rattle.std.proofs.Common.{◌++◌, codes, string_bytes, List, ℕ}
 use Rattle.script_hints.specs.Explain.{Explains, explained, query_of}
 use Rattle.script_hints.proofs.Explained.{shown_of, not_begun}
-use Rattle.script_hints.proofs.views.running_view.Goals as goal
+use Rattle.script_hints.proofs.views.explained_view.Goals as goal
 
 pub returns-in_ok-explanation-in-Some : goal.returns-in_ok-explanation-in-Some
 returns-in_ok-explanation-in-Some c =
