@@ -1,0 +1,45 @@
+-- Cited by the contracts of open_session and of what it calls.
+-- A session that is opened by the code of its opening.
+use Rattle.std.specs.Prelude.{◌≡◌, ℕ, ◌⊎◌, ℤ, List, [], Result, Ok, Err}
+use Rattle.std.specs.FinMap as map
+use Rattle.entry_code.specs.Code.{opening_code}
+use Rattle.entry_code.specs.Known.{IsOpening}
+use Rattle.schema_version.specs.declared.table.TableDef.{TableDef}
+use Rattle.script_session.specs.Session.{Session}
+use Rattle.script_session.specs.declared.session.Session.TheVariants.{Running}
+use Rattle.world.specs.State.{State}
+use Rattle.world.specs.Calls.{OpenStep}
+use Rattle.world.specs.declared.config.Config.{Config}
+use Rattle.world.specs.declared.open.OpenFault.{OpenFault}
+use Rattle.world.specs.declared.open.OpenFault.TheVariants.{BadTable, BadLength, Memory}
+use Rattle.typed_calls.specs.Sessions.{IsNoCode}
+use Rattle.typed_calls.specs.Statuses.{bad_table, bad_length, out_of_memory, bad_code}
+
+abbrev pub open_status : OpenFault → ℤ
+open_status BadTable = bad_table
+open_status BadLength = bad_length
+open_status Memory = out_of_memory
+
+-- the world that `World::open` gives with a lease length and tables, or the status of its refusal
+abbrev pub config_of : ℕ × List TableDef → Config
+config_of opening = record { length = opening.0; tables = opening.1 }
+
+abbrev pub OpensFor : ℕ × List TableDef → Result State ℤ → Type 0
+OpensFor opening (Ok world) = OpenStep (config_of opening) (Ok world)
+OpensFor opening (Err status) = (fault : OpenFault) × OpenStep (config_of opening) (Err fault) × (status ≡ open_status fault)
+
+-- the bytes are the code of an opening, and this comes of it
+abbrev pub OpensCode : List ℕ → Result State ℤ → Type 0
+OpensCode code answer = (opening : ℕ × List TableDef) × IsOpening opening × (code ≡ opening_code opening) × OpensFor opening answer
+
+-- or of none, or memory ran out before they were read
+abbrev pub OpensWorld : List ℕ → Result State ℤ → Type 0
+OpensWorld code answer = ((answer ≡ Err bad_code) × IsNoCode IsOpening opening_code code) ⊎ (answer ≡ Err out_of_memory) ⊎ OpensCode code answer
+
+-- a session over the world, with no leases, nothing prepared and no plan
+abbrev pub session_over : State → Session
+session_over world = Running (record { world = world; leases = map.empty; pending = map.empty; plan = [] })
+
+abbrev pub OpensSession : List ℕ → Result Session ℤ → Type 0
+OpensSession code (Ok session) = (world : State) × OpensWorld code (Ok world) × (session ≡ session_over world)
+OpensSession code (Err status) = OpensWorld code (Err status)

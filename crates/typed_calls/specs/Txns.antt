@@ -1,0 +1,45 @@
+-- Cited by the contracts of transaction, read and of what they call.
+-- A transaction by its code, and what it reads.
+use Rattle.std.specs.Prelude.{◌≡◌, ℕ, ◌⊎◌, ◌↔◌, ℤ, List, Some, Result, Ok, Err}
+use Rattle.std.specs.FinMap as map
+use Rattle.entry_code.specs.Code.{ops_code}
+use Rattle.entry_code.specs.Known.{AreOps}
+use Rattle.keycode.specs.Order.{bytes_cmp}
+use Rattle.keycode.specs.Valid.{IsStorable}
+use Rattle.row_map.specs.Rows.{Bytes}
+use Rattle.row_map.specs.Expect.{View}
+use Rattle.row_write.specs.Reads.{IsRead}
+use Rattle.row_write.specs.declared.op.RowOp.{RowOp}
+use Rattle.schema_version.specs.Version.{Version}
+use Rattle.script_session.specs.Session.{Session}
+use Rattle.script_session.specs.declared.session.ServerLease.{ServerLease}
+use Rattle.world.specs.State.{State}
+use Rattle.world.specs.Calls.{IsReadView}
+use Rattle.typed_calls.specs.Sessions.{IsNoCode, OfSession}
+use Rattle.typed_calls.specs.Statuses.{bad_code, out_of_memory, wrong_stage, not_opened}
+use Rattle.typed_calls.specs.declared.txns.Txn.{Txn}
+use Rattle.typed_calls.specs.declared.txns.Txn.TheVariants.{Wanted, Read, Prepared}
+
+-- the keys are those that the operations read under the schema
+abbrev pub AreReads : Version → List RowOp → map.FinMap bytes_cmp (Unit {0}) → Type 0
+AreReads schema ops keys = (key : Bytes) → (map.get keys key ≡ Some tt) ↔ IsRead schema ops key
+
+-- a transaction of these operations under this lease, with the keys that they read
+abbrev pub IsWanted : ServerLease → List RowOp → Txn → Type 0
+IsWanted held ops txn =
+    (keys : map.FinMap bytes_cmp (Unit {0})) × AreReads held.schema ops keys × (txn ≡ Wanted held ops keys)
+
+-- the bytes are the code of operations, which are those of the transaction; or of none, or memory ran out
+abbrev pub Wants : ServerLease → List ℕ → Result Txn ℤ → Type 0
+Wants held code (Ok txn) = (ops : List RowOp) × AreOps IsStorable ops × (code ≡ ops_code ops) × IsWanted held ops txn
+Wants held code (Err status) = ((status ≡ bad_code) × IsNoCode (AreOps IsStorable) ops_code code) ⊎ (status ≡ out_of_memory)
+
+-- each key with its value in the world or with none; a transaction that can't be read comes back
+abbrev pub ReadsWorld : State → Txn → Result Txn (ℤ × Txn) → Type 0
+ReadsWorld world (Wanted held ops keys) (Ok txn) = (view : View) × IsReadView world keys view × (txn ≡ Read held ops view)
+ReadsWorld world (Wanted held ops keys) (Err refusal) = refusal ≡ (out_of_memory, Wanted held ops keys)
+ReadsWorld world (Read held ops view) answer = answer ≡ Err (wrong_stage, Read held ops view)
+ReadsWorld world (Prepared prepared) answer = answer ≡ Err (wrong_stage, Prepared prepared)
+
+abbrev pub ReadsIn : Session → Txn → Result Txn (ℤ × Txn) → Type 0
+ReadsIn session txn answer = OfSession (Err (not_opened, txn)) (λ world a. ReadsWorld world txn a) session answer

@@ -1,0 +1,54 @@
+//! Leases.
+ghost use Rattle.std.specs.Prelude.{◌≡◌};
+ghost use Rattle.typed_calls.specs.Leases.{grant_status, held_by, LeasesWorld, LeasesIn};
+
+use crate::status::{MOMENT_TOO_LARGE, NOT_OPENED, OUT_OF_MEMORY};
+use script_session::{ServerLease, Session};
+use std::alloc::Global;
+use world::{Grant, GrantFault, World};
+
+// The status of a lease that was not granted.
+fn grant_status(fault: GrantFault) -> i32
+    ensures { result ≡ grant_status fault }
+{
+    match fault {
+        GrantFault::MomentTooLarge => MOMENT_TOO_LARGE,
+        GrantFault::Memory => OUT_OF_MEMORY,
+    }
+}
+
+// A lease on the newest version of the world.
+fn lease_of(alloc: Global, world: &mut World, moment: u64) -> Result<Grant, i32>
+    ensures { LeasesWorld world.old moment result world.new }
+{
+    match world.lease(alloc, moment) {
+        Ok(grant) => Ok(grant),
+        Err(fault) => Err(grant_status(fault)),
+    }
+}
+
+/// Grants a lease on the newest version of the session's world.
+///
+/// - `moment`: the present moment. The one that counts is the greater of it and the moment of the
+///   last entry.
+///
+/// Refused, in this order, and then nothing changes: `NOT_OPENED` if the session has no world yet;
+/// `MOMENT_TOO_LARGE` if the moment that counts is above 2^62; `OUT_OF_MEMORY`.
+pub fn lease(alloc: Global, session: &mut Session, moment: u64) -> Result<Grant, i32>
+    ensures { LeasesIn session.old moment result session.new }
+{
+    match session {
+        Session::Declaring(_) => Err(NOT_OPENED),
+        Session::Running(opened) => lease_of(alloc, &mut opened.world, moment),
+    }
+}
+
+/// The lease of a grant, with the schema of its version.
+pub fn held_by(grant: Grant) -> ServerLease
+    ensures { result ≡ held_by grant }
+{
+    ServerLease {
+        lease: grant.lease,
+        schema: grant.schema,
+    }
+}
