@@ -1,13 +1,19 @@
-/* Cagzhomul for C and C++: a session of its script language behind a handle.
+/* Cagzhomul for C and C++: a session behind a handle, with lines of a script language and with
+ * typed calls, which may be mixed.
  *
  * The language is described in docs/SCRIPT.md: a session takes one line after another, and each has
  * a reply in UTF-8, of no line, one or several, each with its line ending.
+ *
+ * A typed call takes numbers, and codes in bytes: tables, operations and steps, as
+ * crates/entry_code describes them. What it makes, as a lease or a transaction, is in a handle of
+ * its own, which is closed by cagzhomul_close like a session.
  *
  * What a caller owes, which nothing checks:
  * - A handle begins as all zeros (`cagzhomul_handle handle = {0};`), which is closed. Only the
  *   functions below write it, and it is neither copied nor moved while it is open.
  * - One call at a time uses a handle. It may go from one thread to another, under a lock or at a
  *   thread's start or join. Different handles are independent and need no lock between them.
+ *   The handles of one call are different handles.
  * - No pointer is null, also beside a length of 0. `out` has `out_length` bytes, which have some
  *   value, and overlaps neither `line` nor the handle. A length is below 2^63.
  * - malloc, realloc and free are of one allocator, and align as C asks. No call comes from a signal
@@ -48,7 +54,38 @@ enum {
     CAGZHOMUL_FINISHED = 11,     /* no change is under way */
     CAGZHOMUL_BAD_COUNT = 12,    /* the pieces are not 1 to 64, or the limit is not 1 to 1,000 */
     CAGZHOMUL_MOMENT_TOO_LARGE = 13, /* the moment is above 2^62 */
-    CAGZHOMUL_VERSIONS_SPENT = 14    /* a publication is due, and there are 1,000,000 versions */
+    CAGZHOMUL_VERSIONS_SPENT = 14, /* a publication is due, and there are 1,000,000 versions */
+    CAGZHOMUL_WRONG_KIND = 15,     /* the handle holds something of another kind */
+    CAGZHOMUL_WRONG_STAGE = 16,    /* the transaction or the piece is not at the call's stage */
+    CAGZHOMUL_BAD_CODE = 17,       /* the bytes are no code of what they should be */
+    CAGZHOMUL_BAD_TABLE = 18,      /* the declaration breaks a limit, or uses a name twice */
+    CAGZHOMUL_BAD_LENGTH = 19,     /* the lease length is not from 1 to 2^32 */
+    CAGZHOMUL_NO_TABLE = 20,       /* the lease's version has no such table */
+    CAGZHOMUL_NOT_PUBLIC = 21,     /* a named column is not a public column of its table */
+    CAGZHOMUL_WRONG_TYPE = 22,     /* a value of another type, or a column named twice */
+    CAGZHOMUL_TOO_MANY_OPS = 23,   /* more than 64 operations */
+    CAGZHOMUL_VIEW_MISMATCH = 24,  /* what was read is not what the transaction reads */
+    CAGZHOMUL_BAD_LEASE = 25,      /* no grant could have given the lease */
+    CAGZHOMUL_LEASE_ENDED = 26,    /* the lease has ended */
+    CAGZHOMUL_WRONG_SCHEMA = 27,   /* prepared under another schema than that of its lease */
+    CAGZHOMUL_CONFLICT = 28,       /* a pair changed since it was read */
+    CAGZHOMUL_DUPLICATE = 29,      /* an insert of a key that is there */
+    CAGZHOMUL_NO_ROW = 30,         /* an update or a delete of a key that is not there */
+    CAGZHOMUL_TOO_EARLY = 31,      /* the newest version has not been it for a lease length */
+    CAGZHOMUL_UNKNOWN = 32,        /* a step names no table, element or column that is there */
+    CAGZHOMUL_NOT_ADJACENT = 33,   /* no move joins the two states */
+    CAGZHOMUL_WRONG_WAY = 34,      /* a move of the other way */
+    CAGZHOMUL_DEPENDENT = 35,      /* another element stands against it */
+    CAGZHOMUL_NAME_TAKEN = 36,     /* the name is taken */
+    CAGZHOMUL_OVER_LIMIT = 37,     /* a name, a list, a default or a count is over its limit */
+    CAGZHOMUL_UNFINISHED = 38,     /* a reorganisation that the step needs is not finished */
+    CAGZHOMUL_NOT_WANTED = 39,     /* the element wants no reorganisation, or none has begun */
+    CAGZHOMUL_STILL_USED = 40,     /* the version before may still be used */
+    CAGZHOMUL_BEGUN = 41,          /* the reorganisation has begun */
+    CAGZHOMUL_BAD_PIECE = 42,      /* the reorganisation has no such piece */
+    CAGZHOMUL_SPENT = 43,          /* the piece has ended */
+    CAGZHOMUL_WRONG_ELEMENT = 44,  /* the piece is not one of the element's reorganisation */
+    CAGZHOMUL_MOVED = 45           /* the piece has moved since it was read */
 };
 
 /* All zeros is closed. Its fields are the library's. */
@@ -69,6 +106,29 @@ typedef struct cagzhomul_advanced {
     uint64_t until; /* at CAGZHOMUL_WAITING the moment before which nothing can be done; else 0 */
 } cagzhomul_advanced;
 
+/* What the grant of a lease came to. */
+typedef struct cagzhomul_granted {
+    int32_t status;    /* the other fields are 0 if it is not CAGZHOMUL_OK */
+    uint64_t version;  /* the number of the newest version, which the lease is on */
+    uint64_t granted;  /* the moment from which on it is in force */
+    uint64_t until;    /* the moment at which it ends: it is in force before it */
+    uint64_t place;    /* the place of its entry in the log */
+} cagzhomul_granted;
+
+/* What the preparation of a transaction came to. */
+typedef struct cagzhomul_prepared {
+    int32_t status;
+    uint32_t column; /* at CAGZHOMUL_NOT_PUBLIC the number that was named; else 0 */
+} cagzhomul_prepared;
+
+/* What the commit of a transaction came to. */
+typedef struct cagzhomul_committed {
+    int32_t status;
+    uint64_t place;   /* at CAGZHOMUL_OK the place of its entry in the log; else 0 */
+    size_t operation; /* at CAGZHOMUL_DUPLICATE and CAGZHOMUL_NO_ROW the first operation that is
+                         refused, counted from 0; else 0 */
+} cagzhomul_committed;
+
 /* Opens a session, at its start: before the line `open`.
  * CAGZHOMUL_OK. Refusals: CAGZHOMUL_ALREADY_OPEN; CAGZHOMUL_OUT_OF_MEMORY, and the handle is closed
  * as before. */
@@ -77,16 +137,17 @@ int32_t cagzhomul_open(cagzhomul_handle *handle);
 /* Answers one line, which is given without its line ending, keeps the reply until the next one, and
  * writes as much of it to `out` as fits; the bytes of `out` after it stay.
  * CAGZHOMUL_OK, or CAGZHOMUL_BAD_LINE with the reply `bad line`. Refusals: CAGZHOMUL_CLOSED;
- * CAGZHOMUL_NOT_UTF8, and the session and its last reply are as before; CAGZHOMUL_OUT_OF_MEMORY,
- * and the session is freed and the handle closed. (A reply `refused Memory` is another thing: that
- * line was refused by the session, which goes on.) */
+ * CAGZHOMUL_WRONG_KIND; CAGZHOMUL_NOT_UTF8, and the session and its last reply are as before;
+ * CAGZHOMUL_OUT_OF_MEMORY, and the session is freed and the handle closed. (A reply `refused
+ * Memory` is another thing: that line was refused by the session, which goes on.) */
 cagzhomul_outcome cagzhomul_reply_to(cagzhomul_handle *handle, const uint8_t *line,
                                      size_t line_length, uint8_t *out, size_t out_length);
 
 /* Writes the last reply from its byte `from` on (the first is 0), as far as it fits in `out`; the
  * bytes of `out` after it stay. Nothing is written if `from` is the reply's length or more. Before
  * the first line the reply is empty.
- * CAGZHOMUL_OK, with the length of the whole reply. Refusal: CAGZHOMUL_CLOSED. */
+ * CAGZHOMUL_OK, with the length of the whole reply. Refusals: CAGZHOMUL_CLOSED;
+ * CAGZHOMUL_WRONG_KIND. */
 cagzhomul_outcome cagzhomul_reply_from(cagzhomul_handle *handle, size_t from, uint8_t *out,
                                        size_t out_length);
 
@@ -94,8 +155,8 @@ cagzhomul_outcome cagzhomul_reply_from(cagzhomul_handle *handle, size_t from, ui
  * after it stay. `place` counts from 1, as in the reply `ok done PLACE`, so the last one is the
  * number that the line `log` reports. A place keeps its entry, and an entry has one code.
  * CAGZHOMUL_OK, with the length of the whole code. Refusals: CAGZHOMUL_CLOSED;
- * CAGZHOMUL_NOT_OPENED; CAGZHOMUL_NO_ENTRY; CAGZHOMUL_OUT_OF_MEMORY. The session and its last reply
- * are as before after each of them, and after CAGZHOMUL_OK. */
+ * CAGZHOMUL_WRONG_KIND; CAGZHOMUL_NOT_OPENED; CAGZHOMUL_NO_ENTRY; CAGZHOMUL_OUT_OF_MEMORY. The
+ * session and its last reply are as before after each of them, and after CAGZHOMUL_OK. */
 cagzhomul_outcome cagzhomul_entry(cagzhomul_handle *handle, size_t place, uint8_t *out,
                                   size_t out_length);
 
@@ -104,24 +165,74 @@ cagzhomul_outcome cagzhomul_entry(cagzhomul_handle *handle, size_t place, uint8_
  * Leases, prepared work, the kept plan and the last reply stay. The bytes may come from anywhere.
  * A session that had the same declarations and repeats each entry once, in the order of its place,
  * has an equal world; an entry that is handed in again may be accepted again.
- * CAGZHOMUL_OK. Refusals: CAGZHOMUL_CLOSED; CAGZHOMUL_NOT_OPENED; CAGZHOMUL_BAD_ENTRY;
- * CAGZHOMUL_NOT_NEXT; CAGZHOMUL_OUT_OF_MEMORY, which may come in place of the two before it, and
- * after which the call may be made again. */
+ * CAGZHOMUL_OK. Refusals: CAGZHOMUL_CLOSED; CAGZHOMUL_WRONG_KIND; CAGZHOMUL_NOT_OPENED;
+ * CAGZHOMUL_BAD_ENTRY; CAGZHOMUL_NOT_NEXT; CAGZHOMUL_OUT_OF_MEMORY, which may come in place of the
+ * two before it, and after which the call may be made again. */
 int32_t cagzhomul_repeat(cagzhomul_handle *handle, const uint8_t *entry, size_t entry_length);
 
-/* Does the one act that is due of the schema changes under way, whoever began them: begins a fill or
- * a clear in `pieces` pieces (1 to 64), publishes a step in which all elements that are ready move
- * on, or works `limit` items of a piece (1 to 1,000). `moment` is the present one. Leases, prepared
- * work, the kept plan and the last reply stay.
+/* Does the one act that is due of the schema changes under way, whoever began them: begins a fill
+ * or a clear in `pieces` pieces (1 to 64), publishes a step in which all elements that are ready
+ * move on, or works `limit` items of a piece (1 to 1,000). `moment` is the present one. Leases,
+ * prepared work, the kept plan and the last reply stay.
  * CAGZHOMUL_OK, and the log has exactly one entry more; CAGZHOMUL_WAITING, with the moment, or
- * CAGZHOMUL_FINISHED, and nothing changed. Refusals: CAGZHOMUL_CLOSED; CAGZHOMUL_NOT_OPENED;
- * CAGZHOMUL_BAD_COUNT; CAGZHOMUL_MOMENT_TOO_LARGE; CAGZHOMUL_VERSIONS_SPENT;
+ * CAGZHOMUL_FINISHED, and nothing changed. Refusals: CAGZHOMUL_CLOSED; CAGZHOMUL_WRONG_KIND;
+ * CAGZHOMUL_NOT_OPENED; CAGZHOMUL_BAD_COUNT; CAGZHOMUL_MOMENT_TOO_LARGE; CAGZHOMUL_VERSIONS_SPENT;
  * CAGZHOMUL_OUT_OF_MEMORY, which may come in place of the one before it, and after which the call
  * may be made again. */
 cagzhomul_advanced cagzhomul_advance(cagzhomul_handle *handle, uint64_t moment, uint32_t pieces,
                                      uint32_t limit);
 
-/* Frees the session and closes the handle, which may be opened again.
+/* Opens a session that has a world already, as after its line `open`: with a lease length, in
+ * moments, and with the tables whose code the bytes are, and no leases, prepared work or plan.
+ * CAGZHOMUL_OK. Refusals: CAGZHOMUL_ALREADY_OPEN; CAGZHOMUL_BAD_CODE; CAGZHOMUL_BAD_TABLE;
+ * CAGZHOMUL_BAD_LENGTH; CAGZHOMUL_OUT_OF_MEMORY, which may come in place of CAGZHOMUL_BAD_CODE. */
+int32_t cagzhomul_open_tables(cagzhomul_handle *handle, const uint8_t *opening,
+                              size_t opening_length);
+
+/* Grants a lease on the newest version of the session's world, which the closed handle `lease` then
+ * holds. `moment` is the present one; the one that counts is the greater of it and the moment of
+ * the log's last entry. The rest of the session and its last reply stay.
+ * CAGZHOMUL_OK. Refusals: CAGZHOMUL_ALREADY_OPEN, of `lease`; CAGZHOMUL_CLOSED;
+ * CAGZHOMUL_WRONG_KIND; CAGZHOMUL_NOT_OPENED; CAGZHOMUL_MOMENT_TOO_LARGE; CAGZHOMUL_OUT_OF_MEMORY,
+ * which may come in place of the two before it. */
+cagzhomul_granted cagzhomul_lease(cagzhomul_handle *session, uint64_t moment,
+                                  cagzhomul_handle *lease);
+
+/* Begins a transaction under a lease, which the closed handle `txn` then holds: its operations, by
+ * their code. It is read next, prepared, and committed. The lease stays, and may be closed.
+ * CAGZHOMUL_OK. Refusals: CAGZHOMUL_ALREADY_OPEN, of `txn`; CAGZHOMUL_CLOSED; CAGZHOMUL_WRONG_KIND;
+ * CAGZHOMUL_BAD_CODE; CAGZHOMUL_OUT_OF_MEMORY, which may come in place of the one before it. */
+int32_t cagzhomul_transaction(cagzhomul_handle *lease, const uint8_t *operations,
+                              size_t operations_length, cagzhomul_handle *txn);
+
+/* Reads the rows that a transaction names, of the session's world, which stays.
+ * CAGZHOMUL_OK. Refusals: CAGZHOMUL_CLOSED and CAGZHOMUL_WRONG_KIND of `session`; CAGZHOMUL_CLOSED
+ * and CAGZHOMUL_WRONG_KIND of `txn`; CAGZHOMUL_NOT_OPENED; CAGZHOMUL_WRONG_STAGE if it was read
+ * already; CAGZHOMUL_OUT_OF_MEMORY. */
+int32_t cagzhomul_read(cagzhomul_handle *session, cagzhomul_handle *txn);
+
+/* Prepares a transaction that was read, by the schema of its lease's version. It takes no session,
+ * so it needs no lock of one.
+ * CAGZHOMUL_OK. Refusals: CAGZHOMUL_CLOSED; CAGZHOMUL_WRONG_KIND; CAGZHOMUL_WRONG_STAGE if it was
+ * not read, or is prepared; of the first operation with one of them, the first of
+ * CAGZHOMUL_NO_TABLE, CAGZHOMUL_NOT_PUBLIC and CAGZHOMUL_WRONG_TYPE; CAGZHOMUL_TOO_MANY_OPS;
+ * CAGZHOMUL_VIEW_MISMATCH; CAGZHOMUL_OUT_OF_MEMORY, which may come in place of the five before
+ * it. */
+cagzhomul_prepared cagzhomul_prepare(cagzhomul_handle *txn);
+
+/* Commits a prepared transaction to the session's world: it is logged and written, or the rows
+ * refuse it; in both cases `txn` is closed. `moment` is as for cagzhomul_lease. The rest of the
+ * session and its last reply stay.
+ * CAGZHOMUL_OK; CAGZHOMUL_DUPLICATE or CAGZHOMUL_NO_ROW if the rows refuse it, which change nothing
+ * in the session. Refusals: CAGZHOMUL_CLOSED and CAGZHOMUL_WRONG_KIND of `session`;
+ * CAGZHOMUL_CLOSED and CAGZHOMUL_WRONG_KIND of `txn`; CAGZHOMUL_NOT_OPENED; CAGZHOMUL_WRONG_STAGE if
+ * it is not prepared; CAGZHOMUL_MOMENT_TOO_LARGE; CAGZHOMUL_BAD_LEASE; CAGZHOMUL_LEASE_ENDED;
+ * CAGZHOMUL_WRONG_SCHEMA; CAGZHOMUL_CONFLICT; CAGZHOMUL_OUT_OF_MEMORY, which may come in place of
+ * the one before it. After a refusal it may be committed again, or closed. */
+cagzhomul_committed cagzhomul_commit(cagzhomul_handle *session, uint64_t moment,
+                                     cagzhomul_handle *txn);
+
+/* Frees what the handle holds and closes it; it may be opened again.
  * CAGZHOMUL_OK. Refusal: CAGZHOMUL_CLOSED. */
 int32_t cagzhomul_close(cagzhomul_handle *handle);
 

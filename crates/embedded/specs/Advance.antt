@@ -8,7 +8,7 @@ use Rattle.rollout.specs.declared.advanced.AdvanceFault.{AdvanceFault}
 use Rattle.rollout.specs.declared.advanced.AdvanceFault.TheVariants.{BadCount, MomentTooLarge, VersionsSpent, Memory}
 use Rattle.world.specs.State.{State}
 use Rattle.embedded.specs.declared.advance.AdvanceOutcome.{AdvanceOutcome}
-use Rattle.embedded.specs.Statuses.{ok, out_of_memory, waiting, finished, bad_count, moment_too_large, versions_spent}
+use Rattle.typed_calls.specs.Statuses.{ok, out_of_memory, waiting, finished, bad_count, moment_too_large, versions_spent}
 
 abbrev pub advance_outcome : Result Advanced AdvanceFault → AdvanceOutcome
 advance_outcome (Ok (Began element receipt)) = record { status = ok; until = 0 }

@@ -18,7 +18,8 @@ use Rattle.embedded.specs.declared.engine.Engine.TheVariants as engine
 use Rattle.embedded.specs.declared.advance.AdvanceOutcome.{AdvanceOutcome}
 use Rattle.embedded.specs.declared.outcome.Outcome.{Outcome}
 use Rattle.embedded.specs.Advance.{AdvancesWorld}
-use Rattle.embedded.specs.Statuses.{ok, closed, already_open, not_utf8, out_of_memory, not_opened, no_entry, bad_entry, reply_status, repeat_status, status_text}
+use Rattle.embedded.specs.Replies.{reply_status, repeat_status}
+use Rattle.typed_calls.specs.Statuses.{ok, closed, already_open, not_utf8, out_of_memory, not_opened, no_entry, bad_entry, wrong_kind, status_text}
 
 -- as much of the text as fits lies over what was there
 abbrev pub laid : List ℕ → List ℕ → List ℕ
@@ -32,6 +33,7 @@ Refuses status out outcome out' = (outcome ≡ record { status = status; length 
 abbrev pub IsFresh : Option Engine → Type 0
 IsFresh None = ⊥
 IsFresh (Some (engine.Session c)) = (c.session ≡ empty) × (string_bytes c.reply ≡ [])
+IsFresh (Some other) = ⊥
 
 abbrev pub Opens : Option Engine → ℤ → Option Engine → Type 0
 Opens (Some e) status new = (status ≡ already_open) × (new ≡ Some e)
@@ -55,11 +57,14 @@ RepliesTo None line out outcome out' new = Refuses closed out outcome out' × (n
 RepliesTo (Some (engine.Session c)) line out outcome out' None = IsUtf8 line × Refuses out_of_memory out outcome out'
 RepliesTo (Some (engine.Session c)) line out outcome out' (Some (engine.Session c')) =
     (¬ (IsUtf8 line) × Refuses not_utf8 out outcome out' × (c' ≡ c)) ⊎ (IsUtf8 line × Answers c line out outcome out' c')
+RepliesTo (Some (engine.Session c)) line out outcome out' (Some other) = ⊥
+RepliesTo (Some other) line out outcome out' new = Refuses wrong_kind out outcome out' × (new ≡ Some other)
 
 abbrev pub RepliesFrom : Option Engine → ℕ → List ℕ → Outcome → List ℕ → Type 0
 RepliesFrom None from out outcome out' = Refuses closed out outcome out'
 RepliesFrom (Some (engine.Session c)) from out outcome out' =
     (outcome ≡ record { status = ok; length = length (string_bytes c.reply) }) × (out' ≡ laid out (drop from (string_bytes c.reply)))
+RepliesFrom (Some other) from out outcome out' = Refuses wrong_kind out outcome out'
 
 -- ---- replicas
 
@@ -82,6 +87,7 @@ ShowsEntryIn (Running opened) place out outcome out' = ShowsCode (entry_at opene
 abbrev pub ShowsEntry : Option Engine → ℕ → List ℕ → Outcome → List ℕ → Type 0
 ShowsEntry None place out outcome out' = Refuses closed out outcome out'
 ShowsEntry (Some (engine.Session c)) place out outcome out' = ShowsEntryIn c.session place out outcome out'
+ShowsEntry (Some other) place out outcome out' = Refuses wrong_kind out outcome out'
 
 -- the bytes are the code of no entry that a world could have
 abbrev pub IsNoCode : List ℕ → Type 0
@@ -109,6 +115,7 @@ abbrev pub Repeats : Option Engine → List ℕ → ℤ → Option Engine → Ty
 Repeats None bytes status new = (status ≡ closed) × (new ≡ None)
 Repeats (Some (engine.Session c)) bytes status new =
     (session : Session) × RepeatsIn c.session bytes status session × (new ≡ Some (engine.Session (record c { session = session })))
+Repeats (Some other) bytes status new = (status ≡ wrong_kind) × (new ≡ Some other)
 
 -- ---- changes under way
 
@@ -123,6 +130,7 @@ abbrev pub Advances : Option Engine → ℕ → ℕ → ℕ → AdvanceOutcome �
 Advances None moment pieces limit outcome new = (outcome ≡ record { status = closed; until = 0 }) × (new ≡ None)
 Advances (Some (engine.Session c)) moment pieces limit outcome new =
     (session : Session) × AdvancesIn c.session moment pieces limit outcome session × (new ≡ Some (engine.Session (record c { session = session })))
+Advances (Some other) moment pieces limit outcome new = (outcome ≡ record { status = wrong_kind; until = 0 }) × (new ≡ Some other)
 
 abbrev pub Closes : Option Engine → ℤ → Option Engine → Type 0
 Closes None status new = (status ≡ closed) × (new ≡ None)

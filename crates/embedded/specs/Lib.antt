@@ -1,4 +1,8 @@
 pub mod Calls
 pub mod Owned
-pub mod Statuses
+pub mod Replies
 pub mod Advance
+pub mod Handles
+pub mod Leases
+pub mod Txns
+pub mod Commits

@@ -4,12 +4,12 @@ ghost use Rattle.embedded.specs.Advance.{AdvancesWorld, advance_outcome};
 ghost use Rattle.embedded.specs.Calls.{AdvancesIn};
 
 use crate::engine::Conversation;
-use crate::status::{
-    BAD_COUNT, FINISHED, MOMENT_TOO_LARGE, NOT_OPENED, OK, OUT_OF_MEMORY, VERSIONS_SPENT, WAITING,
-};
 use rollout::{AdvanceFault, Advanced};
 use script_session::Session;
 use std::alloc::Global;
+use typed_calls::status::{
+    BAD_COUNT, FINISHED, MOMENT_TOO_LARGE, NOT_OPENED, OK, OUT_OF_MEMORY, VERSIONS_SPENT, WAITING,
+};
 use world::World;
 
 /// What an advance did.

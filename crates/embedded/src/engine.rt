@@ -4,9 +4,11 @@ ghost use Rattle.script_session.specs.Session.{empty};
 ghost use Rattle.embedded.specs.Calls.{RepliesIn};
 
 use crate::outcome::{Outcome, lay};
-use crate::status::{BAD_LINE, NOT_UTF8, OK, OUT_OF_MEMORY};
-use script_session::Session;
+use script_session::{ServerLease, Session};
 use std::alloc::Global;
+use typed_calls::Txn;
+use typed_calls::status::{BAD_LINE, NOT_UTF8, OK, OUT_OF_MEMORY};
+use world::Snapshot;
 
 /// A session, and the last reply that it gave.
 #[derive(Drop)]
@@ -22,6 +24,12 @@ pub struct Conversation {
 pub enum Engine {
     /// A session of the script language.
     Session(Conversation),
+    /// A lease of a session's world.
+    Lease(ServerLease),
+    /// A transaction under a lease.
+    Txn(Txn),
+    /// What a session's world held at a moment.
+    Snapshot(Snapshot),
 }
 
 impl Conversation {

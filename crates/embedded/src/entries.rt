@@ -1,15 +1,15 @@
 //! Entries of a session's log, as bytes.
 ghost use Rattle.std.specs.Prelude.{◌≡◌, option_copied};
 ghost use Rattle.embedded.specs.Calls.{entry_at, RepeatsBytes, RepeatsIn, ShowsCode, ShowsEntryIn};
-ghost use Rattle.embedded.specs.Statuses.{repeat_status};
+ghost use Rattle.embedded.specs.Replies.{repeat_status};
 
 use crate::engine::Conversation;
 use crate::outcome::{Outcome, lay};
-use crate::status::{BAD_ENTRY, NO_ENTRY, NOT_NEXT, NOT_OPENED, OK, OUT_OF_MEMORY};
 use entry_code::{CodeFault, entry_bytes, entry_of};
 use replica::{Repeat, RepeatFault};
 use script_session::Session;
 use std::alloc::Global;
+use typed_calls::status::{BAD_ENTRY, NO_ENTRY, NOT_NEXT, NOT_OPENED, OK, OUT_OF_MEMORY};
 use world::{Entry, Receipt, World};
 
 // The entry of this place, of which the first is 1.

@@ -4,23 +4,32 @@
 
 ghost use Rattle.std.specs.Prelude.{◌≡◌};
 ghost use Rattle.embedded.specs.Calls.{Opens, RepliesTo, RepliesFrom, ShowsEntry, Repeats, Advances, Closes, ShowsText};
+ghost use Rattle.embedded.specs.Leases.{OpensTables, Leases};
+ghost use Rattle.embedded.specs.Txns.{Transacts, Reads, Prepares};
+ghost use Rattle.embedded.specs.Commits.{Commits};
 
 mod advance;
+mod boxes;
+mod commit_calls;
 mod engine;
 mod entries;
 mod handle;
+mod lease_calls;
 mod outcome;
 mod place;
 mod replica_calls;
 mod session_calls;
-mod status;
+mod txn_calls;
 
 pub use advance::AdvanceOutcome;
+pub use commit_calls::CommitOutcome;
 pub use engine::{Conversation, Engine};
 pub use handle::Handle;
+pub use lease_calls::LeaseOutcome;
 pub use outcome::Outcome;
 pub use place::Place;
 use std::alloc::Global;
+use typed_calls::PrepareOutcome;
 
 /// Opens a session. `OK`; else `ALREADY_OPEN` or `OUT_OF_MEMORY`, which change nothing.
 #[unsafe(no_mangle)]
@@ -104,6 +113,86 @@ pub extern "C" fn cagzhomul_advance(
     handle.advance(alloc, moment, pieces, limit)
 }
 
+/// Opens a session with a world by the code of its opening, as `entry_code::opening_bytes` gives it.
+/// `OK`; else `ALREADY_OPEN`, `BAD_CODE`, `BAD_TABLE`, `BAD_LENGTH`, or `OUT_OF_MEMORY`, which may
+/// come in place of `BAD_CODE`. A refusal changes nothing.
+#[unsafe(no_mangle)]
+pub extern "C" fn cagzhomul_open_tables(alloc: Global, handle: &mut Handle, opening: &[u8]) -> i32
+    ensures { OpensTables handle.old.place.value opening.now result handle.new.place.value }
+{
+    handle.open_tables(alloc, opening)
+}
+
+/// Grants a lease on the newest version of the session's world, into the closed handle `lease`.
+/// `OK`; else `ALREADY_OPEN` (of `lease`), `CLOSED`, `WRONG_KIND`, `NOT_OPENED`, `MOMENT_TOO_LARGE`,
+/// or `OUT_OF_MEMORY`, which may come in place of the two before it. A refusal changes nothing.
+#[unsafe(no_mangle)]
+pub extern "C" fn cagzhomul_lease(
+    alloc: Global,
+    session: &mut Handle,
+    moment: u64,
+    lease: &mut Handle,
+) -> LeaseOutcome
+    ensures { Leases session.old.place.value moment lease.old.place.value result session.new.place.value lease.new.place.value }
+{
+    session.lease(alloc, moment, lease)
+}
+
+/// Begins a transaction under a lease, into the closed handle `txn`: its operations, whose code
+/// these bytes are, and the keys that they read. `OK`; else `ALREADY_OPEN` (of `txn`), `CLOSED`,
+/// `WRONG_KIND`, `BAD_CODE`, or `OUT_OF_MEMORY`, which may come in place of the one before it. The
+/// lease stays, and a refusal changes nothing.
+#[unsafe(no_mangle)]
+pub extern "C" fn cagzhomul_transaction(
+    alloc: Global,
+    lease: &mut Handle,
+    operations: &[u8],
+    txn: &mut Handle,
+) -> i32
+    ensures transacts { Transacts lease.old.place.value operations.now txn.old.place.value result txn.new.place.value }
+    ensures same { lease.new.place.value ≡ lease.old.place.value }
+{
+    lease.transaction(alloc, operations, txn)
+}
+
+/// Reads what a transaction wants, of the session's world, which stays. `OK`; else `CLOSED` and
+/// `WRONG_KIND` (of `session`, then of `txn`), `NOT_OPENED`, `WRONG_STAGE` or `OUT_OF_MEMORY`. A
+/// refusal changes nothing.
+#[unsafe(no_mangle)]
+pub extern "C" fn cagzhomul_read(alloc: Global, session: &mut Handle, txn: &mut Handle) -> i32
+    ensures reads { Reads session.old.place.value txn.old.place.value result txn.new.place.value }
+    ensures same { session.new.place.value ≡ session.old.place.value }
+{
+    session.read(alloc, txn)
+}
+
+/// Prepares a transaction that was read. `OK`; else `CLOSED`, `WRONG_KIND`, `WRONG_STAGE`,
+/// `NO_TABLE`, `NOT_PUBLIC`, `WRONG_TYPE`, `TOO_MANY_OPS`, `VIEW_MISMATCH`, or `OUT_OF_MEMORY`, which
+/// may come in place of the five before it. A refusal changes nothing.
+#[unsafe(no_mangle)]
+pub extern "C" fn cagzhomul_prepare(alloc: Global, txn: &mut Handle) -> PrepareOutcome
+    ensures { Prepares txn.old.place.value result txn.new.place.value }
+{
+    txn.prepare(alloc)
+}
+
+/// Commits a prepared transaction to the session's world. `OK`, `DUPLICATE` and `NO_ROW`, and `txn`
+/// is closed; else `CLOSED` and `WRONG_KIND` (of `session`, then of `txn`), `NOT_OPENED`,
+/// `WRONG_STAGE`, `MOMENT_TOO_LARGE`, `BAD_LEASE`, `LEASE_ENDED`, `WRONG_SCHEMA`, `CONFLICT`, or
+/// `OUT_OF_MEMORY`, which may come in place of the one before it, and these change nothing. The rows
+/// refuse a transaction at `DUPLICATE` and `NO_ROW`, which change nothing but `txn`.
+#[unsafe(no_mangle)]
+pub extern "C" fn cagzhomul_commit(
+    alloc: Global,
+    session: &mut Handle,
+    moment: u64,
+    txn: &mut Handle,
+) -> CommitOutcome
+    ensures { Commits session.old.place.value moment txn.old.place.value result session.new.place.value txn.new.place.value }
+{
+    session.commit(alloc, moment, txn)
+}
+
 /// Frees what the handle holds, and closes it. `OK`; else `CLOSED`.
 #[unsafe(no_mangle)]
 pub extern "C" fn cagzhomul_close(alloc: Global, handle: &mut Handle) -> i32
@@ -117,5 +206,5 @@ pub extern "C" fn cagzhomul_close(alloc: Global, handle: &mut Handle) -> i32
 pub extern "C" fn cagzhomul_text_of(status: i32, out: &mut [u8]) -> usize
     ensures { ShowsText status out.old result out.new }
 {
-    status::show_text(status, out)
+    outcome::show_text(status, out)
 }

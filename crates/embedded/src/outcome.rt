@@ -1,6 +1,8 @@
 //! What a call answers, and how a text goes out.
 ghost use Rattle.std.specs.Prelude.{◌≡◌};
-ghost use Rattle.embedded.specs.Calls.{laid};
+ghost use Rattle.embedded.specs.Calls.{laid, ShowsText};
+
+use typed_calls::status;
 
 /// A status, and the length of the whole reply.
 #[repr(C)]
@@ -32,4 +34,13 @@ pub(crate) fn lay(out: &mut [u8], text: &[u8])
     };
     let (front, _) = out.split_at_mut(count);
     front.copy_from_slice(text.split_at(count).0);
+}
+
+/// Writes as much of a status's text as fits, and gives its length.
+pub(crate) fn show_text(status: i32, out: &mut [u8]) -> usize
+    ensures { ShowsText status out.old result out.new }
+{
+    let text = status::text_of(status);
+    lay(out, text.as_bytes());
+    text.len()
 }

@@ -6,8 +6,8 @@ use crate::advance::AdvanceOutcome;
 use crate::engine::Engine;
 use crate::handle::Handle;
 use crate::outcome::Outcome;
-use crate::status::CLOSED;
 use std::alloc::Global;
+use typed_calls::status::{CLOSED, WRONG_KIND};
 
 impl Handle {
     /// Writes the code of the entry of this place.
@@ -18,7 +18,10 @@ impl Handle {
         let Some(engine) = self.take(alloc) else {
             return Outcome::refusal(CLOSED);
         };
-        let Engine::Session(conversation) = &*engine;
+        let Engine::Session(conversation) = &*engine else {
+            self.put(engine);
+            return Outcome::refusal(WRONG_KIND);
+        };
         let outcome = conversation.entry(alloc, place, out);
         self.put(engine);
         outcome
@@ -31,7 +34,10 @@ impl Handle {
         let Some(mut engine) = self.take(alloc) else {
             return CLOSED;
         };
-        let Engine::Session(conversation) = &mut *engine;
+        let Engine::Session(conversation) = &mut *engine else {
+            self.put(engine);
+            return WRONG_KIND;
+        };
         let status = conversation.repeat(alloc, entry);
         self.put(engine);
         status
@@ -50,7 +56,10 @@ impl Handle {
         let Some(mut engine) = self.take(alloc) else {
             return AdvanceOutcome::of(CLOSED);
         };
-        let Engine::Session(conversation) = &mut *engine;
+        let Engine::Session(conversation) = &mut *engine else {
+            self.put(engine);
+            return AdvanceOutcome::of(WRONG_KIND);
+        };
         let outcome = conversation.advance(alloc, moment, pieces, limit);
         self.put(engine);
         outcome

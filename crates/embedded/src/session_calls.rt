@@ -5,8 +5,8 @@ ghost use Rattle.embedded.specs.Calls.{Opens, RepliesTo, RepliesFrom, Closes};
 use crate::engine::{Conversation, Engine};
 use crate::handle::Handle;
 use crate::outcome::{Outcome, lay};
-use crate::status::{ALREADY_OPEN, CLOSED, OK, OUT_OF_MEMORY};
 use std::alloc::Global;
+use typed_calls::status::{ALREADY_OPEN, CLOSED, OK, OUT_OF_MEMORY, WRONG_KIND};
 
 impl Handle {
     /// Opens a session.
@@ -31,7 +31,10 @@ impl Handle {
         let Some(mut engine) = self.take(alloc) else {
             return Outcome::refusal(CLOSED);
         };
-        let Engine::Session(conversation) = &mut *engine;
+        let Engine::Session(conversation) = &mut *engine else {
+            self.put(engine);
+            return Outcome::refusal(WRONG_KIND);
+        };
         let outcome = conversation.reply_to(alloc, line, out);
         if outcome.status != OUT_OF_MEMORY {
             self.put(engine);
@@ -47,7 +50,10 @@ impl Handle {
         let Some(engine) = self.take(alloc) else {
             return Outcome::refusal(CLOSED);
         };
-        let Engine::Session(conversation) = &*engine;
+        let Engine::Session(conversation) = &*engine else {
+            self.put(engine);
+            return Outcome::refusal(WRONG_KIND);
+        };
         let reply = conversation.reply.as_str().as_bytes();
         let length = reply.len();
         if from < length {

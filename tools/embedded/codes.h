@@ -1,0 +1,71 @@
+/* The codes of an opening and of operations on its one table, as crates/entry_code describes them:
+   table people (id int key, town text), whose number is 1, with the column town, whose number is 1. */
+#include <stdint.h>
+#include <stddef.h>
+#include <string.h>
+
+enum { CODE_ROOM = 512, PEOPLE = 1, TOWN = 1 };
+
+typedef struct code {
+    uint8_t bytes[CODE_ROOM];
+    size_t length;
+} code;
+
+static inline void put_byte(code *code, uint8_t byte) { code->bytes[code->length++] = byte; }
+
+/* The number's lowest bytes, so many, the highest of them first. */
+static inline void put_number(code *code, uint64_t number, int bytes) {
+    while (bytes-- > 0) put_byte(code, (uint8_t)(number >> (8 * bytes)));
+}
+
+static inline void put_name(code *code, const char *name) {
+    put_number(code, strlen(name), 8);
+    while (*name) put_byte(code, (uint8_t)*name++);
+}
+
+/* A number as a value of a column. */
+static inline void put_int(code *code, int64_t value) {
+    put_byte(code, 2);
+    put_number(code, (uint64_t)value ^ (UINT64_C(1) << 63), 8);
+}
+
+/* A text without the byte 0 as a value of a column. */
+static inline void put_text(code *code, const char *text) {
+    put_byte(code, 3);
+    while (*text) put_byte(code, (uint8_t)*text++);
+    put_byte(code, 0), put_byte(code, 1);
+}
+
+/* The table, with this name for its column, and a lease length. */
+static inline code opening_code(uint64_t lease_length, const char *column) {
+    code it = {{1}, 1};
+    put_number(&it, lease_length, 8);
+    put_number(&it, 1, 8); /* one table */
+    put_name(&it, "people");
+    put_number(&it, 1, 8); /* one key column */
+    put_name(&it, "id"), put_byte(&it, 0);
+    put_number(&it, 1, 8); /* one further column */
+    put_name(&it, column), put_byte(&it, 1);
+    put_number(&it, 0, 8); /* no index */
+    return it;
+}
+
+/* So many operations, which follow. */
+static inline code ops_code(uint64_t many) {
+    code it = {{1}, 1};
+    put_number(&it, many, 8);
+    return it;
+}
+
+enum { INSERT = 0, UPDATE = 1, DELETE = 2 };
+
+/* An operation on the row of this key; a null town sets no column. */
+static inline void put_op(code *code, uint8_t kind, uint32_t table, int64_t id, uint32_t column, const char *town) {
+    put_byte(code, kind);
+    put_number(code, table, 4);
+    put_number(code, 1, 8); /* one value in the key */
+    put_int(code, id);
+    if (kind == DELETE) return;
+    put_number(code, town ? 1 : 0, 8);
+    if (town) put_number(code, column, 4), put_text(code, town);
+}

@@ -1,0 +1,79 @@
+/* Single-row inserts a second: by text lines, and by typed calls; and their ratio. speed [ROWS [PASSES]]:
+   the passes take turns, and the best of each counts. */
+#define _POSIX_C_SOURCE 199309L
+#include "cagzhomul.h"
+#include "codes.h"
+#include <stdio.h>
+#include <stdlib.h>
+#include <time.h>
+
+enum { ROOM = 512, LEASE_LENGTH = 10 };
+
+static double seconds(void) {
+    struct timespec now;
+    clock_gettime(CLOCK_MONOTONIC, &now);
+    return (double)now.tv_sec + 1e-9 * (double)now.tv_nsec;
+}
+
+static void demand(int holds, const char *what) {
+    if (holds) return;
+    fprintf(stderr, "not so: %s\n", what);
+    exit(1);
+}
+
+static void open_world(cagzhomul_handle *session) {
+    code opening = opening_code(LEASE_LENGTH, "town");
+    demand(cagzhomul_open_tables(session, opening.bytes, opening.length) == CAGZHOMUL_OK, "tables are opened");
+}
+
+static void answer(cagzhomul_handle *session, const char *line, const char *wanted) {
+    uint8_t out[ROOM] = {0};
+    cagzhomul_outcome it = cagzhomul_reply_to(session, (const uint8_t *)line, strlen(line), out, ROOM);
+    demand(it.status == CAGZHOMUL_OK && !memcmp(out, wanted, strlen(wanted)), line);
+}
+
+static double by_lines(long rows) {
+    cagzhomul_handle session = {0};
+    char line[ROOM];
+    open_world(&session);
+    answer(&session, "lease a at 5", "ok lease ");
+    double from = seconds();
+    for (long row = 0; row < rows; row++) {
+        snprintf(line, sizeof line, "txn a at 5: insert people (%ld) set town = 'Ulm'", row);
+        answer(&session, line, "ok done ");
+    }
+    double taken = seconds() - from;
+    cagzhomul_close(&session);
+    return taken;
+}
+
+static double by_calls(long rows) {
+    cagzhomul_handle session = {0}, lease = {0}, txn = {0};
+    open_world(&session);
+    demand(cagzhomul_lease(&session, 5, &lease).status == CAGZHOMUL_OK, "a lease is granted");
+    double from = seconds();
+    for (long row = 0; row < rows; row++) {
+        code ops = ops_code(1);
+        put_op(&ops, INSERT, PEOPLE, row, TOWN, "Ulm");
+        demand(cagzhomul_transaction(&lease, ops.bytes, ops.length, &txn) == CAGZHOMUL_OK, "a transaction begins");
+        demand(cagzhomul_read(&session, &txn) == CAGZHOMUL_OK, "it is read");
+        demand(cagzhomul_prepare(&txn).status == CAGZHOMUL_OK, "it is prepared");
+        demand(cagzhomul_commit(&session, 5, &txn).status == CAGZHOMUL_OK, "it is committed");
+    }
+    double taken = seconds() - from;
+    cagzhomul_close(&lease), cagzhomul_close(&session);
+    return taken;
+}
+
+int main(int count, char **words) {
+    long rows = count > 1 ? atol(words[1]) : 100000, passes = count > 2 ? atol(words[2]) : 5;
+    double lines = 1e9, calls = 1e9;
+    for (long pass = 0; pass < passes; pass++) {
+        double it = by_lines(rows);
+        lines = it < lines ? it : lines;
+        it = by_calls(rows);
+        calls = it < calls ? it : calls;
+    }
+    printf("%.0f lines a second, %.0f typed a second, ratio %.2f\n", (double)rows / lines, (double)rows / calls, lines / calls);
+    return 0;
+}

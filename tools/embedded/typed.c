@@ -1,0 +1,246 @@
+/* One writer by typed calls: opens tables, takes a lease, commits transactions, meets a conflict and
+   refusals by the rows, and looks at the result by lines on the same handle. Each allocation is
+   refused in turn, one in each run (linked with --wrap for malloc, calloc and realloc): the call that
+   met it answers CAGZHOMUL_OUT_OF_MEMORY, changed nothing, and is made again. All values are worked
+   out by hand. It prints how many allocations were refused, and ends with 0 if all was as
+   include/cagzhomul.h says. */
+#include "cagzhomul.h"
+#include "codes.h"
+#include <stdio.h>
+#include <stdlib.h>
+
+enum { ROOM = 512 };
+
+static long count, refused, again;
+static int is_reached, is_ample, wrong;
+
+void *__real_malloc(size_t);
+void *__real_calloc(size_t, size_t);
+void *__real_realloc(void *, size_t);
+void *__wrap_malloc(size_t);
+void *__wrap_calloc(size_t, size_t);
+void *__wrap_realloc(void *, size_t);
+
+static int is_refused(void) {
+    if (is_ample || ++count != refused) return 0;
+    is_reached = 1;
+    return 1;
+}
+
+void *__wrap_malloc(size_t size) { return is_refused() ? NULL : __real_malloc(size); }
+void *__wrap_calloc(size_t many, size_t size) { return is_refused() ? NULL : __real_calloc(many, size); }
+void *__wrap_realloc(void *old, size_t size) { return is_refused() ? NULL : __real_realloc(old, size); }
+
+static void check(int holds, const char *what) {
+    if (holds) return;
+    fprintf(stderr, "allocation %ld refused: not so: %s\n", refused, what);
+    wrong++;
+}
+
+/* Whether memory ran out, and the call is to be made again. */
+static int is_short(int32_t status) {
+    if (status != CAGZHOMUL_OUT_OF_MEMORY) return 0;
+    check(is_reached, "memory runs out only after a refusal");
+    again++;
+    return !wrong;
+}
+
+/* Whether the line has this reply; memory is ample for it. */
+static int replies(cagzhomul_handle *session, const char *line, const char *wanted) {
+    uint8_t out[ROOM];
+    int was_ample = is_ample;
+    is_ample = 1;
+    cagzhomul_outcome it = cagzhomul_reply_to(session, (const uint8_t *)line, strlen(line), out, ROOM);
+    is_ample = was_ample;
+    return it.status == CAGZHOMUL_OK && it.length == strlen(wanted) && !memcmp(out, wanted, it.length);
+}
+
+static int is_lease(cagzhomul_granted it, int32_t status, uint64_t version, uint64_t granted, uint64_t until, uint64_t place) {
+    return it.status == status && it.version == version && it.granted == granted && it.until == until && it.place == place;
+}
+
+static cagzhomul_granted take_lease(cagzhomul_handle *session, uint64_t moment, cagzhomul_handle *lease) {
+    cagzhomul_granted it = cagzhomul_lease(session, moment, lease);
+    if (!is_short(it.status)) return it;
+    check(is_lease(it, CAGZHOMUL_OUT_OF_MEMORY, 0, 0, 0, 0) && !lease->is_open, "no lease was granted");
+    return cagzhomul_lease(session, moment, lease);
+}
+
+static int32_t begin(cagzhomul_handle *lease, const code *ops, cagzhomul_handle *txn) {
+    int32_t status = cagzhomul_transaction(lease, ops->bytes, ops->length, txn);
+    return is_short(status) ? cagzhomul_transaction(lease, ops->bytes, ops->length, txn) : status;
+}
+
+static int32_t read_txn(cagzhomul_handle *session, cagzhomul_handle *txn) {
+    int32_t status = cagzhomul_read(session, txn);
+    return is_short(status) ? cagzhomul_read(session, txn) : status;
+}
+
+static cagzhomul_prepared prepare(cagzhomul_handle *txn) {
+    cagzhomul_prepared it = cagzhomul_prepare(txn);
+    return is_short(it.status) ? cagzhomul_prepare(txn) : it;
+}
+
+static cagzhomul_committed commit(cagzhomul_handle *session, uint64_t moment, cagzhomul_handle *txn) {
+    cagzhomul_committed it = cagzhomul_commit(session, moment, txn);
+    if (!is_short(it.status)) return it;
+    check(it.place == 0 && it.operation == 0 && txn->is_open, "nothing was committed");
+    return cagzhomul_commit(session, moment, txn);
+}
+
+static int ends(cagzhomul_committed it, int32_t status, uint64_t place, size_t operation) {
+    return it.status == status && it.place == place && it.operation == operation;
+}
+
+/* Begins, reads and prepares a transaction. */
+static void make_ready(cagzhomul_handle *session, cagzhomul_handle *lease, const code *ops, cagzhomul_handle *txn) {
+    check(begin(lease, ops, txn) == CAGZHOMUL_OK, "a transaction begins");
+    check(read_txn(session, txn) == CAGZHOMUL_OK, "it is read");
+    cagzhomul_prepared it = prepare(txn);
+    check(it.status == CAGZHOMUL_OK && it.column == 0, "it is prepared");
+}
+
+static cagzhomul_committed run(cagzhomul_handle *session, cagzhomul_handle *lease, uint64_t moment, const code *ops) {
+    cagzhomul_handle txn = {0};
+    make_ready(session, lease, ops, &txn);
+    cagzhomul_committed it = commit(session, moment, &txn);
+    if (txn.is_open) cagzhomul_close(&txn);
+    return it;
+}
+
+static code one(uint8_t kind, int64_t id, const char *town) {
+    code ops = ops_code(1);
+    put_op(&ops, kind, PEOPLE, id, TOWN, town);
+    return ops;
+}
+
+/* What its preparation comes to, after it was read. */
+static cagzhomul_prepared unprepared(cagzhomul_handle *session, cagzhomul_handle *lease, const code *ops) {
+    cagzhomul_handle txn = {0};
+    check(begin(lease, ops, &txn) == CAGZHOMUL_OK && read_txn(session, &txn) == CAGZHOMUL_OK, "it is read");
+    cagzhomul_prepared it = prepare(&txn), same = prepare(&txn);
+    check(it.status == same.status && it.column == same.column, "a refused preparation changes nothing");
+    check(cagzhomul_close(&txn) == CAGZHOMUL_OK, "it is closed");
+    return it;
+}
+
+static void look_at_preparations(cagzhomul_handle *session, cagzhomul_handle *lease) {
+    code ops = ops_code(1);
+    put_op(&ops, INSERT, 7, 1, TOWN, "Ulm");
+    check(unprepared(session, lease, &ops).status == CAGZHOMUL_NO_TABLE, "no such table");
+    ops = ops_code(1);
+    put_op(&ops, INSERT, PEOPLE, 1, 9, "Ulm");
+    cagzhomul_prepared it = unprepared(session, lease, &ops);
+    check(it.status == CAGZHOMUL_NOT_PUBLIC && it.column == 9, "no such column");
+    ops = ops_code(1);
+    put_byte(&ops, INSERT), put_number(&ops, PEOPLE, 4), put_number(&ops, 1, 8), put_text(&ops, "a"), put_number(&ops, 0, 8);
+    check(unprepared(session, lease, &ops).status == CAGZHOMUL_WRONG_TYPE, "a text in place of a number");
+}
+
+/* A transaction whose rows change after it was read, and one whose lease has ended. */
+static void look_at_conflicts(cagzhomul_handle *session, cagzhomul_handle *lease) {
+    cagzhomul_handle txn = {0};
+    code later = one(UPDATE, 1, "Hof"), ops = one(UPDATE, 1, "Bonn");
+    make_ready(session, lease, &later, &txn);
+    check(ends(run(session, lease, 8, &ops), CAGZHOMUL_OK, 5, 0), "an update is entry 5");
+    check(ends(commit(session, 8, &txn), CAGZHOMUL_CONFLICT, 0, 0), "the row has changed");
+    check(ends(commit(session, 15, &txn), CAGZHOMUL_LEASE_ENDED, 0, 0), "the lease ends at 15");
+    check(ends(commit(session, (UINT64_C(1) << 62) + 1, &txn), CAGZHOMUL_MOMENT_TOO_LARGE, 0, 0), "a moment above 2^62");
+    check(txn.is_open && cagzhomul_close(&txn) == CAGZHOMUL_OK, "it stays, and is closed");
+}
+
+static void write_rows(cagzhomul_handle *session, cagzhomul_handle *lease) {
+    code ops = ops_code(2);
+    put_op(&ops, INSERT, PEOPLE, 1, TOWN, "Ulm");
+    put_op(&ops, INSERT, PEOPLE, 2, TOWN, "Bonn");
+    check(ends(run(session, lease, 5, &ops), CAGZHOMUL_OK, 2, 0), "two rows are entry 2");
+    ops = one(INSERT, 3, "Ulm");
+    check(ends(run(session, lease, 6, &ops), CAGZHOMUL_OK, 3, 0), "a row is entry 3");
+    ops = one(DELETE, 2, NULL);
+    check(ends(run(session, lease, 7, &ops), CAGZHOMUL_OK, 4, 0), "a row that goes is entry 4");
+    look_at_conflicts(session, lease);
+    ops = one(INSERT, 1, "Ulm");
+    check(ends(run(session, lease, 8, &ops), CAGZHOMUL_DUPLICATE, 0, 0), "row 1 is there");
+    ops = ops_code(2);
+    put_op(&ops, UPDATE, PEOPLE, 3, TOWN, "Hof");
+    put_op(&ops, DELETE, PEOPLE, 2, 0, NULL);
+    check(ends(run(session, lease, 8, &ops), CAGZHOMUL_NO_ROW, 0, 1), "row 2 is not there");
+    look_at_preparations(session, lease);
+}
+
+static int32_t open_tables(cagzhomul_handle *session, const code *opening) {
+    int32_t status = cagzhomul_open_tables(session, opening->bytes, opening->length);
+    return is_short(status) ? cagzhomul_open_tables(session, opening->bytes, opening->length) : status;
+}
+
+static void play(void) {
+    cagzhomul_handle session = {0}, lease = {0};
+    code opening = opening_code(10, "town");
+    check(open_tables(&session, &opening) == CAGZHOMUL_OK, "tables are opened");
+    check(is_lease(take_lease(&session, 5, &lease), CAGZHOMUL_OK, 1, 5, 15, 1), "a lease is granted");
+    write_rows(&session, &lease);
+    check(replies(&session, "log", "ok log 5\n"), "there are five entries");
+    check(replies(&session, "lease a at 9", "ok lease 1 9 19\n"), "a line takes a lease");
+    check(replies(&session, "query a at 9: select town from people", "row (1) town = 'Bonn'\nrow (3) town = 'Ulm'\nok rows 2\n"), "and sees the rows");
+    check(replies(&session, "check", "ok rows 2 missing 0 extra 0\n"), "no pair is missing");
+    check(cagzhomul_close(&lease) == CAGZHOMUL_OK && cagzhomul_close(&session) == CAGZHOMUL_OK, "both are closed");
+}
+
+static void look_at_codes(void) {
+    cagzhomul_handle session = {0};
+    code opening = opening_code(10, "town");
+    for (size_t length = 0; length < opening.length; length++)
+        check(cagzhomul_open_tables(&session, opening.bytes, length) == CAGZHOMUL_BAD_CODE, "a part is no opening");
+    check(cagzhomul_open_tables(&session, opening.bytes, opening.length + 1) == CAGZHOMUL_BAD_CODE, "nor is more");
+    opening = opening_code(0, "town");
+    check(cagzhomul_open_tables(&session, opening.bytes, opening.length) == CAGZHOMUL_BAD_LENGTH, "no lease length");
+    opening = opening_code(10, "id");
+    check(cagzhomul_open_tables(&session, opening.bytes, opening.length) == CAGZHOMUL_BAD_TABLE, "a name twice");
+    check(!session.is_open, "the handle stays closed");
+}
+
+/* Calls on handles that are closed, open, or of another kind or stage. */
+static void look_at_kinds(void) {
+    cagzhomul_handle session = {0}, lease = {0}, txn = {0}, other = {0};
+    code opening = opening_code(10, "town"), ops = one(INSERT, 1, "Ulm");
+    uint8_t out[ROOM] = {0};
+    check(cagzhomul_lease(&session, 5, &lease).status == CAGZHOMUL_CLOSED, "a closed session");
+    check(cagzhomul_open(&session) == CAGZHOMUL_OK, "a session without a world");
+    check(cagzhomul_lease(&session, 5, &lease).status == CAGZHOMUL_NOT_OPENED && !lease.is_open, "no world");
+    cagzhomul_close(&session);
+    check(open_tables(&session, &opening) == CAGZHOMUL_OK && open_tables(&session, &opening) == CAGZHOMUL_ALREADY_OPEN, "not twice");
+    check(cagzhomul_lease(&session, (UINT64_C(1) << 62) + 1, &lease).status == CAGZHOMUL_MOMENT_TOO_LARGE, "a moment above 2^62");
+    check(cagzhomul_lease(&session, 5, &lease).status == CAGZHOMUL_OK, "a lease");
+    check(cagzhomul_lease(&session, 5, &lease).status == CAGZHOMUL_ALREADY_OPEN, "the lease is there");
+    check(cagzhomul_lease(&lease, 5, &other).status == CAGZHOMUL_WRONG_KIND && lease.is_open && !other.is_open, "a lease is no session");
+    check(cagzhomul_transaction(&session, ops.bytes, ops.length, &txn) == CAGZHOMUL_WRONG_KIND, "a session is no lease");
+    check(cagzhomul_transaction(&lease, ops.bytes, ops.length - 1, &txn) == CAGZHOMUL_BAD_CODE && !txn.is_open, "no operations");
+    check(begin(&lease, &ops, &txn) == CAGZHOMUL_OK, "a transaction");
+    check(cagzhomul_transaction(&lease, ops.bytes, ops.length, &txn) == CAGZHOMUL_ALREADY_OPEN, "it is there");
+    check(cagzhomul_prepare(&txn).status == CAGZHOMUL_WRONG_STAGE, "it is to be read first");
+    check(cagzhomul_commit(&session, 5, &txn).status == CAGZHOMUL_WRONG_STAGE && txn.is_open, "and prepared");
+    check(cagzhomul_read(&session, &lease) == CAGZHOMUL_WRONG_KIND && cagzhomul_read(&txn, &session) == CAGZHOMUL_WRONG_KIND, "kinds");
+    check(cagzhomul_read(&session, &txn) == CAGZHOMUL_OK && cagzhomul_read(&session, &txn) == CAGZHOMUL_WRONG_STAGE, "read once");
+    check(cagzhomul_prepare(&txn).status == CAGZHOMUL_OK && cagzhomul_prepare(&txn).status == CAGZHOMUL_WRONG_STAGE, "prepared once");
+    check(cagzhomul_prepare(&lease).status == CAGZHOMUL_WRONG_KIND && cagzhomul_commit(&session, 5, &lease).status == CAGZHOMUL_WRONG_KIND, "kinds");
+    check(cagzhomul_reply_to(&txn, (const uint8_t *)"log", 3, out, ROOM).status == CAGZHOMUL_WRONG_KIND, "no line for a transaction");
+    check(cagzhomul_entry(&lease, 1, out, ROOM).status == CAGZHOMUL_WRONG_KIND && cagzhomul_repeat(&lease, out, 0) == CAGZHOMUL_WRONG_KIND, "kinds");
+    check(cagzhomul_advance(&txn, 5, 1, 1).status == CAGZHOMUL_WRONG_KIND && cagzhomul_reply_from(&txn, 0, out, 1).status == CAGZHOMUL_WRONG_KIND, "kinds");
+    check(ends(cagzhomul_commit(&session, 5, &txn), CAGZHOMUL_OK, 2, 0) && !txn.is_open, "it is committed");
+    check(cagzhomul_commit(&session, 5, &txn).status == CAGZHOMUL_CLOSED && cagzhomul_read(&session, &txn) == CAGZHOMUL_CLOSED, "and closed");
+    cagzhomul_close(&lease), cagzhomul_close(&session);
+}
+
+int main(void) {
+    is_ample = 1;
+    look_at_codes();
+    look_at_kinds();
+    is_ample = 0;
+    do {
+        count = is_reached = 0;
+        refused++;
+        play();
+    } while (is_reached && !wrong);
+    printf("%ld allocations were refused, and %ld calls made again\n", refused - 1, again);
+    return wrong || !again;
+}
