@@ -1,0 +1,77 @@
+//! Four threads insert rows by typed transactions while an index is added; then all is audited.
+//! What it prints does not depend on how the threads are scheduled.
+
+use cagzhomul::Type::{Int, Text};
+use cagzhomul::{retry, Db, Error, Lease, Receipt, Step, Table};
+use std::sync::atomic::{AtomicU64, Ordering};
+use std::thread;
+
+const WRITERS: u64 = 4;
+const ROWS: u64 = 4_000;
+const TOWNS: [&str; 3] = ["Ulm", "Bonn", "Hof"];
+
+/// A clock that is set forward when the change has to wait, so that the example need not.
+static CLOCK: AtomicU64 = AtomicU64::new(5);
+/// How many rows the writers have inserted.
+static INSERTED: AtomicU64 = AtomicU64::new(0);
+
+fn now() -> u64 {
+    CLOCK.load(Ordering::Relaxed)
+}
+
+fn insert(lease: &Lease<'_>, id: u64) -> Result<Receipt, Error> {
+    let town = TOWNS[id as usize % TOWNS.len()];
+    let txn = lease.txn().insert("people", id as i64, [("town", town)]);
+    retry(3, || txn.clone().commit(now()))
+}
+
+/// Inserts every fourth row, under a new lease whenever the last one has ended.
+fn write_rows(db: &Db, writer: u64) -> Result<(), Error> {
+    let mut lease = db.lease(now())?;
+    for id in (writer..ROWS).step_by(WRITERS as usize) {
+        while let Err(error) = insert(&lease, id) {
+            match error {
+                Error::LeaseEnded => lease = db.lease(now())?,
+                other => return Err(other),
+            }
+        }
+        INSERTED.fetch_add(1, Ordering::Relaxed);
+    }
+    Ok(())
+}
+
+/// Adds the index. At each wait a quarter of the rows is inserted before the clock is set forward,
+/// so that transactions run under every version; `is_idle` is whether no more rows will come.
+fn add_index(db: &Db, is_idle: impl Fn() -> bool) -> Result<(), Error> {
+    let mut due = 0;
+    let change = db.change("add index by_town on people (town)", now)?;
+    for step in change.limit(100) {
+        if let Step::Waiting { until } = step? {
+            due += ROWS / 4;
+            while INSERTED.load(Ordering::Relaxed) < due && !is_idle() {
+                thread::yield_now();
+            }
+            CLOCK.fetch_max(until, Ordering::Relaxed);
+        }
+    }
+    Ok(())
+}
+
+fn main() -> Result<(), Error> {
+    let people = Table::new("people").key("id", Int).column("town", Text);
+    let db = Db::open([people])?;
+    let write = |writer| write_rows(&db, writer);
+    thread::scope(|scope| {
+        let writers = [0, 1, 2, 3].map(|writer| scope.spawn(move || write(writer)));
+        add_index(&db, || writers.iter().all(|writer| writer.is_finished()))?;
+        let mut writers = writers.into_iter();
+        writers.try_for_each(|writer| writer.join().expect("no writer panics"))
+    })?;
+    println!("version {}", db.lease(now())?.version());
+    for town in TOWNS {
+        let selection = format!("select town from people where town = '{town}'");
+        println!("{} rows of {town}", db.query(now(), &selection)?.len());
+    }
+    print!("{}", db.line("check")?);
+    Ok(())
+}

@@ -1,0 +1,228 @@
+//! Tables, operations and values as bytes, as `crates/entry_code` describes them.
+
+use crate::table::{Table, Type};
+use crate::value::{Cells, Key, Value};
+
+/// The first byte of a code.
+const VERSION: u8 = 1;
+
+/// Writes codes to bytes.
+#[derive(Debug, Clone, Default, PartialEq, Eq)]
+pub(crate) struct Code(Vec<u8>);
+
+impl Code {
+    /// The start of a code: its version.
+    pub(crate) fn new() -> Code {
+        Code(vec![VERSION])
+    }
+
+    pub(crate) fn as_bytes(&self) -> &[u8] {
+        &self.0
+    }
+
+    fn byte(&mut self, byte: u8) {
+        self.0.push(byte);
+    }
+
+    fn number(&mut self, number: u64) {
+        self.0.extend_from_slice(&number.to_be_bytes());
+    }
+
+    fn small_number(&mut self, number: u32) {
+        self.0.extend_from_slice(&number.to_be_bytes());
+    }
+
+    fn count(&mut self, items: usize) {
+        self.number(items as u64);
+    }
+
+    fn name(&mut self, name: &str) {
+        self.count(name.len());
+        self.0.extend_from_slice(name.as_bytes());
+    }
+
+    fn value(&mut self, value: &Value) {
+        match value {
+            Value::Null => self.byte(1),
+            Value::Int(number) => {
+                self.byte(2);
+                self.number(by_order(*number));
+            }
+            Value::Text(text) => {
+                self.byte(3);
+                self.text(text);
+            }
+            Value::Bool(is_so) => self.0.extend_from_slice(&[4, u8::from(*is_so)]),
+        }
+    }
+
+    /// The bytes of a text, a zero among them followed by 255, and then its end.
+    fn text(&mut self, text: &str) {
+        for (at, part) in text.as_bytes().split(|byte| *byte == 0).enumerate() {
+            if at > 0 {
+                self.0.extend_from_slice(&[0, 255]);
+            }
+            self.0.extend_from_slice(part);
+        }
+        self.0.extend_from_slice(&[0, 1]);
+    }
+
+    fn columns(&mut self, columns: &[(String, Type)]) {
+        self.count(columns.len());
+        for (name, kind) in columns {
+            self.name(name);
+            self.byte(match kind {
+                Type::Int => 0,
+                Type::Text => 1,
+                Type::Bool => 2,
+            });
+        }
+    }
+
+    fn table(&mut self, table: &Table) {
+        self.name(&table.name);
+        self.columns(&table.key);
+        self.columns(&table.columns);
+        self.count(table.indexes.len());
+        for (name, columns) in &table.indexes {
+            self.name(name);
+            self.count(columns.len());
+            columns.iter().for_each(|column| self.name(column));
+        }
+    }
+}
+
+/// Unsigned numbers in the order of the signed ones.
+fn by_order(number: i64) -> u64 {
+    (number as u64) ^ (1 << 63)
+}
+
+/// The code of an opening: a lease length, and tables.
+pub(crate) fn opening(lease_length: u64, tables: &[Table]) -> Code {
+    let mut code = Code::new();
+    code.number(lease_length);
+    code.count(tables.len());
+    tables.iter().for_each(|table| code.table(table));
+    code
+}
+
+/// What an operation does with its row.
+#[derive(Debug, Clone, Copy)]
+pub(crate) enum Kind {
+    Insert = 0,
+    Update = 1,
+    Delete = 2,
+}
+
+/// A list of operations that grows.
+#[derive(Debug, Clone)]
+pub(crate) struct Operations {
+    code: Code,
+    count: usize,
+}
+
+impl Operations {
+    pub(crate) fn new() -> Operations {
+        let mut code = Code::new();
+        code.count(0);
+        Operations { code, count: 0 }
+    }
+
+    /// Adds an operation on the row of this key, up to its cells.
+    pub(crate) fn push(&mut self, kind: Kind, table: u32, key: &Key) {
+        self.count += 1;
+        self.code.byte(kind as u8);
+        self.code.small_number(table);
+        self.code.count(key.0.len());
+        key.0.iter().for_each(|value| self.code.value(value));
+    }
+
+    /// Adds the cells of the operation that was pushed last, each with its column's number.
+    pub(crate) fn push_cells(&mut self, cells: &Cells<'_>, number: impl Fn(&str) -> u32) {
+        self.code.count(cells.0.len());
+        for (column, value) in &cells.0 {
+            self.code.small_number(number(column));
+            self.code.value(value);
+        }
+    }
+
+    /// The code of the whole list.
+    pub(crate) fn finish(mut self) -> Code {
+        self.code.0[1..9].copy_from_slice(&(self.count as u64).to_be_bytes());
+        self.code
+    }
+}
+
+#[cfg(test)]
+mod tests {
+    use super::*;
+
+    fn coded(value: Value) -> Vec<u8> {
+        let mut code = Code::default();
+        code.value(&value);
+        code.0
+    }
+
+    /// Values as `crates/keycode` has them.
+    #[test]
+    fn values() {
+        assert_eq!(coded(Value::Null), b"\x01");
+        assert_eq!(coded(5.into()), b"\x02\x80\0\0\0\0\0\0\x05");
+        assert_eq!(coded((-1).into()), b"\x02\x7f\xff\xff\xff\xff\xff\xff\xff");
+        assert_eq!(coded(i64::MIN.into()), b"\x02\0\0\0\0\0\0\0\0");
+        assert_eq!(
+            coded(i64::MAX.into()),
+            [2, 255, 255, 255, 255, 255, 255, 255, 255]
+        );
+        assert_eq!(coded("".into()), b"\x03\0\x01");
+        assert_eq!(coded("a".into()), b"\x03a\0\x01");
+        assert_eq!(coded("\0a\0".into()), b"\x03\0\xffa\0\xff\0\x01");
+        assert_eq!(coded(false.into()), b"\x04\0");
+        assert_eq!(coded(true.into()), b"\x04\x01");
+    }
+
+    /// The opening of `crates/entry_code_tests`: leases of 10, and t (id int key, a bool) with the
+    /// index i on a.
+    #[test]
+    fn an_opening() {
+        let table = Table::new("t")
+            .key("id", Type::Int)
+            .column("a", Type::Bool)
+            .index("i", ["a"]);
+        let wanted =
+            b"\x01\0\0\0\0\0\0\0\x0a\0\0\0\0\0\0\0\x01\0\0\0\0\0\0\0\x01t\0\0\0\0\0\0\0\x01\
+            \0\0\0\0\0\0\0\x02id\0\0\0\0\0\0\0\0\x01\0\0\0\0\0\0\0\x01a\x02\0\0\0\0\0\0\0\x01\
+            \0\0\0\0\0\0\0\x01i\0\0\0\0\0\0\0\x01\0\0\0\0\0\0\0\x01a";
+        assert_eq!(opening(10, &[table]).as_bytes(), wanted);
+    }
+
+    /// The operations of `crates/entry_code_tests`: insert into table 1 the key "a", true with
+    /// nothing in column 1; update it to have 5 there.
+    #[test]
+    fn operations() {
+        let key = Key::from(("a", true));
+        let mut operations = Operations::new();
+        operations.push(Kind::Insert, 1, &key);
+        operations.push_cells(&Cells::from([("c", Value::Null)]), |_| 1);
+        operations.push(Kind::Update, 1, &key);
+        operations.push_cells(&Cells::from([("c", 5)]), |_| 1);
+        let wanted = b"\x01\0\0\0\0\0\0\0\x02\0\0\0\0\x01\0\0\0\0\0\0\0\x02\x03a\0\x01\x04\x01\
+            \0\0\0\0\0\0\0\x01\0\0\0\x01\x01\x01\0\0\0\x01\0\0\0\0\0\0\0\x02\x03a\0\x01\x04\x01\
+            \0\0\0\0\0\0\0\x01\0\0\0\x01\x02\x80\0\0\0\0\0\0\x05";
+        assert_eq!(operations.finish().as_bytes(), wanted);
+    }
+
+    /// The deletion of `crates/entry_code_tests`: row 7 of table 1 goes.
+    #[test]
+    fn a_deletion() {
+        let mut operations = Operations::new();
+        operations.push(Kind::Delete, 1, &Key::from(7));
+        let wanted =
+            b"\x01\0\0\0\0\0\0\0\x01\x02\0\0\0\x01\0\0\0\0\0\0\0\x01\x02\x80\0\0\0\0\0\0\x07";
+        assert_eq!(operations.finish().as_bytes(), wanted);
+        assert_eq!(
+            Operations::new().finish().as_bytes(),
+            b"\x01\0\0\0\0\0\0\0\0"
+        );
+    }
+}

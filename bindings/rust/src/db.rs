@@ -1,0 +1,200 @@
+//! A database.
+
+use crate::change::{Change, State};
+use crate::code;
+use crate::error::Error;
+use crate::ffi::{Granted, Handle};
+use crate::lease::Lease;
+use crate::names::Names;
+use crate::reply::Row;
+use crate::session::{done, reply_to, Session};
+use crate::table::Table;
+use std::sync::{Arc, Mutex, PoisonError};
+
+/// How many moments a lease lasts if nothing else is said.
+pub const DEFAULT_LEASE_LENGTH: u64 = 10;
+
+/// A store of tables, in memory, whose indexes and columns come and go while transactions run.
+///
+/// Any number of threads may share it: a lock has one call at a time, and transactions are made and
+/// prepared outside it. Moments (`now`) are numbers of the caller's clock; one that is below the
+/// moment of the last entry of the log counts as that.
+///
+/// ```
+/// use cagzhomul::{Db, Table};
+/// use cagzhomul::Type::{Int, Text};
+///
+/// # fn main() -> Result<(), cagzhomul::Error> {
+/// let people = Table::new("people").key("id", Int).column("town", Text);
+/// let db = Db::open([people])?;
+/// let lease = db.lease(5)?;
+/// lease
+///     .txn()
+///     .insert("people", 1, [("town", "Ulm")])
+///     .insert("people", 2, [("town", "Bonn")])
+///     .commit(5)?;
+/// let rows = db.query(6, "select town from people where town = 'Ulm'")?;
+/// assert_eq!(rows[0].key(), [1.into()]);
+/// # Ok(())
+/// # }
+/// ```
+#[derive(Debug)]
+pub struct Db {
+    session: Session,
+    names: Mutex<Arc<Names>>,
+}
+
+impl Db {
+    /// Opens a store with these tables, whose leases last [`DEFAULT_LEASE_LENGTH`] moments.
+    ///
+    /// Refusals: those of [`Db::with_lease_length`].
+    pub fn open(tables: impl IntoIterator<Item = Table>) -> Result<Db, Error> {
+        Db::with_lease_length(DEFAULT_LEASE_LENGTH, tables)
+    }
+
+    /// Opens a store with these tables. A lease lasts `lease_length` moments, from 1 to 2^32, and
+    /// each version stays the newest for as long.
+    ///
+    /// Refusals: [`Error::BadTable`], [`Error::BadLength`], [`Error::OutOfMemory`].
+    ///
+    /// ```
+    /// use cagzhomul::{Db, Error, Table, Type};
+    ///
+    /// let table = || Table::new("t").key("id", Type::Int);
+    /// assert_eq!(Db::with_lease_length(100, [table()])?.lease(0)?.until(), 100);
+    /// assert_eq!(Db::with_lease_length(0, [table()]).err(), Some(Error::BadLength));
+    /// assert_eq!(Db::open([table(), table()]).err(), Some(Error::BadTable));
+    /// # Ok::<(), Error>(())
+    /// ```
+    pub fn with_lease_length(
+        lease_length: u64,
+        tables: impl IntoIterator<Item = Table>,
+    ) -> Result<Db, Error> {
+        let tables: Vec<Table> = tables.into_iter().collect();
+        let mut handle = Handle::closed();
+        done(handle.open_tables(code::opening(lease_length, &tables).as_bytes()))?;
+        let names = Names::new(&tables).at(&reply_to(&mut handle, "status")?)?;
+        Ok(Db {
+            session: Session::over(handle),
+            names: Mutex::new(Arc::new(names)),
+        })
+    }
+
+    /// Grants a lease on the newest version: transactions and queries under it see that version's
+    /// columns and indexes.
+    ///
+    /// Refusals: [`Error::Closed`], [`Error::MomentTooLarge`], [`Error::OutOfMemory`], which may
+    /// come in place of the one before it.
+    ///
+    /// ```
+    /// # use cagzhomul::{Db, Table, Type};
+    /// # let db = Db::open([Table::new("t").key("id", Type::Int)])?;
+    /// let lease = db.lease(5)?;
+    /// assert_eq!((lease.version(), lease.granted(), lease.until()), (1, 5, 15));
+    /// assert_eq!(lease.place(), 1);
+    /// # Ok::<(), cagzhomul::Error>(())
+    /// ```
+    pub fn lease(&self, now: u64) -> Result<Lease<'_>, Error> {
+        let mut handle = Handle::closed();
+        let (granted, names) = self.grant(now, &mut handle)?;
+        Ok(Lease::new(self, handle, granted, names))
+    }
+
+    /// Grants a lease into the handle, with the names of its version.
+    fn grant(&self, now: u64, lease: &mut Handle) -> Result<(Granted, Arc<Names>), Error> {
+        let mut session = self.session.lock();
+        let granted = session.lease(now, lease);
+        done(granted.status)?;
+        let mut names = self.names.lock().unwrap_or_else(PoisonError::into_inner);
+        if names.version() != granted.version {
+            *names = Arc::new(names.at(&reply_to(&mut session, "status")?)?);
+        }
+        Ok((granted, Arc::clone(&names)))
+    }
+
+    /// The rows of a query under a lease that it takes: [`Db::lease`], and then [`Lease::query`].
+    ///
+    /// Refusals: those of both.
+    pub fn query(&self, now: u64, selection: &str) -> Result<Vec<Row>, Error> {
+        self.lease(now)?.query(now, selection)
+    }
+
+    /// The reply to any line of the script language, as text.
+    ///
+    /// Refusals: those of [`Session::line`].
+    ///
+    /// ```
+    /// # use cagzhomul::{Db, Table, Type};
+    /// # let db = Db::open([Table::new("t").key("id", Type::Int)])?;
+    /// assert_eq!(db.line("check")?, "ok rows 0 missing 0 extra 0\n");
+    /// # Ok::<(), cagzhomul::Error>(())
+    /// ```
+    pub fn line(&self, line: &str) -> Result<String, Error> {
+        self.session.line(line)
+    }
+
+    /// The session, which has the lines, and the calls for replicas.
+    pub fn session(&self) -> &Session {
+        &self.session
+    }
+
+    /// Begins a schema change, and gives the steps that complete it. The change is one of those
+    /// that `plan` takes: `add index NAME on TABLE (COLUMNS)`, `add column NAME TYPE [default VALUE]
+    /// on TABLE`, `drop index NAME on TABLE`, `drop column NAME on TABLE` or `abandon TABLE.NAME`;
+    /// the session's kept plan is lost. `clock` gives the present moment, and is asked before each
+    /// step.
+    ///
+    /// Each step is one short call, so other threads go on. At [`Step::Waiting`](crate::Step) it is
+    /// for the caller to wait. The steps end when no change at all is under way, or after an error;
+    /// [`Db::resume`] goes on then.
+    ///
+    /// Refusals: [`Error::BadLine`], also for a list of changes; [`Error::Closed`];
+    /// [`Error::Unknown`], [`Error::NameTaken`], [`Error::StillIndexed`], [`Error::InChange`] or
+    /// [`Error::Limit`]; [`Error::MomentTooLarge`]; [`Error::VersionsSpent`];
+    /// [`Error::OutOfMemory`]. The steps also have those of [`Session::advance`].
+    ///
+    /// ```
+    /// # use cagzhomul::{Db, Error, Step, Table, Type};
+    /// # use std::cell::Cell;
+    /// # let people = Table::new("people").key("id", Type::Int).column("town", Type::Text);
+    /// # let db = Db::open([people])?;
+    /// let now = Cell::new(0); // a clock that is set forward, in place of a wait
+    /// for step in db.change("add index by_town on people (town)", || now.get())? {
+    ///     if let Step::Waiting { until } = step? {
+    ///         now.set(until);
+    ///     }
+    /// }
+    /// assert_eq!(db.lease(now.get())?.version(), 4);
+    /// let again = db.change("add index by_town on people (town)", || now.get());
+    /// assert_eq!(again.err(), Some(Error::NameTaken));
+    /// # Ok::<(), Error>(())
+    /// ```
+    pub fn change<C: FnMut() -> u64>(
+        &self,
+        change: &str,
+        clock: C,
+    ) -> Result<Change<'_, C>, Error> {
+        Change::begin(self, change, clock)
+    }
+
+    /// The steps that complete the changes under way, whoever began them.
+    ///
+    /// ```
+    /// # use cagzhomul::{Db, Step, Table, Type};
+    /// # let db = Db::open([Table::new("t").key("id", Type::Int)])?;
+    /// db.line("publish at 10: add column a int on t")?;
+    /// let mut steps = db.resume(|| 15);
+    /// assert_eq!(steps.next(), Some(Ok(Step::Waiting { until: 20 })));
+    /// let steps: Result<Vec<Step>, _> = db.resume(|| 20).collect();
+    /// assert_eq!(steps?, [Step::Acted]);
+    /// # Ok::<(), cagzhomul::Error>(())
+    /// ```
+    pub fn resume<C: FnMut() -> u64>(&self, clock: C) -> Change<'_, C> {
+        Change::new(self, clock, State::UnderWay)
+    }
+
+    /// The names of the newest version that is known.
+    pub(crate) fn names(&self) -> Arc<Names> {
+        Arc::clone(&self.names.lock().unwrap_or_else(PoisonError::into_inner))
+    }
+}

@@ -1,0 +1,195 @@
+//! Why a call was refused.
+
+use crate::ffi;
+use std::fmt;
+
+/// Why a call was refused. A refused call changed nothing, except that [`Error::OutOfMemory`] over a
+/// line may close the session.
+#[derive(Debug, Clone, PartialEq, Eq)]
+#[non_exhaustive]
+pub enum Error {
+    /// The line, the query or the change is not of the script language.
+    BadLine,
+    /// The session was closed, since memory ran out over a line.
+    Closed,
+    /// The library ran out of memory. If it could not answer a line, a query or a change for it,
+    /// the session is freed, and every later call is refused as [`Error::Closed`].
+    OutOfMemory,
+    /// The session has no world yet: it is before its line `open`.
+    NotOpened,
+    /// The log has no such place.
+    NoEntry,
+    /// The bytes are the code of no entry.
+    BadEntry,
+    /// No accepted call of this world would add the entry.
+    NotNext,
+    /// The pieces are not 1 to 64, or the limit is not 1 to 1,000.
+    BadCount,
+    /// The moment is above 2^62.
+    MomentTooLarge,
+    /// A publication is due, and there are 1,000,000 versions.
+    VersionsSpent,
+    /// The declaration breaks a limit, or uses a name twice.
+    BadTable,
+    /// The lease length is not from 1 to 2^32.
+    BadLength,
+    /// There is no table of this name.
+    NoTable,
+    /// A column that is named is not a public column of its table in the lease's version.
+    NotPublic {
+        /// Its name; `None` if a query names something that its table does not have.
+        column: Option<String>,
+    },
+    /// A value of another type than its column, another number of values in a key, null in a key, a
+    /// text over 1,024 bytes, or a column that is named twice.
+    WrongType,
+    /// More than 64 operations.
+    TooManyOps,
+    /// No grant could have given the lease: it is one of another world.
+    BadLease,
+    /// The lease has ended.
+    LeaseEnded,
+    /// The transaction was prepared under another schema than that of its lease's version.
+    WrongSchema,
+    /// A row that the transaction names changed since it was read: it may be made again
+    /// ([`retry`](crate::retry)).
+    Conflict,
+    /// The transaction inserts a row that is there.
+    Duplicate {
+        /// The first operation that is refused, counted from 0.
+        operation: usize,
+    },
+    /// The transaction updates or deletes a row that is not there.
+    NoRow {
+        /// The first operation that is refused, counted from 0.
+        operation: usize,
+    },
+    /// A change names a table, an index or a column that is not there, or abandons one that is not
+    /// being added.
+    Unknown,
+    /// A change adds a name that is taken.
+    NameTaken,
+    /// A change drops a column that an index is on.
+    StillIndexed,
+    /// A change is of something that another change is under way for.
+    InChange,
+    /// A name, a list, a default or a count is over its limit.
+    Limit,
+    /// A status that no call of this crate should meet, by its number.
+    Status(i32),
+    /// A reply that this crate does not know.
+    Reply(String),
+}
+
+impl Error {
+    /// Why a call with this status was refused.
+    pub(crate) fn of(status: i32) -> Error {
+        match status {
+            ffi::BAD_LINE => Error::BadLine,
+            ffi::CLOSED => Error::Closed,
+            ffi::OUT_OF_MEMORY => Error::OutOfMemory,
+            ffi::NOT_OPENED => Error::NotOpened,
+            ffi::NO_ENTRY => Error::NoEntry,
+            ffi::BAD_ENTRY => Error::BadEntry,
+            ffi::NOT_NEXT => Error::NotNext,
+            ffi::BAD_COUNT => Error::BadCount,
+            ffi::MOMENT_TOO_LARGE => Error::MomentTooLarge,
+            ffi::VERSIONS_SPENT => Error::VersionsSpent,
+            ffi::BAD_TABLE => Error::BadTable,
+            ffi::BAD_LENGTH => Error::BadLength,
+            ffi::NO_TABLE => Error::NoTable,
+            ffi::WRONG_TYPE => Error::WrongType,
+            ffi::TOO_MANY_OPS => Error::TooManyOps,
+            ffi::BAD_LEASE => Error::BadLease,
+            ffi::LEASE_ENDED => Error::LeaseEnded,
+            ffi::WRONG_SCHEMA => Error::WrongSchema,
+            ffi::CONFLICT => Error::Conflict,
+            other => Error::Status(other),
+        }
+    }
+
+    fn text(&self) -> &'static str {
+        match self {
+            Error::BadLine => "bad line",
+            Error::Closed => "the handle is closed",
+            Error::OutOfMemory => "out of memory",
+            Error::NotOpened => "no world is open yet",
+            Error::NoEntry => "the log has no such place",
+            Error::BadEntry => "the bytes are the code of no entry",
+            Error::NotNext => "no call of this world would add the entry",
+            Error::BadCount => "the pieces are not 1 to 64, or the limit is not 1 to 1,000",
+            Error::MomentTooLarge => "the moment is above 2^62",
+            Error::VersionsSpent => "no version is left",
+            Error::BadTable => "the declaration breaks a limit, or uses a name twice",
+            Error::BadLength => "the lease length is not from 1 to 2^32",
+            Error::NoTable => "no such table",
+            Error::NotPublic { .. } => "a named column is not a public column of its table",
+            Error::WrongType => "a value of another type, or a column named twice",
+            Error::TooManyOps => "more than 64 operations",
+            Error::BadLease => "no grant could have given the lease",
+            Error::LeaseEnded => "the lease has ended",
+            Error::WrongSchema => "prepared under another schema than that of the lease's version",
+            Error::Conflict => "a pair changed since it was read",
+            Error::Duplicate { .. } => "a row of this key is there",
+            Error::NoRow { .. } => "no row of this key is there",
+            Error::Unknown => "no such table, element or column",
+            Error::NameTaken => "the name is taken",
+            Error::StillIndexed => "an index is on the column",
+            Error::InChange => "another change of it is under way",
+            Error::Limit => "a name, a list, a default or a count is over its limit",
+            Error::Status(_) => "a status that is not expected",
+            Error::Reply(_) => "a reply that is not expected",
+        }
+    }
+}
+
+impl fmt::Display for Error {
+    fn fmt(&self, f: &mut fmt::Formatter<'_>) -> fmt::Result {
+        f.write_str(self.text())?;
+        match self {
+            Error::NotPublic {
+                column: Some(column),
+            } => write!(f, ": {column}"),
+            Error::Duplicate { operation } | Error::NoRow { operation } => {
+                write!(f, ": operation {operation}")
+            }
+            Error::Status(status) => write!(f, ": {status}, {}", ffi::text_of(*status)),
+            Error::Reply(reply) => write!(f, ": {}", reply.trim_end()),
+            _ => Ok(()),
+        }
+    }
+}
+
+impl std::error::Error for Error {}
+
+#[cfg(test)]
+mod tests {
+    use super::*;
+
+    #[test]
+    fn errors_of_statuses_have_the_texts_of_the_library() {
+        for status in 0..60 {
+            let error = Error::of(status);
+            if !matches!(error, Error::Status(_)) {
+                assert_eq!(error.to_string(), ffi::text_of(status), "{status}");
+            }
+        }
+    }
+
+    #[test]
+    fn texts_say_what_is_wrong() {
+        let column = Some("town".to_string());
+        assert_eq!(
+            Error::NotPublic { column }.to_string(),
+            "a named column is not a public column of its table: town"
+        );
+        assert_eq!(
+            Error::NoRow { operation: 2 }.to_string(),
+            "no row of this key is there: operation 2"
+        );
+        assert_eq!(
+            Error::Reply("refused What\n".to_string()).to_string(),
+            "a reply that is not expected: refused What"
+        );
+    }
+}

@@ -1,0 +1,128 @@
+//! Leases.
+
+use crate::db::Db;
+use crate::error::Error;
+use crate::ffi::{Granted, Handle};
+use crate::names::Names;
+use crate::reply::{rows_of, Row};
+use crate::session::reply_to;
+use crate::txn::Txn;
+use std::fmt;
+use std::sync::{Arc, Mutex, MutexGuard, PoisonError};
+
+/// The server of the script language under whose name queries are asked.
+const SERVER: &str = "rust_binding";
+
+/// A lease on a version: until it ends, transactions and queries may run under it, from any thread.
+///
+/// A transaction finds its columns by the names that they have in this version.
+pub struct Lease<'db> {
+    db: &'db Db,
+    handle: Mutex<Handle>,
+    granted: Granted,
+    names: Arc<Names>,
+}
+
+impl<'db> Lease<'db> {
+    pub(crate) fn new(
+        db: &'db Db,
+        handle: Handle,
+        granted: Granted,
+        names: Arc<Names>,
+    ) -> Lease<'db> {
+        Lease {
+            db,
+            handle: Mutex::new(handle),
+            granted,
+            names,
+        }
+    }
+
+    /// The store that granted it.
+    pub fn db(&self) -> &'db Db {
+        self.db
+    }
+
+    /// The number of the version that it is on.
+    pub fn version(&self) -> u64 {
+        self.granted.version
+    }
+
+    /// The moment from which on it is in force.
+    pub fn granted(&self) -> u64 {
+        self.granted.granted
+    }
+
+    /// The moment at which it ends: it is in force before it.
+    pub fn until(&self) -> u64 {
+        self.granted.until
+    }
+
+    /// The place of its entry in the log.
+    pub fn place(&self) -> u64 {
+        self.granted.place
+    }
+
+    /// A transaction under this lease, without operations yet.
+    pub fn txn(&self) -> Txn<'_> {
+        Txn::new(self)
+    }
+
+    /// The rows of a query, by rising primary key: `select COLUMNS from TABLE [where CONDITION {and
+    /// CONDITION}]`, as `docs/SCRIPT.md` has it. [`Value`](crate::Value) writes values for it.
+    ///
+    /// Refusals: [`Error::Closed`], [`Error::BadLine`], [`Error::MomentTooLarge`],
+    /// [`Error::BadLease`], [`Error::LeaseEnded`], [`Error::NoTable`]; of the first faulty column or
+    /// condition [`Error::NotPublic`] or [`Error::WrongType`]; [`Error::OutOfMemory`].
+    ///
+    /// ```
+    /// # use cagzhomul::{Db, Error, Table, Type, Value};
+    /// # let db = Db::open([Table::new("t").key("id", Type::Int).column("a", Type::Text)])?;
+    /// let lease = db.lease(0)?;
+    /// lease.txn().insert("t", 1, [("a", "x")]).insert("t", 2, ()).commit(0)?;
+    /// let rows = lease.query(0, "select * from t where a = null")?;
+    /// assert_eq!((rows[0].key(), rows[0].get("a")), (&[2.into()][..], Some(&Value::Null)));
+    /// let column = None; // a query does not tell which name it does not know
+    /// assert_eq!(lease.query(0, "select b from t"), Err(Error::NotPublic { column }));
+    /// # Ok::<(), Error>(())
+    /// ```
+    pub fn query(&self, now: u64, selection: &str) -> Result<Vec<Row>, Error> {
+        let Granted {
+            version,
+            granted,
+            until,
+            ..
+        } = self.granted;
+        let lease = format!("forge {SERVER} version {version} granted {granted} until {until}");
+        let mut session = self.db.session().lock();
+        let reply = match reply_to(&mut session, &lease)?.as_str() {
+            "ok\n" => reply_to(
+                &mut session,
+                &format!("query {SERVER} at {now}: {selection}"),
+            )?,
+            other => other.to_string(),
+        };
+        drop(session);
+        rows_of(&reply, &self.names)
+    }
+
+    /// The names of its version.
+    pub(crate) fn names(&self) -> &Names {
+        &self.names
+    }
+
+    pub(crate) fn lock(&self) -> MutexGuard<'_, Handle> {
+        self.handle.lock().unwrap_or_else(PoisonError::into_inner)
+    }
+}
+
+impl fmt::Debug for Lease<'_> {
+    fn fmt(&self, f: &mut fmt::Formatter<'_>) -> fmt::Result {
+        f.debug_struct("Lease")
+            .field("version", &self.version())
+            .field("granted", &self.granted())
+            .field("until", &self.until())
+            .field("place", &self.place())
+            .finish_non_exhaustive()
+    }
+}

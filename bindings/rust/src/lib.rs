@@ -1,0 +1,60 @@
+//! Cagzhomul: a store in memory whose indexes and columns come and go while transactions run.
+//!
+//! A server runs transactions under a [`Lease`] on a schema version. While a [`Change`] goes from
+//! version to version, servers with older leases go on writing, and no index loses a row:
+//!
+//! ```
+//! use cagzhomul::Type::{Int, Text};
+//! use cagzhomul::{Db, Step, Table};
+//! use std::cell::Cell;
+//!
+//! # fn main() -> Result<(), cagzhomul::Error> {
+//! let db = Db::open([Table::new("people").key("id", Int).column("town", Text)])?;
+//! let now = Cell::new(5);
+//! let mut lease = db.lease(now.get())?;
+//! let mut id = 0;
+//! for step in db.change("add index by_town on people (town)", || now.get())? {
+//!     if let Step::Waiting { until } = step? {
+//!         now.set(until);
+//!     }
+//!     if now.get() >= lease.until() {
+//!         lease = db.lease(now.get())?;
+//!     }
+//!     id += 1;
+//!     lease.txn().insert("people", id, [("town", "Ulm")]).commit(now.get())?;
+//! }
+//! let rows = db.query(now.get(), "select town from people where town = 'Ulm'")?;
+//! assert_eq!(rows.len(), id as usize);
+//! assert!(db.line("check")?.ends_with("missing 0 extra 0\n"));
+//! # Ok(())
+//! # }
+//! ```
+//!
+//! The engine is proved; this crate, which calls it through `include/cagzhomul.h`, is tested.
+//! `CAGZHOMUL_LIBRARY_DIR` names the folder with the library when the crate is built.
+
+#![deny(missing_docs)]
+#![deny(unsafe_code)]
+
+mod change;
+mod code;
+mod db;
+mod error;
+mod ffi;
+mod lease;
+mod names;
+mod reply;
+mod session;
+mod table;
+mod txn;
+mod value;
+
+pub use change::Change;
+pub use db::{Db, DEFAULT_LEASE_LENGTH};
+pub use error::Error;
+pub use lease::Lease;
+pub use reply::Row;
+pub use session::{Session, Step};
+pub use table::{Table, Type};
+pub use txn::{retry, Prepared, Receipt, Txn};
+pub use value::{Cells, Key, Value};
