@@ -5,6 +5,8 @@ use crate::value::{Cells, Key, Value};
 
 /// The first byte of a code.
 const VERSION: u8 = 1;
+/// The room that a code begins with: that of an operation or two.
+const ROOM: usize = 128;
 
 /// Writes codes to bytes.
 #[derive(Debug, Clone, Default, PartialEq, Eq)]
@@ -13,7 +15,9 @@ pub(crate) struct Code(Vec<u8>);
 impl Code {
     /// The start of a code: its version.
     pub(crate) fn new() -> Code {
-        Code(vec![VERSION])
+        let mut bytes = Vec::with_capacity(ROOM);
+        bytes.push(VERSION);
+        Code(bytes)
     }
 
     pub(crate) fn as_bytes(&self) -> &[u8] {

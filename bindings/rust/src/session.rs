@@ -6,7 +6,7 @@ use std::fmt;
 use std::sync::{Mutex, MutexGuard, PoisonError};
 
 /// How many bytes of a reply or a code are fetched at once.
-const ROOM: usize = 4096;
+const ROOM: usize = 1024;
 
 /// How a step of the changes under way went.
 #[derive(Debug, Clone, Copy, PartialEq, Eq, Hash)]
