@@ -50,14 +50,33 @@ impl<'db, C: FnMut() -> u64> Change<'db, C> {
         Ok(begun)
     }
 
-    /// In how many pieces a reorganisation is begun: 1 to 64, and 8 if nothing else is said.
+    /// In how many pieces a reorganisation is begun: 1 to 64, and 8 if nothing else is said. Each is
+    /// of about as many rows.
     pub fn pieces(mut self, pieces: u32) -> Change<'db, C> {
         self.pieces = pieces;
         self
     }
 
-    /// How many items of a reorganisation are worked in one step: 1 to 1,000, and 1,000 if nothing
-    /// else is said.
+    /// How many items of a piece are worked in one step: 1 to 1,000, and 1,000 if nothing else is
+    /// said. Fewer make more and shorter steps.
+    ///
+    /// ```
+    /// # use cagzhomul::{Db, Step, Table, Type};
+    /// # use std::cell::Cell;
+    /// # let db = Db::open([Table::new("t").key("id", Type::Int).column("a", Type::Int)])?;
+    /// # let now = Cell::new(0);
+    /// let lease = db.lease(0)?;
+    /// lease.txn().insert("t", 1, ()).insert("t", 2, ()).insert("t", 3, ()).commit(0)?;
+    /// let mut acts = 0;
+    /// for step in db.change("add index i on t (a)", || now.get())?.pieces(1).limit(1) {
+    ///     match step? {
+    ///         Step::Acted => acts += 1,
+    ///         Step::Waiting { until } => now.set(until),
+    ///     }
+    /// }
+    /// assert_eq!(acts, 7); // three versions, the begin, and a step for each row
+    /// # Ok::<(), cagzhomul::Error>(())
+    /// ```
     pub fn limit(mut self, limit: u32) -> Change<'db, C> {
         self.limit = limit;
         self
@@ -82,13 +101,12 @@ impl<'db, C: FnMut() -> u64> Change<'db, C> {
 /// Publishes the first step of the change's plan. Both lines are answered under one lock, so that
 /// the plan is of the newest version, and is still the kept one.
 fn publish_first(db: &Db, change: &str, now: u64) -> Result<Published, Error> {
-    let names = db.names();
     let mut session = db.session().lock();
     let plan = reply_to(&mut session, &format!("plan: {change}"))?;
     if plan.starts_with("refused ") {
-        return Err(refusal_of(&plan, &names));
+        return Err(refusal_of(&plan));
     }
-    published_of(&reply_to(&mut session, &format!("next at {now}"))?, &names)
+    published_of(&reply_to(&mut session, &format!("next at {now}"))?)
 }
 
 /// Whether there is a semicolon outside of quotes.

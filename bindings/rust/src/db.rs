@@ -192,9 +192,4 @@ impl Db {
     pub fn resume<C: FnMut() -> u64>(&self, clock: C) -> Change<'_, C> {
         Change::new(self, clock, State::UnderWay)
     }
-
-    /// The names of the newest version that is known.
-    pub(crate) fn names(&self) -> Arc<Names> {
-        Arc::clone(&self.names.lock().unwrap_or_else(PoisonError::into_inner))
-    }
 }

@@ -3,13 +3,20 @@
 use crate::error::Error;
 use crate::names::Names;
 use crate::value::Value;
+use std::str::FromStr;
 
 /// A row that a query found: its key, and the columns that the query selects.
 ///
-/// ```no_run
-/// # fn show(row: &cagzhomul::Row) {
-/// println!("{:?}: {:?}", row.key(), row.get("town"));
-/// # }
+/// ```
+/// # use cagzhomul::{Db, Table, Type, Value};
+/// # let db = Db::open([Table::new("t").key("id", Type::Int).column("a", Type::Int)])?;
+/// # db.lease(0)?.txn().insert("t", 1, [("a", 5)]).commit(0)?;
+/// for row in db.query(0, "select * from t")? {
+///     assert_eq!(row.key(), [Value::Int(1)]);
+///     assert_eq!(row.cells(), [("a".to_string(), Value::Int(5))]);
+///     assert_eq!((row.get("a"), row.get("b")), (Some(&Value::Int(5)), None));
+/// }
+/// # Ok::<(), cagzhomul::Error>(())
 /// ```
 #[derive(Debug, Clone, PartialEq, Eq)]
 pub struct Row {
@@ -53,7 +60,7 @@ impl<'a> Reader<'a> {
     }
 
     /// Takes digits, after a minus if there is one.
-    pub(crate) fn number<N: std::str::FromStr>(&mut self) -> Option<N> {
+    pub(crate) fn number<N: FromStr>(&mut self) -> Option<N> {
         let digits = self.0.strip_prefix('-').unwrap_or(self.0);
         let after = digits.trim_start_matches(|c: char| c.is_ascii_digit());
         let (number, rest) = self.0.split_at(self.0.len() - after.len());
@@ -127,9 +134,14 @@ impl<'a> Reader<'a> {
 
 /// The rows of a reply to a query under the version that has these names.
 pub(crate) fn rows_of(reply: &str, names: &Names) -> Result<Vec<Row>, Error> {
-    match Reader(reply).rows() {
-        Some(rows) => Ok(rows),
-        None => Err(refusal_of(reply, names)),
+    if let Some(rows) = Reader(reply).rows() {
+        return Ok(rows);
+    }
+    match numbered(reply, "refused NotPublic ") {
+        Some(column) => Err(Error::NotPublic {
+            column: names.name_of(column).map(str::to_string),
+        }),
+        None => Err(refusal_of(reply)),
     }
 }
 
@@ -142,28 +154,29 @@ pub(crate) enum Published {
     TooEarly(u64),
 }
 
-/// What a reply to `next` says, in a version that has these names.
-pub(crate) fn published_of(reply: &str, names: &Names) -> Result<Published, Error> {
+/// What a reply to `next` says.
+pub(crate) fn published_of(reply: &str) -> Result<Published, Error> {
     if reply.starts_with("ok version ") {
         return Ok(Published::Done);
     }
-    let mut reader = Reader(reply);
-    match reader
-        .take("refused TooEarly ")
-        .and_then(|()| reader.number())
-    {
+    match numbered(reply, "refused TooEarly ") {
         Some(earliest) => Ok(Published::TooEarly(earliest)),
-        None => Err(refusal_of(reply, names)),
+        None => Err(refusal_of(reply)),
     }
 }
 
-/// Why a reply refuses, in a version that has these names.
-pub(crate) fn refusal_of(reply: &str, names: &Names) -> Error {
+/// The number after these words, if the reply is of one line that begins with them.
+fn numbered<N: FromStr>(reply: &str, words: &str) -> Option<N> {
     let mut reader = Reader(reply);
-    let name = reader
-        .take("refused ")
-        .and_then(|()| reader.0.split_ascii_whitespace().next());
-    match name {
+    reader.take(words)?;
+    let number = reader.number()?;
+    (reader.0 == "\n").then_some(number)
+}
+
+/// Why a reply refuses.
+pub(crate) fn refusal_of(reply: &str) -> Error {
+    let words = reply.strip_prefix("refused ").unwrap_or_default();
+    match words.split_ascii_whitespace().next() {
         Some("BadLease") => Error::BadLease,
         Some("InChange") => Error::InChange,
         Some("LeaseEnded") => Error::LeaseEnded,
@@ -172,21 +185,11 @@ pub(crate) fn refusal_of(reply: &str, names: &Names) -> Error {
         Some("MomentTooLarge") => Error::MomentTooLarge,
         Some("NameTaken") => Error::NameTaken,
         Some("NoTable") => Error::NoTable,
-        Some("NotPublic") => not_public(reader, names),
         Some("StillIndexed") => Error::StillIndexed,
         Some("Unknown") => Error::Unknown,
         Some("VersionsSpent") => Error::VersionsSpent,
         Some("WrongType") => Error::WrongType,
         _ => Error::Reply(reply.to_string()),
-    }
-}
-
-fn not_public(mut reader: Reader<'_>, names: &Names) -> Error {
-    let number = reader.take("NotPublic ").and_then(|()| reader.number());
-    Error::NotPublic {
-        column: number
-            .and_then(|number| names.name_of(number))
-            .map(str::to_string),
     }
 }
 
@@ -286,17 +289,16 @@ mod tests {
 
     #[test]
     fn a_first_step_is_published_early_or_refused() {
-        let published = |reply| published_of(reply, &Names::new(&[]));
-        assert_eq!(published("ok version 2\n"), Ok(Published::Done));
+        assert_eq!(published_of("ok version 2\n"), Ok(Published::Done));
         assert_eq!(
-            published("refused TooEarly 20\n"),
+            published_of("refused TooEarly 20\n"),
             Ok(Published::TooEarly(20))
         );
         assert_eq!(
-            published("refused VersionsSpent\n"),
+            published_of("refused VersionsSpent\n"),
             Err(Error::VersionsSpent)
         );
         let other = "refused Unfinished 3\n";
-        assert_eq!(published(other), Err(Error::Reply(other.to_string())));
+        assert_eq!(published_of(other), Err(Error::Reply(other.to_string())));
     }
 }

@@ -1,7 +1,7 @@
 //! The crate over the real library. All numbers are worked out by hand.
 
 use cagzhomul::Type::{Bool, Int, Text};
-use cagzhomul::{Cells, Db, Error, Key, Session, Step, Table, Value};
+use cagzhomul::{Cells, Db, Error, Key, Lease, Prepared, Session, Step, Table, Txn, Value};
 use std::cell::Cell;
 use std::thread;
 
@@ -328,6 +328,18 @@ fn a_change_that_is_early_waits_and_begins_later() -> Result<(), Error> {
         .line("status")?
         .contains("\"name\":\"age\",\"number\":2,\"state\":\"public\""));
     Ok(())
+}
+
+#[test]
+fn stores_leases_and_transactions_may_go_to_other_threads() {
+    fn shared<T: Send + Sync>() {}
+    fn sent<T: Send>() {}
+    shared::<Session>();
+    shared::<Db>();
+    shared::<Lease<'static>>();
+    shared::<Txn<'static>>();
+    sent::<Prepared<'static>>();
+    shared::<Error>();
 }
 
 #[test]
