@@ -119,7 +119,8 @@ impl Db {
         self.lease(now)?.query(now, selection)
     }
 
-    /// The reply to any line of the script language, as text.
+    /// The reply to any line of the script language, as text. The server `rust_binding` is the
+    /// crate's own: queries are asked under its name.
     ///
     /// Refusals: those of [`Session::line`].
     ///

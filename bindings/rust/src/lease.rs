@@ -4,13 +4,14 @@ use crate::db::Db;
 use crate::error::Error;
 use crate::ffi::{Granted, Handle};
 use crate::names::Names;
-use crate::reply::{rows_of, Row};
+use crate::reply::{refusal_of, rows_of, Row};
 use crate::session::reply_to;
 use crate::txn::Txn;
 use std::fmt;
 use std::sync::{Arc, Mutex, MutexGuard, PoisonError};
 
-/// The server of the script language under whose name queries are asked.
+/// The server of the script language under whose name queries are asked, and which holds the lease
+/// of the last one.
 const SERVER: &str = "rust_binding";
 
 /// A lease on a version: until it ends, transactions and queries may run under it, from any thread.
@@ -94,14 +95,13 @@ impl<'db> Lease<'db> {
             ..
         } = self.granted;
         let lease = format!("forge {SERVER} version {version} granted {granted} until {until}");
+        let query = format!("query {SERVER} at {now}: {selection}");
         let mut session = self.db.session().lock();
-        let reply = match reply_to(&mut session, &lease)?.as_str() {
-            "ok\n" => reply_to(
-                &mut session,
-                &format!("query {SERVER} at {now}: {selection}"),
-            )?,
-            other => other.to_string(),
-        };
+        let forged = reply_to(&mut session, &lease)?;
+        if forged != "ok\n" {
+            return Err(refusal_of(&forged));
+        }
+        let reply = reply_to(&mut session, &query)?;
         drop(session);
         rows_of(&reply, &self.names)
     }
