@@ -2,9 +2,11 @@
 use Rattle.std.proofs.Common.{◌≡◌, ℕ, ℤ, Bool, false, List, [], Option, Some, None, Ok, Err, is_some, inl, inr, refl, sym, ap, subst, ◌∙◌, string_bytes, true≢false}
 use Rattle.script_session.specs.Session.{Session}
 use Rattle.script_session.specs.declared.session.ServerLease.{ServerLease}
+use Rattle.world.specs.Snapshot.{Taken}
 use Rattle.typed_calls.specs.Commit.{CommitsIn}
 use Rattle.typed_calls.specs.Opening.{OpensSession}
 use Rattle.typed_calls.specs.Prepare.{Prepares as PreparesTxn, prepare_alone}
+use Rattle.typed_calls.specs.Snapshots.{SnapshotsIn}
 use Rattle.typed_calls.specs.Statuses.{ok}
 use Rattle.typed_calls.specs.Txns.{Wants, ReadsIn}
 use Rattle.typed_calls.specs.declared.preparation.PrepareOutcome.{PrepareOutcome}
@@ -16,6 +18,7 @@ use Rattle.embedded.specs.declared.engine.Engine.TheVariants as engine
 use Rattle.embedded.specs.Handles.{Fills}
 use Rattle.embedded.specs.Leases.{OpensTables}
 use Rattle.embedded.specs.Txns.{Transacts, WantsIn, ReadsEngine, ReadsFor, PreparesEngine, Prepares}
+use Rattle.embedded.specs.Snapshots.{Snapshots, SnapshotsInto, SnapshotsUnder}
 use Rattle.embedded.specs.Commits.{CommitsEngine, commit_alone}
 
 -- a handle that is not open holds nothing
@@ -85,3 +88,21 @@ pub commit_refused :
     → CommitsEngine old moment e outcome new (Some (engine.Txn refusal.1))
 commit_refused old new moment e txn refusal status outcome is same whole commits =
     rw is (inr (refusal.0, refusal.1, commits, same ∙ ap (λ (s : ℤ). commit_alone s) whole, refl))
+
+pub snapshots_filled :
+    (session : Session) (moment : ℕ) (held : ServerLease) (taken : Taken) (given status : ℤ) (new : Option Engine)
+    → given ≡ status → SnapshotsIn session moment held.lease (Ok taken) → Fills (engine.Snapshot taken) status new → SnapshotsInto session moment held given new
+snapshots_filled session moment held taken given status new same takes fills = rw same (inl (taken, takes, fills))
+
+pub snapshots_under :
+    (session : Session) (moment : ℕ) (lease new : Option Engine) (e : Engine) (held : ServerLease) (given status : ℤ)
+    → Some e ≡ lease → e ≡ engine.Lease held → given ≡ status → SnapshotsInto session moment held status new → SnapshotsUnder session moment lease given new
+snapshots_under session moment lease new e held given status here is same takes =
+    subst (λ (o : Option Engine). SnapshotsUnder session moment o given new) here (rw is (rw same takes))
+
+pub snapshots_of :
+    (session lease snapshot new : Option Engine) (moment : ℕ) (e : Engine) (c : Conversation) (given status : ℤ)
+    → snapshot ≡ None → Some e ≡ session → e ≡ engine.Session c → given ≡ status → SnapshotsUnder c.session moment lease status new
+    → Snapshots session moment lease snapshot given new
+snapshots_of session lease snapshot new moment e c given status shut here is same takes =
+    rw shut (subst (λ (o : Option Engine). Snapshots o moment lease None given new) here (rw is (rw same takes)))

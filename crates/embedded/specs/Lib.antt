@@ -6,3 +6,5 @@ pub mod Handles
 pub mod Leases
 pub mod Txns
 pub mod Commits
+pub mod Snapshots
+pub mod Changes

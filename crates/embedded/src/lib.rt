@@ -7,9 +7,12 @@ ghost use Rattle.embedded.specs.Calls.{Opens, RepliesTo, RepliesFrom, ShowsEntry
 ghost use Rattle.embedded.specs.Leases.{OpensTables, Leases};
 ghost use Rattle.embedded.specs.Txns.{Transacts, Reads, Prepares};
 ghost use Rattle.embedded.specs.Commits.{Commits};
+ghost use Rattle.embedded.specs.Snapshots.{Snapshots, Checks, LogLengths};
+ghost use Rattle.embedded.specs.Changes.{Publishes, Begins};
 
 mod advance;
 mod boxes;
+mod change_calls;
 mod commit_calls;
 mod engine;
 mod entries;
@@ -19,15 +22,18 @@ mod outcome;
 mod place;
 mod replica_calls;
 mod session_calls;
+mod snapshot_calls;
 mod txn_calls;
 
 pub use advance::AdvanceOutcome;
+pub use change_calls::ChangeOutcome;
 pub use commit_calls::CommitOutcome;
 pub use engine::{Conversation, Engine};
 pub use handle::Handle;
 pub use lease_calls::LeaseOutcome;
 pub use outcome::Outcome;
 pub use place::Place;
+pub use snapshot_calls::CheckOutcome;
 use std::alloc::Global;
 use typed_calls::PrepareOutcome;
 
@@ -191,6 +197,79 @@ pub extern "C" fn cagzhomul_commit(
     ensures { Commits session.old.place.value moment txn.old.place.value result session.new.place.value txn.new.place.value }
 {
     session.commit(alloc, moment, txn)
+}
+
+/// Takes a snapshot of what the session's world holds, under a lease, into the closed handle
+/// `snapshot`. `OK`; else `ALREADY_OPEN` (of `snapshot`), `CLOSED` and `WRONG_KIND` (of `session`,
+/// then of `lease`), `NOT_OPENED`, `MOMENT_TOO_LARGE`, `BAD_LEASE`, `LEASE_ENDED` or
+/// `OUT_OF_MEMORY`. The session and the lease stay, and a refusal changes nothing.
+#[unsafe(no_mangle)]
+pub extern "C" fn cagzhomul_snapshot(
+    alloc: Global,
+    session: &mut Handle,
+    moment: u64,
+    lease: &mut Handle,
+    snapshot: &mut Handle,
+) -> i32
+    ensures snapshots { Snapshots session.old.place.value moment lease.old.place.value snapshot.old.place.value result snapshot.new.place.value }
+    ensures same { session.new.place.value ≡ session.old.place.value }
+    ensures lease_stays { lease.new.place.value ≡ lease.old.place.value }
+{
+    session.snapshot(alloc, moment, lease, snapshot)
+}
+
+/// Audits the pairs of a session's world, or of a snapshot. `OK`; else `CLOSED`, `WRONG_KIND`,
+/// `NOT_OPENED` or `OUT_OF_MEMORY`. Nothing changes.
+#[unsafe(no_mangle)]
+pub extern "C" fn cagzhomul_check(alloc: Global, handle: &mut Handle) -> CheckOutcome
+    ensures checks { Checks handle.old.place.value result }
+    ensures same { handle.new.place.value ≡ handle.old.place.value }
+{
+    handle.check(alloc)
+}
+
+/// How many entries the log of the session's world has. `OK`; else `CLOSED`, `WRONG_KIND` or
+/// `NOT_OPENED`. Nothing changes.
+#[unsafe(no_mangle)]
+pub extern "C" fn cagzhomul_log_length(alloc: Global, session: &mut Handle) -> Outcome
+    ensures length { LogLengths session.old.place.value result }
+    ensures same { session.new.place.value ≡ session.old.place.value }
+{
+    session.log_length(alloc)
+}
+
+/// Publishes the version that a step gives, by its code, in the session's world. `OK`, with its
+/// number; else `CLOSED`, `WRONG_KIND`, `NOT_OPENED`, `BAD_CODE`, `MOMENT_TOO_LARGE`, `TOO_EARLY`,
+/// `UNKNOWN`, `NOT_ADJACENT`, `WRONG_WAY`, `DEPENDENT`, `NAME_TAKEN`, `OVER_LIMIT`, `UNFINISHED`,
+/// `VERSIONS_SPENT`, or `OUT_OF_MEMORY`, which may come in place of `BAD_CODE` and those after it. A
+/// refusal changes nothing.
+#[unsafe(no_mangle)]
+pub extern "C" fn cagzhomul_publish(
+    alloc: Global,
+    session: &mut Handle,
+    moment: u64,
+    step: &[u8],
+) -> ChangeOutcome
+    ensures { Publishes session.old.place.value moment step.now result session.new.place.value }
+{
+    session.publish(alloc, moment, step)
+}
+
+/// Begins the fill or the clear that an element wants, in so many pieces, in the session's world.
+/// `OK`, with the place of its entry; else `CLOSED`, `WRONG_KIND`, `NOT_OPENED`,
+/// `MOMENT_TOO_LARGE`, `NOT_WANTED`, `STILL_USED`, `BEGUN`, `BAD_COUNT` or `OUT_OF_MEMORY`. A refusal
+/// changes nothing.
+#[unsafe(no_mangle)]
+pub extern "C" fn cagzhomul_begin_reorg(
+    alloc: Global,
+    session: &mut Handle,
+    moment: u64,
+    element: u32,
+    pieces: u32,
+) -> ChangeOutcome
+    ensures { Begins session.old.place.value moment element pieces result session.new.place.value }
+{
+    session.begin_reorg(alloc, moment, element, pieces)
 }
 
 /// Frees what the handle holds, and closes it. `OK`; else `CLOSED`.

@@ -5,3 +5,5 @@ pub mod Leases
 pub mod Txns
 pub mod Prepare
 pub mod Commit
+pub mod Snapshots
+pub mod Changes

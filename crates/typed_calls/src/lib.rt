@@ -2,15 +2,19 @@
 //! another language asks for without the script language.
 #![tactic(auto)]
 
+mod changes;
 mod commits;
 mod leases;
 mod opening;
 mod preparation;
+mod snapshots;
 pub mod status;
 mod txns;
 
+pub use changes::{ChangeRefusal, begin_reorg, publish};
 pub use commits::commit;
 pub use leases::{held_by, lease};
 pub use opening::open_session;
 pub use preparation::{PrepareOutcome, prepare};
+pub use snapshots::{check, check_snapshot, log_length, snapshot};
 pub use txns::{Txn, read, transaction};
