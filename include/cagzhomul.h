@@ -97,7 +97,8 @@ typedef struct cagzhomul_handle {
 /* What a call answers. */
 typedef struct cagzhomul_outcome {
     int32_t status;
-    size_t length; /* of the whole reply or code, however much of it fitted; 0 after a refusal */
+    size_t length; /* of the whole reply or code, however much of it fitted, or of the log; 0 after
+                      a refusal */
 } cagzhomul_outcome;
 
 /* What an advance did. */
@@ -128,6 +129,23 @@ typedef struct cagzhomul_committed {
     size_t operation; /* at CAGZHOMUL_DUPLICATE and CAGZHOMUL_NO_ROW the first operation that is
                          refused, counted from 0; else 0 */
 } cagzhomul_committed;
+
+/* What an audit found. */
+typedef struct cagzhomul_checked {
+    int32_t status;   /* the other fields are 0 if it is not CAGZHOMUL_OK */
+    uint64_t rows;    /* how many rows there are */
+    uint64_t missing; /* how many pairs that indexes and required columns give them are missing */
+    uint64_t extra;   /* how many pairs no row gives */
+} cagzhomul_checked;
+
+/* What a schema change came to. */
+typedef struct cagzhomul_changed {
+    int32_t status;
+    uint64_t number; /* at CAGZHOMUL_OK the number of the version, or the place of the begin's
+                        entry; at CAGZHOMUL_DEPENDENT and CAGZHOMUL_UNFINISHED the element; at
+                        CAGZHOMUL_TOO_EARLY and CAGZHOMUL_STILL_USED the first moment at which the
+                        call is not refused so; else 0 */
+} cagzhomul_changed;
 
 /* Opens a session, at its start: before the line `open`.
  * CAGZHOMUL_OK. Refusals: CAGZHOMUL_ALREADY_OPEN; CAGZHOMUL_OUT_OF_MEMORY, and the handle is closed
@@ -225,12 +243,52 @@ cagzhomul_prepared cagzhomul_prepare(cagzhomul_handle *txn);
  * session and its last reply stay.
  * CAGZHOMUL_OK; CAGZHOMUL_DUPLICATE or CAGZHOMUL_NO_ROW if the rows refuse it, which change nothing
  * in the session. Refusals: CAGZHOMUL_CLOSED and CAGZHOMUL_WRONG_KIND of `session`;
- * CAGZHOMUL_CLOSED and CAGZHOMUL_WRONG_KIND of `txn`; CAGZHOMUL_NOT_OPENED; CAGZHOMUL_WRONG_STAGE if
- * it is not prepared; CAGZHOMUL_MOMENT_TOO_LARGE; CAGZHOMUL_BAD_LEASE; CAGZHOMUL_LEASE_ENDED;
+ * CAGZHOMUL_CLOSED and CAGZHOMUL_WRONG_KIND of `txn`; CAGZHOMUL_NOT_OPENED; CAGZHOMUL_WRONG_STAGE
+ * if it is not prepared; CAGZHOMUL_MOMENT_TOO_LARGE; CAGZHOMUL_BAD_LEASE; CAGZHOMUL_LEASE_ENDED;
  * CAGZHOMUL_WRONG_SCHEMA; CAGZHOMUL_CONFLICT; CAGZHOMUL_OUT_OF_MEMORY, which may come in place of
  * the one before it. After a refusal it may be committed again, or closed. */
 cagzhomul_committed cagzhomul_commit(cagzhomul_handle *session, uint64_t moment,
                                      cagzhomul_handle *txn);
+
+/* Takes a snapshot of what the session's world holds, under a lease, which the closed handle
+ * `snapshot` then holds. `moment` is as for cagzhomul_lease. The session and the lease stay, and
+ * the snapshot stays what it is, whatever happens to them.
+ * CAGZHOMUL_OK. Refusals: CAGZHOMUL_ALREADY_OPEN, of `snapshot`; CAGZHOMUL_CLOSED and
+ * CAGZHOMUL_WRONG_KIND of `session`; CAGZHOMUL_CLOSED and CAGZHOMUL_WRONG_KIND of `lease`;
+ * CAGZHOMUL_NOT_OPENED; CAGZHOMUL_MOMENT_TOO_LARGE; CAGZHOMUL_BAD_LEASE; CAGZHOMUL_LEASE_ENDED;
+ * CAGZHOMUL_OUT_OF_MEMORY. */
+int32_t cagzhomul_snapshot(cagzhomul_handle *session, uint64_t moment, cagzhomul_handle *lease,
+                           cagzhomul_handle *snapshot);
+
+/* Audits the pairs of a session's world, or of a snapshot, by the version that is, or was, the
+ * newest. It takes time with the pairs; that of a snapshot needs no lock of a session.
+ * CAGZHOMUL_OK. Refusals: CAGZHOMUL_CLOSED; CAGZHOMUL_WRONG_KIND; CAGZHOMUL_NOT_OPENED;
+ * CAGZHOMUL_OUT_OF_MEMORY. Nothing changes. */
+cagzhomul_checked cagzhomul_check(cagzhomul_handle *handle);
+
+/* How many entries the log of the session's world has, as `length`.
+ * CAGZHOMUL_OK. Refusals: CAGZHOMUL_CLOSED; CAGZHOMUL_WRONG_KIND; CAGZHOMUL_NOT_OPENED. */
+cagzhomul_outcome cagzhomul_log_length(cagzhomul_handle *session);
+
+/* Publishes the version that a step gives, by its code, in the session's world. `moment` is as for
+ * cagzhomul_lease. The rest of the session and its last reply stay. What the step needs next is
+ * done by cagzhomul_advance.
+ * CAGZHOMUL_OK, with the version's number. Refusals: CAGZHOMUL_CLOSED; CAGZHOMUL_WRONG_KIND;
+ * CAGZHOMUL_NOT_OPENED; CAGZHOMUL_BAD_CODE; CAGZHOMUL_MOMENT_TOO_LARGE; CAGZHOMUL_TOO_EARLY; the
+ * step's own: CAGZHOMUL_UNKNOWN, CAGZHOMUL_NOT_ADJACENT, CAGZHOMUL_WRONG_WAY, CAGZHOMUL_DEPENDENT,
+ * CAGZHOMUL_NAME_TAKEN or CAGZHOMUL_OVER_LIMIT; CAGZHOMUL_UNFINISHED; CAGZHOMUL_VERSIONS_SPENT;
+ * CAGZHOMUL_OUT_OF_MEMORY, which may come in place of CAGZHOMUL_BAD_CODE and those after it. */
+cagzhomul_changed cagzhomul_publish(cagzhomul_handle *session, uint64_t moment,
+                                    const uint8_t *step, size_t step_length);
+
+/* Begins the fill or the clear that an element wants, in `pieces` pieces (1 to 64), in the
+ * session's world. `moment` is as for cagzhomul_lease. The rest of the session and its last reply
+ * stay.
+ * CAGZHOMUL_OK, with the place of its entry. Refusals: CAGZHOMUL_CLOSED; CAGZHOMUL_WRONG_KIND;
+ * CAGZHOMUL_NOT_OPENED; CAGZHOMUL_MOMENT_TOO_LARGE; CAGZHOMUL_NOT_WANTED; CAGZHOMUL_STILL_USED;
+ * CAGZHOMUL_BEGUN; CAGZHOMUL_BAD_COUNT; CAGZHOMUL_OUT_OF_MEMORY. */
+cagzhomul_changed cagzhomul_begin_reorg(cagzhomul_handle *session, uint64_t moment,
+                                        uint32_t element, uint32_t pieces);
 
 /* Frees what the handle holds and closes it; it may be opened again.
  * CAGZHOMUL_OK. Refusal: CAGZHOMUL_CLOSED. */

@@ -69,3 +69,29 @@ static inline void put_op(code *code, uint8_t kind, uint32_t table, int64_t id, 
     put_number(code, town ? 1 : 0, 8);
     if (town) put_number(code, column, 4), put_text(code, town);
 }
+
+/* A step in which the index by_town on people (town) enters, delete-only. */
+static inline code enter_code(void) {
+    code it = {{1}, 1};
+    put_number(&it, 1, 8);    /* one move */
+    put_byte(&it, 0);         /* an element enters */
+    put_number(&it, PEOPLE, 4);
+    put_name(&it, "by_town");
+    put_byte(&it, 0);         /* an index */
+    put_number(&it, 1, 8);    /* over one column */
+    put_number(&it, TOWN, 4);
+    put_byte(&it, 1);         /* delete-only */
+    return it;
+}
+
+enum { ABSENT = 0, DELETE_ONLY = 1, WRITE_ONLY = 2, PUBLIC = 3 };
+
+/* A step in which an element goes to a state. */
+static inline code go_code(uint32_t element, uint8_t state) {
+    code it = {{1}, 1};
+    put_number(&it, 1, 8);
+    put_byte(&it, 1);
+    put_number(&it, element, 4);
+    put_byte(&it, state);
+    return it;
+}

@@ -1,5 +1,5 @@
 /* One writer by typed calls: opens tables, takes a lease, commits transactions, meets a conflict and
-   refusals by the rows, and looks at the result by lines on the same handle. Each allocation is
+   refusals by the rows, looks at the result by lines on the same handle, and lets an index enter. Each allocation is
    refused in turn, one in each run (linked with --wrap for malloc, calloc and realloc): the call that
    met it answers CAGZHOMUL_OUT_OF_MEMORY, changed nothing, and is made again. All values are worked
    out by hand. It prints how many allocations were refused, and ends with 0 if all was as
@@ -168,6 +168,55 @@ static void write_rows(cagzhomul_handle *session, cagzhomul_handle *lease) {
     look_at_preparations(session, lease);
 }
 
+static int is_change(cagzhomul_changed it, int32_t status, uint64_t number) {
+    return it.status == status && it.number == number;
+}
+
+static cagzhomul_changed publish(cagzhomul_handle *session, uint64_t moment, const code *step) {
+    cagzhomul_changed it = cagzhomul_publish(session, moment, step->bytes, step->length);
+    return is_short(it.status) ? cagzhomul_publish(session, moment, step->bytes, step->length) : it;
+}
+
+static cagzhomul_changed begin_reorg(cagzhomul_handle *session, uint64_t moment, uint32_t element, uint32_t pieces) {
+    cagzhomul_changed it = cagzhomul_begin_reorg(session, moment, element, pieces);
+    return is_short(it.status) ? cagzhomul_begin_reorg(session, moment, element, pieces) : it;
+}
+
+static int is_check(cagzhomul_handle *handle, uint64_t rows, uint64_t missing, uint64_t extra) {
+    cagzhomul_checked it = cagzhomul_check(handle);
+    if (is_short(it.status)) it = cagzhomul_check(handle);
+    return it.status == CAGZHOMUL_OK && it.rows == rows && it.missing == missing && it.extra == extra;
+}
+
+static int is_log(cagzhomul_handle *session, size_t length) {
+    cagzhomul_outcome it = cagzhomul_log_length(session);
+    return it.status == CAGZHOMUL_OK && it.length == length;
+}
+
+/* The index by_town, which is element 2, enters until its fill has begun; a snapshot from before it stays. */
+static void add_index(cagzhomul_handle *session, cagzhomul_handle *lease) {
+    cagzhomul_handle snapshot = {0};
+    code enter = enter_code(), write_only = go_code(2, WRITE_ONLY), public = go_code(2, PUBLIC);
+    int32_t status = cagzhomul_snapshot(session, 9, lease, &snapshot);
+    if (is_short(status)) status = cagzhomul_snapshot(session, 9, lease, &snapshot);
+    check(status == CAGZHOMUL_OK && is_check(&snapshot, 2, 0, 0), "a snapshot of two rows");
+    check(is_change(publish(session, 9, &enter), CAGZHOMUL_TOO_EARLY, 10), "version 1 is the newest until 10");
+    check(is_change(publish(session, 10, &write_only), CAGZHOMUL_UNKNOWN, 0), "there is no element 2");
+    check(is_change(publish(session, 10, &enter), CAGZHOMUL_OK, 2), "version 2 has the index");
+    check(is_change(publish(session, 20, &public), CAGZHOMUL_NOT_ADJACENT, 0), "it is delete-only");
+    check(is_change(publish(session, 20, &write_only), CAGZHOMUL_OK, 3), "version 3 writes it");
+    check(is_change(begin_reorg(session, 29, 2, 1), CAGZHOMUL_STILL_USED, 30), "version 2 may be used until 30");
+    check(is_change(publish(session, 30, &public), CAGZHOMUL_UNFINISHED, 2), "its fill is to be finished");
+    check(is_change(begin_reorg(session, 30, 1, 1), CAGZHOMUL_NOT_WANTED, 0), "a public column wants nothing");
+    check(is_change(begin_reorg(session, 30, 2, 65), CAGZHOMUL_BAD_COUNT, 0), "65 pieces");
+    check(is_change(begin_reorg(session, 30, 2, 1), CAGZHOMUL_OK, 9), "the fill is entry 9");
+    check(is_change(begin_reorg(session, 30, 2, 1), CAGZHOMUL_BEGUN, 0), "and begins once");
+    check(is_log(session, 9) && is_check(&snapshot, 2, 0, 0), "the snapshot stays");
+    check(cagzhomul_snapshot(session, 9, lease, &snapshot) == CAGZHOMUL_ALREADY_OPEN, "and is not overwritten");
+    check(cagzhomul_close(&snapshot) == CAGZHOMUL_OK, "it is closed");
+    check(cagzhomul_snapshot(session, 30, lease, &snapshot) == CAGZHOMUL_LEASE_ENDED && !snapshot.is_open, "the lease ended at 15");
+}
+
 static int32_t open_tables(cagzhomul_handle *session, const code *opening) {
     int32_t status = cagzhomul_open_tables(session, opening->bytes, opening->length);
     return is_short(status) ? cagzhomul_open_tables(session, opening->bytes, opening->length) : status;
@@ -183,6 +232,8 @@ static void play(void) {
     check(replies(&session, "lease a at 9", "ok lease 1 9 19\n"), "a line takes a lease");
     check(replies(&session, "query a at 9: select town from people", "row (1) town = 'Bonn'\nrow (3) town = 'Ulm'\nok rows 2\n"), "and sees the rows");
     check(replies(&session, "check", "ok rows 2 missing 0 extra 0\n"), "no pair is missing");
+    check(is_log(&session, 6) && is_check(&session, 2, 0, 0), "so do the calls");
+    add_index(&session, &lease);
     check(cagzhomul_close(&lease) == CAGZHOMUL_OK && cagzhomul_close(&session) == CAGZHOMUL_OK, "both are closed");
 }
 
@@ -199,20 +250,33 @@ static void look_at_codes(void) {
     check(!session.is_open, "the handle stays closed");
 }
 
+/* The calls on a session that has no world, and on other kinds. */
+static void look_at_worlds(cagzhomul_handle *session, cagzhomul_handle *lease, int32_t status) {
+    cagzhomul_handle snapshot = {0};
+    code step = enter_code();
+    check(cagzhomul_check(session).status == status && cagzhomul_log_length(session).status == status, "no audit, no log");
+    check(cagzhomul_publish(session, 5, step.bytes, step.length).status == status, "no step");
+    check(cagzhomul_begin_reorg(session, 5, 1, 1).status == status, "no reorganisation");
+    if (lease) check(cagzhomul_snapshot(session, 5, lease, &snapshot) == status && !snapshot.is_open, "no snapshot");
+}
+
 /* Calls on handles that are closed, open, or of another kind or stage. */
 static void look_at_kinds(void) {
     cagzhomul_handle session = {0}, lease = {0}, txn = {0}, other = {0};
     code opening = opening_code(10, "town"), ops = one(INSERT, 1, "Ulm");
     uint8_t out[ROOM] = {0};
     check(cagzhomul_lease(&session, 5, &lease).status == CAGZHOMUL_CLOSED, "a closed session");
+    look_at_worlds(&session, &lease, CAGZHOMUL_CLOSED);
     check(cagzhomul_open(&session) == CAGZHOMUL_OK, "a session without a world");
     check(cagzhomul_lease(&session, 5, &lease).status == CAGZHOMUL_NOT_OPENED && !lease.is_open, "no world");
+    look_at_worlds(&session, NULL, CAGZHOMUL_NOT_OPENED);
     cagzhomul_close(&session);
     check(open_tables(&session, &opening) == CAGZHOMUL_OK && open_tables(&session, &opening) == CAGZHOMUL_ALREADY_OPEN, "not twice");
     check(cagzhomul_lease(&session, (UINT64_C(1) << 62) + 1, &lease).status == CAGZHOMUL_MOMENT_TOO_LARGE, "a moment above 2^62");
     check(cagzhomul_lease(&session, 5, &lease).status == CAGZHOMUL_OK, "a lease");
     check(cagzhomul_lease(&session, 5, &lease).status == CAGZHOMUL_ALREADY_OPEN, "the lease is there");
     check(cagzhomul_lease(&lease, 5, &other).status == CAGZHOMUL_WRONG_KIND && lease.is_open && !other.is_open, "a lease is no session");
+    look_at_worlds(&lease, &session, CAGZHOMUL_WRONG_KIND);
     check(cagzhomul_transaction(&session, ops.bytes, ops.length, &txn) == CAGZHOMUL_WRONG_KIND, "a session is no lease");
     check(cagzhomul_transaction(&lease, ops.bytes, ops.length - 1, &txn) == CAGZHOMUL_BAD_CODE && !txn.is_open, "no operations");
     check(begin(&lease, &ops, &txn) == CAGZHOMUL_OK, "a transaction");
