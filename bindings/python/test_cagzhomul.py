@@ -72,6 +72,7 @@ class Sessions(unittest.TestCase):
         texts += ["changes are under way, and nothing can be done yet", "no change is under way", "the pieces are not 1 to 64, or the limit is not 1 to 1,000"]
         texts += ["the moment is above 2^62", "no version is left"]
         self.assertEqual([cagzhomul.text_of(status) for status in range(15)], texts)
+        self.assertNotIn("no status", [cagzhomul.text_of(status) for status in range(46)])
         self.assertEqual({cagzhomul.text_of(status) for status in (-1, 46, 2**31 - 1, -(2**31))}, {"no status"})
 
     def test_threads_share_a_session(self) -> None:
