@@ -8,6 +8,7 @@ use crate::lease::Lease;
 use crate::names::Names;
 use crate::reply::Row;
 use crate::session::{done, reply_to, Session};
+use crate::snapshot::Check;
 use crate::table::Table;
 use std::sync::{Arc, Mutex, PoisonError};
 
@@ -127,11 +128,26 @@ impl Db {
     /// ```
     /// # use cagzhomul::{Db, Table, Type};
     /// # let db = Db::open([Table::new("t").key("id", Type::Int)])?;
-    /// assert_eq!(db.line("check")?, "ok rows 0 missing 0 extra 0\n");
+    /// assert_eq!(db.line("lease a at 5")?, "ok lease 1 5 15\n");
     /// # Ok::<(), cagzhomul::Error>(())
     /// ```
     pub fn line(&self, line: &str) -> Result<String, Error> {
         self.session.line(line)
+    }
+
+    /// Audits all pairs of the store, under its lock; [`Snapshot::check`](crate::Snapshot::check)
+    /// does without.
+    ///
+    /// Refusals: [`Error::Closed`], [`Error::OutOfMemory`].
+    ///
+    /// ```
+    /// # use cagzhomul::{Check, Db, Table, Type};
+    /// # let db = Db::open([Table::new("t").key("id", Type::Int)])?;
+    /// assert_eq!(db.check()?, Check { rows: 0, missing: 0, extra: 0 });
+    /// # Ok::<(), cagzhomul::Error>(())
+    /// ```
+    pub fn check(&self) -> Result<Check, Error> {
+        Check::of(&mut self.session.lock())
     }
 
     /// The session, which has the lines, and the calls for replicas.

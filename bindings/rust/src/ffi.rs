@@ -89,6 +89,16 @@ pub(crate) struct Committed {
     pub(crate) operation: usize,
 }
 
+/// `cagzhomul_checked`.
+#[repr(C)]
+#[derive(Clone, Copy)]
+pub(crate) struct Checked {
+    pub(crate) status: i32,
+    pub(crate) rows: u64,
+    pub(crate) missing: u64,
+    pub(crate) extra: u64,
+}
+
 unsafe extern "C" {
     fn cagzhomul_open(handle: *mut RawHandle) -> i32;
     fn cagzhomul_open_tables(handle: *mut RawHandle, opening: *const u8, length: usize) -> i32;
@@ -123,11 +133,19 @@ unsafe extern "C" {
     fn cagzhomul_read(session: *mut RawHandle, txn: *mut RawHandle) -> i32;
     fn cagzhomul_prepare(txn: *mut RawHandle) -> Prepared;
     fn cagzhomul_commit(session: *mut RawHandle, moment: u64, txn: *mut RawHandle) -> Committed;
+    fn cagzhomul_snapshot(
+        session: *mut RawHandle,
+        moment: u64,
+        lease: *mut RawHandle,
+        snapshot: *mut RawHandle,
+    ) -> i32;
+    fn cagzhomul_check(handle: *mut RawHandle) -> Checked;
+    fn cagzhomul_log_length(session: *mut RawHandle) -> Outcome;
     fn cagzhomul_close(handle: *mut RawHandle) -> i32;
     fn cagzhomul_text_of(status: i32, out: *mut u8, out_length: usize) -> usize;
 }
 
-/// What the library keeps of a session, a lease or a transaction. It is closed when it is dropped.
+/// What the library keeps of a session, a lease, a transaction or a snapshot. It is closed when it is dropped.
 pub(crate) struct Handle(Box<RawHandle>);
 
 // SAFETY: the header lets a handle go from one thread to another, if one call at a time uses it,
@@ -219,6 +237,29 @@ impl Handle {
     pub(crate) fn commit(&mut self, moment: u64, txn: &mut Handle) -> Committed {
         // SAFETY: both handles, as at the top of this file.
         unsafe { cagzhomul_commit(self.raw(), moment, txn.raw()) }
+    }
+
+    /// Takes a snapshot of this session's world under a lease, into a closed handle.
+    pub(crate) fn snapshot(
+        &mut self,
+        moment: u64,
+        lease: &mut Handle,
+        snapshot: &mut Handle,
+    ) -> i32 {
+        // SAFETY: the three handles, as at the top of this file.
+        unsafe { cagzhomul_snapshot(self.raw(), moment, lease.raw(), snapshot.raw()) }
+    }
+
+    /// Audits this session's world, or this snapshot.
+    pub(crate) fn check(&mut self) -> Checked {
+        // SAFETY: the handle, as at the top of this file.
+        unsafe { cagzhomul_check(self.raw()) }
+    }
+
+    /// How many entries the log of this session's world has.
+    pub(crate) fn log_length(&mut self) -> Outcome {
+        // SAFETY: the handle, as at the top of this file.
+        unsafe { cagzhomul_log_length(self.raw()) }
     }
 }
 

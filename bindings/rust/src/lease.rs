@@ -5,7 +5,8 @@ use crate::error::Error;
 use crate::ffi::{Granted, Handle};
 use crate::names::Names;
 use crate::reply::{refusal_of, rows_of, Row};
-use crate::session::reply_to;
+use crate::session::{done, reply_to};
+use crate::snapshot::Snapshot;
 use crate::txn::Txn;
 use std::fmt;
 use std::sync::{Arc, Mutex, MutexGuard, PoisonError};
@@ -104,6 +105,17 @@ impl<'db> Lease<'db> {
         let reply = reply_to(&mut session, &query)?;
         drop(session);
         rows_of(&reply, &self.names)
+    }
+
+    /// What the store holds now, for audits that need no lock of it.
+    ///
+    /// Refusals: [`Error::Closed`], [`Error::MomentTooLarge`], [`Error::BadLease`],
+    /// [`Error::LeaseEnded`], [`Error::OutOfMemory`].
+    pub fn snapshot(&self, now: u64) -> Result<Snapshot, Error> {
+        let mut handle = Handle::closed();
+        let mut session = self.db.session().lock();
+        done(session.snapshot(now, &mut self.lock(), &mut handle))?;
+        Ok(Snapshot::over(handle))
     }
 
     /// The names of its version.

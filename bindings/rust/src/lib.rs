@@ -25,7 +25,7 @@
 //! }
 //! let rows = db.query(now.get(), "select town from people where town = 'Ulm'")?;
 //! assert_eq!(rows.len(), id as usize);
-//! assert!(db.line("check")?.ends_with("missing 0 extra 0\n"));
+//! assert!(db.check()?.is_clean());
 //! # Ok(())
 //! # }
 //! ```
@@ -45,6 +45,7 @@ mod lease;
 mod names;
 mod reply;
 mod session;
+mod snapshot;
 mod table;
 mod txn;
 mod value;
@@ -55,6 +56,7 @@ pub use error::Error;
 pub use lease::Lease;
 pub use reply::Row;
 pub use session::{Session, Step};
+pub use snapshot::{Check, Snapshot};
 pub use table::{Table, Type};
 pub use txn::{retry, Prepared, Receipt, Txn};
 pub use value::{Cells, Key, Value};

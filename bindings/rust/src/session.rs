@@ -80,7 +80,7 @@ impl Session {
     /// }
     /// first.line("lease a at 0")?;
     /// replica.repeat(&first.entry(1)?)?;
-    /// assert_eq!(replica.line("log")?, "ok log 1\n");
+    /// assert_eq!(replica.log_length()?, 1);
     /// assert_eq!(replica.entry(2), Err(cagzhomul::Error::NoEntry));
     /// # Ok(())
     /// # }
@@ -89,6 +89,14 @@ impl Session {
         let place = usize::try_from(place).map_err(|_| Error::NoEntry)?;
         let mut handle = self.lock();
         fetch(|_, out| handle.entry(place, out))
+    }
+
+    /// How many entries the log has: the last one's place.
+    ///
+    /// Refusals: [`Error::Closed`], [`Error::NotOpened`].
+    pub fn log_length(&self) -> Result<u64, Error> {
+        let outcome = self.lock().log_length();
+        done(outcome.status).map(|()| outcome.length as u64)
     }
 
     /// Repeats an entry of another session's log, given by its code, in this session's world: the

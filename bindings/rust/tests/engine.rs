@@ -1,7 +1,9 @@
 //! The crate over the real library. All numbers are worked out by hand.
 
 use cagzhomul::Type::{Bool, Int, Text};
-use cagzhomul::{Cells, Db, Error, Key, Lease, Prepared, Session, Step, Table, Txn, Value};
+use cagzhomul::{
+    Cells, Check, Db, Error, Key, Lease, Prepared, Session, Snapshot, Step, Table, Txn, Value,
+};
 use std::cell::Cell;
 use std::thread;
 
@@ -19,8 +21,6 @@ fn drive(db: &Db, change: &str, now: &Cell<u64>) -> Result<Vec<Step>, Error> {
         })
         .collect()
 }
-
-const CHECKED: &str = "missing 0 extra 0\n";
 
 #[test]
 fn rows_of_every_type_are_written_and_found() -> Result<(), Error> {
@@ -60,7 +60,7 @@ fn rows_of_every_type_are_written_and_found() -> Result<(), Error> {
         [("n".to_string(), Value::Null)]
     );
     assert_eq!(lease.query(0, "select n from t where s = 'it''s'")?, []);
-    assert!(db.line("check")?.ends_with(CHECKED));
+    assert!(db.check()?.is_clean());
     Ok(())
 }
 
@@ -193,6 +193,28 @@ fn a_prepared_transaction_meets_a_conflict_or_the_end_of_its_lease() -> Result<(
 }
 
 #[test]
+fn a_snapshot_stays_and_is_refused_as_a_query_is() -> Result<(), Error> {
+    let db = people();
+    let lease = db.lease(5)?;
+    lease.txn().insert("people", 1, ()).commit(5)?;
+    let snapshot = lease.snapshot(6)?;
+    lease.txn().delete("people", 1).commit(7)?;
+    assert_eq!(lease.snapshot(15).err(), Some(Error::LeaseEnded));
+    assert_eq!(lease.snapshot(1 << 63).err(), Some(Error::MomentTooLarge));
+    drop(lease);
+    drop(db);
+    assert_eq!(
+        snapshot.check()?,
+        Check {
+            rows: 1,
+            missing: 0,
+            extra: 0
+        }
+    );
+    Ok(())
+}
+
+#[test]
 fn queries_are_refused_as_lines_are() -> Result<(), Error> {
     let db = people();
     let lease = db.lease(5)?;
@@ -275,7 +297,7 @@ fn indexes_and_columns_are_added_and_dropped() -> Result<(), Error> {
             .len(),
         1
     );
-    assert!(db.line("check")?.ends_with(CHECKED));
+    assert!(db.check()?.is_clean());
     Ok(())
 }
 
@@ -339,6 +361,7 @@ fn stores_leases_and_transactions_may_go_to_other_threads() {
     shared::<Lease<'static>>();
     shared::<Txn<'static>>();
     sent::<Prepared<'static>>();
+    shared::<Snapshot>();
     shared::<Error>();
 }
 
@@ -373,12 +396,9 @@ fn a_replica_repeats_the_log() -> Result<(), Error> {
         .commit(0)?;
     drive(&first, "add index by_town on people (town)", &now)?;
     let status = first.line("status")?;
-    let mut place = 1;
-    while let Ok(entry) = first.session().entry(place) {
-        second.session().repeat(&entry)?;
-        place += 1;
+    for place in 1..=first.session().log_length()? {
+        second.session().repeat(&first.session().entry(place)?)?;
     }
-    assert_eq!(first.session().entry(place), Err(Error::NoEntry));
     assert_eq!(second.line("status")?, status);
     assert_eq!(second.session().repeat(b"what"), Err(Error::BadEntry));
     assert_eq!(
@@ -401,6 +421,7 @@ fn a_session_before_its_line_open_has_no_world() -> Result<(), Error> {
     let session = Session::open()?;
     assert_eq!(session.advance(0, 1, 1), Err(Error::NotOpened));
     assert_eq!(session.entry(1), Err(Error::NotOpened));
+    assert_eq!(session.log_length(), Err(Error::NotOpened));
     assert_eq!(session.line("")?, "");
     Ok(())
 }

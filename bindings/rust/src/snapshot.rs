@@ -1,0 +1,69 @@
+//! Snapshots and audits.
+
+use crate::error::Error;
+use crate::ffi::Handle;
+use crate::session::done;
+use std::fmt;
+use std::sync::{Mutex, PoisonError};
+
+/// What an audit found.
+#[derive(Debug, Clone, Copy, PartialEq, Eq, Hash)]
+pub struct Check {
+    /// How many rows there are.
+    pub rows: u64,
+    /// How many pairs public indexes and columns with a default lack.
+    pub missing: u64,
+    /// How many pairs no row gives.
+    pub extra: u64,
+}
+
+impl Check {
+    /// Whether nothing is missing and nothing extra.
+    pub fn is_clean(&self) -> bool {
+        self.missing == 0 && self.extra == 0
+    }
+
+    /// The audit of the session or the snapshot behind this handle.
+    pub(crate) fn of(handle: &mut Handle) -> Result<Check, Error> {
+        let found = handle.check();
+        done(found.status)?;
+        Ok(Check {
+            rows: found.rows,
+            missing: found.missing,
+            extra: found.extra,
+        })
+    }
+}
+
+/// What a store held at a moment. It stays as it is, and its calls need no lock of the store.
+///
+/// ```
+/// # use cagzhomul::{Db, Table, Type};
+/// # let db = Db::open([Table::new("t").key("id", Type::Int)])?;
+/// let lease = db.lease(0)?;
+/// lease.txn().insert("t", 1, ()).commit(0)?;
+/// let snapshot = lease.snapshot(0)?;
+/// lease.txn().insert("t", 2, ()).commit(0)?;
+/// assert_eq!((snapshot.check()?.rows, db.check()?.rows), (1, 2));
+/// # Ok::<(), cagzhomul::Error>(())
+/// ```
+pub struct Snapshot(Mutex<Handle>);
+
+impl Snapshot {
+    pub(crate) fn over(handle: Handle) -> Snapshot {
+        Snapshot(Mutex::new(handle))
+    }
+
+    /// Audits all of its pairs, which takes time with their number.
+    ///
+    /// Refusal: [`Error::OutOfMemory`].
+    pub fn check(&self) -> Result<Check, Error> {
+        Check::of(&mut self.0.lock().unwrap_or_else(PoisonError::into_inner))
+    }
+}
+
+impl fmt::Debug for Snapshot {
+    fn fmt(&self, f: &mut fmt::Formatter<'_>) -> fmt::Result {
+        f.debug_struct("Snapshot").finish_non_exhaustive()
+    }
+}
