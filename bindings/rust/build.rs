@@ -9,9 +9,12 @@ const VARIABLE: &str = "CAGZHOMUL_LIBRARY_DIR";
 fn library_in(folder: &str) -> Result<(&'static str, PathBuf), String> {
     [("static", "libcagzhomul.a"), ("dylib", "libcagzhomul.so")]
         .into_iter()
-        .find_map(|(kind, name)| Some((kind, PathBuf::from(folder).join(name).canonicalize().ok()?)))
+        .find_map(|(kind, name)| {
+            Some((kind, PathBuf::from(folder).join(name).canonicalize().ok()?))
+        })
         .ok_or(format!(
-            "{VARIABLE} is {folder}, which has neither libcagzhomul.a nor libcagzhomul.so: make them by `tools/build_library {folder}`"
+            "{VARIABLE} is {folder}, which has neither libcagzhomul.a nor libcagzhomul.so: \
+             make them by `tools/build_library {folder}`"
         ))
 }
 
@@ -19,7 +22,10 @@ fn main() {
     println!("cargo::rerun-if-env-changed={VARIABLE}");
     let library = env::var(VARIABLE)
         .map_err(|_| {
-            format!("{VARIABLE} is not set: make the library by `tools/build_library DIR`, and set {VARIABLE} to DIR")
+            format!(
+                "{VARIABLE} is not set: make the library by `tools/build_library DIR`, \
+                 and set {VARIABLE} to DIR"
+            )
         })
         .and_then(|folder| library_in(&folder));
     match library {

@@ -50,8 +50,8 @@ impl<'db, C: FnMut() -> u64> Change<'db, C> {
         Ok(begun)
     }
 
-    /// In how many pieces a reorganisation is begun: 1 to 64, and 8 if nothing else is said. Each is
-    /// of about as many rows.
+    /// In how many pieces a reorganisation is begun: 1 to 64, and 8 if nothing else is said. Each
+    /// is of about as many rows.
     pub fn pieces(mut self, pieces: u32) -> Change<'db, C> {
         self.pieces = pieces;
         self

@@ -156,10 +156,10 @@ impl Db {
     }
 
     /// Begins a schema change, and gives the steps that complete it. The change is one of those
-    /// that `plan` takes: `add index NAME on TABLE (COLUMNS)`, `add column NAME TYPE [default VALUE]
-    /// on TABLE`, `drop index NAME on TABLE`, `drop column NAME on TABLE` or `abandon TABLE.NAME`;
-    /// the session's kept plan is lost. `clock` gives the present moment, and is asked before each
-    /// step.
+    /// that `plan` takes: `add index NAME on TABLE (COLUMNS)`, `add column NAME TYPE [default
+    /// VALUE] on TABLE`, `drop index NAME on TABLE`, `drop column NAME on TABLE` or `abandon
+    /// TABLE.NAME`; the session's kept plan is lost. `clock` gives the present moment, and is
+    /// asked before each step.
     ///
     /// Each step is one short call, so other threads go on. At [`Step::Waiting`](crate::Step) it is
     /// for the caller to wait. The steps end when no change at all is under way, or after an error;

@@ -3,8 +3,8 @@
 use crate::ffi;
 use std::fmt;
 
-/// Why a call was refused. A refused call changed nothing, except that [`Error::OutOfMemory`] over a
-/// line may close the session.
+/// Why a call was refused. A refused call changed nothing, except that [`Error::OutOfMemory`] over
+/// a line may close the session.
 #[derive(Debug, Clone, PartialEq, Eq)]
 #[non_exhaustive]
 pub enum Error {

@@ -145,7 +145,8 @@ unsafe extern "C" {
     fn cagzhomul_text_of(status: i32, out: *mut u8, out_length: usize) -> usize;
 }
 
-/// What the library keeps of a session, a lease, a transaction or a snapshot. It is closed when it is dropped.
+/// What the library keeps of a session, a lease, a transaction or a snapshot. It is closed when it
+/// is dropped.
 pub(crate) struct Handle(Box<RawHandle>);
 
 // SAFETY: the header lets a handle go from one thread to another, if one call at a time uses it,

@@ -74,8 +74,8 @@ impl<'db> Lease<'db> {
     /// CONDITION}]`, as `docs/SCRIPT.md` has it. [`Value`](crate::Value) writes values for it.
     ///
     /// Refusals: [`Error::Closed`], [`Error::BadLine`], [`Error::MomentTooLarge`],
-    /// [`Error::BadLease`], [`Error::LeaseEnded`], [`Error::NoTable`]; of the first faulty column or
-    /// condition [`Error::NotPublic`] or [`Error::WrongType`]; [`Error::OutOfMemory`].
+    /// [`Error::BadLease`], [`Error::LeaseEnded`], [`Error::NoTable`]; of the first faulty column
+    /// or condition [`Error::NotPublic`] or [`Error::WrongType`]; [`Error::OutOfMemory`].
     ///
     /// ```
     /// # use cagzhomul::{Db, Error, Table, Type, Value};

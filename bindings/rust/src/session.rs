@@ -110,8 +110,8 @@ impl Session {
     }
 
     /// Does the one act that is due of the changes under way, whoever began them: begins a
-    /// reorganisation in `pieces` pieces (1 to 64), publishes a step in which all that is ready moves
-    /// on, or works `limit` items of a piece (1 to 1,000). `None` if no change is under way.
+    /// reorganisation in `pieces` pieces (1 to 64), publishes a step in which all that is ready
+    /// moves on, or works `limit` items of a piece (1 to 1,000). `None` if no change is under way.
     ///
     /// Refusals: [`Error::Closed`], [`Error::NotOpened`], [`Error::BadCount`],
     /// [`Error::MomentTooLarge`], [`Error::VersionsSpent`], [`Error::OutOfMemory`], which may come

@@ -1,0 +1,22 @@
+//! What the tests share.
+
+use cagzhomul::Type::{Int, Text};
+use cagzhomul::{Db, Error, Step, Table};
+use std::cell::Cell;
+
+/// A store of people, with their towns.
+pub fn people() -> Db {
+    Db::open([Table::new("people").key("id", Int).column("town", Text)]).unwrap()
+}
+
+/// Takes the steps of a change, and sets the clock forward at each wait.
+#[allow(dead_code)] // not all tests make changes
+pub fn drive(db: &Db, change: &str, now: &Cell<u64>) -> Result<Vec<Step>, Error> {
+    db.change(change, || now.get())?
+        .inspect(|step| {
+            if let Ok(Step::Waiting { until }) = step {
+                now.set(*until);
+            }
+        })
+        .collect()
+}
