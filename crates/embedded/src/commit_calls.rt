@@ -19,7 +19,8 @@ pub struct CommitOutcome {
     pub status: i32,
     /// At `OK` the place of its entry in the log; else 0.
     pub place: u64,
-    /// At `DUPLICATE` and `NO_ROW` the first operation that the rows refuse, counted from 0; else 0.
+    /// At `DUPLICATE` and `NO_ROW` the first operation that the rows refuse, counted from 0; else
+    /// 0.
     pub operation: usize,
 }
 

@@ -46,8 +46,8 @@ pub extern "C" fn cagzhomul_open(alloc: Global, handle: &mut Handle) -> i32
 }
 
 /// Answers a line, which is given without its ending, and writes as much of the reply to `out` as
-/// fits. `OK` or `BAD_LINE`; else `CLOSED` or `NOT_UTF8`, which change nothing, or `OUT_OF_MEMORY`,
-/// which closes the handle.
+/// fits. `OK` or `BAD_LINE`; else `CLOSED`, `WRONG_KIND` or `NOT_UTF8`, which change nothing, or
+/// `OUT_OF_MEMORY`, which closes the handle.
 #[unsafe(no_mangle)]
 pub extern "C" fn cagzhomul_reply_to(
     alloc: Global,
@@ -60,7 +60,8 @@ pub extern "C" fn cagzhomul_reply_to(
     handle.reply_to(alloc, line, out)
 }
 
-/// Writes as much of the last reply to `out` as fits, from this byte of it on. `OK`; else `CLOSED`.
+/// Writes as much of the last reply to `out` as fits, from this byte of it on. `OK`; else `CLOSED`
+/// or `WRONG_KIND`.
 #[unsafe(no_mangle)]
 pub extern "C" fn cagzhomul_reply_from(
     alloc: Global,
@@ -75,8 +76,8 @@ pub extern "C" fn cagzhomul_reply_from(
 }
 
 /// Writes as much of the code of the entry of this place in the session's log to `out` as fits;
-/// places count from 1. `OK`, with the length of the whole code; else `CLOSED`, `NOT_OPENED`,
-/// `NO_ENTRY` or `OUT_OF_MEMORY`.
+/// places count from 1. `OK`, with the length of the whole code; else `CLOSED`, `WRONG_KIND`,
+/// `NOT_OPENED`, `NO_ENTRY` or `OUT_OF_MEMORY`.
 #[unsafe(no_mangle)]
 pub extern "C" fn cagzhomul_entry(
     alloc: Global,
@@ -91,8 +92,8 @@ pub extern "C" fn cagzhomul_entry(
 }
 
 /// Repeats the entry whose code these bytes are in the session's world; the rest of the session
-/// stays. `OK`; else `CLOSED`, `NOT_OPENED`, `BAD_ENTRY`, `NOT_NEXT`, or `OUT_OF_MEMORY`, which may
-/// come in place of the two before it. A refusal changes nothing.
+/// stays. `OK`; else `CLOSED`, `WRONG_KIND`, `NOT_OPENED`, `BAD_ENTRY`, `NOT_NEXT`, or
+/// `OUT_OF_MEMORY`, which may come in place of the two before it. A refusal changes nothing.
 #[unsafe(no_mangle)]
 pub extern "C" fn cagzhomul_repeat(alloc: Global, handle: &mut Handle, entry: &[u8]) -> i32
     ensures { Repeats handle.old.place.value entry.now result handle.new.place.value }
@@ -103,9 +104,9 @@ pub extern "C" fn cagzhomul_repeat(alloc: Global, handle: &mut Handle, entry: &[
 /// Does the act that is due of the changes under way in the session's world: begins a
 /// reorganisation in so many pieces, publishes a step in which all ready elements move on, or works
 /// so many items. `OK`, and the log has one entry more; `WAITING`, with the moment before which
-/// nothing can be done, or `FINISHED`, which change nothing; else `CLOSED`, `NOT_OPENED`,
-/// `BAD_COUNT`, `MOMENT_TOO_LARGE`, `VERSIONS_SPENT`, or `OUT_OF_MEMORY`, which may come in place of
-/// the one before it. A refusal changes nothing.
+/// nothing can be done, or `FINISHED`, which change nothing; else `CLOSED`, `WRONG_KIND`,
+/// `NOT_OPENED`, `BAD_COUNT`, `MOMENT_TOO_LARGE`, `VERSIONS_SPENT`, or `OUT_OF_MEMORY`, which may
+/// come in place of the one before it. A refusal changes nothing.
 #[unsafe(no_mangle)]
 pub extern "C" fn cagzhomul_advance(
     alloc: Global,
@@ -119,9 +120,9 @@ pub extern "C" fn cagzhomul_advance(
     handle.advance(alloc, moment, pieces, limit)
 }
 
-/// Opens a session with a world by the code of its opening, as `entry_code::opening_bytes` gives it.
-/// `OK`; else `ALREADY_OPEN`, `BAD_CODE`, `BAD_TABLE`, `BAD_LENGTH`, or `OUT_OF_MEMORY`, which may
-/// come in place of `BAD_CODE`. A refusal changes nothing.
+/// Opens a session with a world by the code of its opening, as `entry_code::opening_bytes` gives
+/// it. `OK`; else `ALREADY_OPEN`, `BAD_CODE`, `BAD_TABLE`, `BAD_LENGTH`, or `OUT_OF_MEMORY`, which
+/// may come in place of `BAD_CODE`. A refusal changes nothing.
 #[unsafe(no_mangle)]
 pub extern "C" fn cagzhomul_open_tables(alloc: Global, handle: &mut Handle, opening: &[u8]) -> i32
     ensures { OpensTables handle.old.place.value opening.now result handle.new.place.value }
@@ -130,8 +131,9 @@ pub extern "C" fn cagzhomul_open_tables(alloc: Global, handle: &mut Handle, open
 }
 
 /// Grants a lease on the newest version of the session's world, into the closed handle `lease`.
-/// `OK`; else `ALREADY_OPEN` (of `lease`), `CLOSED`, `WRONG_KIND`, `NOT_OPENED`, `MOMENT_TOO_LARGE`,
-/// or `OUT_OF_MEMORY`, which may come in place of the two before it. A refusal changes nothing.
+/// `OK`; else `ALREADY_OPEN` (of `lease`), `CLOSED`, `WRONG_KIND`, `NOT_OPENED`,
+/// `MOMENT_TOO_LARGE`, or `OUT_OF_MEMORY`, which may come in place of the two before it. A refusal
+/// changes nothing.
 #[unsafe(no_mangle)]
 pub extern "C" fn cagzhomul_lease(
     alloc: Global,
@@ -173,8 +175,8 @@ pub extern "C" fn cagzhomul_read(alloc: Global, session: &mut Handle, txn: &mut 
 }
 
 /// Prepares a transaction that was read. `OK`; else `CLOSED`, `WRONG_KIND`, `WRONG_STAGE`,
-/// `NO_TABLE`, `NOT_PUBLIC`, `WRONG_TYPE`, `TOO_MANY_OPS`, `VIEW_MISMATCH`, or `OUT_OF_MEMORY`, which
-/// may come in place of the five before it. A refusal changes nothing.
+/// `NO_TABLE`, `NOT_PUBLIC`, `WRONG_TYPE`, `TOO_MANY_OPS`, `VIEW_MISMATCH`, or `OUT_OF_MEMORY`,
+/// which may come in place of the five before it. A refusal changes nothing.
 #[unsafe(no_mangle)]
 pub extern "C" fn cagzhomul_prepare(alloc: Global, txn: &mut Handle) -> PrepareOutcome
     ensures { Prepares txn.old.place.value result txn.new.place.value }
@@ -185,8 +187,8 @@ pub extern "C" fn cagzhomul_prepare(alloc: Global, txn: &mut Handle) -> PrepareO
 /// Commits a prepared transaction to the session's world. `OK`, `DUPLICATE` and `NO_ROW`, and `txn`
 /// is closed; else `CLOSED` and `WRONG_KIND` (of `session`, then of `txn`), `NOT_OPENED`,
 /// `WRONG_STAGE`, `MOMENT_TOO_LARGE`, `BAD_LEASE`, `LEASE_ENDED`, `WRONG_SCHEMA`, `CONFLICT`, or
-/// `OUT_OF_MEMORY`, which may come in place of the one before it, and these change nothing. The rows
-/// refuse a transaction at `DUPLICATE` and `NO_ROW`, which change nothing but `txn`.
+/// `OUT_OF_MEMORY`, which may come in place of the one before it, and these change nothing. The
+/// rows refuse a transaction at `DUPLICATE` and `NO_ROW`, which change nothing but `txn`.
 #[unsafe(no_mangle)]
 pub extern "C" fn cagzhomul_commit(
     alloc: Global,
@@ -241,8 +243,8 @@ pub extern "C" fn cagzhomul_log_length(alloc: Global, session: &mut Handle) -> O
 /// Publishes the version that a step gives, by its code, in the session's world. `OK`, with its
 /// number; else `CLOSED`, `WRONG_KIND`, `NOT_OPENED`, `BAD_CODE`, `MOMENT_TOO_LARGE`, `TOO_EARLY`,
 /// `UNKNOWN`, `NOT_ADJACENT`, `WRONG_WAY`, `DEPENDENT`, `NAME_TAKEN`, `OVER_LIMIT`, `UNFINISHED`,
-/// `VERSIONS_SPENT`, or `OUT_OF_MEMORY`, which may come in place of `BAD_CODE` and those after it. A
-/// refusal changes nothing.
+/// `VERSIONS_SPENT`, or `OUT_OF_MEMORY`, which may come in place of `BAD_CODE` and those after it.
+/// A refusal changes nothing.
 #[unsafe(no_mangle)]
 pub extern "C" fn cagzhomul_publish(
     alloc: Global,
@@ -257,8 +259,8 @@ pub extern "C" fn cagzhomul_publish(
 
 /// Begins the fill or the clear that an element wants, in so many pieces, in the session's world.
 /// `OK`, with the place of its entry; else `CLOSED`, `WRONG_KIND`, `NOT_OPENED`,
-/// `MOMENT_TOO_LARGE`, `NOT_WANTED`, `STILL_USED`, `BEGUN`, `BAD_COUNT` or `OUT_OF_MEMORY`. A refusal
-/// changes nothing.
+/// `MOMENT_TOO_LARGE`, `NOT_WANTED`, `STILL_USED`, `BEGUN`, `BAD_COUNT` or `OUT_OF_MEMORY`. A
+/// refusal changes nothing.
 #[unsafe(no_mangle)]
 pub extern "C" fn cagzhomul_begin_reorg(
     alloc: Global,
