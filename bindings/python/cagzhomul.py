@@ -1,43 +1,78 @@
-"""Cagzhomul from Python: sessions of its script language, by ctypes over libcagzhomul.so.
+"""Cagzhomul from Python: typed transactions, queries, schema changes and lines, by ctypes.
 
     import cagzhomul
 
-    with cagzhomul.open() as session:
-        session.reply_to("table people (id int key, town text)")
-        print(session.reply_to("open"), end="")
+    with cagzhomul.open({"people": {"id": "int key", "town": "text"}}) as db:
+        with db.lease(now=5) as lease:
+            lease.insert("people", (1,), town="Ulm")
+        print(db.query(6, "select town from people where town = 'Ulm'"))
+
+    with cagzhomul.open() as session:  # without tables: a session of the script language
+        print(session.reply_to("table people (id int key, town text)"), end="")
 
 The language is described in docs/SCRIPT.md, and the library in include/cagzhomul.h. The library is
 looked for at the path in the variable CAGZHOMUL_LIBRARY, then beside this file, and then where the
-system's loader looks.
+system's loader looks. Each refusal is an exception named for its status, and changed nothing.
 """
 
 from __future__ import annotations
 
 import ctypes
 import ctypes.util
+import itertools
+import json
 import os
+import re
 import threading
+from dataclasses import dataclass, field
 from types import TracebackType
-from typing import Optional, Type, Union
+from typing import Any, Callable, Dict, Iterable, Iterator, List, Mapping, NamedTuple, Optional, Sequence, Tuple, Type, TypeVar, Union, overload
 
 __all__ = [
-    "AlreadyOpen", "BadCount", "BadEntry", "BadLine", "CagzhomulError", "Closed", "MomentTooLarge", "NoEntry", "NotOpened", "NotUtf8", "OutOfMemory", "Session", "VersionsSpent", "open", "text_of",
+    "Acted", "AlreadyOpen", "Audit", "BadCount", "BadEntry", "BadLease", "BadLength", "BadLine", "BadTable", "CagzhomulError", "Clock", "Closed",
+    "Conflict", "Db", "Duplicate", "InChange", "Key", "Kind", "Lease", "LeaseEnded", "Moment", "MomentTooLarge", "NameTaken", "NoEntry", "NoRow",
+    "NoTable", "NotOpened", "NotPublic", "NotUtf8", "OutOfMemory", "OverLimit", "Receipt", "Row", "Session", "Snapshot", "Step", "StillIndexed",
+    "Table", "Tables", "TooManyOps", "Txn", "UnexpectedReply", "Unknown", "Value", "VersionsSpent", "Waiting", "WrongSchema", "WrongStage",
+    "WrongType", "literal", "open", "retry", "text_of",
 ]
 
-_ROOM = 4096
-_NOT_NEXT, _WAITING, _FINISHED = 9, 10, 11
+_ROOM, _OK, _BAD_LINE, _CLOSED, _NOT_NEXT, _WAITING, _FINISHED = 4096, 0, 1, 2, 9, 10, 11
+_WRONG_STAGE, _BAD_CODE, _NOT_PUBLIC, _WRONG_TYPE, _DUPLICATE, _NO_ROW = 16, 17, 21, 22, 29, 30
+
+Value = Union[None, bool, int, str]
+Key = Union[Value, Sequence[Value]]
+Row = Dict[str, Value]
+Clock = Callable[[], int]
+Moment = Union[int, Clock]
+Kind = Type[Union[int, str, bool]]
+_Result = TypeVar("_Result")
+_Self = TypeVar("_Self", bound="_Owner")
+_STATUS, _SIZE, _SMALL, _NUMBER, _BYTES = ctypes.c_int32, ctypes.c_size_t, ctypes.c_uint32, ctypes.c_uint64, ctypes.c_char_p
 
 
-class _Handle(ctypes.Structure):
-    _fields_ = [("at", ctypes.c_void_p), ("is_open", ctypes.c_bool)]
+# What the header declares: its structs, and what each function gives and takes.
+class _Handle(ctypes.Structure): _fields_ = [("at", ctypes.c_void_p), ("is_open", ctypes.c_bool)]
+class _Outcome(ctypes.Structure): _fields_ = [("status", _STATUS), ("length", _SIZE)]
+class _Advanced(ctypes.Structure): _fields_ = [("status", _STATUS), ("until", _NUMBER)]
+class _Granted(ctypes.Structure): _fields_ = [("status", _STATUS), ("version", _NUMBER), ("granted", _NUMBER), ("until", _NUMBER), ("place", _NUMBER)]
+class _Prepared(ctypes.Structure): _fields_ = [("status", _STATUS), ("column", _SMALL)]
+class _Committed(ctypes.Structure): _fields_ = [("status", _STATUS), ("place", _NUMBER), ("operation", _SIZE)]
+class _Checked(ctypes.Structure): _fields_ = [("status", _STATUS), ("rows", _NUMBER), ("missing", _NUMBER), ("extra", _NUMBER)]
+class _Changed(ctypes.Structure): _fields_ = [("status", _STATUS), ("number", _NUMBER)]
 
 
-class _Outcome(ctypes.Structure):
-    _fields_ = [("status", ctypes.c_int32), ("length", ctypes.c_size_t)]
-
-
-class _Advanced(ctypes.Structure):
-    _fields_ = [("status", ctypes.c_int32), ("until", ctypes.c_uint64)]
+_HANDLE = ctypes.POINTER(_Handle)
+_FUNCTIONS: Dict[str, Tuple[Any, List[Any]]] = {
+    "open": (_STATUS, [_HANDLE]), "open_tables": (_STATUS, [_HANDLE, _BYTES, _SIZE]), "close": (_STATUS, [_HANDLE]),
+    "reply_to": (_Outcome, [_HANDLE, _BYTES, _SIZE, _BYTES, _SIZE]), "reply_from": (_Outcome, [_HANDLE, _SIZE, _BYTES, _SIZE]),
+    "entry": (_Outcome, [_HANDLE, _SIZE, _BYTES, _SIZE]), "repeat": (_STATUS, [_HANDLE, _BYTES, _SIZE]),
+    "advance": (_Advanced, [_HANDLE, _NUMBER, _SMALL, _SMALL]), "lease": (_Granted, [_HANDLE, _NUMBER, _HANDLE]),
+    "transaction": (_STATUS, [_HANDLE, _BYTES, _SIZE, _HANDLE]), "read": (_STATUS, [_HANDLE, _HANDLE]),
+    "prepare": (_Prepared, [_HANDLE]), "commit": (_Committed, [_HANDLE, _NUMBER, _HANDLE]),
+    "snapshot": (_STATUS, [_HANDLE, _NUMBER, _HANDLE, _HANDLE]), "check": (_Checked, [_HANDLE]), "log_length": (_Outcome, [_HANDLE]),
+    "publish": (_Changed, [_HANDLE, _NUMBER, _BYTES, _SIZE]), "begin_reorg": (_Changed, [_HANDLE, _NUMBER, _SMALL, _SMALL]),
+    "text_of": (_SIZE, [_STATUS, _BYTES, _SIZE]),
+}
 
 
 def _load() -> ctypes.CDLL:
@@ -47,17 +82,7 @@ def _load() -> ctypes.CDLL:
     if not path:
         raise ImportError("libcagzhomul.so was not found: name it in the variable CAGZHOMUL_LIBRARY")
     library = ctypes.CDLL(path)
-    handle, text, size = ctypes.POINTER(_Handle), ctypes.c_char_p, ctypes.c_size_t
-    for name, result, parameters in (
-        ("open", ctypes.c_int32, [handle]),
-        ("reply_to", _Outcome, [handle, text, size, text, size]),
-        ("reply_from", _Outcome, [handle, size, text, size]),
-        ("entry", _Outcome, [handle, size, text, size]),
-        ("repeat", ctypes.c_int32, [handle, text, size]),
-        ("advance", _Advanced, [handle, ctypes.c_uint64, ctypes.c_uint32, ctypes.c_uint32]),
-        ("close", ctypes.c_int32, [handle]),
-        ("text_of", size, [ctypes.c_int32, text, size]),
-    ):
+    for name, (result, parameters) in _FUNCTIONS.items():
         function = getattr(library, f"cagzhomul_{name}")
         function.restype, function.argtypes = result, parameters
     return library
@@ -74,76 +99,284 @@ def text_of(status: int) -> str:
 
 
 class CagzhomulError(Exception):
-    """A call that the library did not carry out, with its status."""
+    """A call that was not carried out, with its status, which is -1 if the refusal has none."""
 
-    def __init__(self, status: int) -> None:
-        super().__init__(text_of(status))
+    def __init__(self, status: int = -1, text: str = "") -> None:
+        super().__init__(text or text_of(status))
         self.status = status
 
 
-class BadLine(CagzhomulError):
-    """The line is not of the language; its reply is `bad line`, and the session is as it was."""
+class NotPublic(CagzhomulError):
+    """A named column is not a public column of its table in the lease's version: `column` is its
+    name, or None if a query names something that its table does not have."""
+
+    def __init__(self, column: Optional[str]) -> None:
+        super().__init__(_NOT_PUBLIC, text_of(_NOT_PUBLIC) + (f": {column}" if column else ""))
+        self.column = column
 
 
-class Closed(CagzhomulError):
-    """The session was closed."""
+class _RowRefusal(CagzhomulError):
+    def __init__(self, status: int, operation: int) -> None:
+        super().__init__(status, f"{text_of(status)}: operation {operation}")
+        self.operation = operation
 
 
-class AlreadyOpen(CagzhomulError):
-    """The handle is open; a Session never meets it."""
+class Duplicate(_RowRefusal): """A row that is inserted is there; `operation` is the first that is refused, from 0."""
+class NoRow(_RowRefusal): """A row that is changed is not there; `operation` is the first that is refused, from 0."""
+class BadLine(CagzhomulError): """The line, the query or the change is not of the language."""
+class Closed(CagzhomulError): """The session, or the lease, was closed."""
+class AlreadyOpen(CagzhomulError): """The handle is open; no object of this module meets it."""
+class NotUtf8(CagzhomulError): """The line's bytes are not UTF-8."""
+class OutOfMemory(CagzhomulError, MemoryError): """Memory ran out. If it did over a line, the session is closed."""
+class NotOpened(CagzhomulError): """The session has no world yet: it is before its line `open`."""
+class NoEntry(CagzhomulError): """The log has no such place."""
+class BadEntry(CagzhomulError): """The bytes are the code of no entry."""
+class BadCount(CagzhomulError): """The pieces are not 1 to 64, or the limit is not 1 to 1,000."""
+class MomentTooLarge(CagzhomulError): """The moment is above 2^62."""
+class VersionsSpent(CagzhomulError): """A publication is due, and there are 1,000,000 versions."""
+class WrongStage(CagzhomulError): """The transaction is prepared already."""
+class BadTable(CagzhomulError): """The declaration breaks a limit, or uses a name twice."""
+class BadLength(CagzhomulError): """The lease length is not from 1 to 2^32."""
+class NoTable(CagzhomulError): """There is no table of this name."""
+class WrongType(CagzhomulError): """A value of another type, too few or many for the key, None in it, or a text over 1,024 bytes."""
+class TooManyOps(CagzhomulError): """More than 64 operations."""
+class BadLease(CagzhomulError): """No grant could have given the lease: it is one of another world."""
+class LeaseEnded(CagzhomulError): """The lease has ended."""
+class WrongSchema(CagzhomulError): """The transaction was prepared under another schema than that of its lease's version."""
+class Conflict(CagzhomulError): """A row that the transaction names changed since it was read: it may be made again, by `retry`."""
+class Unknown(CagzhomulError): """A change names what is not there, or abandons what is not being added."""
+class NameTaken(CagzhomulError): """A change adds a name that is taken."""
+class OverLimit(CagzhomulError): """A name, a list, a default or a count of a change is over its limit."""
+class StillIndexed(CagzhomulError): """A change drops a column that an index is on."""
+class InChange(CagzhomulError): """A change is of something that another change is under way for."""
+class UnexpectedReply(CagzhomulError): """A reply of the language that this module does not know; its text has the reply."""
 
 
-class NotUtf8(CagzhomulError):
-    """The line's bytes are not UTF-8; the session is as it was."""
-
-
-class OutOfMemory(CagzhomulError, MemoryError):
-    """Memory ran out. If it did over a line, the session is closed; else it is as it was."""
-
-
-class NotOpened(CagzhomulError):
-    """The session has no world yet: it is before its line `open`."""
-
-
-class NoEntry(CagzhomulError):
-    """The log has no such place."""
-
-
-class BadEntry(CagzhomulError):
-    """The bytes are the code of no entry; the session is as it was."""
-
-
-class BadCount(CagzhomulError):
-    """The pieces are not 1 to 64, or the limit is not 1 to 1,000; the session is as it was."""
-
-
-class MomentTooLarge(CagzhomulError):
-    """The moment is above 2^62; the session is as it was."""
-
-
-class VersionsSpent(CagzhomulError):
-    """A publication is due, and there are 1,000,000 versions; the session is as it was."""
-
-
-_ERRORS: dict[int, Type[CagzhomulError]] = {
+_ERRORS: Dict[int, Type[CagzhomulError]] = {
     1: BadLine, 2: Closed, 3: AlreadyOpen, 4: NotUtf8, 5: OutOfMemory, 6: NotOpened, 7: NoEntry, 8: BadEntry,
-    12: BadCount, 13: MomentTooLarge, 14: VersionsSpent,
+    12: BadCount, 13: MomentTooLarge, 14: VersionsSpent, 16: WrongStage, 18: BadTable, 19: BadLength, 20: NoTable, 22: WrongType,
+    23: TooManyOps, 25: BadLease, 26: LeaseEnded, 27: WrongSchema, 28: Conflict, 32: Unknown, 36: NameTaken, 37: OverLimit,
 }
+# The language's refusals by name, each with its status and text; the text is the status's own if it is empty.
+_REFUSALS: Dict[str, Tuple[Type[CagzhomulError], int, str]] = {kind.__name__: (kind, status, "") for status, kind in _ERRORS.items()}
+_REFUSALS.update(Memory=(OutOfMemory, 5, ""), Limit=(OverLimit, 37, ""), StillIndexed=(StillIndexed, -1, "an index is on the column"),
+                 InChange=(InChange, -1, "another change of it is under way"))
 
 
 def _check(status: int) -> None:
-    if status:
+    if status != _OK:
         raise _ERRORS.get(status, CagzhomulError)(status)
 
 
-class Session:
-    """A session, from its start to `close`. Any thread may call it: a lock has one call at a time."""
+def _refusal(reply: str, names: Optional[_Names] = None) -> CagzhomulError:
+    """Why a reply refuses; `names` are those of the version that it is about."""
+    found = re.match(r"refused (\w+)(?: (\d+))?", reply)
+    if found and found[1] == "NotPublic":
+        return NotPublic(names.by_number.get(int(found[2])) if names else None)
+    other = (UnexpectedReply, -1, f"a reply that is not expected: {reply.rstrip()}")
+    kind, status, said = _REFUSALS.get(found[1] if found else "", other)
+    return kind(status, said)
+
+
+def _accepted(reply: str) -> str:
+    """The reply, unless it refuses."""
+    if reply.startswith("refused "):
+        raise _refusal(reply)
+    return reply
+
+
+@dataclass(frozen=True)
+class Table:
+    """A table to open a Db with, whose columns and indexes are public at once: 1 to 4 key columns,
+    at most 32 others, by name with their types (int, str or bool), and at most 16 indexes, by name
+    with 1 to 4 of these columns."""
+    name: str
+    key: Mapping[str, Kind]
+    columns: Mapping[str, Kind] = field(default_factory=dict)
+    indexes: Mapping[str, Sequence[str]] = field(default_factory=dict)
+
+
+Tables = Union[Mapping[str, Mapping[str, str]], Iterable[Table]]
+_KINDS: Dict[str, Kind] = {"int": int, "text": str, "bool": bool, "int key": int, "text key": str, "bool key": bool}
+
+
+def _table(name: str, columns: Mapping[str, str]) -> Table:
+    """The table with these columns by name, each with its type in the language's words."""
+    if not set(columns.values()) <= set(_KINDS):
+        raise ValueError(f"each column of {name} is one of {', '.join(_KINDS)}")
+    key = {column: _KINDS[words] for column, words in columns.items() if words.endswith(" key")}
+    return Table(name, key, {column: _KINDS[words] for column, words in columns.items() if column not in key})
+
+
+# Codes, as crates/entry_code has them.
+def _number(number: int, size: int = 8) -> bytes:
+    return number.to_bytes(size, "big")
+
+
+def _list(items: Sequence[bytes]) -> bytes:
+    return _number(len(items)) + b"".join(items)
+
+
+def _name(name: str) -> bytes:
+    return _number(len(name.encode())) + name.encode()
+
+
+def _opening(lease_length: int, tables: Iterable[Table]) -> bytes:
+    def columns(kinds: Mapping[str, Kind]) -> bytes:
+        return _list([_name(name) + bytes([[int, str, bool].index(kind)]) for name, kind in kinds.items()])
+
+    def code(table: Table) -> bytes:
+        indexes = [_name(name) + _list([_name(column) for column in indexed]) for name, indexed in table.indexes.items()]
+        return _name(table.name) + columns(table.key) + columns(table.columns) + _list(indexes)
+
+    return b"\1" + _number(lease_length) + _list([code(table) for table in tables])
+
+
+def _value(value: Value) -> bytes:
+    if value is None:
+        return b"\1"
+    if isinstance(value, bool):
+        return b"\4\1" if value else b"\4\0"
+    if isinstance(value, int):
+        return b"\2" + _number(value + 2**63)
+    if isinstance(value, str):
+        return b"\3" + value.encode().replace(b"\0", b"\0\xff") + b"\0\1"
+    raise TypeError(f"{type(value).__name__} is the type of no column")
+
+
+# What the language writes and reads.
+def literal(value: Value) -> str:
+    """A value as the language has it, for a query: `f"select * from t where a = {literal(a)}"`."""
+    if value is None or isinstance(value, bool):
+        return {None: "null", True: "true", False: "false"}[value]
+    return str(int(value)) if isinstance(value, int) else "'" + value.replace("'", "''") + "'"
+
+
+_VALUE = r"(?:null|true|false|-?[0-9]+|'[^']*(?:''[^']*)*')"
+_CELL = re.compile(rf"(?:(\w+) = )?({_VALUE})(?:, )?")
+_ROW = re.compile(rf"row \(({_VALUE}(?:, {_VALUE})*)\)(?: (\w+ = {_VALUE}(?:, \w+ = {_VALUE})*))?\n")
+_TABLE_OF = re.compile(r" *select *(?:\* *|\w+ *(?:, *\w+ *)*)from +(\w+)")
+
+
+def _cells(words: str) -> List[Tuple[str, Value]]:
+    """Cells, or the values of a key, which have no names."""
+    fixed: Dict[str, Value] = {"null": None, "true": True, "false": False}
+    texts = _CELL.findall(words)
+    return [(name, it[1:-1].replace("''", "'") if it[0] == "'" else fixed[it] if it in fixed else int(it)) for name, it in texts]
+
+
+def _rows(reply: str, key: Sequence[str], names: _Names) -> List[Row]:
+    """The rows of a reply to a query, by the names of the key columns and those of the version."""
+    rows: List[Row] = []
+    at = 0
+    while found := _ROW.match(reply, at):
+        rows.append({**dict(zip(key, (value for _, value in _cells(found[1])))), **dict(_cells(found[2] or ""))})
+        at = found.end()
+    if reply[at:] != f"ok rows {len(rows)}\n":
+        raise _refusal(reply, names)
+    return rows
+
+
+class _Names:
+    """The columns and indexes of one version, by a reply to `status`: so they are right whoever
+    published it."""
+
+    def __init__(self, status: str) -> None:
+        told = json.loads(_accepted(status))
+        self.version: int = told["version"]
+        self.numbers: Dict[Tuple[str, str], int] = {(it["table"], it["name"]): it["number"] for it in told["elements"]}
+        self.by_number: Dict[int, str] = {it["number"]: it["name"] for it in told["elements"]}
+
+
+def _at(now: Moment) -> int:
+    """A moment that is given, or that a clock gives."""
+    moment = now() if callable(now) else now
+    if not 0 <= moment < 2**64:
+        raise OverflowError("a moment has 64 bits")
+    return moment
+
+
+@dataclass(frozen=True)
+class Receipt:
+    """What a committed transaction has: the place of its entry in the log, from 1."""
+    place: int
+
+
+@dataclass(frozen=True)
+class Acted:
+    """A step of a change that did something: the log has one entry more."""
+
+
+@dataclass(frozen=True)
+class Waiting:
+    """A step of a change at which nothing could be done before the moment `until`, and nothing was."""
+    until: int
+
+
+Step = Union[Acted, Waiting]
+
+
+class Audit(NamedTuple):
+    """What an audit found: how many rows there are, how many pairs indexes and columns with a
+    default lack for them, and how many pairs no row gives."""
+    rows: int
+    missing: int
+    extra: int
+
+
+class _Owner:
+    """What holds a handle of the library, with a lock that has one call of it at a time."""
 
     def __init__(self) -> None:
         self._handle = _Handle()
         self._lock = threading.Lock()
+
+    def close(self) -> None:
+        """Frees what it holds. What is closed stays so."""
+        with self._lock:
+            _library.cagzhomul_close(self._handle)
+
+    @property
+    def is_open(self) -> bool:
+        """Whether it holds anything."""
+        return bool(self._handle.is_open)
+
+    def __enter__(self: _Self) -> _Self:
+        return self
+
+    def __exit__(self, _kind: Optional[Type[BaseException]], _error: Optional[BaseException], _trace: Optional[TracebackType]) -> None:
+        self.close()
+
+    def __del__(self) -> None:
+        if getattr(self, "_handle", None) is not None and self._handle.is_open and _library is not None:
+            _library.cagzhomul_close(self._handle)
+
+
+class _Audited(_Owner):
+    def check(self) -> Audit:
+        """Audits all pairs by the version that is, or was, the newest; its time grows with them.
+
+        Raises Closed, NotOpened or OutOfMemory.
+        """
+        with self._lock:
+            done = _library.cagzhomul_check(self._handle)
+        _check(done.status)
+        return Audit(done.rows, done.missing, done.extra)
+
+
+class Snapshot(_Audited):
+    """What a store held at a moment, by `Db.snapshot`: it stays so, and its calls take no lock of the
+    store."""
+
+
+class Session(_Audited):
+    """A session, from its start to `close`. Any thread may call it: a lock has one call at a time."""
+
+    def __init__(self, _opening_code: bytes = b"") -> None:
+        super().__init__()
         self._out = ctypes.create_string_buffer(_ROOM)
-        _check(_library.cagzhomul_open(self._handle))
+        code = _opening_code
+        _check(_library.cagzhomul_open_tables(self._handle, code, len(code)) if code else _library.cagzhomul_open(self._handle))
 
     def reply_to(self, line: Union[str, bytes]) -> str:
         """The reply to a line, which is given without its ending: lines with their endings, or none.
@@ -151,15 +384,19 @@ class Session:
         Raises BadLine, Closed, NotUtf8 (for bytes alone) or OutOfMemory. A refusal of the language,
         as `refused NoServer`, is a reply.
         """
-        words = line.encode() if isinstance(line, str) else line
         with self._lock:
-            outcome = _library.cagzhomul_reply_to(self._handle, words, len(words), self._out, _ROOM)
-            _check(outcome.status)
-            if outcome.length <= _ROOM:
-                return ctypes.string_at(self._out, outcome.length).decode()
-            out = ctypes.create_string_buffer(outcome.length)
-            _check(_library.cagzhomul_reply_from(self._handle, 0, out, outcome.length).status)
-            return out.raw.decode()
+            return self._reply_to(line)
+
+    def _reply_to(self, line: Union[str, bytes]) -> str:
+        """The reply, for a caller who has the lock."""
+        words = line.encode() if isinstance(line, str) else line
+        outcome = _library.cagzhomul_reply_to(self._handle, words, len(words), self._out, _ROOM)
+        _check(outcome.status)
+        if outcome.length <= _ROOM:
+            return ctypes.string_at(self._out, outcome.length).decode()
+        out = ctypes.create_string_buffer(outcome.length)
+        _check(_library.cagzhomul_reply_from(self._handle, 0, out, outcome.length).status)
+        return out.raw.decode()
 
     def entry(self, place: int) -> bytes:
         """The code of the log's entry of this place; places count from 1, as in `ok done PLACE`.
@@ -175,6 +412,13 @@ class Session:
             out = ctypes.create_string_buffer(outcome.length)
             _check(_library.cagzhomul_entry(self._handle, at, out, outcome.length).status)
             return out.raw
+
+    def log_length(self) -> int:
+        """How many entries the log has. Raises Closed or NotOpened."""
+        with self._lock:
+            outcome = _library.cagzhomul_log_length(self._handle)
+        _check(outcome.status)
+        return int(outcome.length)
 
     def repeat(self, entry: bytes) -> bool:
         """Repeats an entry of another session's log, given by its code, in this session's world.
@@ -205,27 +449,252 @@ class Session:
         _check(done.status)
         return True
 
-    def close(self) -> None:
-        """Frees the session. A session that is closed stays so."""
+
+class Db(Session):
+    """A store of tables in memory, whose indexes and columns come and go while transactions run. It
+    is a session, too, whose server `python_binding` is the module's own.
+
+    A moment (`now`) is a number of the caller's clock, or a function that gives it; one that is
+    below that of the log's last entry counts as that.
+    """
+
+    def __init__(self, tables: Tables, lease_length: int = 10) -> None:
+        """Opens it, as `open` does."""
+        declared = [_table(*it) for it in tables.items()] if isinstance(tables, Mapping) else list(tables)
+        super().__init__(_opening(lease_length, declared))
+        self._tables = {table.name: number for number, table in enumerate(declared, 1)}
+        self._keys = {table.name: list(table.key) for table in declared}
+        self._names = _Names(self._reply_to("status"))
+
+    def lease(self, now: Moment) -> Lease:
+        """A lease on the newest version, whose columns and indexes transactions and queries under it
+        have. They are at the moment `now`, too, if they name no other: give a clock if time passes.
+
+        Raises Closed, MomentTooLarge or OutOfMemory.
+        """
+        return Lease(self, now)
+
+    def query(self, now: Moment, selection: str) -> List[Row]:
+        """The rows of a query under a lease that it takes: `lease`, and then the lease's `query`."""
+        with self.lease(now) as lease:
+            return lease.query(now, selection)
+
+    def snapshot(self, lease: Lease, now: Moment) -> Snapshot:
+        """What the store holds, under a lease; it is to be closed.
+
+        Raises Closed, MomentTooLarge, BadLease, LeaseEnded or OutOfMemory.
+        """
+        moment, snapshot = _at(now), Snapshot()
+        with lease._lock, self._lock:
+            _check(_library.cagzhomul_snapshot(self._handle, moment, lease._handle, snapshot._handle))
+        return snapshot
+
+    def change(self, change: str, clock: Clock, *, pieces: int = 8, limit: int = 1000) -> Iterator[Step]:
+        """Begins a schema change, and gives the steps that complete it. The change is one that the
+        language's `plan` takes, as `add index by_town on people (town)`; the kept plan is lost.
+
+        `clock` gives the present moment, and is asked before each step. A reorganisation is begun in
+        `pieces` pieces (1 to 64), and a step works `limit` items of one (1 to 1,000). Each step is
+        one short call, so other threads go on. At Waiting it is for the caller to wait. The steps
+        end when no change at all is under way; after an error `resume` goes on.
+
+        Raises BadLine, also for a list of changes; Closed; Unknown, NameTaken, StillIndexed, InChange
+        or OverLimit; MomentTooLarge; VersionsSpent; OutOfMemory. The steps raise what `advance` does.
+        """
+        if ";" in re.sub("'[^']*'", "", change):
+            raise BadLine(_BAD_LINE)
+        steps = self._steps(change, clock, pieces, limit)
+        return itertools.chain([next(steps)], steps)
+
+    def _steps(self, change: str, clock: Clock, pieces: int, limit: int) -> Iterator[Step]:
+        """The first step of the change's plan, and then all that is due."""
+        while early := re.fullmatch(r"refused TooEarly (\d+)\n", reply := self._begin(change, _at(clock))):
+            yield Waiting(int(early[1]))
+        _accepted(reply)
+        yield Acted()
+        yield from self.resume(clock, pieces=pieces, limit=limit)
+
+    def _begin(self, change: str, moment: int) -> str:
+        """The reply to the publication of a plan's first step. Both lines are answered under one lock,
+        so that the plan is of the newest version, and is still the kept one."""
         with self._lock:
-            _library.cagzhomul_close(self._handle)
+            _accepted(self._reply_to(f"plan: {change}"))
+            return self._reply_to(f"next at {moment}")
 
-    @property
-    def is_open(self) -> bool:
-        """Whether lines have replies."""
-        return bool(self._handle.is_open)
+    def resume(self, clock: Clock, *, pieces: int = 8, limit: int = 1000) -> Iterator[Step]:
+        """The steps that complete the changes under way, whoever began them. They raise what
+        `advance` does."""
+        while (done := self.advance(_at(clock), pieces, limit)) is not False:
+            yield Acted() if done is True else Waiting(done)
 
-    def __enter__(self) -> Session:
+
+class Lease(_Owner):
+    """A lease on a version, by `Db.lease`: until it ends, transactions and queries may run under it,
+    from any thread. Columns have the names that they have in this version, whose number is `version`.
+    It is in force from the moment `granted` on and before the moment `until`; the place of its entry
+    in the log is `place`."""
+
+    def __init__(self, db: Db, now: Moment) -> None:
+        super().__init__()
+        moment = _at(now)
+        with db._lock:
+            granted = _library.cagzhomul_lease(db._handle, moment, self._handle)
+            _check(granted.status)
+            if db._names.version != granted.version:
+                db._names = _Names(db._reply_to("status"))
+            self._names = db._names
+        self._db, self._now = db, now
+        self.version, self.granted, self.until, self.place = map(int, (granted.version, granted.granted, granted.until, granted.place))
+
+    def txn(self, now: Optional[Moment] = None) -> Txn:
+        """A transaction without operations yet, at this moment or that of the lease."""
+        return Txn(self, self._now if now is None else now)
+
+    def insert(self, table: str, key: Key, /, **cells: Value) -> Receipt:
+        """Inserts a row by a transaction of its own: as `Txn.insert` and `Txn.commit`."""
+        return self.txn().insert(table, key, **cells).commit()
+
+    def update(self, table: str, key: Key, /, **cells: Value) -> Receipt:
+        """Updates a row by a transaction of its own: as `Txn.update` and `Txn.commit`."""
+        return self.txn().update(table, key, **cells).commit()
+
+    def delete(self, table: str, key: Key, /) -> Receipt:
+        """Deletes a row by a transaction of its own: as `Txn.delete` and `Txn.commit`."""
+        return self.txn().delete(table, key).commit()
+
+    def query(self, now: Moment, selection: str) -> List[Row]:
+        """The rows of a query by rising primary key, each a dict of its key columns and the columns
+        that are selected: `select COLUMNS from TABLE [where CONDITION {and CONDITION}]`, as
+        docs/SCRIPT.md has it. `literal` writes values for it.
+
+        Raises Closed, BadLine, MomentTooLarge, BadLease, LeaseEnded, NoTable; of the first faulty
+        column or condition NotPublic or WrongType; OutOfMemory.
+        """
+        if not self.is_open:
+            raise Closed(_CLOSED)
+        moment, db = _at(now), self._db
+        with db._lock:
+            _accepted(db._reply_to(f"forge python_binding version {self.version} granted {self.granted} until {self.until}"))
+            reply = db._reply_to(f"query python_binding at {moment}: {selection}")
+        table = _TABLE_OF.match(selection)
+        return _rows(reply, db._keys.get(table[1], []) if table else [], self._names)
+
+
+class Txn(_Owner):
+    """Operations under a lease, of which all are committed or none, at most 64, by `Lease.txn`. At
+    the end of a `with` block it is committed, unless the block raised an exception.
+
+    Tables and columns are given by name, and a row by its primary key: one value, or a tuple or list
+    of them. None is no value, and in a column with a default the default. An int is of 64 bits.
+    """
+
+    def __init__(self, lease: Lease, now: Moment) -> None:
+        super().__init__()
+        self._lease, self._now = lease, now
+        self._operations: List[bytes] = []
+        self._unknown: Optional[str] = None
+        self.receipt: Optional[Receipt] = None
+
+    def insert(self, table: str, key: Key, /, **cells: Value) -> Txn:
+        """Adds the insertion of a row: its key, and values by column. Raises WrongStage."""
+        return self._add(0, table, key, cells)
+
+    def update(self, table: str, key: Key, /, **cells: Value) -> Txn:
+        """Adds new values for columns of a row that is there. Raises WrongStage."""
+        return self._add(1, table, key, cells)
+
+    def delete(self, table: str, key: Key, /) -> Txn:
+        """Adds the deletion of a row that is there. Raises WrongStage."""
+        return self._add(2, table, key, None)
+
+    def _add(self, kind: int, table: str, key: Key, cells: Optional[Mapping[str, Value]]) -> Txn:
+        numbers, of_table = self._lease._names.numbers, self._lease._db._tables.get(table, 0)  # 0 is no number
+        values = key if isinstance(key, (tuple, list)) else (key,)
+        code = bytes([kind]) + _number(of_table, 4) + _list([_value(value) for value in values])
+        if cells is not None:
+            code += _list([_number(numbers.get((table, column), 0), 4) + _value(value) for column, value in cells.items()])
+        with self._lock:
+            if self.is_open:
+                raise WrongStage(_WRONG_STAGE)
+            self._operations.append(code)
+            if self._unknown is None:
+                self._unknown = next((column for column in cells or () if (table, column) not in numbers), None)
         return self
 
-    def __exit__(self, _kind: Optional[Type[BaseException]], _error: Optional[BaseException], _trace: Optional[TracebackType]) -> None:
-        self.close()
+    def prepare(self) -> Txn:
+        """Reads the rows that it names and prepares it: the commit is refused as Conflict if any of
+        them has changed by then. It takes no more operations.
 
-    def __del__(self) -> None:
-        if getattr(self, "_handle", None) is not None and _library is not None:
-            _library.cagzhomul_close(self._handle)
+        Raises WrongStage; Closed; of the first faulty operation NoTable, NotPublic or WrongType, but
+        a text that is too long is WrongType before all; TooManyOps; OutOfMemory.
+        """
+        lease, db = self._lease, self._lease._db
+        with self._lock:
+            if self.is_open:
+                raise WrongStage(_WRONG_STAGE)
+            code = b"\1" + _list(self._operations)
+            with lease._lock:
+                status = _library.cagzhomul_transaction(lease._handle, code, len(code), self._handle)
+            # only a text over 1,024 bytes makes a bad code of what this module writes
+            _check(_WRONG_TYPE if status == _BAD_CODE else status)
+            with db._lock:
+                status = _library.cagzhomul_read(db._handle, self._handle)
+            prepared = _library.cagzhomul_prepare(self._handle) if status == _OK else _Prepared(status, 0)
+            if prepared.status:
+                _library.cagzhomul_close(self._handle)
+        if prepared.status == _NOT_PUBLIC:
+            raise NotPublic(lease._names.by_number.get(prepared.column) if prepared.column else self._unknown)
+        _check(prepared.status)
+        return self
+
+    def commit(self, now: Optional[Moment] = None) -> Receipt:
+        """Commits it, at this moment or its own, and prepares it first if it is not. The receipt is in
+        `receipt`, too. A call after a refusal makes the transaction again.
+
+        Raises what `prepare` does, and then Closed, MomentTooLarge, BadLease, LeaseEnded, WrongSchema,
+        Conflict, OutOfMemory, which may come in place of the one before it, Duplicate or NoRow.
+        """
+        moment, db = _at(self._now if now is None else now), self._lease._db
+        if not self.is_open:
+            self.prepare()
+        with self._lock:
+            with db._lock:
+                done = _library.cagzhomul_commit(db._handle, moment, self._handle)
+            if self.is_open:
+                _library.cagzhomul_close(self._handle)
+            if done.status in (_DUPLICATE, _NO_ROW):
+                raise (Duplicate if done.status == _DUPLICATE else NoRow)(done.status, done.operation)
+            _check(done.status)
+            self.receipt = Receipt(done.place)
+            return self.receipt
+
+    def __exit__(self, kind: Optional[Type[BaseException]], _error: Optional[BaseException], _trace: Optional[TracebackType]) -> None:
+        try:
+            if kind is None and self.receipt is None:
+                self.commit()
+        finally:
+            self.close()
 
 
-def open() -> Session:
-    """A new session, before its line `open`. Raises OutOfMemory."""
-    return Session()
+def retry(attempts: int, attempt: Callable[[], _Result]) -> _Result:
+    """Makes an attempt up to so many times, at least once: again as long as it raises Conflict."""
+    for _ in range(attempts - 1):
+        try:
+            return attempt()
+        except Conflict:
+            pass
+    return attempt()
+
+
+@overload
+def open() -> Session: ...
+@overload
+def open(tables: Tables, lease_length: int = 10) -> Db: ...
+def open(tables: Optional[Tables] = None, lease_length: int = 10) -> Session:
+    """A new session, before its line `open`, or a store with these tables.
+
+    The tables are `Table`s, or columns by the names of tables: `{"people": {"id": "int key", "town":
+    "text"}}`. A lease lasts `lease_length` moments, from 1 to 2^32, and each version stays the newest
+    for as long. Raises BadTable, BadLength or OutOfMemory, and ValueError for another type.
+    """
+    return Session() if tables is None else Db(tables, lease_length)

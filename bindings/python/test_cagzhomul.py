@@ -1,9 +1,27 @@
 """Run by `python3 -m unittest` in this folder, with CAGZHOMUL_LIBRARY set."""
 
+import os
+import re
 import threading
 import unittest
 
 import cagzhomul
+
+HEADER = os.path.join(os.path.dirname(os.path.abspath(__file__)), "..", "..", "include", "cagzhomul.h")
+# The texts of the statuses, from 0.
+TEXTS = """ok; bad line; the handle is closed; the handle is open already; the line is not UTF-8; out of memory; no world is open yet
+the log has no such place; the bytes are the code of no entry; no call of this world would add the entry
+changes are under way, and nothing can be done yet; no change is under way; the pieces are not 1 to 64, or the limit is not 1 to 1,000
+the moment is above 2^62; no version is left; the handle holds something of another kind; the work is not at the stage that the call takes
+the bytes are no code of what they should be; the declaration breaks a limit, or uses a name twice; the lease length is not from 1 to 2^32
+no such table; a named column is not a public column of its table; a value of another type, or a column named twice; more than 64 operations
+what was read is not what the transaction reads; no grant could have given the lease; the lease has ended
+prepared under another schema than that of the lease's version; a pair changed since it was read; a row of this key is there
+no row of this key is there; the newest version has not been the newest for a full lease length; no such table, element or column
+no move joins the two states; a move of the other way; another element stands against it; the name is taken
+a name, a list, a default or a count is over its limit; a reorganisation that the step needs is not finished
+the element wants no reorganisation, or none has begun; the version before may still be used; the reorganisation has begun; no such piece
+the piece has ended; the piece is not one of the element's reorganisation; the piece has moved since it was read""".replace("\n", "; ").split("; ")
 
 # Each has its version, 1, and then the moment. A lease is version 1 from 5 until 15.
 LEASE = "01 0000000000000005 00 0000000000000001 0000000000000005 000000000000000f"
@@ -67,13 +85,18 @@ class Sessions(unittest.TestCase):
         self.assertTrue(issubclass(cagzhomul.OutOfMemory, MemoryError))
 
     def test_every_number_has_a_text(self) -> None:
-        texts = ["ok", "bad line", "the handle is closed", "the handle is open already", "the line is not UTF-8", "out of memory"]
-        texts += ["no world is open yet", "the log has no such place", "the bytes are the code of no entry", "no call of this world would add the entry"]
-        texts += ["changes are under way, and nothing can be done yet", "no change is under way", "the pieces are not 1 to 64, or the limit is not 1 to 1,000"]
-        texts += ["the moment is above 2^62", "no version is left"]
-        self.assertEqual([cagzhomul.text_of(status) for status in range(15)], texts)
-        self.assertNotIn("no status", [cagzhomul.text_of(status) for status in range(46)])
+        self.assertEqual([cagzhomul.text_of(status) for status in range(46)], TEXTS)
         self.assertEqual({cagzhomul.text_of(status) for status in (-1, 46, 2**31 - 1, -(2**31))}, {"no status"})
+
+    def test_the_header_is_declared(self) -> None:
+        with open(HEADER, encoding="utf-8") as file:
+            header = re.sub(r"/\*.*?\*/", "", file.read(), flags=re.S)
+        functions = {name: words.count(",") + 1 for name, words in re.findall(r"\bcagzhomul_(\w+)\(([^()]*)\);", header)}
+        self.assertEqual({name: len(parameters) for name, (_, parameters) in cagzhomul._FUNCTIONS.items()}, functions)
+        statuses = {int(number): name.title().replace("_", "") for name, number in re.findall(r"\bCAGZHOMUL_(\w+) = (\d+)", header)}
+        self.assertEqual(len(statuses), 46)
+        for number, error in cagzhomul._ERRORS.items():
+            self.assertEqual(error.__name__, statuses[number])
 
     def test_threads_share_a_session(self) -> None:
         with cagzhomul.open() as session:
