@@ -1,11 +1,10 @@
-/* Refuses each allocation of a short session, and of another one that repeats its log and
-   carries the change under way to its end, one in each run (linked with --wrap for malloc, calloc and realloc), and looks at what the call that met the
-   refusal left: a status, and a handle that is closed, or usable with nothing changed. Also the
-   calls' other refusals. It prints how many allocations were refused, and ends with 0 if all was as
+/* Refuses each allocation of a short session, and of another one that repeats its log and carries the
+   change under way to its end, one in each run, and looks at what the call that met the refusal
+   left: a status, and a handle that is closed, or usable with nothing changed. Also the calls' other
+   refusals. It prints how many allocations were refused, and ends with 0 if all was as
    include/cagzhomul.h says. */
 #include "cagzhomul.h"
-#include <stdio.h>
-#include <stdlib.h>
+#include "refusing.h"
 #include <string.h>
 
 enum { ROOM = 512, FILL = 0x5a };
@@ -29,32 +28,7 @@ static const char *const LINES[] = {
 enum { MANY = sizeof LINES / sizeof *LINES, OPEN = 2, ENTRIES = 6 };
 
 static char replies[MANY][ROOM];
-static long count, refused;
-static int is_reached, is_ample, wrong;
 static long ended, refused_lines, refused_calls;
-
-void *__real_malloc(size_t);
-void *__real_calloc(size_t, size_t);
-void *__real_realloc(void *, size_t);
-void *__wrap_malloc(size_t);
-void *__wrap_calloc(size_t, size_t);
-void *__wrap_realloc(void *, size_t);
-
-static int is_refused(void) {
-    if (is_ample || ++count != refused) return 0;
-    is_reached = 1;
-    return 1;
-}
-
-void *__wrap_malloc(size_t size) { return is_refused() ? NULL : __real_malloc(size); }
-void *__wrap_calloc(size_t many, size_t size) { return is_refused() ? NULL : __real_calloc(many, size); }
-void *__wrap_realloc(void *old, size_t size) { return is_refused() ? NULL : __real_realloc(old, size); }
-
-static void check(int holds, const char *what) {
-    if (holds) return;
-    fprintf(stderr, "allocation %ld refused: not so: %s\n", refused, what);
-    wrong++;
-}
 
 static cagzhomul_outcome ask(cagzhomul_handle *handle, const char *line, uint8_t *out) {
     memset(out, FILL, ROOM);

@@ -1,41 +1,15 @@
 /* One writer by typed calls: opens tables, takes a lease, commits transactions, meets a conflict and
-   refusals by the rows, looks at the result by lines on the same handle, and lets an index enter. Each allocation is
-   refused in turn, one in each run (linked with --wrap for malloc, calloc and realloc): the call that
-   met it answers CAGZHOMUL_OUT_OF_MEMORY, changed nothing, and is made again. All values are worked
-   out by hand. It prints how many allocations were refused, and ends with 0 if all was as
+   refusals by the rows, looks at the result by lines on the same handle, and lets an index enter.
+   Each allocation is refused in turn, one in each run: the call that met it answers
+   CAGZHOMUL_OUT_OF_MEMORY, changed nothing, and is made again. All values are worked out by hand. It prints how many allocations were refused, and ends with 0 if all was as
    include/cagzhomul.h says. */
 #include "cagzhomul.h"
 #include "codes.h"
-#include <stdio.h>
-#include <stdlib.h>
+#include "refusing.h"
 
 enum { ROOM = 512 };
 
-static long count, refused, again;
-static int is_reached, is_ample, wrong;
-
-void *__real_malloc(size_t);
-void *__real_calloc(size_t, size_t);
-void *__real_realloc(void *, size_t);
-void *__wrap_malloc(size_t);
-void *__wrap_calloc(size_t, size_t);
-void *__wrap_realloc(void *, size_t);
-
-static int is_refused(void) {
-    if (is_ample || ++count != refused) return 0;
-    is_reached = 1;
-    return 1;
-}
-
-void *__wrap_malloc(size_t size) { return is_refused() ? NULL : __real_malloc(size); }
-void *__wrap_calloc(size_t many, size_t size) { return is_refused() ? NULL : __real_calloc(many, size); }
-void *__wrap_realloc(void *old, size_t size) { return is_refused() ? NULL : __real_realloc(old, size); }
-
-static void check(int holds, const char *what) {
-    if (holds) return;
-    fprintf(stderr, "allocation %ld refused: not so: %s\n", refused, what);
-    wrong++;
-}
+static long again;
 
 /* Whether memory ran out, and the call is to be made again. */
 static int is_short(int32_t status) {
