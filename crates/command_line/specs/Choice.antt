@@ -13,6 +13,13 @@ is_named (program ∷ word ∷ rest) name = bytes_eq (string_bytes word) name
 is_named (program ∷ []) name = false
 is_named [] name = false
 
+-- a load with each number of its size in its range
+abbrev pub IsLoad : Chosen → Type 0
+IsLoad (Run file stops) = ⊥
+IsLoad (Prompt file) = ⊥
+IsLoad (Load size timed) = IsLoadSize size
+IsLoad Rollout = ⊥
+
 -- Each is chosen only by its word, and each number of a load's size is in its range.
 abbrev pub IsChoiceOf : List (String Global) → Chosen → Type 0
 IsChoiceOf words (Run file stops) = IsTrue (is_named words (codes "run"))

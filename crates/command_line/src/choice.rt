@@ -1,7 +1,7 @@
 //! What the words of a command line choose.
 ghost use Rattle.std.specs.Prelude.{◌≡◌, ◌≤◌, IfOk};
 ghost use Rattle.clap.specs.Words.{kind_of};
-ghost use Rattle.command_line.specs.Choice.{IsChoiceOf, is_named};
+ghost use Rattle.command_line.specs.Choice.{IsChoiceOf, IsLoad, is_named};
 ghost use Rattle.command_line.specs.LoadSize.{IsLoadSize};
 ghost use Rattle.command_line.specs.Status.{status_after};
 
@@ -84,24 +84,30 @@ fn number<'a>(
         .help(about)
 }
 
+// The options of `load` that are numbers: long and short name, the greatest number, the default, and
+// the help.
+const NUMBERS: [(&str, char, u32, &str, &str); 5] = [
+    ("servers", 's', MAX_SERVERS, "4", help::SERVERS),
+    ("rows", 'r', MAX_ROWS, "1000", help::ROWS),
+    ("pieces", 'p', MAX_PIECES, "6", help::PIECES),
+    ("workers", 'w', MAX_WORKERS, "3", help::WORKERS),
+    ("limit", 'l', MAX_LIMIT, "50", help::LIMIT),
+];
+
 fn load_command<'a>(alloc: Global) -> Result<Command<'a>, AllocError> {
-    Command::new(alloc, "load")
+    let mut command = Command::new(alloc, "load")
         .about(help::ABOUT_LOAD)
-        .after_help(help::LOADS)
-        .arg(number(alloc, "servers", 's', MAX_SERVERS, "4", help::SERVERS))?
-        .arg(number(alloc, "rows", 'r', MAX_ROWS, "1000", help::ROWS))?
-        .arg(number(alloc, "pieces", 'p', MAX_PIECES, "6", help::PIECES))?
-        .arg(number(alloc, "workers", 'w', MAX_WORKERS, "3", help::WORKERS))?
-        .arg(number(alloc, "limit", 'l', MAX_LIMIT, "50", help::LIMIT))?
-        .arg(flag(alloc, "time", 't', help::TIME))
+        .after_help(help::LOADS);
+    for (name, short, most, default, about) in NUMBERS {
+        command = command.arg(number(alloc, name, short, most, default, about))?;
+    }
+    command.arg(flag(alloc, "time", 't', help::TIME))
 }
 
-fn rollout_command<'a>(alloc: Global) -> Result<Command<'a>, AllocError> {
-    Ok(
-        Command::new(alloc, "rollout")
-            .about(help::ABOUT_ROLLOUT)
-            .after_help(help::ROLLOUTS),
-    )
+fn rollout_command<'a>(alloc: Global) -> Command<'a> {
+    Command::new(alloc, "rollout")
+        .about(help::ABOUT_ROLLOUT)
+        .after_help(help::ROLLOUTS)
 }
 
 // The number of an option, or else the name of that option.
@@ -149,17 +155,36 @@ fn names(words: &[String], name: &str) -> bool
     }
 }
 
+// The subcommands.
+#[derive(Clone, Copy)]
+enum Task {
+    Run,
+    Prompt,
+    Load,
+    Rollout,
+}
+
+fn subcommand_of<'a>(alloc: Global, task: Task) -> Result<Command<'a>, AllocError> {
+    match task {
+        Task::Run => run_command(alloc),
+        Task::Prompt => prompt_command(alloc),
+        Task::Load => load_command(alloc),
+        Task::Rollout => Ok(rollout_command(alloc)),
+    }
+}
+
 fn command_of<'a>(alloc: Global) -> Result<Command<'a>, AllocError> {
-    Command::new(alloc, "shell")
+    let mut command = Command::new(alloc, "shell")
         .bin_name("shell")?
         .version(help::VERSION)
         .about(help::ABOUT)
         .after_help(help::STATUSES)
-        .subcommand_required(true)
-        .subcommand(run_command(alloc)?)?
-        .subcommand(prompt_command(alloc)?)?
-        .subcommand(load_command(alloc)?)?
-        .subcommand(rollout_command(alloc)?)
+        .subcommand_required(true);
+    for task in [Task::Run, Task::Prompt, Task::Load, Task::Rollout] {
+        let subcommand = subcommand_of(alloc, task)?;
+        command = command.subcommand(subcommand)?;
+    }
+    Ok(command)
 }
 
 // The file of a subcommand, if it names one.
@@ -177,6 +202,51 @@ fn has_flag(matches: &ArgMatches<'_>, name: &str, option: &str) -> bool {
     }
 }
 
+// What `load` chooses.
+fn load_choice<'a>(
+    alloc: Global,
+    matches: &ArgMatches<'a>,
+    is_timed: bool,
+) -> Result<Chosen<'a>, Error>
+    ensures { IfOk result IsLoad }
+{
+    match load_size(matches) {
+        Ok(size) => Ok(Chosen::Load { size, is_timed }),
+        Err(name) => Err(refusal(alloc, matches, name)?),
+    }
+}
+
+// What words choose that clap took.
+fn choice_of<'a>(
+    alloc: Global,
+    command: &mut Command<'a>,
+    matches: &ArgMatches<'a>,
+    words: &[String],
+) -> Result<Chosen<'a>, Error>
+    ensures { IfOk result (IsChoiceOf words.now) }
+{
+    if names(words, "run") {
+        let stops = has_flag(matches, "run", "stop");
+        let file = file_of(matches, "run");
+        return Ok(Chosen::Run { file, stops });
+    }
+    if names(words, "prompt") {
+        let file = file_of(matches, "prompt");
+        return Ok(Chosen::Prompt { file });
+    }
+    if names(words, "rollout") {
+        return Ok(Chosen::Rollout);
+    }
+    let is_timed = has_flag(matches, "load", "time");
+    match matches.subcommand_matches("load") {
+        Some(load) if names(words, "load") => load_choice(alloc, load, is_timed),
+        _ => Err(command.error(
+            ErrorKind::InvalidSubcommand,
+            "none of 'run', 'prompt', 'load' and 'rollout'",
+        )?),
+    }
+}
+
 /// What the words of a command line choose, the program's own name first. An `Err` is what to
 /// print: the help that was asked for, or why the words are refused. What clap makes of words is
 /// said by no contract, and shown by tests: hence the words themselves are asked for what they
@@ -186,29 +256,7 @@ pub fn options<'a>(alloc: Global, words: &'a [String]) -> Result<Chosen<'a>, Err
 {
     let mut command = command_of(alloc)?;
     let matches = command.try_get_matches_from_mut(words)?;
-    if names(words, "run") {
-        let stops = has_flag(&matches, "run", "stop");
-        let file = file_of(&matches, "run");
-        return Ok(Chosen::Run { file, stops });
-    }
-    if names(words, "prompt") {
-        let file = file_of(&matches, "prompt");
-        return Ok(Chosen::Prompt { file });
-    }
-    if names(words, "rollout") {
-        return Ok(Chosen::Rollout);
-    }
-    let is_timed = has_flag(&matches, "load", "time");
-    match matches.subcommand_matches("load") {
-        Some(load) if names(words, "load") => match load_size(load) {
-            Ok(size) => Ok(Chosen::Load { size, is_timed }),
-            Err(name) => Err(refusal(alloc, load, name)?),
-        },
-        _ => Err(command.error(
-            ErrorKind::InvalidSubcommand,
-            "none of 'run', 'prompt', 'load' and 'rollout'",
-        )?),
-    }
+    choice_of(alloc, &mut command, &matches, words)
 }
 
 /// The exit status after a command line that chooses nothing: 0 if help was asked for, 2 if
