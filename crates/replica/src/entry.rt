@@ -108,6 +108,14 @@ fn repeat_call(
 
 /// A world that repeats the log of another one, entry by entry.
 pub trait Repeat {
+    ghost use Rattle.std.specs.Prelude.{Result};
+    ghost use Rattle.replay.specs.declared.entry.Entry.{Entry};
+    ghost use Rattle.world.specs.declared.entry.Receipt.{Receipt};
+    ghost use Rattle.replica.specs.declared.fault.RepeatFault.{RepeatFault};
+
+    // what repeating an entry answers, and what it leaves
+    ghost step: { Self → Entry → Result Receipt RepeatFault → Self → Type 0 };
+
     /// Repeats an entry of a world that was opened alike and had the same log: makes the call of
     /// the entry again at the entry's moment, so that the log has exactly this entry more and the
     /// pairs are those that it gives. The lease, the operations, the step or the piece are the
@@ -119,13 +127,14 @@ pub trait Repeat {
     /// Refused with `NotNext` if no accepted call of this world would add the entry at its moment,
     /// for instance if the last entry has a later moment; or with `Memory`, which may come in its
     /// place. A refusal changes nothing.
-    fn repeat(&mut self, alloc: Global, entry: &Entry) -> Result<Receipt, RepeatFault>;
+    fn repeat(&mut self, alloc: Global, entry: &Entry) -> Result<Receipt, RepeatFault>
+        ensures { step self.old entry.now result self.new };
 }
 
 impl Repeat for World {
-    fn repeat(&mut self, alloc: Global, entry: &Entry) -> Result<Receipt, RepeatFault>
-        ensures step { RepeatStep self.old entry.now result self.new }
-    {
+    ghost step = { RepeatStep };
+
+    fn repeat(&mut self, alloc: Global, entry: &Entry) -> Result<Receipt, RepeatFault> {
         let now = entry.moment;
         if now < self.moment() {
             return Err(RepeatFault::NotNext);
