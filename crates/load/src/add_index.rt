@@ -74,8 +74,40 @@ fn begin<L: SharedLedger, R: Wait>(
     }
 }
 
-// Up to the begin of the fill: the index enters at 10, is written from 20 on, and its fill begins
-// at 30, each after a lease.
+/// What is done to the index before it is filled.
+#[derive(Clone, Copy)]
+enum Act {
+    /// It enters, at 10.
+    Enter,
+    /// It is written from 20 on.
+    Write,
+    /// Its fill begins, at 30.
+    Begin,
+}
+
+// These acts, each with the moment of the lease that is taken before it.
+const ACTS: [(u64, Act); 3] = [(9, Act::Enter), (19, Act::Write), (29, Act::Begin)];
+
+// One of these acts.
+fn perform<L: SharedLedger, R: Wait>(
+    rt: &R,
+    alloc: Global,
+    shared: &Shared<L>,
+    me: &mut Handle<L>,
+    act: Act,
+    pieces: u32,
+) -> Result<Receipt, LoadFault> {
+    match act {
+        Act::Enter => publish(rt, alloc, shared, me, 10, &index_step(alloc)?),
+        Act::Write => {
+            let written = state_step(alloc, ElementState::WriteOnly)?;
+            publish(rt, alloc, shared, me, 20, &written)
+        }
+        Act::Begin => begin(rt, alloc, shared, me, pieces),
+    }
+}
+
+// All of them, up to the begin of the fill.
 fn enter<L: SharedLedger, R: Wait>(
     rt: &R,
     alloc: Global,
@@ -84,13 +116,10 @@ fn enter<L: SharedLedger, R: Wait>(
     pieces: u32,
     receipts: &mut Vec<Receipt>,
 ) -> Result<(), LoadFault> {
-    receipts.push(lease(rt, alloc, shared, me, 9)?)?;
-    receipts.push(publish(rt, alloc, shared, me, 10, &index_step(alloc)?)?)?;
-    receipts.push(lease(rt, alloc, shared, me, 19)?)?;
-    let written = state_step(alloc, ElementState::WriteOnly)?;
-    receipts.push(publish(rt, alloc, shared, me, 20, &written)?)?;
-    receipts.push(lease(rt, alloc, shared, me, 29)?)?;
-    receipts.push(begin(rt, alloc, shared, me, pieces)?)?;
+    for (before, act) in ACTS {
+        receipts.push(lease(rt, alloc, shared, me, before)?)?;
+        receipts.push(perform(rt, alloc, shared, me, act, pieces)?)?;
+    }
     Ok(())
 }
 

@@ -59,7 +59,7 @@ fn settle_all(
 }
 
 // The receipts of all lists.
-fn gather(lists: Vec<List<Receipt>>, receipts: &mut Vec<Receipt>) -> Result<(), AllocError> {
+fn gather(lists: Vec<List<Receipt>>, receipts: &mut Vec<Receipt>) -> Result<(), LoadFault> {
     for list in lists {
         let mut list = list.into_vec();
         receipts.append(&mut list)?;
@@ -95,21 +95,12 @@ fn worse(one: Result<(), LoadFault>, other: Result<(), LoadFault>) -> Result<(),
     }
 }
 
-// Both sides put together.
-fn join_handles<L: SharedLedger>(
-    alloc: Global,
+// The handles of the servers, with their receipts kept, and whether all went well.
+fn settle_served<L: SharedLedger>(
     served: Result<Served<L>, (ServeFault, Vec<Handle<L>>)>,
-    added: Added<L>,
-) -> Result<Done<L>, AllocError> {
-    let Added {
-        me,
-        mut fill_handles,
-        mut receipts,
-        pieces,
-        outcome,
-    } = added;
-    gather(pieces, &mut receipts)?;
-    let (mut handles, settled) = match served {
+    receipts: &mut Vec<Receipt>,
+) -> (Vec<Handle<L>>, Result<(), LoadFault>) {
+    match served {
         Ok(
             Served {
                 outcomes,
@@ -117,18 +108,44 @@ fn join_handles<L: SharedLedger>(
                 receipts: leases,
             },
         ) => {
-            gather(leases, &mut receipts)?;
-            (handles, settle_all(outcomes, &mut receipts))
+            let gathered = gather(leases, receipts);
+            (handles, worse(settle_all(outcomes, receipts), gathered))
         }
         Err((ServeFault::Memory, handles)) => (handles, Err(LoadFault::Memory)),
         Err((ServeFault::BadCount, handles)) => (handles, Err(LoadFault::Refused)),
-    };
+    }
+}
+
+// All handles in one list.
+fn all_handles<L: SharedLedger>(
+    servers: Vec<Handle<L>>,
+    me: Handle<L>,
+    fill_handles: Vec<Handle<L>>,
+) -> Result<Vec<Handle<L>>, LoadFault> {
+    let (mut handles, mut fill_handles) = (servers, fill_handles);
     handles.push(me)?;
     handles.append(&mut fill_handles)?;
+    Ok(handles)
+}
+
+// Both sides put together.
+fn join_handles<L: SharedLedger>(
+    served: Result<Served<L>, (ServeFault, Vec<Handle<L>>)>,
+    added: Added<L>,
+) -> Result<Done<L>, LoadFault> {
+    let Added {
+        me,
+        fill_handles,
+        mut receipts,
+        pieces,
+        outcome,
+    } = added;
+    let (servers, settled) = settle_served(served, &mut receipts);
+    let gathered = gather(pieces, &mut receipts);
     Ok(Done {
-        handles,
+        handles: all_handles(servers, me, fill_handles)?,
         receipts,
-        outcome: worse(settled, outcome),
+        outcome: worse(worse(settled, gathered), outcome),
     })
 }
 
@@ -155,7 +172,7 @@ fn at_once<L: SharedLedger + Send + Sync, R: Threads + Wait + Eprint + Sync>(
         move || serve(rt, alloc, shared, handles, requests, TRIES, &bar),
         move || add_index(rt, alloc, shared, me, fill_handles, size, is_shown),
     );
-    Ok(join_handles(alloc, served, added)?)
+    join_handles(served, added)
 }
 
 // Whether there are as many receipts as entries, and what is wrong with them, if anything is. If
@@ -207,6 +224,7 @@ fn load_in<L: SharedLedger + Send + Sync, R: Threads + Wait + Eprint + Sync>(
     blank: Blank,
     world: World,
     count: u64,
+    requests: &[Request],
     size: LoadSize,
     is_shown: bool,
 ) -> Result<Report, LoadFault>
@@ -214,7 +232,6 @@ fn load_in<L: SharedLedger + Send + Sync, R: Threads + Wait + Eprint + Sync>(
     requires parts { blank.parts ≡ L.parts }
     requires picked { (L.handles ≡ count) × (L.handles ≡ L.parts) × (L.opening ≡ world.opening) × (L.since ≡ length world.log) }
 {
-    let requests = inserts(alloc, size.rows)?;
     let Ok((shared, handles)) = Shared::<L>::new(alloc, blank, world, count) else {
         return Err(LoadFault::Memory);
     };
@@ -222,15 +239,7 @@ fn load_in<L: SharedLedger + Send + Sync, R: Threads + Wait + Eprint + Sync>(
         handles,
         receipts,
         outcome,
-    } = at_once(
-        rt,
-        alloc,
-        &shared,
-        handles,
-        requests.as_slice(),
-        size,
-        is_shown,
-    )?;
+    } = at_once(rt, alloc, &shared, handles, requests, size, is_shown)?;
     match shared.close(handles) {
         Ok(world) => check_receipts(alloc, &world, receipts.as_slice(), outcome),
         Err(_) => Err(LoadFault::Refused),
@@ -246,9 +255,12 @@ fn load<R: Threads + Wait + Eprint + Sync>(
 ) -> Result<Report, LoadFault>
     requires { IsLoadSize size }
 {
+    let requests = inserts(alloc, size.rows)?;
     let world = open_world(alloc)?;
     let count = u64::from(size.servers + size.workers + 1);
-    load_in::<Brand, R>(rt, alloc, Blank::new(count), world, count, size, is_shown)
+    let blank = Blank::new(count);
+    let requests = requests.as_slice();
+    load_in::<Brand, R>(rt, alloc, blank, world, count, requests, size, is_shown)
 }
 
 /// Runs a load: it opens the table t (id int key, a int), has servers insert rows, each by a

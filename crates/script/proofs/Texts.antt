@@ -13,7 +13,7 @@ use Rattle.script_session.specs.Session.{Session, empty}
 use Rattle.script_session.specs.Replies.{Reply}
 use Rattle.script.specs.Script.{Replies, IsCutTextOf, limit}
 
-pub one_more : (s : Session) (ls : List (List ℕ)) (text : List ℕ) (bad : ℕ) (t : Session) (l reply : List ℕ) (b : Bool) (u : Session) → Replies s ls text bad t → Reply t l reply b u → Replies s (ls ++ l ∷ []) (text ++ reply) (bad + cond b 1 0) u
+one_more : (s : Session) (ls : List (List ℕ)) (text : List ℕ) (bad : ℕ) (t : Session) (l reply : List ℕ) (b : Bool) (u : Session) → Replies s ls text bad t → Reply t l reply b u → Replies s (ls ++ l ∷ []) (text ++ reply) (bad + cond b 1 0) u
 one_more s [] text bad t l reply b u h r =
     (reply, b, u, [], 0, subst (λ v. Reply v l reply b u) h.2 r, (refl, refl, refl), ap (λ x. x ++ reply) h.0 ∙ sym (append-nil reply), ap (λ n. n + cond b 1 0) h.1 ∙ omega arith)
 one_more s (x ∷ ls) text bad t l reply b u h r =
@@ -57,9 +57,6 @@ byte_is false = refl
 pub byte_few : (b : Bool) (n : ℕ) → n ≡ bool_byte b → n ≤ 1
 byte_few true n e = omega arith
 byte_few false n e = omega arith
-
-pub one_more_counted : (s : Session) (ls : List (List ℕ)) (text : List ℕ) (bad : ℕ) (t : Session) (l reply : List ℕ) (b : Bool) (u : Session) (n : ℕ) → n ≡ bool_byte b → Replies s ls text bad t → Reply t l reply b u → Replies s (ls ++ l ∷ []) (text ++ reply) (bad + n) u
-one_more_counted s ls text bad t l reply b u n e h r = let P : ℕ → Type 0 = λ k. Replies s (ls ++ l ∷ []) (text ++ reply) (bad + k) u in subst P (sym (e ∙ byte_is b)) (one_more s ls text bad t l reply b u h r)
 
 pub goes_on : (prefix left : List (List ℕ)) (x : List ℕ) (more all : List (List ℕ)) → all ≡ prefix ++ left → left ≡ x ∷ more → all ≡ (prefix ++ x ∷ []) ++ more
 goes_on prefix left x more all e l = e ∙ ap (λ y. prefix ++ y) l ∙ sym (append_assoc {A = List ℕ} prefix (x ∷ []) more)

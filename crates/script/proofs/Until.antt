@@ -20,7 +20,7 @@ use Rattle.script.specs.declared.watched.Verdict.{Verdict}
 use Rattle.script.proofs.Texts.{byte_is, cut_before, cut_within, goes_on, lines_fit, next_line, no_line}
 
 -- they gave these replies
-replied : (stops : Bool) (s : Session) (ls : List (List ℕ)) (text : List ℕ) (bad : ℕ) (t : Session) → Passing stops s ls text bad t → Replies s ls text bad t
+pub replied : (stops : Bool) (s : Session) (ls : List (List ℕ)) (text : List ℕ) (bad : ℕ) (t : Session) → Passing stops s ls text bad t → Replies s ls text bad t
 replied stops s [] text bad t h = h
 replied stops s (x ∷ ls) text bad t h = (h.0, h.1, h.2, h.3, h.4, h.5, replied stops h.2 ls h.3 h.4 t h.7, h.8, h.9)
 

@@ -48,16 +48,7 @@ IsCutTextOf input out =
     (prefix : List (List ℕ)) × (back : List (List ℕ)) × (text : List ℕ) × (bad : ℕ) × (new : Session) × (cut : List ℕ)
     × (lines input ≡ prefix ++ back) × Replies empty prefix text bad new × (text ≡ out ++ cut)
 
--- What is written for an input that is a script, and how the call ends.
-abbrev pub Answered : List ℕ → List ℕ → Result Summary ScriptFault → Type 0
-Answered input out (Ok s) = IsTextOf input out s.bad × (s.lines ≡ length (lines input))
-Answered input out (Err Read) = ⊥
-Answered input out (Err TooLong) = ⊥
-Answered input out (Err NotUtf8) = ⊥
-Answered input out (Err Write) = IsCutTextOf input out
-Answered input out (Err Memory) = IsCutTextOf input out
-
--- The same for any input.
+-- What is written for any input, and how the call ends.
 abbrev pub Reported : List ℕ → List ℕ → Result Summary ScriptFault → Type 0
 Reported input out (Ok s) = (length input ≤ limit) × IsUtf8 input × IsTextOf input out s.bad × (s.lines ≡ length (lines input))
 Reported input out (Err Read) = out ≡ []
@@ -66,6 +57,6 @@ Reported input out (Err NotUtf8) = (length input ≤ limit) × (IsUtf8 input →
 Reported input out (Err Write) = (length input ≤ limit) × IsUtf8 input × IsCutTextOf input out
 Reported input out (Err Memory) = IsCutTextOf input out
 
--- What was written is what Told says of the bytes that were left to read, where those are known.
+-- What was written, if the bytes that were left to read are known.
 abbrev pub Ran : Option (List ℕ) → Option (List ℕ) → Option (List ℕ) → Result Summary ScriptFault → Type 0
 Ran input old new result = (out : List ℕ) × Appends old new out × IfSome input (λ bytes. Reported bytes out result)

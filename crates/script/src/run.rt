@@ -1,8 +1,9 @@
 //! A script from its bytes to the bytes of its replies.
-ghost use Rattle.std.specs.Prelude.{◌≡◌, ◌++◌, ◌+◌, ◌<◌, ◌≤◌, List, ℕ, length, IfOk, IfErr, OnOk, OnErr};
-ghost use Rattle.std.specs.Io.KnownBytes.{Keeps, Appends};
-ghost use Rattle.script.specs.Script.{limit, Answered, Ran, IsRead, AppendsPrefix};
+ghost use Rattle.std.specs.Prelude.{◌≡◌, ◌≤◌, length, IfOk, IfErr, OnOk, OnErr};
+ghost use Rattle.std.specs.Io.KnownBytes.{Appends};
+ghost use Rattle.script.specs.Script.{limit, Ran, IsRead, AppendsPrefix};
 
+use crate::watched::{Ending, Report, Watch, run_watched};
 use script_session::Session;
 use std::alloc::Global;
 use std::io::{Read, Write};
@@ -35,6 +36,14 @@ pub enum ScriptFault {
     /// Memory ran out; a start of the replies was written.
     #[error("memory")]
     Memory,
+}
+
+// No reports.
+#[derive(Drop)]
+struct NoReports;
+
+impl Report for NoReports {
+    fn report(&mut self, _: Global, _: &Session, _: u64, _: &str, _: &str) {}
 }
 
 // The longest script, in bytes.
@@ -85,25 +94,6 @@ pub(crate) fn write_all<W: Write>(writer: &mut W, text: &[u8]) -> Result<(), Scr
     Ok(())
 }
 
-/// Answers each line, and writes each answer before the next line is read.
-fn answer_lines<W: Write>(alloc: Global, text: &str, writer: &mut W) -> Result<Summary, ScriptFault>
-    requires { length text.now ≤ limit }
-    ensures { (out : List ℕ) × Appends (W.contents writer.old) (W.contents writer.new) out × Answered text.now out result }
-{
-    let mut session = Session::new(alloc);
-    let mut lines = 0u64;
-    let mut bad = 0u64;
-    for line in text.lines() {
-        let Ok(answer) = session.reply_to(alloc, line) else {
-            return Err(ScriptFault::Memory);
-        };
-        write_all(writer, answer.text.as_str().as_bytes())?;
-        lines += 1;
-        bad += u64::from(answer.is_bad);
-    }
-    Ok(Summary { lines, bad })
-}
-
 /// Reads a script to its end, and writes the reply to each line when the line is done.
 ///
 /// Refused if the reader fails (`Read`), and then if the script is too long (`TooLong`) or no
@@ -116,9 +106,10 @@ pub fn run_script<R: Read, W: Write>(
 ) -> Result<Summary, ScriptFault>
     ensures { Ran (R.remaining reader.old) (W.contents writer.old) (W.contents writer.new) result }
 {
-    let bytes = read_all(alloc, reader)?;
-    let Ok(text) = std::str::from_utf8(bytes.as_slice()) else {
-        return Err(ScriptFault::NotUtf8);
+    let mut watch = Watch {
+        reports: NoReports,
+        stops: false,
     };
-    answer_lines(alloc, text, writer)
+    let Ending { lines, bad, .. } = run_watched(alloc, reader, writer, &mut watch)?;
+    Ok(Summary { lines, bad })
 }

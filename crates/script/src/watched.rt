@@ -2,6 +2,7 @@
 //! first of them.
 ghost use Rattle.std.specs.Prelude.{◌≡◌, ◌≤◌, List, ℕ, length};
 ghost use Rattle.std.specs.Io.KnownBytes.{Appends};
+ghost use Rattle.script_session.specs.Session.{empty};
 ghost use Rattle.script.specs.Script.{limit};
 ghost use Rattle.script.specs.OneLine.{IsAnswered};
 ghost use Rattle.script.specs.Watched.{AnsweredUntil, RanUntil, is_refusal, is_wrong, watched_status};
@@ -89,23 +90,25 @@ fn answer_one<W: Write, E: Report>(
     Ok(Verdict { is_bad, is_wrong })
 }
 
-/// Answers each line, and writes each answer before the next line is read.
+// Answers each line from the session at the start of a script, and writes each answer before the
+// next line is read.
 fn answer_watched<W: Write, E: Report>(
     alloc: Global,
+    session: &mut Session,
     text: &str,
     writer: &mut W,
     reports: &mut E,
     stops: bool,
 ) -> Result<Ending, ScriptFault>
-    requires { length text.now ≤ limit }
+    requires start { session.old ≡ empty }
+    requires few { length text.now ≤ limit }
     ensures { (out : List ℕ) × Appends (W.contents writer.old) (W.contents writer.new) out × AnsweredUntil stops text.now out result }
 {
-    let mut session = Session::new(alloc);
     let mut lines = 0u64;
     let mut bad = 0u64;
     for line in text.lines() {
         lines += 1;
-        let verdict = answer_one(alloc, &mut session, lines, line, writer, reports)?;
+        let verdict = answer_one(alloc, session, lines, line, writer, reports)?;
         bad += u64::from(verdict.is_bad);
         if stops && verdict.is_wrong {
             let is_refused = !verdict.is_bad;
@@ -144,8 +147,9 @@ pub fn run_watched<R: Read, W: Write, E: Report + Drop>(
     let Ok(text) = std::str::from_utf8(bytes.as_slice()) else {
         return Err(ScriptFault::NotUtf8);
     };
-    let stops = watch.stops;
-    answer_watched(alloc, text, writer, &mut watch.reports, stops)
+    let mut session = Session::new(alloc);
+    let (stops, reports) = (watch.stops, &mut watch.reports);
+    answer_watched(alloc, &mut session, text, writer, reports, stops)
 }
 
 /// The exit status after a watched script: 7 if a refused line ended it, and else that of a script.

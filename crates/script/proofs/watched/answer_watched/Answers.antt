@@ -11,17 +11,17 @@ pub loop-line-init : goal.loop-line-init
 loop-line-init g c = record {
   can_next = tt;
   is_finite = tt;
-  done = none_passed _ _ _ _ _ (YieldsList-from_lines c.args.text.now (ap lines_rest c.into_iter-line-iterator.ensures.into_iter_gives ∙ c.lines-line-items.ensures.rest)) c.new-session.ensures;
+  done = none_passed _ _ _ _ _ (YieldsList-from_lines c.args.text.now (ap lines_rest c.into_iter-line-iterator.ensures.into_iter_gives ∙ c.lines-line-items.ensures.rest)) c.requires.start;
   few = omega arith;
 }
 
 pub overflow_add-lines : goal.overflow_add-lines
-overflow_add-lines g c = omega (arith, few_passed _ _ _ _ _ _ _ _ c.loop-line.invariant.done c.requires)
+overflow_add-lines g c = omega (arith, few_passed _ _ _ _ _ _ _ _ c.loop-line.invariant.done c.requires.few)
 
 pub overflow_add-bad : goal.overflow_add-bad
 overflow_add-bad g c = omega (
   arith,
-  few_passed _ _ _ _ _ _ _ _ c.loop-line.invariant.done c.requires,
+  few_passed _ _ _ _ _ _ _ _ c.loop-line.invariant.done c.requires.few,
   byte_few c.in_ok-verdict.verdict.is_bad c.from-bad.result c.from-bad.ensures,
 )
 

@@ -15,7 +15,10 @@ pub returns-in_default : goal.returns-in_default
 returns-in_default g c = ([], Appends-nil _, not_utf8_reported_until c.args.watch.now.stops _ c.in_ok-bytes.bytes.items c.in_ok-bytes.ensures.read (λ u. c.in_default.ensures.cases.0 (subst IsUtf8 (sym c.as_slice.ensures.value) u)))
 
 pub answer_watched-requires : goal.answer_watched-requires
-answer_watched-requires g c = rw (c.in-Ok.ensures.cases.0, c.as_slice.ensures.value) c.in_ok-bytes.ensures.bounded
+answer_watched-requires g c = record {
+  start = c.new-session.ensures;
+  few = rw (c.in-Ok.ensures.cases.0, c.as_slice.ensures.value) c.in_ok-bytes.ensures.bounded;
+}
 
 pub returns : goal.returns
 returns g c =
