@@ -95,6 +95,23 @@ fn report_end(alloc: Global, world: &World, done: usize, out: &mut String) -> Op
     write!(out, "rows {rows} missing {missing} extra {extra}\n").ok()
 }
 
+// The world in which the changes have begun, with their step reported.
+fn begun(alloc: Global, out: &mut String) -> Option<World> {
+    let (world, receipt) = world_with_changes(alloc, ROWS)?;
+    report_step(out, 2, &receipt)?;
+    Some(world)
+}
+
+// Reports all of it.
+fn report<R>(rt: &R, alloc: Global, out: &mut String) -> Option<()>
+where
+    R: Threads + Wait + Sync,
+{
+    let world = begun(alloc, out)?;
+    let (world, done) = run_threads(rt, alloc, world, out)?;
+    report_end(alloc, &world, done, out)
+}
+
 /// Lets four servers write while one operator adds an index and a required column and drops a
 /// column, and answers what the operator did, line by line, and what the world then has. It is the
 /// same in every run, whatever the threads do. `None` if a call was refused, also when out of
@@ -106,9 +123,6 @@ where
     R: Threads + Wait + Sync,
 {
     let mut out = String::new(alloc);
-    let (world, receipt) = world_with_changes(alloc, ROWS)?;
-    report_step(&mut out, 2, &receipt)?;
-    let (world, done) = run_threads(rt, alloc, world, &mut out)?;
-    report_end(alloc, &world, done, &mut out)?;
+    report(rt, alloc, &mut out)?;
     Some(out)
 }
