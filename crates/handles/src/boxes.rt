@@ -1,0 +1,35 @@
+//! Boxes of engines: a call takes an engine out of its box and puts one back, without a further
+//! allocation.
+ghost use Rattle.std.specs.Prelude.{◌≡◌};
+
+use crate::engine::{Conversation, Engine};
+use std::alloc::{AllocError, Global};
+
+// What is in a box that is to be filled.
+fn vacant(alloc: Global) -> Engine {
+    Engine::Session(Conversation::new(alloc))
+}
+
+/// A box that is to be filled.
+pub(crate) fn room(alloc: Global) -> Result<Box<Engine, Global>, AllocError> {
+    Ok(Box::new(alloc, vacant(alloc))?)
+}
+
+/// The engine of a box, and the box, which is to be filled.
+pub(crate) fn taken_out(
+    alloc: Global,
+    mut engine: Box<Engine, Global>,
+) -> (Engine, Box<Engine, Global>)
+    ensures { result.0 ≡ engine.value }
+{
+    let held = std::mem::replace(&mut *engine, vacant(alloc));
+    (held, engine)
+}
+
+/// The box with this engine.
+pub(crate) fn filled(mut room: Box<Engine, Global>, engine: Engine) -> Box<Engine, Global>
+    ensures { result.value ≡ engine }
+{
+    drop(std::mem::replace(&mut *room, engine));
+    room
+}
