@@ -1,6 +1,6 @@
 //! Boxes of engines: a call takes an engine out of its box and puts one back, without a further
 //! allocation.
-ghost use Rattle.std.specs.Prelude.{◌≡◌};
+ghost use Rattle.std.specs.Prelude.{◌≡◌, IfOk};
 
 use crate::engine::{Conversation, Engine};
 use std::alloc::{AllocError, Global};
@@ -10,9 +10,16 @@ fn vacant(alloc: Global) -> Engine {
     Engine::Session(Conversation::new(alloc))
 }
 
+/// A box with this engine. Refused only when out of memory; the engine is then let go.
+pub(crate) fn boxed(alloc: Global, engine: Engine) -> Result<Box<Engine, Global>, AllocError>
+    ensures { IfOk result (λ b. b.value ≡ engine) }
+{
+    Ok(Box::new(alloc, engine)?)
+}
+
 /// A box that is to be filled.
 pub(crate) fn room(alloc: Global) -> Result<Box<Engine, Global>, AllocError> {
-    Ok(Box::new(alloc, vacant(alloc))?)
+    boxed(alloc, vacant(alloc))
 }
 
 /// The engine of a box, and the box, which is to be filled.

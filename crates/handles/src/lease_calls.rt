@@ -3,7 +3,7 @@ ghost use Rattle.std.specs.Prelude.{◌≡◌, None};
 ghost use Rattle.handles.specs.Handles.{Fills};
 ghost use Rattle.handles.specs.Leases.{given, Leases, Grants, OpensTables};
 
-use crate::boxes::{filled, room};
+use crate::boxes::{boxed, filled, room};
 use crate::engine::{Conversation, Engine};
 use crate::handle::Handle;
 use std::alloc::Global;
@@ -82,7 +82,7 @@ impl Handle {
         requires { self.old.place.value ≡ None }
         ensures { Fills engine result self.new.place.value }
     {
-        let Ok(engine) = Box::new(alloc, engine) else {
+        let Ok(engine) = boxed(alloc, engine) else {
             return OUT_OF_MEMORY;
         };
         self.put(engine);

@@ -16,12 +16,7 @@ impl Handle {
         if self.is_open {
             return ALREADY_OPEN;
         }
-        let engine = Engine::Session(Conversation::new(alloc));
-        let Ok(engine) = Box::new(alloc, engine) else {
-            return OUT_OF_MEMORY;
-        };
-        self.put(engine);
-        OK
+        self.fill(alloc, Engine::Session(Conversation::new(alloc)))
     }
 
     /// Answers a line, which is given without its ending, and writes as much of the reply to `out`
