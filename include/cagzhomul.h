@@ -4,9 +4,9 @@
  * The language is described in docs/SCRIPT.md: a session takes one line after another, and each has
  * a reply in UTF-8, of no line, one or several, each with its line ending.
  *
- * A typed call takes numbers, and codes in bytes: tables, operations and steps, as
- * crates/entry_code describes them. What it makes, as a lease or a transaction, is in a handle of
- * its own, which is closed by cagzhomul_close like a session.
+ * A typed call takes numbers, and codes in bytes: tables, operations, steps and queries, as
+ * crates/entry_code describes them. What it makes, as a lease, a transaction or a query's rows, is
+ * in a handle of its own, which is closed by cagzhomul_close like a session.
  *
  * What a caller owes, which nothing checks:
  * - A handle begins as all zeros (`cagzhomul_handle handle = {0};`), which is closed. Only the
@@ -138,6 +138,12 @@ typedef struct cagzhomul_checked {
     uint64_t extra;   /* how many pairs no row gives */
 } cagzhomul_checked;
 
+/* What a query came to. */
+typedef struct cagzhomul_queried {
+    int32_t status;
+    uint32_t column; /* at CAGZHOMUL_NOT_PUBLIC the number that was named; else 0 */
+} cagzhomul_queried;
+
 /* What a schema change came to. */
 typedef struct cagzhomul_changed {
     int32_t status;
@@ -259,6 +265,41 @@ cagzhomul_committed cagzhomul_commit(cagzhomul_handle *session, uint64_t moment,
  * CAGZHOMUL_OUT_OF_MEMORY. */
 int32_t cagzhomul_snapshot(cagzhomul_handle *session, uint64_t moment, cagzhomul_handle *lease,
                            cagzhomul_handle *snapshot);
+
+/* Answers a query of the session's world under a lease: the bytes are the query's code, and the
+ * closed handle `rows` then holds the code of its rows, in the order of their primary keys, which
+ * cagzhomul_rows_from gives. The query runs under the schema of the lease's version. `moment` is as
+ * for cagzhomul_lease. The session and the lease stay, and the rows stay what they are, whatever
+ * happens to them. The library keeps no pointer to `query`.
+ * CAGZHOMUL_OK. Refusals: CAGZHOMUL_ALREADY_OPEN, of `rows`; CAGZHOMUL_CLOSED and
+ * CAGZHOMUL_WRONG_KIND of `session`; CAGZHOMUL_CLOSED and CAGZHOMUL_WRONG_KIND of `lease`;
+ * CAGZHOMUL_NOT_OPENED; CAGZHOMUL_BAD_CODE, also of a query with a text of more than 1,024 bytes;
+ * CAGZHOMUL_MOMENT_TOO_LARGE; CAGZHOMUL_BAD_LEASE; CAGZHOMUL_LEASE_ENDED; CAGZHOMUL_NO_TABLE; of
+ * the named columns in their order, and then of the conditions in theirs, the first with a fault:
+ * CAGZHOMUL_NOT_PUBLIC, with the column, or CAGZHOMUL_WRONG_TYPE (also of a key with another number
+ * of values, and of a null in a key or as a bound); CAGZHOMUL_OUT_OF_MEMORY, which may come in
+ * place of CAGZHOMUL_BAD_CODE and those after it. A refusal leaves `rows` as it was. */
+cagzhomul_queried cagzhomul_query(cagzhomul_handle *session, uint64_t moment,
+                                  cagzhomul_handle *lease, const uint8_t *query,
+                                  size_t query_length, cagzhomul_handle *rows);
+
+/* Answers a query of a snapshot, as it was taken, under the schema of the version of the lease that
+ * it was taken under, into the closed handle `rows`. It takes no session, so it needs no lock of
+ * one. The snapshot stays.
+ * CAGZHOMUL_OK. Refusals: CAGZHOMUL_ALREADY_OPEN, of `rows`; CAGZHOMUL_CLOSED;
+ * CAGZHOMUL_WRONG_KIND; CAGZHOMUL_BAD_CODE; CAGZHOMUL_NO_TABLE; CAGZHOMUL_NOT_PUBLIC, with the
+ * column, or CAGZHOMUL_WRONG_TYPE, as for cagzhomul_query; CAGZHOMUL_OUT_OF_MEMORY, which may come
+ * in place of the four before it. A refusal leaves `rows` as it was. */
+cagzhomul_queried cagzhomul_snapshot_query(cagzhomul_handle *snapshot, const uint8_t *query,
+                                           size_t query_length, cagzhomul_handle *rows);
+
+/* Writes the code of the rows that the handle holds, from its byte `from` on (the first is 0), as
+ * far as it fits in `out`; the bytes of `out` after it stay. Nothing is written if `from` is the
+ * code's length or more. The handle holds the rows until it is closed.
+ * CAGZHOMUL_OK, with the length of the whole code. Refusals: CAGZHOMUL_CLOSED;
+ * CAGZHOMUL_WRONG_KIND. */
+cagzhomul_outcome cagzhomul_rows_from(cagzhomul_handle *rows, size_t from, uint8_t *out,
+                                      size_t out_length);
 
 /* Audits the pairs of a session's world, or of a snapshot, by the version that is, or was, the
  * newest. It takes time with the pairs; that of a snapshot needs no lock of a session.

@@ -57,6 +57,7 @@ class _Advanced(ctypes.Structure): _fields_ = [("status", _STATUS), ("until", _N
 class _Granted(ctypes.Structure): _fields_ = [("status", _STATUS), ("version", _NUMBER), ("granted", _NUMBER), ("until", _NUMBER), ("place", _NUMBER)]
 class _Prepared(ctypes.Structure): _fields_ = [("status", _STATUS), ("column", _SMALL)]
 class _Committed(ctypes.Structure): _fields_ = [("status", _STATUS), ("place", _NUMBER), ("operation", _SIZE)]
+class _Queried(ctypes.Structure): _fields_ = [("status", _STATUS), ("column", _SMALL)]
 class _Checked(ctypes.Structure): _fields_ = [("status", _STATUS), ("rows", _NUMBER), ("missing", _NUMBER), ("extra", _NUMBER)]
 class _Changed(ctypes.Structure): _fields_ = [("status", _STATUS), ("number", _NUMBER)]
 
@@ -69,6 +70,8 @@ _FUNCTIONS: Dict[str, Tuple[Any, List[Any]]] = {
     "advance": (_Advanced, [_HANDLE, _NUMBER, _SMALL, _SMALL]), "lease": (_Granted, [_HANDLE, _NUMBER, _HANDLE]),
     "transaction": (_STATUS, [_HANDLE, _BYTES, _SIZE, _HANDLE]), "read": (_STATUS, [_HANDLE, _HANDLE]),
     "prepare": (_Prepared, [_HANDLE]), "commit": (_Committed, [_HANDLE, _NUMBER, _HANDLE]),
+    "query": (_Queried, [_HANDLE, _NUMBER, _HANDLE, _BYTES, _SIZE, _HANDLE]), "rows_from": (_Outcome, [_HANDLE, _SIZE, _BYTES, _SIZE]),
+    "snapshot_query": (_Queried, [_HANDLE, _BYTES, _SIZE, _HANDLE]),
     "snapshot": (_STATUS, [_HANDLE, _NUMBER, _HANDLE, _HANDLE]), "check": (_Checked, [_HANDLE]), "log_length": (_Outcome, [_HANDLE]),
     "publish": (_Changed, [_HANDLE, _NUMBER, _BYTES, _SIZE]), "begin_reorg": (_Changed, [_HANDLE, _NUMBER, _SMALL, _SMALL]),
     "text_of": (_SIZE, [_STATUS, _BYTES, _SIZE]),

@@ -1,4 +1,4 @@
-/* The codes of an opening and of operations on its one table, as crates/entry_code describes them:
+/* The codes of an opening, and of operations, queries and rows of its one table, as crates/entry_code describes them:
    table people (id int key, town text), whose number is 1, with the column town, whose number is 1. */
 #include <stdint.h>
 #include <stddef.h>
@@ -94,4 +94,48 @@ static inline code go_code(uint32_t element, uint8_t state) {
     put_number(&it, element, 4);
     put_byte(&it, state);
     return it;
+}
+
+/* A query of a table for one column of the rows that meet so many conditions, which follow. */
+static inline code query_code(uint32_t table, uint32_t column, uint64_t conditions) {
+    code it = {{1}, 1};
+    put_number(&it, table, 4);
+    put_number(&it, 1, 8); /* one column */
+    put_number(&it, column, 4);
+    put_number(&it, conditions, 8);
+    return it;
+}
+
+/* The condition that the row has this key. */
+static inline void put_key(code *code, int64_t id) {
+    put_byte(code, 0);
+    put_number(code, 1, 8);
+    put_int(code, id);
+}
+
+/* The condition that it has this text in a column. */
+static inline void put_equal(code *code, uint32_t column, const char *town) {
+    put_byte(code, 1);
+    put_number(code, column, 4), put_text(code, town);
+}
+
+/* The condition that the text in a column lies between two; a null one is no bound. */
+static inline void put_between(code *code, uint32_t column, const char *low, const char *high) {
+    put_byte(code, 2);
+    put_number(code, column, 4);
+    put_byte(code, low ? 1 : 0);
+    if (low) put_text(code, low);
+    put_byte(code, high ? 1 : 0);
+    if (high) put_text(code, high);
+}
+
+/* So many rows, which follow. */
+static inline code rows_code(uint64_t many) { return ops_code(many); }
+
+/* A row of this key; a null town is no value. */
+static inline void put_row(code *code, int64_t id, const char *town) {
+    put_number(code, 1, 8);
+    put_int(code, id);
+    put_number(code, town ? 1 : 0, 8);
+    if (town) put_number(code, TOWN, 4), put_text(code, town);
 }

@@ -1,5 +1,6 @@
 /* One writer by typed calls: opens tables, takes a lease, commits transactions, meets a conflict and
-   refusals by the rows, looks at the result by lines on the same handle, and lets an index enter.
+   refusals by the rows, looks at the result by queries and by lines on the same handle, and lets an
+   index enter, which then serves queries.
    Each allocation is refused in turn, one in each run: the call that met it answers
    CAGZHOMUL_OUT_OF_MEMORY, changed nothing, and is made again. All values are worked out by hand. It prints how many allocations were refused, and ends with 0 if all was as
    include/cagzhomul.h says. */
@@ -191,6 +192,87 @@ static void add_index(cagzhomul_handle *session, cagzhomul_handle *lease) {
     check(cagzhomul_snapshot(session, 30, lease, &snapshot) == CAGZHOMUL_LEASE_ENDED && !snapshot.is_open, "the lease ended at 15");
 }
 
+/* Does what is due of the changes under way, to their end. */
+static void carry_on(cagzhomul_handle *session, uint64_t moment) {
+    cagzhomul_advanced it = {0};
+    for (int acts = 0; acts < 9 && it.status == CAGZHOMUL_OK; acts++) {
+        it = cagzhomul_advance(session, moment, 1, 1000);
+        if (is_short(it.status)) it = cagzhomul_advance(session, moment, 1, 1000);
+    }
+    check(it.status == CAGZHOMUL_FINISHED, "the changes are finished");
+}
+
+static cagzhomul_queried query(cagzhomul_handle *session, uint64_t moment, cagzhomul_handle *lease, const code *asked, cagzhomul_handle *rows) {
+    cagzhomul_queried it = cagzhomul_query(session, moment, lease, asked->bytes, asked->length, rows);
+    if (!is_short(it.status)) return it;
+    check(it.column == 0 && !rows->is_open, "nothing was answered");
+    return cagzhomul_query(session, moment, lease, asked->bytes, asked->length, rows);
+}
+
+static cagzhomul_queried query_snapshot(cagzhomul_handle *snapshot, const code *asked, cagzhomul_handle *rows) {
+    cagzhomul_queried it = cagzhomul_snapshot_query(snapshot, asked->bytes, asked->length, rows);
+    if (!is_short(it.status)) return it;
+    check(it.column == 0 && !rows->is_open, "nothing was answered");
+    return cagzhomul_snapshot_query(snapshot, asked->bytes, asked->length, rows);
+}
+
+/* Whether the handle holds these rows, which are then closed. */
+static int has_rows(cagzhomul_queried asked, cagzhomul_handle *rows, const code *wanted) {
+    uint8_t out[ROOM] = {0}, part[4] = {9, 9, 9, 9};
+    size_t last = wanted->length - 2;
+    if (asked.status != CAGZHOMUL_OK || asked.column) return 0;
+    cagzhomul_outcome whole = cagzhomul_rows_from(rows, 0, out, ROOM), end = cagzhomul_rows_from(rows, last, part, 4);
+    cagzhomul_outcome none = cagzhomul_rows_from(rows, wanted->length, part, 4);
+    check(end.status == CAGZHOMUL_OK && end.length == whole.length && none.length == whole.length, "each part tells the length");
+    check(part[0] == wanted->bytes[last] && part[1] == wanted->bytes[last + 1] && part[2] == 9 && part[3] == 9, "the last two bytes");
+    check(cagzhomul_close(rows) == CAGZHOMUL_OK && !rows->is_open, "the rows are closed");
+    return whole.status == CAGZHOMUL_OK && whole.length == wanted->length && !memcmp(out, wanted->bytes, whole.length);
+}
+
+static int answers(cagzhomul_handle *session, uint64_t moment, cagzhomul_handle *lease, const code *asked, const code *wanted) {
+    cagzhomul_handle rows = {0};
+    return has_rows(query(session, moment, lease, asked, &rows), &rows, wanted);
+}
+
+static int snapshot_answers(cagzhomul_handle *snapshot, const code *asked, const code *wanted) {
+    cagzhomul_handle rows = {0};
+    return has_rows(query_snapshot(snapshot, asked, &rows), &rows, wanted);
+}
+
+/* Rows 1 and 3 are in Bonn and Ulm: by their keys and by a scan. */
+static void query_rows(cagzhomul_handle *session, cagzhomul_handle *lease) {
+    code all = rows_code(2), first = rows_code(1), last = rows_code(1), none = rows_code(0);
+    put_row(&all, 1, "Bonn"), put_row(&all, 3, "Ulm"), put_row(&first, 1, "Bonn"), put_row(&last, 3, "Ulm");
+    code asked = query_code(PEOPLE, TOWN, 0);
+    check(answers(session, 9, lease, &asked, &all), "all rows");
+    asked = query_code(PEOPLE, TOWN, 1), put_key(&asked, 1);
+    check(answers(session, 9, lease, &asked, &first), "the row with the key 1");
+    asked = query_code(PEOPLE, TOWN, 2), put_key(&asked, 1), put_equal(&asked, TOWN, "Ulm");
+    check(answers(session, 9, lease, &asked, &none), "which is not in Ulm");
+    asked = query_code(PEOPLE, TOWN, 1), put_between(&asked, TOWN, "C", NULL);
+    check(answers(session, 9, lease, &asked, &last), "the row from C on");
+    asked = query_code(PEOPLE, TOWN, 1), put_between(&asked, TOWN, NULL, "Bonn");
+    check(answers(session, 9, lease, &asked, &first), "the row up to Bonn");
+}
+
+/* The index is public, and answers; a snapshot from before a row moves answers as it was. */
+static void query_by_index(cagzhomul_handle *session) {
+    cagzhomul_handle lease = {0}, snapshot = {0};
+    code before = rows_code(1), after = rows_code(2), asked = query_code(PEOPLE, TOWN, 1), ops = one(UPDATE, 1, "Ulm");
+    put_row(&before, 3, "Ulm"), put_row(&after, 1, "Ulm"), put_row(&after, 3, "Ulm"), put_equal(&asked, TOWN, "Ulm");
+    carry_on(session, 30);
+    cagzhomul_granted it = take_lease(session, 31, &lease);
+    check(it.status == CAGZHOMUL_OK && it.version == 4 && it.until == 41, "version 4 has the index");
+    check(answers(session, 31, &lease, &asked, &before), "one row is in Ulm");
+    int32_t status = cagzhomul_snapshot(session, 31, &lease, &snapshot);
+    if (is_short(status)) status = cagzhomul_snapshot(session, 31, &lease, &snapshot);
+    check(status == CAGZHOMUL_OK && run(session, &lease, 32, &ops).status == CAGZHOMUL_OK, "a row moves to Ulm");
+    check(answers(session, 32, &lease, &asked, &after), "two rows are in Ulm");
+    check(snapshot_answers(&snapshot, &asked, &before), "one of them was when the snapshot was taken");
+    check(cagzhomul_close(&lease) == CAGZHOMUL_OK && snapshot_answers(&snapshot, &asked, &before), "and without the lease");
+    check(cagzhomul_close(&snapshot) == CAGZHOMUL_OK, "it is closed");
+}
+
 static int32_t open_tables(cagzhomul_handle *session, const code *opening) {
     int32_t status = cagzhomul_open_tables(session, opening->bytes, opening->length);
     return is_short(status) ? cagzhomul_open_tables(session, opening->bytes, opening->length) : status;
@@ -207,7 +289,9 @@ static void play(void) {
     check(replies(&session, "query a at 9: select town from people", "row (1) town = 'Bonn'\nrow (3) town = 'Ulm'\nok rows 2\n"), "and sees the rows");
     check(replies(&session, "check", "ok rows 2 missing 0 extra 0\n"), "no pair is missing");
     check(is_log(&session, 6) && is_check(&session, 2, 0, 0), "so do the calls");
+    query_rows(&session, &lease);
     add_index(&session, &lease);
+    query_by_index(&session);
     check(cagzhomul_close(&lease) == CAGZHOMUL_OK && cagzhomul_close(&session) == CAGZHOMUL_OK, "both are closed");
 }
 
@@ -269,10 +353,73 @@ static void look_at_kinds(void) {
     cagzhomul_close(&lease), cagzhomul_close(&session);
 }
 
+/* A query that is refused, of the session under the lease and of a snapshot that was taken under it. */
+static void is_unanswered(cagzhomul_handle *session, cagzhomul_handle *lease, cagzhomul_handle *snapshot, const code *asked, int32_t status, uint32_t column) {
+    cagzhomul_handle rows = {0};
+    cagzhomul_queried it = query(session, 5, lease, asked, &rows), taken = query_snapshot(snapshot, asked, &rows);
+    check(it.status == status && it.column == column && taken.status == status && taken.column == column && !rows.is_open, "the query is refused");
+}
+
+static void look_at_faults(cagzhomul_handle *session, cagzhomul_handle *lease, cagzhomul_handle *snapshot) {
+    code asked = query_code(PEOPLE, TOWN, 1);
+    put_equal(&asked, TOWN, "Ulm");
+    for (size_t length = 0; length < asked.length; length++) {
+        code part = asked;
+        part.length = length;
+        is_unanswered(session, lease, snapshot, &part, CAGZHOMUL_BAD_CODE, 0);
+    }
+    put_byte(&asked, 0);
+    is_unanswered(session, lease, snapshot, &asked, CAGZHOMUL_BAD_CODE, 0);
+    asked = query_code(7, 9, 0);
+    is_unanswered(session, lease, snapshot, &asked, CAGZHOMUL_NO_TABLE, 0);
+    asked = query_code(PEOPLE, 9, 0);
+    is_unanswered(session, lease, snapshot, &asked, CAGZHOMUL_NOT_PUBLIC, 9);
+    asked = query_code(PEOPLE, TOWN, 1), put_equal(&asked, 8, "Ulm");
+    is_unanswered(session, lease, snapshot, &asked, CAGZHOMUL_NOT_PUBLIC, 8);
+    asked = query_code(PEOPLE, TOWN, 1), put_byte(&asked, 1), put_number(&asked, TOWN, 4), put_int(&asked, 1);
+    is_unanswered(session, lease, snapshot, &asked, CAGZHOMUL_WRONG_TYPE, 0);
+    asked = query_code(PEOPLE, TOWN, 1), put_byte(&asked, 0), put_number(&asked, 0, 8);
+    is_unanswered(session, lease, snapshot, &asked, CAGZHOMUL_WRONG_TYPE, 0);
+}
+
+static int32_t asks(cagzhomul_handle *session, uint64_t moment, cagzhomul_handle *lease, cagzhomul_handle *rows) {
+    code asked = query_code(PEOPLE, TOWN, 0);
+    return cagzhomul_query(session, moment, lease, asked.bytes, asked.length, rows).status;
+}
+
+static int32_t asks_snapshot(cagzhomul_handle *snapshot, cagzhomul_handle *rows) {
+    code asked = query_code(PEOPLE, TOWN, 0);
+    return cagzhomul_snapshot_query(snapshot, asked.bytes, asked.length, rows).status;
+}
+
+/* Queries by leases and of moments that are none, of other kinds, and with faults. */
+static void look_at_queries(void) {
+    cagzhomul_handle session = {0}, lease = {0}, snapshot = {0}, blank = {0}, other = {0}, strange = {0}, rows = {0};
+    code opening = opening_code(10, "town"), longer = opening_code(20, "town"), none = rows_code(0), all = query_code(PEOPLE, TOWN, 0);
+    uint8_t out[ROOM] = {0};
+    check(open_tables(&session, &opening) == CAGZHOMUL_OK && open_tables(&other, &longer) == CAGZHOMUL_OK && cagzhomul_open(&blank) == CAGZHOMUL_OK, "sessions");
+    check(asks(&session, 5, &lease, &rows) == CAGZHOMUL_CLOSED && asks_snapshot(&snapshot, &rows) == CAGZHOMUL_CLOSED, "no lease, no snapshot");
+    check(cagzhomul_lease(&session, 5, &lease).status == CAGZHOMUL_OK && cagzhomul_lease(&other, 5, &strange).status == CAGZHOMUL_OK, "leases");
+    check(cagzhomul_snapshot(&session, 5, &lease, &snapshot) == CAGZHOMUL_OK, "a snapshot");
+    check(asks(&rows, 5, &lease, &strange) == CAGZHOMUL_ALREADY_OPEN && asks_snapshot(&snapshot, &lease) == CAGZHOMUL_ALREADY_OPEN, "not over a lease");
+    check(asks(&lease, 5, &session, &rows) == CAGZHOMUL_WRONG_KIND && asks(&session, 5, &blank, &rows) == CAGZHOMUL_WRONG_KIND, "kinds");
+    check(asks_snapshot(&session, &rows) == CAGZHOMUL_WRONG_KIND && asks(&blank, 5, &lease, &rows) == CAGZHOMUL_NOT_OPENED, "no world");
+    check(asks(&session, (UINT64_C(1) << 62) + 1, &lease, &rows) == CAGZHOMUL_MOMENT_TOO_LARGE, "a moment above 2^62");
+    check(asks(&session, 5, &strange, &rows) == CAGZHOMUL_BAD_LEASE && asks(&session, 15, &lease, &rows) == CAGZHOMUL_LEASE_ENDED, "leases");
+    look_at_faults(&session, &lease, &snapshot);
+    check(!rows.is_open && cagzhomul_rows_from(&rows, 0, out, ROOM).status == CAGZHOMUL_CLOSED, "nothing was answered");
+    check(answers(&session, 14, &lease, &all, &none) && snapshot_answers(&snapshot, &all, &none), "there are no rows");
+    check(asks(&session, 5, &lease, &rows) == CAGZHOMUL_OK && asks(&session, 5, &lease, &rows) == CAGZHOMUL_ALREADY_OPEN, "not twice");
+    check(cagzhomul_rows_from(&session, 0, out, ROOM).status == CAGZHOMUL_WRONG_KIND && cagzhomul_check(&rows).status == CAGZHOMUL_WRONG_KIND, "kinds");
+    cagzhomul_close(&rows), cagzhomul_close(&strange), cagzhomul_close(&other), cagzhomul_close(&blank);
+    cagzhomul_close(&snapshot), cagzhomul_close(&lease), cagzhomul_close(&session);
+}
+
 int main(void) {
     is_ample = 1;
     look_at_codes();
     look_at_kinds();
+    look_at_queries();
     is_ample = 0;
     do {
         count = is_reached = 0;

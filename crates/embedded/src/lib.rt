@@ -9,6 +9,7 @@ ghost use Rattle.handles.specs.Leases.{OpensTables, Leases};
 ghost use Rattle.handles.specs.Txns.{Transacts, Reads, Prepares};
 ghost use Rattle.handles.specs.Commits.{Commits};
 ghost use Rattle.handles.specs.Snapshots.{Snapshots, Checks, LogLengths};
+ghost use Rattle.handles.specs.Queries.{Queries, SnapshotQueries, RowsFrom};
 ghost use Rattle.handles.specs.Changes.{Publishes, Begins};
 
 use handles::{
@@ -16,7 +17,7 @@ use handles::{
     show_text,
 };
 use std::alloc::Global;
-use typed_calls::PrepareOutcome;
+use typed_calls::{PrepareOutcome, QueryOutcome};
 
 /// `Handle::open`.
 #[unsafe(no_mangle)]
@@ -168,6 +169,51 @@ pub extern "C" fn cagzhomul_snapshot(
     ensures lease_stays { lease.new.place.value ≡ lease.old.place.value }
 {
     session.snapshot(alloc, moment, lease, snapshot)
+}
+
+/// `Handle::query`.
+#[unsafe(no_mangle)]
+pub extern "C" fn cagzhomul_query(
+    alloc: Global,
+    session: &mut Handle,
+    moment: u64,
+    lease: &mut Handle,
+    query: &[u8],
+    rows: &mut Handle,
+) -> QueryOutcome
+    ensures queries { Queries session.old.place.value moment lease.old.place.value query.now rows.old.place.value result rows.new.place.value }
+    ensures same { session.new.place.value ≡ session.old.place.value }
+    ensures lease_stays { lease.new.place.value ≡ lease.old.place.value }
+{
+    session.query(alloc, moment, lease, query, rows)
+}
+
+/// `Handle::query_snapshot`.
+#[unsafe(no_mangle)]
+pub extern "C" fn cagzhomul_snapshot_query(
+    alloc: Global,
+    snapshot: &mut Handle,
+    query: &[u8],
+    rows: &mut Handle,
+) -> QueryOutcome
+    ensures queries { SnapshotQueries snapshot.old.place.value query.now rows.old.place.value result rows.new.place.value }
+    ensures same { snapshot.new.place.value ≡ snapshot.old.place.value }
+{
+    snapshot.query_snapshot(alloc, query, rows)
+}
+
+/// `Handle::rows_from`.
+#[unsafe(no_mangle)]
+pub extern "C" fn cagzhomul_rows_from(
+    alloc: Global,
+    handle: &mut Handle,
+    from: usize,
+    out: &mut [u8],
+) -> Outcome
+    ensures rows { RowsFrom handle.old.place.value from out.old result out.new }
+    ensures same { handle.new.place.value ≡ handle.old.place.value }
+{
+    handle.rows_from(alloc, from, out)
 }
 
 /// `Handle::check`.

@@ -28,7 +28,7 @@ pub record IsCode {X : Type 0} (P : X → Type 0) (code : X → List ℕ) : Type
   pub tells : (x y : X) (r s : List ℕ) → P x → P y → code x ++ r ≡ code y ++ s → (x ≡ y) × (r ≡ s)
 
 -- what is read in one way has one code
-read_code : {X : Type 0} {P : X → Type 0} {code : X → List ℕ} {at : At X} → IsReader P code at → IsCode P code
+pub read_code : {X : Type 0} {P : X → Type 0} {code : X → List ℕ} {at : At X} → IsReader P code at → IsCode P code
 read_code {X} {P} {code} {at} reader = record { tells = tells }
   where
     tells : (x y : X) (r s : List ℕ) → P x → P y → code x ++ r ≡ code y ++ s → (x ≡ y) × (r ≡ s)
@@ -36,12 +36,12 @@ read_code {X} {P} {code} {at} reader = record { tells = tells }
         let same = ok_is (x, r) (y, s) (sym (reader.again x r p) ∙ ap at e ∙ reader.again y s q) in
         (ap (λ (z : X × List ℕ). z.0) same, ap (λ (z : X × List ℕ). z.1) same)
 
-number_code : IsCode IsU32 u32_code
+pub number_code : IsCode IsU32 u32_code
 number_code = read_code u32_reader
 
 -- ---- pairs, parts and lists
 
-pair_is : {A B : Type 0} {P : A → Type 0} {Q : B → Type 0} {f : A → List ℕ} {g : B → List ℕ} → IsCode P f → IsCode Q g → IsCode (IsPair P Q) (pair_code f g)
+pub pair_is : {A B : Type 0} {P : A → Type 0} {Q : B → Type 0} {f : A → List ℕ} {g : B → List ℕ} → IsCode P f → IsCode Q g → IsCode (IsPair P Q) (pair_code f g)
 pair_is {A} {B} {P} {Q} {f} {g} one two = record { tells = tells }
   where
     tells : (x y : A × B) (r s : List ℕ) → IsPair P Q x → IsPair P Q y → pair_code f g x ++ r ≡ pair_code f g y ++ s → (x ≡ y) × (r ≡ s)
@@ -50,7 +50,7 @@ pair_is {A} {B} {P} {Q} {f} {g} one two = record { tells = tells }
         let b = two.tells x.1 y.1 r s p.1 q.1 a.1 in
         ((λ i. (a.0 i, b.0 i)), b.1)
 
-parts_is : {A B : Type 0} {P : A → Type 0} {f : A → List ℕ} (make : A → B) (parts : B → A) → ((b : B) → make (parts b) ≡ b) → IsCode P f → IsCode (λ b. P (parts b)) (λ b. f (parts b))
+pub parts_is : {A B : Type 0} {P : A → Type 0} {f : A → List ℕ} (make : A → B) (parts : B → A) → ((b : B) → make (parts b) ≡ b) → IsCode P f → IsCode (λ b. P (parts b)) (λ b. f (parts b))
 parts_is {A} {B} {P} {f} make parts whole code = record { tells = tells }
   where
     tells : (x y : B) (r s : List ℕ) → P (parts x) → P (parts y) → f (parts x) ++ r ≡ f (parts y) ++ s → (x ≡ y) × (r ≡ s)
@@ -58,7 +58,7 @@ parts_is {A} {B} {P} {f} make parts whole code = record { tells = tells }
         let a = code.tells (parts x) (parts y) r s p q e in
         (sym (whole x) ∙ ap make a.0 ∙ whole y, a.1)
 
-list_is : {X : Type 0} {P : X → Type 0} {code : X → List ℕ} → IsCode P code → IsCode (IsList P) (list_code code)
+pub list_is : {X : Type 0} {P : X → Type 0} {code : X → List ℕ} → IsCode P code → IsCode (IsList P) (list_code code)
 unfolding list_code
 list_is {X} {P} {code} one = record { tells = tells }
   where
@@ -79,17 +79,17 @@ list_is {X} {P} {code} one = record { tells = tells }
 
 -- ---- variants
 
-head : {x y : ℕ} {xs ys : List ℕ} → x ∷ xs ≡ y ∷ ys → x ≡ y
+pub head : {x y : ℕ} {xs ys : List ℕ} → x ∷ xs ≡ y ∷ ys → x ≡ y
 head e = cc
 
 tail : {x y : ℕ} {xs ys : List ℕ} → x ∷ xs ≡ y ∷ ys → xs ≡ ys
 tail e = cc
 
 -- two of one variant
-both : {A X : Type 0} {P : A → Type 0} {f : A → List ℕ} (make : A → X) → IsCode P f → (tag : ℕ) (a b : A) (r s : List ℕ) → P a → P b → tag ∷ (f a ++ r) ≡ tag ∷ (f b ++ s) → (make a ≡ make b) × (r ≡ s)
+pub both : {A X : Type 0} {P : A → Type 0} {f : A → List ℕ} (make : A → X) → IsCode P f → (tag : ℕ) (a b : A) (r s : List ℕ) → P a → P b → tag ∷ (f a ++ r) ≡ tag ∷ (f b ++ s) → (make a ≡ make b) × (r ≡ s)
 both make code tag a b r s p q e = let h = code.tells a b r s p q (tail e) in (ap make h.0, h.1)
 
-value_is : IsCode IsValue value_code
+pub value_is : IsCode IsValue value_code
 value_is = record { tells = λ v w x y p q e. same_encoding v w x y p q e }
 
 row_is : IsCode (IsPair IsU32 (IsPair (IsList IsValue) (IsList (IsPair IsU32 IsValue)))) (pair_code u32_code (pair_code (list_code value_code) (list_code (pair_code u32_code value_code))))
@@ -180,7 +180,7 @@ body_is = parts_is (λ r. record { moment = r.0; what = r.1 }) (λ (e : Entry). 
 
 -- ---- with the version before them
 
-versioned_is : {X : Type 0} {P : X → Type 0} {code : X → List ℕ} → IsCode P code → (x y : X) (r s : List ℕ) → P x → P y → versioned code x ++ r ≡ versioned code y ++ s → (x ≡ y) × (r ≡ s)
+pub versioned_is : {X : Type 0} {P : X → Type 0} {code : X → List ℕ} → IsCode P code → (x y : X) (r s : List ℕ) → P x → P y → versioned code x ++ r ≡ versioned code y ++ s → (x ≡ y) × (r ≡ s)
 versioned_is code x y r s p q e = code.tells x y r s p q (tail e)
 
 pub entry_tells : (a b : Entry) (r s : List ℕ) → IsEntry IsValue a → IsEntry IsValue b → entry_code a ++ r ≡ entry_code b ++ s → (a ≡ b) × (r ≡ s)

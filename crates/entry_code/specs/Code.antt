@@ -1,6 +1,6 @@
--- Cited by the contracts of entry_bytes, ops_bytes, step_bytes, opening_bytes, their readers and one_code.
--- The one code in bytes of each entry of a log, list of operations, step and opening.
-use Rattle.std.specs.Prelude.{ℕ, List, [], ◌∷◌, ◌++◌, length}
+-- Cited by the contracts of entry_bytes, ops_bytes, step_bytes, opening_bytes, query_bytes, rows_bytes, their readers and one_code.
+-- The one code in bytes of each entry of a log, list of operations, step, opening, query and list of rows.
+use Rattle.std.specs.Prelude.{ℕ, List, [], ◌∷◌, ◌++◌, length, Option, Some, None}
 use Rattle.std.specs.Int.{w32, w64, to_be_bytes}
 use Rattle.std.specs.List.{flat_map}
 use Rattle.keycode.specs.declared.value.Value.{Value}
@@ -8,6 +8,10 @@ use Rattle.keycode.specs.Code.{code as value_code}
 use Rattle.lease.specs.declared.lease.Lease.{Lease}
 use Rattle.row_map.specs.declared.shape.ColumnType.{ColumnType}
 use Rattle.row_map.specs.declared.shape.ColumnType.TheVariants as column
+use Rattle.row_map.specs.declared.shape.Row.{Row}
+use Rattle.row_query.specs.declared.query.Cond.{Cond}
+use Rattle.row_query.specs.declared.query.Cond.TheVariants.{Key, Equal, Between}
+use Rattle.row_query.specs.declared.query.Query.{Query}
 use Rattle.row_write.specs.declared.op.RowOp.{RowOp}
 use Rattle.row_write.specs.declared.op.RowOp.TheVariants.{Insert, Update, Delete}
 use Rattle.schema_version.specs.declared.element.ElementState.{ElementState}
@@ -41,6 +45,11 @@ pair_code one two pair = one pair.0 ++ two pair.1
 -- how many items, and each in turn
 unfoldable pub list_code : {X : Type 0} → (X → List ℕ) → List X → List ℕ
 list_code code items = u64_code (length items) ++ flat_map code items
+
+-- 0 if there is none, else 1 and the value
+abbrev pub option_code : {X : Type 0} → (X → List ℕ) → Option X → List ℕ
+option_code code None = 0 ∷ []
+option_code code (Some x) = 1 ∷ code x
 
 -- the version of the code stands first
 abbrev pub versioned : {X : Type 0} → (X → List ℕ) → X → List ℕ
@@ -113,6 +122,20 @@ what_code (what.Piece element piece cursor) = 4 ∷ (u32_code element ++ (u32_co
 abbrev pub body_code : Entry → List ℕ
 body_code entry = u64_code entry.moment ++ what_code entry.what
 
+-- ---- queries and rows
+
+abbrev pub cond_code : Cond → List ℕ
+cond_code (Key key) = 0 ∷ key_code key
+cond_code (Equal column value) = 1 ∷ (u32_code column ++ value_code value)
+cond_code (Between column low high) = 2 ∷ (u32_code column ++ (option_code value_code low ++ option_code value_code high))
+
+-- a query without the version
+abbrev pub asked_code : Query → List ℕ
+asked_code query = u32_code query.table ++ (list_code u32_code query.columns ++ list_code cond_code query.conditions)
+
+abbrev pub row_code : Row → List ℕ
+row_code row = key_code row.key ++ cells_code row.cells
+
 -- ---- what is handed out
 
 abbrev pub entry_code : Entry → List ℕ
@@ -127,3 +150,9 @@ step_code = versioned move_list_code
 -- a lease length and the tables
 abbrev pub opening_code : ℕ × List TableDef → List ℕ
 opening_code = versioned (pair_code u64_code (list_code table_code))
+
+abbrev pub query_code : Query → List ℕ
+query_code = versioned asked_code
+
+abbrev pub rows_code : List Row → List ℕ
+rows_code = versioned (list_code row_code)

@@ -1,11 +1,15 @@
--- Cited by the contracts of entry_bytes, ops_bytes, step_bytes, opening_bytes, their readers and one_code.
+-- Cited by the contracts of entry_bytes, ops_bytes, step_bytes, opening_bytes, query_bytes, rows_bytes, their readers and one_code.
 -- What types say of their values: numbers are in their ranges, lists have fewer than 2^64 items, and names are UTF-8. The values of columns are as V says.
-use Rattle.std.specs.Prelude.{ℕ, ◌<◌, ◌^◌, List, length}
+use Rattle.std.specs.Prelude.{ℕ, ◌<◌, ◌^◌, List, length, Option, Some, None}
 use Rattle.std.specs.Str.{IsUtf8}
 use Rattle.std.specs.List.{AllByRecursion}
 use Rattle.keycode.specs.declared.value.Value.{Value}
 use Rattle.lease.specs.declared.lease.Lease.{Lease}
 use Rattle.row_map.specs.declared.shape.ColumnType.{ColumnType}
+use Rattle.row_map.specs.declared.shape.Row.{Row}
+use Rattle.row_query.specs.declared.query.Cond.{Cond}
+use Rattle.row_query.specs.declared.query.Cond.TheVariants.{Key, Equal, Between}
+use Rattle.row_query.specs.declared.query.Query.{Query}
 use Rattle.row_write.specs.declared.op.RowOp.{RowOp}
 use Rattle.row_write.specs.declared.op.RowOp.TheVariants.{Insert, Update, Delete}
 use Rattle.schema_version.specs.declared.element.Kind.{Kind}
@@ -35,6 +39,10 @@ IsPair P Q pair = P pair.0 × Q pair.1
 
 abbrev pub IsList : {X : Type 0} → (X → Type 0) → List X → Type 0
 IsList P items = IsU64 (length items) × AllByRecursion P items
+
+abbrev pub IsOption : {X : Type 0} → (X → Type 0) → Option X → Type 0
+IsOption P None = Unit {0}
+IsOption P (Some x) = P x
 
 abbrev pub IsAny : {X : Type 0} → X → Type 0
 IsAny x = Unit {0}
@@ -84,3 +92,17 @@ IsWhat V (what.Piece element piece cursor) = IsU32 element × (IsU32 piece × Is
 
 abbrev pub IsEntry : (Value → Type 0) → Entry → Type 0
 IsEntry V entry = IsU64 entry.moment × IsWhat V entry.what
+
+abbrev pub IsCond : (Value → Type 0) → Cond → Type 0
+IsCond V (Key key) = IsList V key
+IsCond V (Equal column value) = IsU32 column × V value
+IsCond V (Between column low high) = IsU32 column × (IsOption V low × IsOption V high)
+
+abbrev pub IsQuery : (Value → Type 0) → Query → Type 0
+IsQuery V query = IsU32 query.table × (IsList IsU32 query.columns × IsList (IsCond V) query.conditions)
+
+abbrev pub IsRow : (Value → Type 0) → Row → Type 0
+IsRow V row = IsList V row.key × IsList (IsPair IsU32 V) row.cells
+
+abbrev pub AreRows : (Value → Type 0) → List Row → Type 0
+AreRows V = IsList (IsRow V)

@@ -1,8 +1,8 @@
-//! Entries, operations, steps and openings as bytes, and back.
+//! Entries, operations, steps, openings, queries and rows as bytes, and back.
 ghost use Rattle.std.specs.Prelude.{◌≡◌, IfOk, OnOk};
 ghost use Rattle.keycode.specs.Valid.{IsValue, IsStorable};
-ghost use Rattle.entry_code.specs.Code.{entry_code, ops_code, step_code, opening_code};
-ghost use Rattle.entry_code.specs.Known.{IsEntry, AreOps, AreMoves, IsOpening};
+ghost use Rattle.entry_code.specs.Code.{entry_code, ops_code, step_code, opening_code, query_code, rows_code};
+ghost use Rattle.entry_code.specs.Known.{IsEntry, AreOps, AreMoves, IsOpening, IsQuery, AreRows};
 ghost use Rattle.entry_code.specs.Read.{IsRead, IsAccepted};
 
 use crate::encoded::Encoded;
@@ -10,6 +10,8 @@ use crate::fault::CodeFault;
 use crate::whole::{decode, encode};
 use collections::List;
 use replay::Entry;
+use row_map::Row;
+use row_query::Query;
 use row_write::RowOps;
 use schema_version::{Step, TableDef};
 use std::alloc::{AllocError, Global};
@@ -97,4 +99,36 @@ pub fn opening_of(alloc: Global, bytes: &[u8]) -> Result<(u64, List<TableDef>), 
     ensures accepted { IsAccepted IsOpening opening_code bytes.now result }
 {
     decode::<(u64, List<TableDef>)>(alloc, bytes)
+}
+
+/// The code of a query. Refused only when out of memory.
+pub fn query_bytes(alloc: Global, query: &Query) -> Result<Vec<u8>, AllocError>
+    ensures code { IfOk result (λ bytes. bytes.items ≡ query_code query.now) }
+    ensures known { OnOk result (IsQuery IsValue query.now) }
+{
+    encode(alloc, query)
+}
+
+/// The query whose code these `bytes` are. Refused, and bounded, as `entry_of` is.
+pub fn query_of(alloc: Global, bytes: &[u8]) -> Result<Query, CodeFault>
+    ensures read { IsRead (IsQuery IsStorable) query_code bytes.now result }
+    ensures accepted { IsAccepted (IsQuery IsStorable) query_code bytes.now result }
+{
+    decode::<Query>(alloc, bytes)
+}
+
+/// The code of a list of rows, as a query answers it. Refused only when out of memory.
+pub fn rows_bytes(alloc: Global, rows: &List<Row>) -> Result<Vec<u8>, AllocError>
+    ensures code { IfOk result (λ bytes. bytes.items ≡ rows_code rows.now) }
+    ensures known { OnOk result (AreRows IsValue rows.now) }
+{
+    encode(alloc, rows)
+}
+
+/// The rows whose code these `bytes` are. Refused, and bounded, as `entry_of` is.
+pub fn rows_of(alloc: Global, bytes: &[u8]) -> Result<List<Row>, CodeFault>
+    ensures read { IsRead (AreRows IsStorable) rows_code bytes.now result }
+    ensures accepted { IsAccepted (AreRows IsStorable) rows_code bytes.now result }
+{
+    decode::<List<Row>>(alloc, bytes)
 }

@@ -1,5 +1,5 @@
-//! Entries of a log, operations, steps and openings as bytes: each has one code, and what is read of
-//! bytes has these bytes as its code.
+//! Entries of a log, operations, steps, openings, queries and rows as bytes: each has one code, and
+//! what is read of bytes has these bytes as its code.
 #![tactic(auto)]
 
 mod calls;
@@ -10,6 +10,7 @@ mod laws;
 mod lists;
 mod numbers;
 mod ops;
+mod queries;
 mod steps;
 mod tables;
 mod texts;
@@ -17,7 +18,8 @@ mod values;
 mod whole;
 
 pub use calls::{
-    entry_bytes, entry_of, opening_bytes, opening_of, ops_bytes, ops_of, step_bytes, step_of,
+    entry_bytes, entry_of, opening_bytes, opening_of, ops_bytes, ops_of, query_bytes, query_of,
+    rows_bytes, rows_of, step_bytes, step_of,
 };
 pub use fault::CodeFault;
 pub use laws::{codes_say, one_code};

@@ -8,3 +8,4 @@ pub mod Txns
 pub mod Commits
 pub mod Snapshots
 pub mod Changes
+pub mod Queries

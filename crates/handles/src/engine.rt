@@ -4,6 +4,7 @@ ghost use Rattle.script_session.specs.Session.{empty};
 ghost use Rattle.handles.specs.Calls.{RepliesIn};
 
 use crate::outcome::{Outcome, lay};
+use collections::List;
 use script_session::{ServerLease, Session};
 use std::alloc::Global;
 use typed_calls::Txn;
@@ -30,6 +31,8 @@ pub enum Engine {
     Txn(Txn),
     /// What a session's world held at a moment.
     Snapshot(Snapshot),
+    /// The code of the rows that a query answered.
+    Rows(List<u8>),
 }
 
 impl Conversation {

@@ -1,5 +1,5 @@
 //! The engine behind handles that a program in another language keeps: sessions, leases,
-//! transactions and snapshots. `embedded` exports each call for C.
+//! transactions, snapshots and the rows of queries. `embedded` exports each call for C.
 #![tactic(auto)]
 
 mod advance;
@@ -12,6 +12,7 @@ mod handle;
 mod lease_calls;
 mod outcome;
 mod place;
+mod query_calls;
 mod replica_calls;
 mod session_calls;
 mod snapshot_calls;

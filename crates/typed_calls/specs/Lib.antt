@@ -6,4 +6,5 @@ pub mod Txns
 pub mod Prepare
 pub mod Commit
 pub mod Snapshots
+pub mod Queries
 pub mod Changes

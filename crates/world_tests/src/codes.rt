@@ -1,8 +1,8 @@
 //! Codes by hand: the version 01, then numbers by their bytes, the highest first, a byte for each
 //! variant, and lists, names and cursors after how many items they have, in eight bytes.
 use entry_code::{
-    CodeFault, entry_bytes, entry_of, opening_bytes, opening_of, ops_bytes, ops_of, step_bytes,
-    step_of,
+    CodeFault, entry_bytes, entry_of, opening_bytes, opening_of, ops_bytes, ops_of, query_bytes,
+    query_of, rows_bytes, rows_of, step_bytes, step_of,
 };
 use std::alloc::{AllocError, Global};
 
@@ -13,9 +13,11 @@ enum What {
     Ops,
     Step,
     Opening,
+    Query,
+    Rows,
 }
 
-use What::{Entry, Opening, Ops, Step};
+use What::{Entry, Opening, Ops, Query, Rows, Step};
 
 /// The code of what these bytes are read as.
 fn again(alloc: Global, what: What, bytes: &[u8]) -> Result<Vec<u8>, CodeFault> {
@@ -27,6 +29,8 @@ fn again(alloc: Global, what: What, bytes: &[u8]) -> Result<Vec<u8>, CodeFault> 
             let (length, tables) = opening_of(alloc, bytes)?;
             opening_bytes(alloc, length, &tables)?
         }
+        Query => query_bytes(alloc, &query_of(alloc, bytes)?)?,
+        Rows => rows_bytes(alloc, &rows_of(alloc, bytes)?)?,
     })
 }
 
@@ -91,6 +95,24 @@ const CODES: &[(What, &[u8], Result<bool, CodeFault>)] = &[
     (
         Opening,
         b"\x01\0\0\0\0\0\0\0\x0a\0\0\0\0\0\0\0\x01\0\0\0\0\0\0\0\x01t\0\0\0\0\0\0\0\x01\0\0\0\0\0\0\0\x02id\0\0\0\0\0\0\0\0\x01\0\0\0\0\0\0\0\x01a\x02\0\0\0\0\0\0\0\x01\0\0\0\0\0\0\0\x01i\0\0\0\0\0\0\0\x01\0\0\0\0\0\0\0\x01a",
+        Ok(true),
+    ),
+    // columns 2 and 3 of table 1, of row 7, if it has nothing in 2 and a text from "a" on in 3
+    (
+        Query,
+        b"\x01\0\0\0\x01\0\0\0\0\0\0\0\x02\0\0\0\x02\0\0\0\x03\0\0\0\0\0\0\0\x03\0\0\0\0\0\0\0\0\x01\x02\x80\0\0\0\0\0\0\x07\x01\0\0\0\x02\x01\x02\0\0\0\x03\x01\x03a\0\x01\0",
+        Ok(true),
+    ),
+    // a bound that is neither there nor absent
+    (
+        Query,
+        b"\x01\0\0\0\x01\0\0\0\0\0\0\0\0\0\0\0\0\0\0\0\x01\x02\0\0\0\x03\x02\x01\0",
+        Err(CodeFault::Malformed),
+    ),
+    // the row 7, with 5 in column 1
+    (
+        Rows,
+        b"\x01\0\0\0\0\0\0\0\x01\0\0\0\0\0\0\0\x01\x02\x80\0\0\0\0\0\0\x07\0\0\0\0\0\0\0\x01\0\0\0\x01\x02\x80\0\0\0\0\0\0\x05",
         Ok(true),
     ),
     (Ops, b"\x01\0\0\0\0\0\0\0\0", Ok(true)),

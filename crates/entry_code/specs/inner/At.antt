@@ -1,6 +1,6 @@
 -- Cited by private functions alone.
 -- Reading from left to right: a value and the bytes after it.
-use Rattle.std.specs.Prelude.{ℕ, zero, suc, ◌==◌, List, [], ◌∷◌, ◌++◌, length, take, drop, Result, Ok, Err, nat_lt, if◌then◌else◌}
+use Rattle.std.specs.Prelude.{ℕ, zero, suc, ◌==◌, List, [], ◌∷◌, ◌++◌, length, take, drop, Option, Some, None, Result, Ok, Err, nat_lt, if◌then◌else◌}
 use Rattle.std.specs.Int.{w32, w64, from_be_bytes}
 use Rattle.std.specs.Str.{is_utf8}
 use Rattle.collections.specs.Answers.{◌>>>=◌}
@@ -10,6 +10,10 @@ use Rattle.keycode.specs.Read.{value_at as key_value_at}
 use Rattle.lease.specs.declared.lease.Lease.{Lease}
 use Rattle.row_map.specs.declared.shape.ColumnType.{ColumnType}
 use Rattle.row_map.specs.declared.shape.ColumnType.TheVariants as column
+use Rattle.row_map.specs.declared.shape.Row.{Row}
+use Rattle.row_query.specs.declared.query.Cond.{Cond}
+use Rattle.row_query.specs.declared.query.Cond.TheVariants.{Key, Equal, Between}
+use Rattle.row_query.specs.declared.query.Query.{Query}
 use Rattle.row_write.specs.declared.op.RowOp.{RowOp}
 use Rattle.row_write.specs.declared.op.RowOp.TheVariants.{Insert, Update, Delete}
 use Rattle.schema_version.specs.declared.element.ElementState.{ElementState}
@@ -74,6 +78,15 @@ list_at at bytes = u64_at bytes >>>= λ x. items_at at [] x.0 x.1
 
 abbrev pub tagged_at : {X : Type 0} → (ℕ → At X) → At X
 tagged_at by bytes = byte_at bytes >>>= λ x. by x.0 x.1
+
+abbrev pub option_by : {X : Type 0} → At X → ℕ → At (Option X)
+option_by at tag bytes =
+    if tag == 0 then Ok (None, bytes)
+    else (if tag == 1 then map_at Some at bytes
+    else Err Malformed)
+
+unfoldable pub option_at : {X : Type 0} → At X → At (Option X)
+option_at at = tagged_at (option_by at)
 
 abbrev pub type_by : ℕ → At ColumnType
 type_by tag bytes =
@@ -169,6 +182,27 @@ what_at = tagged_at what_by
 
 unfoldable pub entry_at : At Entry
 entry_at = map_at (λ r. record { moment = r.0; what = r.1 }) (pair_at u64_at what_at)
+
+-- ---- queries and rows
+
+abbrev pub between_at : At (ℕ × (Option Value × Option Value))
+between_at = pair_at u32_at (pair_at (option_at value_at) (option_at value_at))
+
+abbrev pub cond_by : ℕ → At Cond
+cond_by tag bytes =
+    if tag == 0 then map_at Key key_at bytes
+    else (if tag == 1 then map_at (λ r. Equal r.0 r.1) (pair_at u32_at value_at) bytes
+    else (if tag == 2 then map_at (λ r. Between r.0 r.1.0 r.1.1) between_at bytes
+    else Err Malformed))
+
+unfoldable pub cond_at : At Cond
+cond_at = tagged_at cond_by
+
+unfoldable pub query_at : At Query
+query_at = map_at (λ r. record { table = r.0; columns = r.1.0; conditions = r.1.1 }) (pair_at u32_at (pair_at (list_at u32_at) (list_at cond_at)))
+
+unfoldable pub table_row_at : At Row
+table_row_at = map_at (λ r. record { key = r.0; cells = r.1 }) (pair_at key_at cells_at)
 
 -- ---- the whole bytes
 

@@ -14,4 +14,6 @@ returns c =
       ops = refl;
       step = refl;
       opening = refl;
+      query = refl;
+      rows = refl;
     }

@@ -1,4 +1,5 @@
 use Rattle.entry_code.proofs.Codes.{entry_tells, ops_tell, step_tells, opening_tells}
+use Rattle.entry_code.proofs.Asked.{query_tells, rows_tell}
 use Rattle.entry_code.proofs.laws.one_code.Goals as goal
 
 pub returns-clause-entries : goal.returns-clause-entries
@@ -12,3 +13,9 @@ returns-clause-steps c = step_tells
 
 pub returns-clause-openings : goal.returns-clause-openings
 returns-clause-openings c = opening_tells
+
+pub returns-clause-queries : goal.returns-clause-queries
+returns-clause-queries c = query_tells
+
+pub returns-clause-rows : goal.returns-clause-rows
+returns-clause-rows c = rows_tell
