@@ -42,6 +42,11 @@ carry_asked (Running r) line = carry_in (tokens_of line)
 abbrev pub IsCalm : Session → List ℕ → Type 0
 IsCalm session line = IsForeign line → carry_asked session line ≡ None
 
+-- how many steps of the kept plan are left
+abbrev pub steps_left : Session → ℕ
+steps_left (Declaring d) = 0
+steps_left (Running r) = length r.plan
+
 -- the session's reply to what it is given
 abbrev pub Replied : Session → List ℕ → List ℕ → Bool → Session → Type 0
 Replied old line reply bad new = IsCalm old line × ((given : List ℕ) × IsGiven old line given × Reply old given reply bad new)

@@ -8,9 +8,9 @@ ghost use Rattle.script_tokens.specs.Tokens.{tokens_of};
 use collections::List;
 use rollout::{AdvanceFault, Advanced, advance, complete};
 use schema_version::Schema;
-use script_hints::push_element;
 use script_session::Opened;
 use script_tokens::{Token, is_word, tokens_of};
+use script_views::push_element;
 use std::alloc::{AllocError, Global};
 
 /// In how many pieces a fill or a clear is begun.

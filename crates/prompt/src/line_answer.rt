@@ -1,7 +1,7 @@
 //! What one line is answered.
 ghost use Rattle.std.specs.Prelude.{◌≡◌, ◌++◌, IfOk, OnOk, Some, None, string_bytes};
 ghost use Rattle.std.specs.List.{flat_map};
-ghost use Rattle.prompt.specs.Conversation.{IsCalm, IsAnswered, carry_asked, remark_text, remark_byte, prompt_text};
+ghost use Rattle.prompt.specs.Conversation.{IsCalm, IsAnswered, carry_asked, remark_text, remark_byte, prompt_text, steps_left};
 ghost use Rattle.prompt.specs.Moment.{IsForeign};
 
 use crate::carry::{CarryLine, carry_of, carry_on};
@@ -69,15 +69,27 @@ fn answer_of(
     Ok(LineAnswer { text, is_bad })
 }
 
+// How many steps of the kept plan are left.
+fn steps_left(session: &Session) -> usize
+    ensures { result ≡ steps_left session.now }
+{
+    match session {
+        Session::Declaring(_) => 0,
+        Session::Running(opened) => opened.plan.len(),
+    }
+}
+
 // The session's own reply to a line, and the hint that goes with it.
 fn reply_line(alloc: Global, session: &mut Session, line: &str) -> Result<LineAnswer, AllocError>
     requires calm { IsCalm session.old line.now }
     ensures { IfOk result (λ answer. IsAnswered session.old line.now answer.text.items answer.is_bad session.new) }
 {
     let given = given_line(alloc, session, line)?;
+    let steps = steps_left(session);
     let answer = session.reply_to(alloc, given.as_str())?;
-    let hint = hint_of(alloc, session, given.as_str(), answer.text.as_str(), true)?;
-    let answer = answer_of(alloc, answer.text.as_str(), answer.is_bad, hint.as_str())?;
+    let reply = answer.text.as_str();
+    let hint = hint_of(alloc, session, given.as_str(), reply, true, steps)?;
+    let answer = answer_of(alloc, reply, answer.is_bad, hint.as_str())?;
     Ok(answer)
 }
 

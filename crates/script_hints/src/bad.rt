@@ -1,8 +1,8 @@
 //! Where a bad line stops being a command, and what was expected there.
-use crate::near::push_nearest;
 use crate::pieces::pieces_of;
 use crate::rules::{LEFT_OUT, RULES, rule_of};
 use crate::table::row_of;
+use script_views::push_nearest;
 use std::alloc::{AllocError, Global};
 
 /// The lines of the prompt alone, beside those of a script.

@@ -1,11 +1,9 @@
 //! The columns and indexes of tables, as aligned tables.
-use crate::named::table_names;
-use crate::near::push_nearest;
-use crate::types::type_word;
 use keycode::Text;
 use row_map::ColumnType;
 use schema_version::{ElementDef, Kind, MAX_TABLES, Schema, Way};
 use script_grammar::{push_value, state_word};
+use script_views::{push_nearest, table_names, type_word};
 use std::alloc::{AllocError, Global};
 
 fn push_key_columns(out: &mut String, key: &[(Text, ColumnType)]) -> Result<(), AllocError> {

@@ -1,11 +1,11 @@
 //! The hint that goes with a reply.
 
 use crate::bad::unexpected;
-use crate::in_way::left_out;
-use crate::near::push_nearest;
+use crate::in_way::{left_out, push_replaced};
 use crate::refused::{opening_hint, refusal_hint, refusal_of};
 use script_grammar::{Command, read_command};
 use script_session::{Declarations, Session};
+use script_views::push_nearest;
 use std::alloc::{AllocError, Global};
 
 /// The longest line, in bytes.
@@ -69,22 +69,32 @@ fn refused_hint(
     }
 }
 
-// What an accepted plan leaves unfinished.
-fn accepted_hint(alloc: Global, session: &Session, reply: &str) -> Result<String, AllocError> {
+// What an accepted plan leaves unfinished, and how many steps of the kept plan it replaces.
+fn accepted_hint(
+    alloc: Global,
+    session: &Session,
+    reply: &str,
+    steps: usize,
+) -> Result<String, AllocError> {
     match session {
-        Session::Running(opened) if reply.contains("ok plan ") => left_out(alloc, opened),
+        Session::Running(opened) if reply.contains("ok plan ") => {
+            let mut out = left_out(alloc, opened)?;
+            push_replaced(&mut out, steps)?;
+            Ok(out)
+        }
         _ => Ok(String::new(alloc)),
     }
 }
 
 /// The hint that goes with a reply: where a bad line stops being a command and what was expected
-/// there, what a refusal means and what may be done, or what an accepted plan leaves unfinished.
-/// Empty for any other reply.
+/// there, what a refusal means and what may be done, or what an accepted plan leaves unfinished and
+/// what it replaces. Empty for any other reply.
 ///
 /// - `session`: the session after the reply, which is only read.
 /// - `line`: the line that was answered, without its ending.
 /// - `reply`: the reply.
 /// - `may_omit`: whether `at M` may be left out.
+/// - `steps`: how many steps of the kept plan were left before the reply.
 ///
 /// Refused only when out of memory.
 pub fn hint_of(
@@ -93,12 +103,13 @@ pub fn hint_of(
     line: &str,
     reply: &str,
     may_omit: bool,
+    steps: usize,
 ) -> Result<String, AllocError> {
     if reply == "bad line\n" {
         return bad_hint(alloc, session, line, may_omit);
     }
     match reply.strip_prefix("refused ") {
         Some(refusal) => refused_hint(alloc, session, line, refusal.trim_end()),
-        None => accepted_hint(alloc, session, reply),
+        None => accepted_hint(alloc, session, reply, steps),
     }
 }

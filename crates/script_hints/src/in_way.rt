@@ -1,11 +1,11 @@
 //! The unfinished change that is in the way of a plan, or that a plan leaves as it is.
 use crate::describe::push_standing;
-use crate::element_words::push_element;
 use crate::progress::{is_resting, push_waiting};
 use keycode::Text;
 use schema_version::{ElementDef, Schema, moves_element};
 use script_grammar::{Command, NamedChange, New};
 use script_session::Opened;
+use script_views::push_element;
 use std::alloc::{AllocError, Global};
 
 // The element of this name, if it is being added or dropped.
@@ -122,4 +122,19 @@ pub(crate) fn left_out(alloc: Global, opened: &Opened) -> Result<String, AllocEr
         }
     }
     Ok(out)
+}
+
+/// Adds, on a line of its own, that a plan replaces the kept one, if steps of that were left.
+/// Refused only when out of memory.
+///
+/// - `steps`: how many were left.
+pub(crate) fn push_replaced(out: &mut String, steps: usize) -> Result<(), AllocError> {
+    if steps == 0 {
+        return Ok(());
+    }
+    if !out.is_empty() {
+        out.push_str("\n")?;
+    }
+    let are = if steps == 1 { "step was" } else { "steps were" };
+    write!(out, "this plan replaces one of which {steps} {are} left")
 }

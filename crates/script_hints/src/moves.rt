@@ -1,9 +1,9 @@
 //! The moves of steps, with the names of their elements.
-use crate::element_words::push_element;
 use change_plan::PlanStep;
 use schema_version::{Move, NewElement, Schema, Step};
 use script_grammar::state_word;
 use script_session::Opened;
+use script_views::push_element;
 use std::alloc::{AllocError, Global};
 
 /// Adds the elements that enter in a step.

@@ -1,10 +1,10 @@
 //! What is being added or dropped, and what is left of the plan.
 use crate::describe::push_standing;
-use crate::element_words::push_element;
 use crate::fills::{goes_over_rows, rows_of};
 use crate::moves::{push_entered, push_step};
 use schema_version::{ElementDef, NewElement, Step, Way, Work};
 use script_session::Opened;
+use script_views::push_element;
 use std::alloc::{AllocError, Global};
 use world::World;
 

@@ -1,15 +1,15 @@
 //! What a refusal means, and what may be done.
-use crate::element_words::push_element;
 use crate::in_way::in_the_way;
 use crate::meanings::meaning_of;
-use crate::named::{Wrong, missing_element, missing_table, wrong_operations, wrong_selection};
-use crate::near::push_nearest;
-use crate::tuples::push_tuple;
 use keycode::Text;
 use row_map::{KeyOf, read_key};
 use schema_version::Schema;
 use script_grammar::{Command, ElementName, NamedChange, NamedMove, New};
 use script_session::Opened;
+use script_views::{
+    Wrong, missing_element, missing_table, push_element, push_nearest, push_tuple,
+    wrong_operations, wrong_selection,
+};
 use std::alloc::{AllocError, Global};
 
 /// A refusal: its name, and the words after it.

@@ -1,19 +1,16 @@
 //! Where things stand: the lines of the prompt that no script has.
-ghost use Rattle.std.specs.Prelude.{◌≡◌, ◌++◌, ◌∷◌, IfOk, List, ℕ, Some, codes, option_map, string_bytes, true};
-ghost use Rattle.std.specs.Option.{IsSomeAnd};
-ghost use Rattle.script_hints.specs.Check.{HasNo, IsBare, ShowsCheck, ShowsCheckIn, ShowsElement};
-ghost use Rattle.script_hints.specs.Explain.{ShowsPath, ShowsPathIn};
+ghost use Rattle.std.specs.Prelude.{IfOk, option_map, string_bytes};
+ghost use Rattle.script_views.specs.Check.{ShowsCheck, ShowsCheckIn};
+ghost use Rattle.script_views.specs.Explain.{ShowsPath, ShowsPathIn};
 
 use crate::command_help::help_text;
 use crate::describe::description;
-use crate::element_pairs::element_pairs;
-use crate::explain::explanation;
 use crate::explain_plan::plan_explanation;
 use crate::progress::{plan_left, progress};
 use crate::timeline::timeline;
-use keycode::Text;
 use lease::LeaseFault;
 use script_session::{Opened, ServerLease, Session};
+use script_views::{explanation, named_pairs, named_view};
 use std::alloc::{AllocError, Global};
 
 fn push_lease(
@@ -46,20 +43,6 @@ fn leases(alloc: Global, opened: &Opened) -> Result<String, AllocError> {
         out.push_str("no server has a lease")?;
     }
     Ok(out)
-}
-
-// What the check of the element of these names shows.
-fn named_pairs(
-    alloc: Global,
-    opened: &Opened,
-    table: &str,
-    name: &str,
-) -> Result<String, AllocError>
-    ensures { IfOk result (λ text. ShowsElement opened.now.world table.now name.now (string_bytes text)) }
-{
-    let table = Text::new(table.to_string(alloc)?);
-    let name = Text::new(name.to_string(alloc)?);
-    element_pairs(alloc, opened, &table, &name)
 }
 
 // `check TABLE.NAME` with white space around its names; `None` if the words are no such name.
@@ -118,71 +101,7 @@ fn view_by_words(
     trimmed(alloc, view)
 }
 
-// What a line asks to explain, if it begins with `explain query`.
-fn explained_query(line: &str) -> Option<&str>
-    ensures { (rest : List ℕ) → line.now ≡ codes "explain query" ++ rest → option_map (λ q. q.now) result ≡ Some (codes "query" ++ rest) }
-{
-    if !line.starts_with("explain query") {
-        return None;
-    }
-    let (_, query) = line.split_once(' ')?;
-    Some(query)
-}
-
-// Whether a name has no white space in it.
-fn is_bare(name: &str) -> bool
-    ensures { HasNo 32 name.now → HasNo 9 name.now → result ≡ true }
-{
-    !name.contains(' ') && !name.contains('\t')
-}
-
-// The names of `check TABLE.NAME`, if there is no white space in them.
-fn checked_names(line: &str) -> Option<(&str, &str)>
-    ensures { (table name : List ℕ) → IsBare table → IsBare name → line.now ≡ codes "check " ++ (table ++ 46 ∷ name) → IsSomeAnd result (λ n. (n.0.now ≡ table) × (n.1.now ≡ name)) }
-{
-    if !line.starts_with("check ") {
-        return None;
-    }
-    let (_, names) = line.split_once(' ')?;
-    let (table, name) = names.split_once('.')?;
-    if is_bare(table) && is_bare(name) {
-        Some((table, name))
-    } else {
-        None
-    }
-}
-
-// The view of a line after `open` that may be `check TABLE.NAME`.
-fn checked_view(
-    alloc: Global,
-    opened: &Opened,
-    line: &str,
-    is_shown: bool,
-) -> Result<Option<String>, AllocError>
-    ensures { IfOk result (λ shown. ShowsCheckIn opened.now line.now (option_map string_bytes shown)) }
-{
-    match checked_names(line) {
-        Some((table, name)) => Ok(Some(named_pairs(alloc, opened, table, name)?)),
-        None => view_by_words(alloc, opened, line, is_shown),
-    }
-}
-
-// The view of a line after `open` that may be `explain query`.
-fn explained_view(
-    alloc: Global,
-    opened: &Opened,
-    line: &str,
-    is_shown: bool,
-) -> Result<Option<String>, AllocError>
-    ensures { IfOk result (λ shown. ShowsPathIn opened.now line.now (option_map string_bytes shown)) }
-{
-    match explained_query(line) {
-        Some(query) => Ok(Some(explanation(alloc, opened, query)?)),
-        None => view_by_words(alloc, opened, line, is_shown),
-    }
-}
-
-// The view after `open`.
+// The view after `open`: one that is proved, or else by the words.
 fn running_view(
     alloc: Global,
     opened: &Opened,
@@ -192,10 +111,9 @@ fn running_view(
     ensures path { IfOk result (λ shown. ShowsPathIn opened.now line.now (option_map string_bytes shown)) }
     ensures check { IfOk result (λ shown. ShowsCheckIn opened.now line.now (option_map string_bytes shown)) }
 {
-    if line.starts_with('c') {
-        checked_view(alloc, opened, line, is_shown)
-    } else {
-        explained_view(alloc, opened, line, is_shown)
+    match named_view(alloc, opened, line)? {
+        Some(text) => Ok(Some(text)),
+        None => view_by_words(alloc, opened, line, is_shown),
     }
 }
 

@@ -1,4 +1,4 @@
-use Rattle.std.proofs.Common.{◌≡◌, refl, ◌∙◌, ap, string_bytes}
+use Rattle.std.proofs.Common.{refl, ◌∙◌, ap}
 use Rattle.schema_version.specs.Version.{Version}
 use Rattle.script_replies.specs.Texts.{line}
 use Rattle.prompt.specs.Carry.{advanced_words}

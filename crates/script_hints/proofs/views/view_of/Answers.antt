@@ -1,5 +1,5 @@
 use Rattle.std.proofs.Common.{string_bytes}
-use Rattle.script_hints.proofs.Shown.{shown_running}
+use Rattle.script_hints.proofs.OpenedViews.{shown_running}
 use Rattle.script_hints.proofs.views.view_of.Goals as goal
 
 pub returns-in-Running-clause-path : goal.returns-in-Running-clause-path

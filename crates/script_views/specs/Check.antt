@@ -1,0 +1,77 @@
+-- Cited by the contracts of named_view, named_pairs and of the functions below them, and by that of view_of in script_hints.
+-- What `check TABLE.NAME` shows of one element.
+use Rattle.std.specs.Prelude.{◌≡◌, ◌≢◌, ◌<◌, ◌++◌, ◌∷◌, ℕ, List, Option, length, get_or, ⊤, codes}
+use Rattle.std.specs.Fmt.{decimal}
+use Rattle.std.specs.List.{flat_map}
+use Rattle.std.specs.Option.{MatchOption, IsSomeAnd}
+use Rattle.std.specs.Str.{trim}
+use mathlib.Core.List.{map as each}
+use Rattle.audit.specs.Audit.{numbered}
+use Rattle.element_check.specs.Check.{IsElementCheck}
+use Rattle.element_check.specs.declared.report.ElementReport.{ElementReport}
+use Rattle.keycode.specs.declared.value.Value.{Value}
+use Rattle.row_map.specs.declared.key.KeyOf.{KeyOf}
+use Rattle.row_map.specs.declared.key.KeyOf.TheVariants.{Exists, Column, Index}
+use Rattle.schema_version.specs.declared.element.ElementDef.{ElementDef}
+use Rattle.script_grammar.specs.Print.{value_text}
+use Rattle.script_names.specs.Names.{table_number, element_number}
+use Rattle.script_replies.specs.Rows.{joined}
+use Rattle.script_session.specs.Session.{Session}
+use Rattle.script_session.specs.declared.session.Opened.{Opened}
+use Rattle.script_session.specs.declared.session.Session.TheVariants.{Declaring, Running}
+use Rattle.world.specs.State.{State, facts_of}
+
+-- `(VALUE, VALUE)`
+abbrev pub tuple : List Value → List ℕ
+tuple values = codes "(" ++ joined (each value_text values) ++ codes ")"
+
+-- the primary key of a column's pair; the indexed values and the primary key of an index's pair
+abbrev pub key_tuple : KeyOf → List ℕ
+key_tuple (Exists table key) = tuple key
+key_tuple (Column table key element) = tuple key
+key_tuple (Index element values) = tuple values
+
+abbrev pub missing_line : List Value → List ℕ
+missing_line key = codes "\nmissing " ++ tuple key
+
+abbrev pub extra_line : KeyOf → List ℕ
+extra_line key = codes "\nextra " ++ key_tuple key
+
+-- `TABLE.NAME missing M extra X`, and a line for each row and for each key of the report
+abbrev pub check_text : List ℕ → ElementReport → List ℕ
+check_text name report =
+    name ++ codes " missing " ++ decimal report.missing ++ codes " extra " ++ decimal report.extra
+    ++ flat_map missing_line report.missing_rows ++ flat_map extra_line report.extra_keys
+
+-- the check of an element by the newest version, with the first 20 of each
+abbrev pub IsElementText : State → List ℕ → ElementDef → List ℕ → Type 0
+IsElementText world name element text =
+    (report : ElementReport) × IsElementCheck (facts_of world).newest world.pairs element 20 report × (text ≡ check_text name report)
+
+-- the number that the names have in the newest version
+abbrev pub number_of : State → List ℕ → List ℕ → ℕ
+number_of world table name = element_number (facts_of world).newest (table_number (facts_of world).newest table) name
+
+-- what is shown of the live element of these names
+abbrev pub ShowsElement : State → List ℕ → List ℕ → List ℕ → Type 0
+ShowsElement world table name text =
+    MatchOption (numbered (facts_of world).newest (number_of world table name)) ⊤ (λ element. IsElementText world (table ++ codes "." ++ name) element text)
+
+abbrev pub HasNo : ℕ → List ℕ → Type 0
+HasNo c bytes = (i : ℕ) → i < length bytes → get_or bytes i 0 ≢ c
+
+-- a name with no tab, no space and no dot in it, as every name of a schema is
+pub record IsBare (name : List ℕ) : Type 0 where
+  pub no_tab : HasNo 9 name
+  pub no_space : HasNo 32 name
+  pub no_dot : HasNo 46 name
+
+-- the line `check TABLE.NAME` shows the check of that element
+abbrev pub ShowsCheckIn : Opened → List ℕ → Option (List ℕ) → Type 0
+ShowsCheckIn opened line shown =
+    (table name : List ℕ) → IsBare table → IsBare name → line ≡ codes "check " ++ (table ++ 46 ∷ name) → IsSomeAnd shown (λ text. ShowsElement opened.world table name text)
+
+-- in an opened world, whatever white space is around the line
+abbrev pub ShowsCheck : Session → List ℕ → Option (List ℕ) → Type 0
+ShowsCheck (Declaring declared) line shown = ⊤
+ShowsCheck (Running opened) line shown = ShowsCheckIn opened (trim line) shown
