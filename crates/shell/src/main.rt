@@ -1,13 +1,11 @@
 //! The program: it runs the script on standard input, or a load, as the command line chooses.
 #![tactic(auto)]
 
-ghost use Rattle.command_line.specs.LoadSize.{IsLoadSize};
-
 mod reports;
 
 use crate::reports::Reports;
 use clap::Error;
-use command_line::{Chosen, LoadSize, NOT_UTF8, options, status_of};
+use command_line::{Chosen, NOT_UTF8, options, status_of};
 use load::run_load_shown;
 use prompt::{Streams, converse, prompt_status};
 use rollout_example::rollout_report;
@@ -174,35 +172,30 @@ fn print_rollout(rt: &HostRuntime, text: Option<String>) -> u8 {
     }
 }
 
-/// Runs a load, and answers its exit status.
-fn run_sized(rt: &HostRuntime, size: LoadSize, is_timed: bool) -> u8
-    requires { IsLoadSize size }
-{
-    let started = if is_timed {
-        Instant::now(rt).ok()
-    } else {
-        None
-    };
-    let is_shown = rt.stderr().is_terminal();
-    let status = run_load_shown(rt, rt.alloc(), size, is_shown, &mut io::writer(rt));
-    end_load(rt, status, size.rows, started)
-}
-
-/// Does what the words of the command line choose, and answers the exit status.
-fn run_words(rt: &HostRuntime, words: &[String]) -> u8 {
-    match options(rt.alloc(), words) {
-        Ok(Chosen::Run { file, stops }) => run_input(rt, file, stops),
-        Ok(Chosen::Prompt { file }) => answer_input(rt, file),
-        Ok(Chosen::Load { size, is_timed }) => run_sized(rt, size, is_timed),
-        Ok(Chosen::Rollout) => print_rollout(rt, rollout_report(rt, rt.alloc())),
-        Err(error) => print_choice(rt, &error),
-    }
-}
-
 fn main(rt: HostRuntime) -> ExitCode {
-    let status = match words_of(&rt) {
-        Ok(words) => run_words(&rt, words.as_slice()),
-        Err(status) => status,
+    let alloc = rt.alloc();
+    let words = match words_of(&rt) {
+        Ok(words) => words,
+        Err(status) => return ExitCode::from(status),
     };
-    ExitCode::from(status)
+    match options(alloc, words.as_slice()) {
+        Ok(Chosen::Run { file, stops }) => ExitCode::from(run_input(&rt, file, stops)),
+        Ok(Chosen::Prompt { file }) => ExitCode::from(answer_input(&rt, file)),
+        Ok(Chosen::Load { size, is_timed }) => {
+            let started = if is_timed {
+                Instant::now(&rt).ok()
+            } else {
+                None
+            };
+            let is_shown = rt.stderr().is_terminal();
+            let mut output = io::writer(&rt);
+            let status = run_load_shown(&rt, alloc, size, is_shown, &mut output);
+            ExitCode::from(end_load(&rt, status, size.rows, started))
+        }
+        Ok(Chosen::Rollout) => {
+            let text = rollout_report(&rt, alloc);
+            ExitCode::from(print_rollout(&rt, text))
+        }
+        Err(error) => ExitCode::from(print_choice(&rt, &error)),
+    }
 }
