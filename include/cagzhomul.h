@@ -19,9 +19,9 @@
  * - malloc, realloc and free are of one allocator, and align as C asks. No call comes from a signal
  *   handler, or from the forked child of a process with threads.
  *
- * Who owns what: the caller owns the handle, the line, the entry and `out`, and the library keeps
- * no pointer to them after a call. What an open handle points to is the library's, and
- * cagzhomul_close frees it.
+ * Who owns what: the caller owns the handle, the line, the entry, each code and `out`, and the
+ * library keeps no pointer to them after a call. What an open handle points to, as the rows of a
+ * query, is the library's, and cagzhomul_close frees it.
  *
  * Of the refusals of a function the first in its list that applies is given. A refused call
  * changes neither the handle nor `out`, except that CAGZHOMUL_OUT_OF_MEMORY of cagzhomul_reply_to
@@ -270,7 +270,7 @@ int32_t cagzhomul_snapshot(cagzhomul_handle *session, uint64_t moment, cagzhomul
  * closed handle `rows` then holds the code of its rows, in the order of their primary keys, which
  * cagzhomul_rows_from gives. The query runs under the schema of the lease's version. `moment` is as
  * for cagzhomul_lease. The session and the lease stay, and the rows stay what they are, whatever
- * happens to them. The library keeps no pointer to `query`.
+ * happens to them.
  * CAGZHOMUL_OK. Refusals: CAGZHOMUL_ALREADY_OPEN, of `rows`; CAGZHOMUL_CLOSED and
  * CAGZHOMUL_WRONG_KIND of `session`; CAGZHOMUL_CLOSED and CAGZHOMUL_WRONG_KIND of `lease`;
  * CAGZHOMUL_NOT_OPENED; CAGZHOMUL_BAD_CODE, also of a query with a text of more than 1,024 bytes;
