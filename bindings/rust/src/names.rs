@@ -3,6 +3,7 @@
 use crate::error::Error;
 use crate::reply::Reader;
 use crate::table::Table;
+use std::sync::{Mutex, MutexGuard, PoisonError};
 
 /// A column or an index.
 #[derive(Debug, Clone, PartialEq, Eq)]
@@ -10,15 +11,18 @@ struct Element {
     table: String,
     name: String,
     number: u32,
+    is_public: bool,
 }
 
 /// The names of one version. Tables have their numbers from the opening, since they never change;
 /// the rest comes from what `status` says of the version, so it is right whoever published it.
-#[derive(Debug, Clone, PartialEq, Eq)]
+#[derive(Debug)]
 pub(crate) struct Names {
     version: u64,
     tables: Vec<String>,
     elements: Vec<Element>,
+    /// The public indexes that queries met: `status` does not tell them from columns.
+    indexes: Mutex<Vec<u32>>,
 }
 
 impl Names {
@@ -28,6 +32,7 @@ impl Names {
             version: 0,
             tables: tables.iter().map(|table| table.name.clone()).collect(),
             elements: Vec::new(),
+            indexes: Mutex::default(),
         }
     }
 
@@ -44,6 +49,7 @@ impl Names {
             version,
             tables: self.tables.clone(),
             elements,
+            indexes: Mutex::default(),
         })
     }
 
@@ -58,6 +64,26 @@ impl Names {
         let mut elements = self.elements.iter();
         let found = elements.find(|element| element.name == name && element.table == table);
         found.map_or(0, |element| element.number)
+    }
+
+    /// The numbers of a table's public columns, and of public indexes that no query met yet.
+    pub(crate) fn public(&self, table: &str) -> Vec<u32> {
+        let indexes = self.indexes();
+        let elements = self.elements.iter();
+        elements
+            .filter(|element| element.is_public && element.table == table)
+            .map(|element| element.number)
+            .filter(|number| !indexes.contains(number))
+            .collect()
+    }
+
+    /// Keeps that the number is one of an index.
+    pub(crate) fn add_index(&self, number: u32) {
+        self.indexes().push(number);
+    }
+
+    fn indexes(&self) -> MutexGuard<'_, Vec<u32>> {
+        self.indexes.lock().unwrap_or_else(PoisonError::into_inner)
     }
 
     /// The name of the column or the index of this number.
@@ -92,13 +118,14 @@ fn element_of(reader: &mut Reader<'_>) -> Option<Element> {
     let name = reader.until("\",\"number\":")?.to_string();
     let number = reader.number()?;
     reader.take(",\"state\":\"")?;
-    reader.until("\",\"table\":\"")?;
+    let state = reader.until("\",\"table\":\"")?;
     let table = reader.until("\",\"way\":\"")?.to_string();
     reader.until("\"}")?;
     Some(Element {
         table,
         name,
         number,
+        is_public: state == "public",
     })
 }
 
@@ -125,6 +152,9 @@ mod tests {
         assert_eq!((names.element("t", "a"), names.element("u", "a")), (1, 0));
         assert_eq!((names.element("u", "i"), names.element("v", "i")), (4, 0));
         assert_eq!((names.name_of(4), names.name_of(0)), (Some("i"), None));
+        assert_eq!((names.public("t"), names.public("u")), (vec![1], vec![]));
+        names.add_index(1);
+        assert_eq!(names.public("t"), []);
     }
 
     #[test]
