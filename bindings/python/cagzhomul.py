@@ -357,8 +357,8 @@ class _Names:
         self.keys = {table.name: list(table.key) for table in tables}
         self.numbers: Dict[Tuple[str, str], int] = {(it["table"], it["name"]): it["number"] for it in told["elements"]}
         self.by_number: Dict[int, str] = {it["number"]: it["name"] for it in told["elements"]}
-        # `status` does not tell indexes from columns, so `_found` takes them out when it meets them
-        self.public = {name: [it["number"] for it in told["elements"] if it["table"] == name and it["state"] == "public"] for name in self.tables}
+        # `status` does not tell columns from indexes: `_found` takes out what is refused as no public column
+        self.public = {name: [it["number"] for it in told["elements"] if it["table"] == name] for name in self.tables}
 
     def number(self, table: str, name: str) -> int:
         """The number of a column, or 0, which is none."""

@@ -73,7 +73,7 @@ class Queries(unittest.TestCase):
 
     def test_codes_are_those_worked_out_by_hand(self) -> None:
         status = '{"elements":[%s],"version":1}' % ",".join(
-            f'{{"name":"{name}","number":{number},"state":"public","table":"t"}}' for number, name in ((1, "a"), (2, "b"), (3, "c")))
+            f'{{"name":"{name}","number":{number},"table":"t"}}' for number, name in ((1, "a"), (2, "b"), (3, "c")))
         names = cagzhomul._Names(status, [Table("t", {"id": int})])
         # columns b and c of row 7, if it has nothing in b, and in c a text from "a" on
         query = Query("t", ["b", "c"], key=7, equal={"b": None}, between={"c": ("a", None)})
@@ -140,7 +140,8 @@ class Queries(unittest.TestCase):
             for place, (kind, query) in enumerate(bad):
                 with self.subTest(place):
                     self.assertEqual(*[(it.status, str(it)) for it in (self.refused(kind, lambda: lease.find(query)), self.refused(kind, lambda: snapshot.query(query)))])
-            for query, column in ((Query("people", ["town", "x", "y"]), "x"), (Query("people", key=1, equal={"y": 1}), "y"), (Query("people", between={"id": (1, 2)}), "id")):
+            for query, column in ((Query("people", ["town", "x", "y"], equal={"y": 1}), "x"), (Query("people", key=1, equal={"y": 1}, between={"x": (1, 2)}), "y"),
+                                  (Query("people", between={"id": (1, 2)}), "id")):
                 for call in (lease.find, snapshot.query):
                     self.assertEqual(vars(self.refused(cagzhomul.NotPublic, lambda: call(query)))["column"], column)
             self.refused(cagzhomul.LeaseEnded, lambda: lease.find(Query("nobody"), 15))
@@ -179,11 +180,23 @@ class Queries(unittest.TestCase):
                 self.assertEqual(last.query(Query("people")), [{"id": 1, "age": 7}, {"id": 2, "age": 33}])
                 self.assertEqual(third.find(Query("people", between={"age": (8, None)})), [{"id": 2, "age": 33}])
             self.assertEqual(new.query(Query("people", ["town"], equal={"age": 7})), [{"id": 1, "town": "Ulm"}])
+            self.assertEqual([[it._names.by_number[column] for column in it._names.columns(Query("people"))] for it in (old, new, last)], [["town"], ["town", "age"], ["age"]])
             for snapshot, column in ((old, "age"), (old, "by_age"), (new, "early"), (new, "by_age"), (last, "town"), (last, "by_age")):
                 for query in (Query("people", [column]), Query("people", equal={column: None}), Query("people", ["id", column])):
                     named = "id" if query.columns and len(query.columns) == 2 else column
                     self.assertEqual(vars(self.refused(cagzhomul.NotPublic, lambda: snapshot.query(query)))["column"], named)
             self.refused(cagzhomul.LeaseEnded, lambda: first.find(Query("people"), clock))
+
+    def test_a_snapshot_has_the_columns_of_an_older_lease(self) -> None:
+        with cagzhomul.open(PEOPLE) as db:
+            self.assertEqual(db.reply_to("publish at 10: add column age int on people"), "ok version 2\n")
+            with db.lease(15) as old:
+                old.insert("people", 1, town="Ulm")
+                self.assertEqual(db.reply_to("publish at 20: move people.age to public; move people.town to delete_only"), "ok version 3\n")
+                with db.lease(20) as new, db.snapshot(old, 20) as before, db.snapshot(new, 20) as after:
+                    for _ in range(2):
+                        self.assertEqual((before.query(Query("people")), old.find(Query("people"), 20)), 2 * ([{"id": 1, "town": "Ulm"}],))
+                        self.assertEqual((after.query(Query("people")), new.find(Query("people"))), 2 * ([{"id": 1, "age": None}],))
 
     def test_a_snapshot_is_queried_while_threads_write(self) -> None:
         with cagzhomul.open([Table("people", {"id": int}, {"town": str}, {"by_town": ["town"]})]) as db, db.lease(5) as lease:
@@ -208,6 +221,8 @@ class Queries(unittest.TestCase):
                 while not is_last:
                     is_last = all(writer.done() for writer in writers)
                     self.assertEqual([snapshot.query(query) for query in queries], before)
+                    # each writer inserts a row before it deletes one
+                    self.assertIn(len(lease.find(queries[0])), range(100, 105))
                     times += 1
                 return times
 

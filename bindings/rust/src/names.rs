@@ -11,7 +11,6 @@ struct Element {
     table: String,
     name: String,
     number: u32,
-    is_public: bool,
 }
 
 /// The names of one version. Tables have their numbers from the opening, since they never change;
@@ -21,8 +20,8 @@ pub(crate) struct Names {
     version: u64,
     tables: Vec<String>,
     elements: Vec<Element>,
-    /// The public indexes that queries met: `status` does not tell them from columns.
-    indexes: Mutex<Vec<u32>>,
+    /// What queries met that is no public column: `status` does not tell columns from indexes.
+    refused: Mutex<Vec<u32>>,
 }
 
 impl Names {
@@ -32,7 +31,7 @@ impl Names {
             version: 0,
             tables: tables.iter().map(|table| table.name.clone()).collect(),
             elements: Vec::new(),
-            indexes: Mutex::default(),
+            refused: Mutex::default(),
         }
     }
 
@@ -49,7 +48,7 @@ impl Names {
             version,
             tables: self.tables.clone(),
             elements,
-            indexes: Mutex::default(),
+            refused: Mutex::default(),
         })
     }
 
@@ -66,24 +65,24 @@ impl Names {
         found.map_or(0, |element| element.number)
     }
 
-    /// The numbers of a table's public columns, and of public indexes that no query met yet.
+    /// The numbers of all that a table has, but for what was refused as no public column.
     pub(crate) fn public(&self, table: &str) -> Vec<u32> {
-        let indexes = self.indexes();
+        let refused = self.refused();
         let elements = self.elements.iter();
         elements
-            .filter(|element| element.is_public && element.table == table)
+            .filter(|element| element.table == table)
             .map(|element| element.number)
-            .filter(|number| !indexes.contains(number))
+            .filter(|number| !refused.contains(number))
             .collect()
     }
 
-    /// Keeps that the number is one of an index.
-    pub(crate) fn add_index(&self, number: u32) {
-        self.indexes().push(number);
+    /// Keeps that the number is refused as no public column.
+    pub(crate) fn refuse(&self, number: u32) {
+        self.refused().push(number);
     }
 
-    fn indexes(&self) -> MutexGuard<'_, Vec<u32>> {
-        self.indexes.lock().unwrap_or_else(PoisonError::into_inner)
+    fn refused(&self) -> MutexGuard<'_, Vec<u32>> {
+        self.refused.lock().unwrap_or_else(PoisonError::into_inner)
     }
 
     /// The name of the column or the index of this number.
@@ -118,14 +117,13 @@ fn element_of(reader: &mut Reader<'_>) -> Option<Element> {
     let name = reader.until("\",\"number\":")?.to_string();
     let number = reader.number()?;
     reader.take(",\"state\":\"")?;
-    let state = reader.until("\",\"table\":\"")?;
+    reader.until("\",\"table\":\"")?;
     let table = reader.until("\",\"way\":\"")?.to_string();
     reader.until("\"}")?;
     Some(Element {
         table,
         name,
         number,
-        is_public: state == "public",
     })
 }
 
@@ -152,9 +150,9 @@ mod tests {
         assert_eq!((names.element("t", "a"), names.element("u", "a")), (1, 0));
         assert_eq!((names.element("u", "i"), names.element("v", "i")), (4, 0));
         assert_eq!((names.name_of(4), names.name_of(0)), (Some("i"), None));
+        assert_eq!((names.public("t"), names.public("u")), (vec![1], vec![4]));
+        names.refuse(4);
         assert_eq!((names.public("t"), names.public("u")), (vec![1], vec![]));
-        names.add_index(1);
-        assert_eq!(names.public("t"), []);
     }
 
     #[test]

@@ -132,7 +132,7 @@ pub(crate) fn find(
         let queried = ask(code.as_bytes(), &mut rows);
         match (queried.status, queried.column) {
             (ffi::NOT_PUBLIC, met) if query.columns.is_none() && columns.contains(&met) => {
-                names.add_index(met);
+                names.refuse(met);
                 columns.retain(|column| *column != met);
             }
             (ffi::NOT_PUBLIC, 0) => {
