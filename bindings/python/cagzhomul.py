@@ -5,6 +5,7 @@
     with cagzhomul.open({"people": {"id": "int key", "town": "text"}}) as db:
         with db.lease(now=5) as lease:
             lease.insert("people", (1,), town="Ulm")
+            print(lease.find(cagzhomul.Query("people", equal={"town": "Ulm"})))
         print(db.query(6, "select town from people where town = 'Ulm'"))
 
     with cagzhomul.open() as session:  # without tables: a session of the script language
@@ -23,6 +24,7 @@ import itertools
 import json
 import os
 import re
+import struct
 import threading
 from dataclasses import dataclass, field
 from types import TracebackType
@@ -31,7 +33,7 @@ from typing import Any, Callable, Dict, Iterable, Iterator, List, Mapping, Named
 __all__ = [
     "Acted", "AlreadyOpen", "Audit", "BadCount", "BadEntry", "BadLease", "BadLength", "BadLine", "BadTable", "CagzhomulError", "Clock", "Closed",
     "Conflict", "Db", "Duplicate", "InChange", "Key", "Kind", "Lease", "LeaseEnded", "Moment", "MomentTooLarge", "NameTaken", "NoEntry", "NoRow",
-    "NoTable", "NotOpened", "NotPublic", "NotUtf8", "OutOfMemory", "OverLimit", "Receipt", "Row", "Session", "Snapshot", "Step", "StillIndexed",
+    "NoTable", "NotOpened", "NotPublic", "NotUtf8", "OutOfMemory", "OverLimit", "Query", "Receipt", "Row", "Session", "Snapshot", "Step", "StillIndexed",
     "Table", "Tables", "TooManyOps", "Txn", "UnexpectedReply", "Unknown", "Value", "VersionsSpent", "Waiting", "WrongSchema", "WrongStage",
     "WrongType", "literal", "open", "retry", "text_of",
 ]
@@ -111,7 +113,7 @@ class CagzhomulError(Exception):
 
 class NotPublic(CagzhomulError):
     """A named column is not a public column of its table in the lease's version: `column` is its
-    name, or None if a query names something that its table does not have."""
+    name, or None if a line's query names something that its table does not have."""
 
     def __init__(self, column: Optional[str]) -> None:
         super().__init__(_NOT_PUBLIC, text_of(_NOT_PUBLIC) + (f": {column}" if column else ""))
@@ -211,6 +213,19 @@ def _table(name: str, columns: Mapping[str, str]) -> Table:
     return Table(name, key, {column: _KINDS[words] for column, words in columns.items() if column not in key})
 
 
+@dataclass(frozen=True)
+class Query:
+    """A query of one table: of each row that meets all conditions, the columns that are named, or all
+    public ones. The row has the primary key `key`; each column of `equal` has this value, or none if
+    it is None; each of `between` has a value, from the first up to the second, both included, of
+    which None is no bound, as in `between={"age": (18, None)}`."""
+    table: str
+    columns: Optional[Sequence[str]] = None
+    key: Optional[Key] = None
+    equal: Mapping[str, Value] = field(default_factory=dict)
+    between: Mapping[str, Tuple[Value, Value]] = field(default_factory=dict)
+
+
 # Codes, as crates/entry_code has them.
 def _number(number: int, size: int = 8) -> bytes:
     return number.to_bytes(size, "big")
@@ -247,6 +262,57 @@ def _value(value: Value) -> bytes:
     raise TypeError(f"{type(value).__name__} is the type of no column")
 
 
+def _key(key: Key) -> bytes:
+    return _list([_value(value) for value in (key if isinstance(key, (tuple, list)) else (key,))])
+
+
+def _query(query: Query, columns: Iterable[int], names: _Names) -> bytes:
+    def column(name: str) -> bytes:
+        return _number(names.number(query.table, name), 4)
+
+    def bound(value: Value) -> bytes:
+        return b"\0" if value is None else b"\1" + _value(value)
+
+    conditions = [] if query.key is None else [b"\0" + _key(query.key)]
+    conditions += [b"\1" + column(name) + _value(value) for name, value in query.equal.items()]
+    conditions += [b"\2" + column(name) + bound(low) + bound(high) for name, (low, high) in query.between.items()]
+    return b"\1" + _number(names.tables.get(query.table, 0), 4) + _list([_number(it, 4) for it in columns]) + _list(conditions)
+
+
+_number_at, _small_at = struct.Struct(">Q").unpack_from, struct.Struct(">I").unpack_from
+
+
+def _value_at(code: bytes, at: int) -> Tuple[Value, int]:
+    """The value that begins there, and where it ends."""
+    kind = code[at]
+    if kind == 2:
+        return _number_at(code, at + 1)[0] - 2**63, at + 9
+    if kind == 3:  # each zero of a text is followed by 255
+        end = code.index(b"\0\1", at)
+        return code[at + 1:end].replace(b"\0\xff", b"\0").decode(), end + 2
+    return (None, at + 1) if kind == 1 else (code[at + 1] == 1, at + 2)
+
+
+def _coded_rows(code: bytes, key: Sequence[str], columns: Iterable[int], names: Mapping[int, str]) -> List[Row]:
+    """The rows of a code, by the names of the key columns, and by the selected columns with theirs."""
+    if code[0] != 1:
+        raise UnexpectedReply(text="rows in another code")
+    blank: Row = dict.fromkeys([*key, *(names[column] for column in sorted(columns))])
+    rows: List[Row] = []
+    at = 9
+    for _ in range(_number_at(code, 1)[0]):
+        row = blank.copy()
+        at += 8  # as many values as the key has columns
+        for name in key:
+            row[name], at = _value_at(code, at)
+        cells, at = _number_at(code, at)[0], at + 8  # those with a value
+        for _ in range(cells):
+            name = names[_small_at(code, at)[0]]
+            row[name], at = _value_at(code, at + 4)
+        rows.append(row)
+    return rows
+
+
 # What the language writes and reads.
 def literal(value: Value) -> str:
     """A value as the language has it, for a query: `f"select * from t where a = {literal(a)}"`."""
@@ -281,14 +347,56 @@ def _rows(reply: str, key: Sequence[str], names: _Names) -> List[Row]:
 
 
 class _Names:
-    """The columns and indexes of one version, by a reply to `status`: so they are right whoever
-    published it."""
+    """The tables of a store, and the columns and indexes of one version, by a reply to `status`: so
+    they are right whoever published it."""
 
-    def __init__(self, status: str) -> None:
+    def __init__(self, status: str, tables: Sequence[Table]) -> None:
         told = json.loads(_accepted(status))
         self.version: int = told["version"]
+        self.tables = {table.name: number for number, table in enumerate(tables, 1)}
+        self.keys = {table.name: list(table.key) for table in tables}
         self.numbers: Dict[Tuple[str, str], int] = {(it["table"], it["name"]): it["number"] for it in told["elements"]}
         self.by_number: Dict[int, str] = {it["number"]: it["name"] for it in told["elements"]}
+        # `status` does not tell columns from indexes: `_found` takes out what is refused as no public column
+        self.public = {name: [it["number"] for it in told["elements"] if it["table"] == name] for name in self.tables}
+
+    def number(self, table: str, name: str) -> int:
+        """The number of a column, or 0, which is none."""
+        return self.numbers.get((table, name), 0)
+
+    def columns(self, query: Query) -> List[int]:
+        """The numbers of the columns that a query names, or of all."""
+        return self.public.get(query.table, []) if query.columns is None else [self.number(query.table, name) for name in query.columns]
+
+    def unknown(self, query: Query) -> Optional[str]:
+        """The first name in a query that its table does not have."""
+        named = (*(query.columns or ()), *query.equal, *query.between)
+        return next((name for name in named if not self.number(query.table, name)), None)
+
+
+def _found(query: Query, names: _Names, ask: Callable[[bytes, _Handle], Any]) -> List[Row]:
+    """The rows of a query, by a call that answers its code into a closed handle."""
+    columns, rows = names.columns(query), _Handle()
+    try:
+        while (queried := ask(_query(query, columns, names), rows)).status == _NOT_PUBLIC:
+            if query.columns is not None or queried.column not in columns:
+                raise NotPublic(names.by_number[queried.column] if queried.column else names.unknown(query))
+            names.public[query.table] = columns = [it for it in columns if it != queried.column]
+        # only a text over 1,024 bytes makes a bad code of what this module writes
+        _check(_WRONG_TYPE if queried.status == _BAD_CODE else queried.status)
+        return _coded_rows(_code_of(rows), names.keys[query.table], columns, names.by_number)
+    finally:
+        _library.cagzhomul_close(rows)
+
+
+def _code_of(rows: _Handle) -> bytes:
+    """The code of the rows that a handle holds."""
+    out = ctypes.create_string_buffer(_ROOM)
+    length = _library.cagzhomul_rows_from(rows, 0, out, _ROOM).length
+    if length > _ROOM:
+        out = ctypes.create_string_buffer(length)
+        _library.cagzhomul_rows_from(rows, 0, out, length)
+    return ctypes.string_at(out, length)
 
 
 def _at(now: Moment) -> int:
@@ -369,7 +477,23 @@ class _Audited(_Owner):
 
 class Snapshot(_Audited):
     """What a store held at a moment, by `Db.snapshot`: it stays so, and its calls take no lock of the
-    store."""
+    store. Columns have the names that they have in the version of its lease."""
+
+    def __init__(self, _names: _Names) -> None:
+        super().__init__()
+        self._names = _names
+
+    def query(self, query: Query) -> List[Row]:
+        """The rows of a query by rising primary key, each a dict of its key columns and the columns
+        that it selects. Other threads may write to the store at the same time.
+
+        Raises Closed; NoTable; of the first faulty column or condition NotPublic or WrongType, but a
+        text that is too long is WrongType before all but Closed; OutOfMemory.
+        """
+        def ask(code: bytes, rows: _Handle) -> Any:
+            with self._lock:
+                return _library.cagzhomul_snapshot_query(self._handle, code, len(code), rows)
+        return _found(query, self._names, ask)
 
 
 class Session(_Audited):
@@ -465,9 +589,8 @@ class Db(Session):
         """Opens it, as `open` does."""
         declared = [_table(*it) for it in tables.items()] if isinstance(tables, Mapping) else list(tables)
         super().__init__(_opening(lease_length, declared))
-        self._tables = {table.name: number for number, table in enumerate(declared, 1)}
-        self._keys = {table.name: list(table.key) for table in declared}
-        self._names = _Names(self._reply_to("status"))
+        self._declared = declared
+        self._names = _Names(self._reply_to("status"), declared)
 
     def lease(self, now: Moment) -> Lease:
         """A lease on the newest version, whose columns and indexes transactions and queries under it
@@ -487,7 +610,7 @@ class Db(Session):
 
         Raises Closed, MomentTooLarge, BadLease, LeaseEnded or OutOfMemory.
         """
-        moment, snapshot = _at(now), Snapshot()
+        moment, snapshot = _at(now), Snapshot(lease._names)
         with lease._lock, self._lock:
             _check(_library.cagzhomul_snapshot(self._handle, moment, lease._handle, snapshot._handle))
         return snapshot
@@ -544,7 +667,7 @@ class Lease(_Owner):
             granted = _library.cagzhomul_lease(db._handle, moment, self._handle)
             _check(granted.status)
             if db._names.version != granted.version:
-                db._names = _Names(db._reply_to("status"))
+                db._names = _Names(db._reply_to("status"), db._declared)
             self._names = db._names
         self._db, self._now = db, now
         self.version, self.granted, self.until, self.place = map(int, (granted.version, granted.granted, granted.until, granted.place))
@@ -580,7 +703,21 @@ class Lease(_Owner):
             _accepted(db._reply_to(f"forge python_binding version {self.version} granted {self.granted} until {self.until}"))
             reply = db._reply_to(f"query python_binding at {moment}: {selection}")
         table = _TABLE_OF.match(selection)
-        return _rows(reply, db._keys.get(table[1], []) if table else [], self._names)
+        return _rows(reply, self._names.keys.get(table[1], []) if table else [], self._names)
+
+    def find(self, query: Query, now: Optional[Moment] = None) -> List[Row]:
+        """The rows of a query as `Snapshot.query` gives them, at this moment or that of the lease.
+
+        Raises Closed, MomentTooLarge, BadLease, LeaseEnded, NoTable; of the first faulty column or
+        condition NotPublic or WrongType, but a text that is too long is WrongType before all but
+        Closed; OutOfMemory.
+        """
+        moment, db = _at(self._now if now is None else now), self._db
+
+        def ask(code: bytes, rows: _Handle) -> Any:
+            with self._lock, db._lock:
+                return _library.cagzhomul_query(db._handle, moment, self._handle, code, len(code), rows)
+        return _found(query, self._names, ask)
 
 
 class Txn(_Owner):
@@ -611,17 +748,16 @@ class Txn(_Owner):
         return self._add(2, table, key, None)
 
     def _add(self, kind: int, table: str, key: Key, cells: Optional[Mapping[str, Value]]) -> Txn:
-        numbers, of_table = self._lease._names.numbers, self._lease._db._tables.get(table, 0)  # 0 is no number
-        values = key if isinstance(key, (tuple, list)) else (key,)
-        code = bytes([kind]) + _number(of_table, 4) + _list([_value(value) for value in values])
+        names = self._lease._names
+        code = bytes([kind]) + _number(names.tables.get(table, 0), 4) + _key(key)  # 0 is no table
         if cells is not None:
-            code += _list([_number(numbers.get((table, column), 0), 4) + _value(value) for column, value in cells.items()])
+            code += _list([_number(names.number(table, column), 4) + _value(value) for column, value in cells.items()])
         with self._lock:
             if self.is_open:
                 raise WrongStage(_WRONG_STAGE)
             self._operations.append(code)
             if self._unknown is None:
-                self._unknown = next((column for column in cells or () if (table, column) not in numbers), None)
+                self._unknown = next((column for column in cells or () if not names.number(table, column)), None)
         return self
 
     def prepare(self) -> Txn:

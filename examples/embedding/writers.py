@@ -61,7 +61,7 @@ def main() -> None:
         with db.lease(clock) as lease:
             print(f"version {lease.version}")
             for town in TOWNS:
-                rows = lease.query(clock, f"select town from people where town = {cagzhomul.literal(town)}")
+                rows = lease.find(cagzhomul.Query("people", columns=["town"], equal={"town": town}))
                 print(f"{len(rows)} rows of {town}, the first with key {rows[0]['id']}")
         for name, audit in (("now", db.check()), ("in the snapshot from before", before.check())):
             print(f"{audit.rows} rows {name}, {audit.missing} pairs missing, {audit.extra} extra")

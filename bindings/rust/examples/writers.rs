@@ -2,7 +2,7 @@
 //! What it prints does not depend on how the threads are scheduled.
 
 use cagzhomul::Type::{Int, Text};
-use cagzhomul::{retry, Db, Error, Lease, Receipt, Step, Table};
+use cagzhomul::{retry, Db, Error, Lease, Query, Receipt, Step, Table};
 use std::sync::atomic::{AtomicU64, Ordering};
 use std::thread;
 
@@ -67,10 +67,11 @@ fn main() -> Result<(), Error> {
         let mut writers = writers.into_iter();
         writers.try_for_each(|writer| writer.join().expect("no writer panics"))
     })?;
-    println!("version {}", db.lease(now())?.version());
+    let lease = db.lease(now())?;
+    println!("version {}", lease.version());
     for town in TOWNS {
-        let selection = format!("select town from people where town = '{town}'");
-        println!("{} rows of {town}", db.query(now(), &selection)?.len());
+        let of_town = Query::of("people").equal("town", town);
+        println!("{} rows of {town}", lease.find(now(), &of_town)?.len());
     }
     print!("{}", db.line("check")?);
     Ok(())

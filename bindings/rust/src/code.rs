@@ -1,5 +1,6 @@
-//! Tables, operations and values as bytes, as `crates/entry_code` describes them.
+//! Tables, operations, queries and values as bytes, as `crates/entry_code` describes them.
 
+use crate::query::Condition;
 use crate::table::{Table, Type};
 use crate::value::{Cells, Key, Value};
 
@@ -71,6 +72,37 @@ impl Code {
         self.0.extend_from_slice(&[0, 1]);
     }
 
+    fn key(&mut self, key: &Key) {
+        self.count(key.0.len());
+        key.0.iter().for_each(|value| self.value(value));
+    }
+
+    /// A bound, or that there is none.
+    fn bound(&mut self, bound: Option<&Value>) {
+        self.byte(u8::from(bound.is_some()));
+        bound.into_iter().for_each(|value| self.value(value));
+    }
+
+    fn condition(&mut self, condition: &Condition, number: impl Fn(&str) -> u32) {
+        match condition {
+            Condition::Key(key) => {
+                self.byte(0);
+                self.key(key);
+            }
+            Condition::Equal(column, value) => {
+                self.byte(1);
+                self.small_number(number(column));
+                self.value(value);
+            }
+            Condition::Between(column, low, high) => {
+                self.byte(2);
+                self.small_number(number(column));
+                self.bound(low.as_ref());
+                self.bound(high.as_ref());
+            }
+        }
+    }
+
     fn columns(&mut self, columns: &[(String, Type)]) {
         self.count(columns.len());
         for (name, kind) in columns {
@@ -110,6 +142,24 @@ pub(crate) fn opening(lease_length: u64, tables: &[Table]) -> Code {
     code
 }
 
+/// The code of a query of a table: the columns that it selects, and what a row meets.
+pub(crate) fn query(
+    table: u32,
+    columns: &[u32],
+    conditions: &[Condition],
+    number: impl Fn(&str) -> u32,
+) -> Code {
+    let mut code = Code::new();
+    code.small_number(table);
+    code.count(columns.len());
+    columns.iter().for_each(|column| code.small_number(*column));
+    code.count(conditions.len());
+    for condition in conditions {
+        code.condition(condition, &number);
+    }
+    code
+}
+
 /// What an operation does with its row.
 #[derive(Debug, Clone, Copy)]
 pub(crate) enum Kind {
@@ -137,8 +187,7 @@ impl Operations {
         self.count += 1;
         self.code.byte(kind as u8);
         self.code.small_number(table);
-        self.code.count(key.0.len());
-        key.0.iter().for_each(|value| self.code.value(value));
+        self.code.key(key);
     }
 
     /// Adds the cells of the operation that was pushed last, each with its column's number.
@@ -214,6 +263,21 @@ mod tests {
             \0\0\0\0\0\0\0\x01\0\0\0\x01\x01\x01\0\0\0\x01\0\0\0\0\0\0\0\x02\x03a\0\x01\x04\x01\
             \0\0\0\0\0\0\0\x01\0\0\0\x01\x02\x80\0\0\0\0\0\0\x05";
         assert_eq!(operations.finish().as_bytes(), wanted);
+    }
+
+    /// The query of `crates/world_tests`: columns 2 and 3 of table 1, of row 7, if it has nothing
+    /// in 2 and a text from "a" on in 3.
+    #[test]
+    fn a_query() {
+        let number = |column: &str| if column == "b" { 2 } else { 3 };
+        let conditions = [
+            Condition::Key(7.into()),
+            Condition::Equal("b".to_string(), Value::Null),
+            Condition::Between("c".to_string(), Some("a".into()), None),
+        ];
+        let wanted = b"\x01\0\0\0\x01\0\0\0\0\0\0\0\x02\0\0\0\x02\0\0\0\x03\0\0\0\0\0\0\0\x03\
+            \0\0\0\0\0\0\0\0\x01\x02\x80\0\0\0\0\0\0\x07\x01\0\0\0\x02\x01\x02\0\0\0\x03\x01\x03a\0\x01\0";
+        assert_eq!(query(1, &[2, 3], &conditions, number).as_bytes(), wanted);
     }
 
     /// The deletion of `crates/entry_code_tests`: row 7 of table 1 goes.

@@ -89,6 +89,14 @@ pub(crate) struct Committed {
     pub(crate) operation: usize,
 }
 
+/// `cagzhomul_queried`.
+#[repr(C)]
+#[derive(Clone, Copy)]
+pub(crate) struct Queried {
+    pub(crate) status: i32,
+    pub(crate) column: u32,
+}
+
 /// `cagzhomul_checked`.
 #[repr(C)]
 #[derive(Clone, Copy)]
@@ -133,6 +141,26 @@ unsafe extern "C" {
     fn cagzhomul_read(session: *mut RawHandle, txn: *mut RawHandle) -> i32;
     fn cagzhomul_prepare(txn: *mut RawHandle) -> Prepared;
     fn cagzhomul_commit(session: *mut RawHandle, moment: u64, txn: *mut RawHandle) -> Committed;
+    fn cagzhomul_query(
+        session: *mut RawHandle,
+        moment: u64,
+        lease: *mut RawHandle,
+        query: *const u8,
+        length: usize,
+        rows: *mut RawHandle,
+    ) -> Queried;
+    fn cagzhomul_snapshot_query(
+        snapshot: *mut RawHandle,
+        query: *const u8,
+        length: usize,
+        rows: *mut RawHandle,
+    ) -> Queried;
+    fn cagzhomul_rows_from(
+        rows: *mut RawHandle,
+        from: usize,
+        out: *mut u8,
+        out_length: usize,
+    ) -> Outcome;
     fn cagzhomul_snapshot(
         session: *mut RawHandle,
         moment: u64,
@@ -145,8 +173,8 @@ unsafe extern "C" {
     fn cagzhomul_text_of(status: i32, out: *mut u8, out_length: usize) -> usize;
 }
 
-/// What the library keeps of a session, a lease, a transaction or a snapshot. It is closed when it
-/// is dropped.
+/// What the library keeps of a session, a lease, a transaction, a snapshot or a query's rows. It is
+/// closed when it is dropped.
 pub(crate) struct Handle(Box<RawHandle>);
 
 // SAFETY: the header lets a handle go from one thread to another, if one call at a time uses it,
@@ -238,6 +266,31 @@ impl Handle {
     pub(crate) fn commit(&mut self, moment: u64, txn: &mut Handle) -> Committed {
         // SAFETY: both handles, as at the top of this file.
         unsafe { cagzhomul_commit(self.raw(), moment, txn.raw()) }
+    }
+
+    /// Answers a query of this session's world under a lease, by its code, into a closed handle.
+    pub(crate) fn query(
+        &mut self,
+        moment: u64,
+        lease: &mut Handle,
+        query: &[u8],
+        rows: &mut Handle,
+    ) -> Queried {
+        let (at, length) = (query.as_ptr(), query.len());
+        // SAFETY: the three handles and the slice, as at the top of this file.
+        unsafe { cagzhomul_query(self.raw(), moment, lease.raw(), at, length, rows.raw()) }
+    }
+
+    /// Answers a query of this snapshot, by its code, into a closed handle.
+    pub(crate) fn snapshot_query(&mut self, query: &[u8], rows: &mut Handle) -> Queried {
+        // SAFETY: both handles and the slice, as at the top of this file.
+        unsafe { cagzhomul_snapshot_query(self.raw(), query.as_ptr(), query.len(), rows.raw()) }
+    }
+
+    /// Writes as much of the code of these rows to `out` as fits, from this byte on.
+    pub(crate) fn rows_from(&mut self, from: usize, out: &mut [u8]) -> Outcome {
+        // SAFETY: the handle and the slice, as at the top of this file.
+        unsafe { cagzhomul_rows_from(self.raw(), from, out.as_mut_ptr(), out.len()) }
     }
 
     /// Takes a snapshot of this session's world under a lease, into a closed handle.

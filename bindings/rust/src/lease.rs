@@ -4,6 +4,7 @@ use crate::db::Db;
 use crate::error::Error;
 use crate::ffi::{Granted, Handle};
 use crate::names::Names;
+use crate::query::{find, Query};
 use crate::reply::{refusal_of, rows_of, Row};
 use crate::session::{done, reply_to};
 use crate::snapshot::Snapshot;
@@ -107,7 +108,32 @@ impl<'db> Lease<'db> {
         rows_of(&reply, &self.names)
     }
 
-    /// What the store holds now, for audits that need no lock of it.
+    /// The rows of a query, by rising primary key.
+    ///
+    /// Refusals: [`Error::Closed`], [`Error::MomentTooLarge`], [`Error::BadLease`],
+    /// [`Error::LeaseEnded`], [`Error::NoTable`]; of the first faulty column or condition
+    /// [`Error::NotPublic`] or [`Error::WrongType`], but a text that is too long is
+    /// [`Error::WrongType`] before all but [`Error::Closed`]; [`Error::OutOfMemory`].
+    ///
+    /// ```
+    /// # use cagzhomul::{Db, Error, Query, Table, Type, Value};
+    /// # let db = Db::open([Table::new("t").key("id", Type::Int).column("a", Type::Text)])?;
+    /// let lease = db.lease(0)?;
+    /// lease.txn().insert("t", 1, [("a", "x")]).insert("t", 2, ()).commit(0)?;
+    /// let rows = lease.find(0, &Query::of("t").equal("a", Value::Null))?;
+    /// assert_eq!((rows[0].key(), rows[0].get("a")), (&[2.into()][..], Some(&Value::Null)));
+    /// let column = Some("b".to_string());
+    /// assert_eq!(lease.find(0, &Query::of("t").equal("b", 1)), Err(Error::NotPublic { column }));
+    /// # Ok::<(), Error>(())
+    /// ```
+    pub fn find(&self, now: u64, query: &Query) -> Result<Vec<Row>, Error> {
+        find(query, &self.names, |code, rows| {
+            let mut session = self.db.session().lock();
+            session.query(now, &mut self.lock(), code, rows)
+        })
+    }
+
+    /// What the store holds now, for queries and audits that need no lock of it.
     ///
     /// Refusals: [`Error::Closed`], [`Error::MomentTooLarge`], [`Error::BadLease`],
     /// [`Error::LeaseEnded`], [`Error::OutOfMemory`].
@@ -115,7 +141,7 @@ impl<'db> Lease<'db> {
         let mut handle = Handle::closed();
         let mut session = self.db.session().lock();
         done(session.snapshot(now, &mut self.lock(), &mut handle))?;
-        Ok(Snapshot::over(handle))
+        Ok(Snapshot::over(handle, Arc::clone(&self.names)))
     }
 
     /// The names of its version.

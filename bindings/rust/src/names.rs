@@ -3,6 +3,7 @@
 use crate::error::Error;
 use crate::reply::Reader;
 use crate::table::Table;
+use std::sync::{Mutex, MutexGuard, PoisonError};
 
 /// A column or an index.
 #[derive(Debug, Clone, PartialEq, Eq)]
@@ -14,11 +15,13 @@ struct Element {
 
 /// The names of one version. Tables have their numbers from the opening, since they never change;
 /// the rest comes from what `status` says of the version, so it is right whoever published it.
-#[derive(Debug, Clone, PartialEq, Eq)]
+#[derive(Debug)]
 pub(crate) struct Names {
     version: u64,
     tables: Vec<String>,
     elements: Vec<Element>,
+    /// What queries met that is no public column: `status` does not tell columns from indexes.
+    refused: Mutex<Vec<u32>>,
 }
 
 impl Names {
@@ -28,6 +31,7 @@ impl Names {
             version: 0,
             tables: tables.iter().map(|table| table.name.clone()).collect(),
             elements: Vec::new(),
+            refused: Mutex::default(),
         }
     }
 
@@ -44,6 +48,7 @@ impl Names {
             version,
             tables: self.tables.clone(),
             elements,
+            refused: Mutex::default(),
         })
     }
 
@@ -58,6 +63,26 @@ impl Names {
         let mut elements = self.elements.iter();
         let found = elements.find(|element| element.name == name && element.table == table);
         found.map_or(0, |element| element.number)
+    }
+
+    /// The numbers of all that a table has, but for what was refused as no public column.
+    pub(crate) fn public(&self, table: &str) -> Vec<u32> {
+        let refused = self.refused();
+        let elements = self.elements.iter();
+        elements
+            .filter(|element| element.table == table)
+            .map(|element| element.number)
+            .filter(|number| !refused.contains(number))
+            .collect()
+    }
+
+    /// Keeps that the number is refused as no public column.
+    pub(crate) fn refuse(&self, number: u32) {
+        self.refused().push(number);
+    }
+
+    fn refused(&self) -> MutexGuard<'_, Vec<u32>> {
+        self.refused.lock().unwrap_or_else(PoisonError::into_inner)
     }
 
     /// The name of the column or the index of this number.
@@ -125,6 +150,9 @@ mod tests {
         assert_eq!((names.element("t", "a"), names.element("u", "a")), (1, 0));
         assert_eq!((names.element("u", "i"), names.element("v", "i")), (4, 0));
         assert_eq!((names.name_of(4), names.name_of(0)), (Some("i"), None));
+        assert_eq!((names.public("t"), names.public("u")), (vec![1], vec![4]));
+        names.refuse(4);
+        assert_eq!((names.public("t"), names.public("u")), (vec![1], vec![]));
     }
 
     #[test]

@@ -25,6 +25,10 @@ pub struct Row {
 }
 
 impl Row {
+    pub(crate) fn new(key: Vec<Value>, cells: Vec<(String, Value)>) -> Row {
+        Row { key, cells }
+    }
+
     /// The primary key: the values of the key columns in their order.
     pub fn key(&self) -> &[Value] {
         &self.key

@@ -168,7 +168,7 @@ pub(crate) fn reply_to(handle: &mut Handle, line: &str) -> Result<String, Error>
 
 /// All bytes of what a call writes as far as it fits; the call is made again if it did not fit, and
 /// then it is not the first one.
-fn fetch(mut call: impl FnMut(bool, &mut [u8]) -> Outcome) -> Result<Vec<u8>, Error> {
+pub(crate) fn fetch(mut call: impl FnMut(bool, &mut [u8]) -> Outcome) -> Result<Vec<u8>, Error> {
     let mut room = [0; ROOM];
     let outcome = call(true, &mut room);
     done(outcome.status)?;

@@ -2,9 +2,12 @@
 
 use crate::error::Error;
 use crate::ffi::Handle;
+use crate::names::Names;
+use crate::query::{find, Query};
+use crate::reply::Row;
 use crate::session::done;
 use std::fmt;
-use std::sync::{Mutex, PoisonError};
+use std::sync::{Arc, Mutex, MutexGuard, PoisonError};
 
 /// What an audit found.
 #[derive(Debug, Clone, Copy, PartialEq, Eq, Hash)]
@@ -35,30 +38,52 @@ impl Check {
     }
 }
 
-/// What a store held at a moment. It stays as it is, and its calls need no lock of the store.
+/// What a store held at a moment. It stays as it is, and its calls need no lock of the store: any
+/// thread may query it while others write.
 ///
 /// ```
-/// # use cagzhomul::{Db, Table, Type};
+/// # use cagzhomul::{Db, Query, Table, Type};
 /// # let db = Db::open([Table::new("t").key("id", Type::Int)])?;
 /// let lease = db.lease(0)?;
 /// lease.txn().insert("t", 1, ()).commit(0)?;
 /// let snapshot = lease.snapshot(0)?;
 /// lease.txn().insert("t", 2, ()).commit(0)?;
 /// assert_eq!((snapshot.check()?.rows, db.check()?.rows), (1, 2));
+/// assert_eq!(snapshot.query(&Query::of("t"))?.len(), 1);
 /// # Ok::<(), cagzhomul::Error>(())
 /// ```
-pub struct Snapshot(Mutex<Handle>);
+pub struct Snapshot {
+    handle: Mutex<Handle>,
+    names: Arc<Names>,
+}
 
 impl Snapshot {
-    pub(crate) fn over(handle: Handle) -> Snapshot {
-        Snapshot(Mutex::new(handle))
+    pub(crate) fn over(handle: Handle, names: Arc<Names>) -> Snapshot {
+        let handle = Mutex::new(handle);
+        Snapshot { handle, names }
+    }
+
+    fn lock(&self) -> MutexGuard<'_, Handle> {
+        self.handle.lock().unwrap_or_else(PoisonError::into_inner)
+    }
+
+    /// The rows of a query, by rising primary key. Its names are those of the version of the lease
+    /// that the snapshot was taken under.
+    ///
+    /// Refusals: [`Error::NoTable`]; of the first faulty column or condition [`Error::NotPublic`]
+    /// or [`Error::WrongType`], but a text that is too long is [`Error::WrongType`] before all;
+    /// [`Error::OutOfMemory`].
+    pub fn query(&self, query: &Query) -> Result<Vec<Row>, Error> {
+        find(query, &self.names, |code, rows| {
+            self.lock().snapshot_query(code, rows)
+        })
     }
 
     /// Audits all of its pairs, which takes time with their number.
     ///
     /// Refusal: [`Error::OutOfMemory`].
     pub fn check(&self) -> Result<Check, Error> {
-        Check::of(&mut self.0.lock().unwrap_or_else(PoisonError::into_inner))
+        Check::of(&mut self.lock())
     }
 }
 

@@ -1,8 +1,8 @@
-//! Typed transactions and lines of the script language, side by side: two stores that are given the
-//! same operations, one in each way, answer the same and hold the same pairs.
+//! Typed transactions and queries and lines of the script language, side by side: two stores that
+//! are given the same operations, one in each way, answer the same and hold the same pairs.
 
 use cagzhomul::Type::{Bool, Int, Text};
-use cagzhomul::{Db, Error, Key, Receipt, Table, Txn, Value};
+use cagzhomul::{Db, Error, Key, Query, Receipt, Table, Txn, Value};
 
 const COLUMNS: [&str; 3] = ["n", "s", "f"];
 
@@ -122,5 +122,80 @@ fn typed_transactions_do_what_lines_do() -> Result<(), Error> {
     let other = lines.query(6, "select * from rows")?;
     assert_eq!(rows, other);
     assert!(typed.line("check")?.ends_with("missing 0 extra 0\n"));
+    Ok(())
+}
+
+/// The query with one more condition, and its text.
+fn narrow(query: Query, column: &'static str, numbers: &mut Numbers) -> (Query, String) {
+    let (low, high) = (numbers.value(column), numbers.value(column));
+    match (numbers.below(4), &low, &high) {
+        (0, ..) | (_, Value::Null, _) | (_, _, Value::Null) => {
+            let text = format!("{column} = {low}");
+            (query.equal(column, low), text)
+        }
+        (1, ..) => {
+            let text = format!("{column} >= {low}");
+            (query.between(column, Some(low), None), text)
+        }
+        (2, ..) => {
+            let text = format!("{column} <= {low}");
+            (query.between(column, None, Some(low)), text)
+        }
+        _ => {
+            let text = format!("{column} between {low} and {high}");
+            (query.between(column, Some(low), Some(high)), text)
+        }
+    }
+}
+
+/// A query of the table rows, and its text.
+fn some_query(numbers: &mut Numbers) -> (Query, String) {
+    let mut query = Query::of("rows");
+    let mut columns: Vec<&str> = COLUMNS
+        .into_iter()
+        .filter(|_| numbers.below(2) == 0)
+        .collect();
+    match columns.is_empty() {
+        true => columns.push("*"),
+        false => query = query.columns(columns.clone()),
+    }
+    let mut conditions = Vec::new();
+    if numbers.below(5) == 0 {
+        let (a, b) = (numbers.below(4) as i64, numbers.one(&["", "it's"]));
+        conditions.push(format!("key = ({a}, {})", Value::from(b)));
+        query = query.key((a, b));
+    }
+    for column in COLUMNS {
+        if numbers.below(3) == 0 {
+            let (narrower, text) = narrow(query, column, numbers);
+            query = narrower;
+            conditions.push(text);
+        }
+    }
+    let text = format!("select {} from rows", columns.join(", "));
+    match conditions.is_empty() {
+        true => (query, text),
+        false => (query, format!("{text} where {}", conditions.join(" and "))),
+    }
+}
+
+#[test]
+fn typed_queries_find_what_lines_do() -> Result<(), Error> {
+    let (db, mut numbers) = (open()?, Numbers(2));
+    let lease = db.lease(5)?;
+    let mut found = 0;
+    for _ in 0..200 {
+        // most of these are refused, since the row is there, or is not
+        let _ = add(lease.txn(), &mut Vec::new(), &mut numbers).commit(6);
+        let snapshot = lease.snapshot(6)?;
+        for _ in 0..10 {
+            let (query, text) = some_query(&mut numbers);
+            let rows = lease.query(6, &text)?;
+            found += rows.len();
+            assert_eq!(lease.find(6, &query)?, rows, "{text}");
+            assert_eq!(snapshot.query(&query)?, rows, "{text}");
+        }
+    }
+    assert!(found > 1000, "{found}");
     Ok(())
 }

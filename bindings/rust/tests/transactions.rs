@@ -4,7 +4,7 @@ mod shared;
 
 use cagzhomul::Type::{Bool, Int, Text};
 use cagzhomul::{
-    Cells, Check, Db, Error, Key, Lease, Prepared, Session, Snapshot, Table, Txn, Value,
+    Cells, Check, Db, Error, Key, Lease, Prepared, Query, Session, Snapshot, Table, Txn, Value,
 };
 use shared::people;
 use std::thread;
@@ -222,6 +222,7 @@ fn stores_leases_and_transactions_may_go_to_other_threads() {
     shared::<Txn<'static>>();
     sent::<Prepared<'static>>();
     shared::<Snapshot>();
+    shared::<Query>();
     shared::<Error>();
 }
 

@@ -1,0 +1,155 @@
+//! Typed queries.
+
+use crate::code;
+use crate::error::Error;
+use crate::ffi::{self, Handle, Queried};
+use crate::names::Names;
+use crate::reply::Row;
+use crate::rows::rows_of;
+use crate::session::{done, fetch};
+use crate::value::{Key, Value};
+
+/// What a row meets.
+#[derive(Debug, Clone, PartialEq, Eq)]
+pub(crate) enum Condition {
+    Key(Key),
+    Equal(String, Value),
+    Between(String, Option<Value>, Option<Value>),
+}
+
+impl Condition {
+    /// The column that it is on, if it is not on the key.
+    fn column(&self) -> Option<&String> {
+        match self {
+            Condition::Key(_) => None,
+            Condition::Equal(column, _) | Condition::Between(column, ..) => Some(column),
+        }
+    }
+}
+
+/// A query of one table: the rows that meet all of its conditions, and some of their columns.
+///
+/// [`Lease::find`](crate::Lease::find) and [`Snapshot::query`](crate::Snapshot::query) answer it. A
+/// condition on the key finds its row at once; one on the first column of an index goes over a part
+/// of the index, and any other over the table.
+///
+/// ```
+/// # use cagzhomul::{Db, Query, Table, Type, Value};
+/// # let people = Table::new("people").key("id", Type::Int).column("age", Type::Int);
+/// # let db = Db::open([people.column("town", Type::Text)])?;
+/// # let lease = db.lease(0)?;
+/// # for (id, age) in [(1, 17), (2, 18), (3, 19)] {
+/// #     let cells = [("age", Value::from(age)), ("town", "Ulm".into())];
+/// #     lease.txn().insert("people", id, cells).commit(0)?;
+/// # }
+/// let adults = Query::of("people")
+///     .columns(["age"])
+///     .equal("town", "Ulm")
+///     .between("age", Some(18), None);
+/// let rows = lease.find(0, &adults)?;
+/// assert_eq!((rows.len(), rows[0].key(), rows[0].get("age")), (2, &[2.into()][..], Some(&18.into())));
+/// assert_eq!(lease.find(0, &adults.key(3))?, rows[1..]);
+/// # Ok::<(), cagzhomul::Error>(())
+/// ```
+#[derive(Debug, Clone, PartialEq, Eq)]
+#[must_use]
+pub struct Query {
+    table: String,
+    columns: Option<Vec<String>>,
+    conditions: Vec<Condition>,
+}
+
+impl Query {
+    /// All rows of this table, with all of its public columns.
+    pub fn of(table: impl Into<String>) -> Query {
+        Query {
+            table: table.into(),
+            columns: None,
+            conditions: Vec::new(),
+        }
+    }
+
+    /// Selects these columns, beside those that it selected before.
+    pub fn columns<C: Into<String>>(mut self, columns: impl IntoIterator<Item = C>) -> Query {
+        let columns = columns.into_iter().map(Into::into);
+        self.columns.get_or_insert_with(Vec::new).extend(columns);
+        self
+    }
+
+    /// The row has this primary key.
+    pub fn key(mut self, key: impl Into<Key>) -> Query {
+        self.conditions.push(Condition::Key(key.into()));
+        self
+    }
+
+    /// The row has this value in a column; with [`Value::Null`] it has none there.
+    pub fn equal(mut self, column: impl Into<String>, value: impl Into<Value>) -> Query {
+        let condition = Condition::Equal(column.into(), value.into());
+        self.conditions.push(condition);
+        self
+    }
+
+    /// The row has a value in a column, and it lies between these two, both included; `None` is no
+    /// bound.
+    pub fn between<V: Into<Value>>(
+        mut self,
+        column: impl Into<String>,
+        low: Option<V>,
+        high: Option<V>,
+    ) -> Query {
+        let (low, high) = (low.map(Into::into), high.map(Into::into));
+        let condition = Condition::Between(column.into(), low, high);
+        self.conditions.push(condition);
+        self
+    }
+
+    /// The first name that its table does not have.
+    fn unknown(&self, names: &Names) -> Option<String> {
+        let columns = self.columns.iter().flatten();
+        let conditions = self.conditions.iter().filter_map(Condition::column);
+        columns
+            .chain(conditions)
+            .find(|column| names.element(&self.table, column) == 0)
+            .cloned()
+    }
+}
+
+/// The rows of a query, by a call that answers its code into a closed handle.
+pub(crate) fn find(
+    query: &Query,
+    names: &Names,
+    mut ask: impl FnMut(&[u8], &mut Handle) -> Queried,
+) -> Result<Vec<Row>, Error> {
+    let number = |column: &str| names.element(&query.table, column);
+    let mut columns: Vec<u32> = match &query.columns {
+        None => names.public(&query.table),
+        Some(columns) => columns.iter().map(|column| number(column)).collect(),
+    };
+    let mut rows = Handle::closed();
+    loop {
+        let table = names.table(&query.table);
+        let code = code::query(table, &columns, &query.conditions, number);
+        let queried = ask(code.as_bytes(), &mut rows);
+        match (queried.status, queried.column) {
+            (ffi::NOT_PUBLIC, met) if query.columns.is_none() && columns.contains(&met) => {
+                names.refuse(met);
+                columns.retain(|column| *column != met);
+            }
+            (ffi::NOT_PUBLIC, 0) => {
+                let column = query.unknown(names);
+                return Err(Error::NotPublic { column });
+            }
+            (ffi::NOT_PUBLIC, met) => {
+                let column = names.name_of(met).map(str::to_string);
+                return Err(Error::NotPublic { column });
+            }
+            // Only a text over 1,024 bytes makes a bad code of what this crate writes.
+            (ffi::BAD_CODE, _) => return Err(Error::WrongType),
+            (status, _) => {
+                done(status)?;
+                let code = fetch(|_, out| rows.rows_from(0, out))?;
+                return rows_of(&code, &columns, names);
+            }
+        }
+    }
+}
