@@ -268,9 +268,9 @@ int32_t cagzhomul_snapshot(cagzhomul_handle *session, uint64_t moment, cagzhomul
 
 /* Answers a query of the session's world under a lease: the bytes are the query's code, and the
  * closed handle `rows` then holds the code of its rows, in the order of their primary keys, which
- * cagzhomul_rows_from gives. The query runs under the schema of the lease's version. `moment` is as
- * for cagzhomul_lease. The session and the lease stay, and the rows stay what they are, whatever
- * happens to them.
+ * cagzhomul_rows_from gives. A row has no cell of a column in which it has no value. The query runs
+ * under the schema of the lease's version. `moment` is as for cagzhomul_lease. The session and the
+ * lease stay, and the rows stay what they are, whatever happens to them.
  * CAGZHOMUL_OK. Refusals: CAGZHOMUL_ALREADY_OPEN, of `rows`; CAGZHOMUL_CLOSED and
  * CAGZHOMUL_WRONG_KIND of `session`; CAGZHOMUL_CLOSED and CAGZHOMUL_WRONG_KIND of `lease`;
  * CAGZHOMUL_NOT_OPENED; CAGZHOMUL_BAD_CODE, also of a query with a text of more than 1,024 bytes;
