@@ -112,7 +112,7 @@ op_tells (Delete t k) (Delete u l) r s p q e = both (λ (r : ℕ × List Value).
 ops_are : IsCode (AreOps IsValue) op_list_code
 ops_are = list_is (record { tells = op_tells })
 
-kind_tells : (x y : Kind) (r s : List ℕ) → IsKind IsValue x → IsKind IsValue y → kind_code x ++ r ≡ kind_code y ++ s → (x ≡ y) × (r ≡ s)
+pub kind_tells : (x y : Kind) (r s : List ℕ) → IsKind IsValue x → IsKind IsValue y → kind_code x ++ r ≡ kind_code y ++ s → (x ≡ y) × (r ≡ s)
 kind_tells (Index a) (Index b) r s p q e = both Index (read_code (list_reader u32_reader)) 0 a b r s p q e
 kind_tells (Index a) (Optional b) r s p q e = absurd (omega (arith, head e))
 kind_tells (Index a) (Required b g) r s p q e = absurd (omega (arith, head e))
@@ -139,7 +139,7 @@ move_tells (Turn a) (Enter g too) r s p q e = absurd (omega (arith, head e))
 move_tells (Turn a) (Go b too) r s p q e = absurd (omega (arith, head e))
 move_tells (Turn a) (Turn b) r s p q e = both Turn number_code 2 a b r s p q e
 
-moves_are : IsCode (AreMoves IsValue) move_list_code
+pub moves_are : IsCode (AreMoves IsValue) move_list_code
 moves_are = list_is (record { tells = move_tells })
 
 lease_is : IsCode IsLease lease_code

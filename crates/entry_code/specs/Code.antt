@@ -1,8 +1,13 @@
--- Cited by the contracts of entry_bytes, ops_bytes, step_bytes, opening_bytes, query_bytes, rows_bytes, their readers and one_code.
--- The one code in bytes of each entry of a log, list of operations, step, opening, query and list of rows.
+-- Cited by the contracts of entry_bytes, ops_bytes, step_bytes, opening_bytes, query_bytes, rows_bytes, changes_bytes, plan_bytes, their readers and one_code.
+-- The one code in bytes of each entry of a log, list of operations, step, opening, query, list of rows, batch of changes and plan.
 use Rattle.std.specs.Prelude.{ℕ, List, [], ◌∷◌, ◌++◌, length, Option, Some, None}
 use Rattle.std.specs.Int.{w32, w64, to_be_bytes}
 use Rattle.std.specs.List.{flat_map}
+use Rattle.change_plan.specs.declared.change.Change.{Change}
+use Rattle.change_plan.specs.declared.change.Change.TheVariants.{AddIndex, DropIndex, AddColumn, DropColumn, Abandon}
+use Rattle.change_plan.specs.declared.least_plan.PlanStep.{PlanStep}
+use Rattle.change_plan.specs.declared.least_plan.Reorg.{Reorg}
+use Rattle.change_plan.specs.declared.least_plan.Reorg.TheVariants.{Fill, Clear}
 use Rattle.keycode.specs.declared.value.Value.{Value}
 use Rattle.keycode.specs.Code.{code as value_code}
 use Rattle.lease.specs.declared.lease.Lease.{Lease}
@@ -136,6 +141,27 @@ asked_code query = u32_code query.table ++ (list_code u32_code query.columns ++ 
 abbrev pub row_code : Row → List ℕ
 row_code row = key_code row.key ++ cells_code row.cells
 
+-- ---- changes and plans
+
+-- a table and a name
+abbrev pub named_code : ℕ → List ℕ → List ℕ
+named_code table name = u32_code table ++ bytes_code name
+
+abbrev pub change_code : Change → List ℕ
+change_code (AddIndex table name columns) = 0 ∷ (u32_code table ++ (bytes_code name ++ list_code bytes_code columns))
+change_code (DropIndex table name) = 1 ∷ named_code table name
+change_code (AddColumn table name kind) = 2 ∷ (u32_code table ++ (bytes_code name ++ kind_code kind))
+change_code (DropColumn table name) = 3 ∷ named_code table name
+change_code (Abandon table name) = 4 ∷ named_code table name
+
+abbrev pub reorg_code : Reorg → List ℕ
+reorg_code (Fill element) = 0 ∷ u32_code element
+reorg_code (Clear element) = 1 ∷ u32_code element
+
+-- what must have ended before a step, and its moves
+abbrev pub plan_step_code : PlanStep → List ℕ
+plan_step_code planned = list_code reorg_code planned.before ++ move_list_code planned.step
+
 -- ---- what is handed out
 
 abbrev pub entry_code : Entry → List ℕ
@@ -156,3 +182,11 @@ query_code = versioned asked_code
 
 abbrev pub rows_code : List Row → List ℕ
 rows_code = versioned (list_code row_code)
+
+-- a batch of changes
+abbrev pub changes_code : List Change → List ℕ
+changes_code = versioned (list_code change_code)
+
+-- the steps of a plan
+abbrev pub plan_code : List PlanStep → List ℕ
+plan_code = versioned (list_code plan_step_code)

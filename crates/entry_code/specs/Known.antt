@@ -1,8 +1,13 @@
--- Cited by the contracts of entry_bytes, ops_bytes, step_bytes, opening_bytes, query_bytes, rows_bytes, their readers and one_code.
+-- Cited by the contracts of entry_bytes, ops_bytes, step_bytes, opening_bytes, query_bytes, rows_bytes, changes_bytes, plan_bytes, their readers and one_code.
 -- What types say of their values: numbers are in their ranges, lists have fewer than 2^64 items, and names are UTF-8. The values of columns are as V says.
 use Rattle.std.specs.Prelude.{ℕ, ◌<◌, ◌^◌, List, length, Option, Some, None}
 use Rattle.std.specs.Str.{IsUtf8}
 use Rattle.std.specs.List.{AllByRecursion}
+use Rattle.change_plan.specs.declared.change.Change.{Change}
+use Rattle.change_plan.specs.declared.change.Change.TheVariants.{AddIndex, DropIndex, AddColumn, DropColumn, Abandon}
+use Rattle.change_plan.specs.declared.least_plan.PlanStep.{PlanStep}
+use Rattle.change_plan.specs.declared.least_plan.Reorg.{Reorg}
+use Rattle.change_plan.specs.declared.least_plan.Reorg.TheVariants.{Fill, Clear}
 use Rattle.keycode.specs.declared.value.Value.{Value}
 use Rattle.lease.specs.declared.lease.Lease.{Lease}
 use Rattle.row_map.specs.declared.shape.ColumnType.{ColumnType}
@@ -106,3 +111,27 @@ IsRow V row = IsList V row.key × IsList (IsPair IsU32 V) row.cells
 
 abbrev pub AreRows : (Value → Type 0) → List Row → Type 0
 AreRows V = IsList (IsRow V)
+
+-- of a table and a name
+abbrev pub IsNamed : ℕ → List ℕ → Type 0
+IsNamed table name = IsU32 table × IsText name
+
+abbrev pub IsChange : (Value → Type 0) → Change → Type 0
+IsChange V (AddIndex table name columns) = IsU32 table × (IsText name × IsList IsText columns)
+IsChange V (DropIndex table name) = IsNamed table name
+IsChange V (AddColumn table name kind) = IsU32 table × (IsText name × IsKind V kind)
+IsChange V (DropColumn table name) = IsNamed table name
+IsChange V (Abandon table name) = IsNamed table name
+
+abbrev pub AreChanges : (Value → Type 0) → List Change → Type 0
+AreChanges V = IsList (IsChange V)
+
+abbrev pub IsReorg : Reorg → Type 0
+IsReorg (Fill element) = IsU32 element
+IsReorg (Clear element) = IsU32 element
+
+abbrev pub IsPlanStep : (Value → Type 0) → PlanStep → Type 0
+IsPlanStep V planned = IsList IsReorg planned.before × AreMoves V planned.step
+
+abbrev pub IsPlan : (Value → Type 0) → List PlanStep → Type 0
+IsPlan V = IsList (IsPlanStep V)

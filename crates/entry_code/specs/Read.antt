@@ -1,4 +1,4 @@
--- Cited by the contracts of entry_of, ops_of, step_of, opening_of, query_of and rows_of.
+-- Cited by the contracts of entry_of, ops_of, step_of, opening_of, query_of, rows_of, changes_of and plan_of.
 -- What a reader of bytes reports.
 use Rattle.std.specs.Prelude.{◌≡◌, ◌≢◌, ℕ, List, [], ◌++◌, get_or, Result, Ok, Err}
 use Rattle.entry_code.specs.declared.fault.CodeFault.{CodeFault}

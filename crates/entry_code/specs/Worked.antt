@@ -1,13 +1,17 @@
 -- Cited by the contracts of codes_say.
--- The codes of an entry of each kind, of an opening, of a query and of rows, worked out by hand.
+-- The codes of an entry of each kind, of an opening, of a query, of rows, of changes of each kind and of a plan, worked out by hand.
 use Rattle.std.specs.Prelude.{◌≡◌, ℕ, pos, List, [], ◌∷◌, ◌++◌, Some, None}
+use Rattle.change_plan.specs.declared.change.Change.TheVariants.{AddIndex, DropIndex, AddColumn, DropColumn, Abandon}
+use Rattle.change_plan.specs.declared.least_plan.Reorg.TheVariants.{Fill, Clear}
 use Rattle.keycode.specs.declared.value.Value.TheVariants.{Null, Int, Text}
 use Rattle.row_query.specs.declared.query.Cond.TheVariants.{Key, Equal, Between}
-use Rattle.schema_version.specs.declared.element.ElementState.TheVariants.{Public}
+use Rattle.row_map.specs.declared.shape.ColumnType.TheVariants as column
+use Rattle.schema_version.specs.declared.element.ElementState.TheVariants.{Absent, Public}
+use Rattle.schema_version.specs.declared.element.Kind.TheVariants.{Optional, Required}
 use Rattle.schema_version.specs.declared.step.Move.TheVariants.{Go, Turn}
 use Rattle.replay.specs.declared.entry.What.TheVariants as what
 use Rattle.replay.specs.Worked.{table_t, first_lease, insertion, to_delete_only, end_of_t}
-use Rattle.entry_code.specs.Code.{entry_code, ops_code, step_code, opening_code, query_code, rows_code}
+use Rattle.entry_code.specs.Code.{entry_code, ops_code, step_code, opening_code, query_code, rows_code, changes_code, plan_code}
 
 -- a small number in eight bytes, and in four
 abbrev pub eight : ℕ → List ℕ
@@ -40,6 +44,25 @@ asked_bytes =
     ++ 1 ∷ four 2 ++ 1
     ∷ 2 ∷ four 3 ++ 1 ∷ 3 ∷ 0x61 ∷ 0 ∷ 1 ∷ 0 ∷ []
 
+-- of table 1: index i over columns a and b goes in and index j out, text column c goes in, with no default, and whole number column d, with 5;
+-- column e goes out, and index k is abandoned
+abbrev pub batch_bytes : List ℕ
+batch_bytes =
+    eight 6
+    ++ 0 ∷ four 1 ++ eight 1 ++ 0x69 ∷ eight 2 ++ eight 1 ++ 0x61 ∷ eight 1 ++ 0x62
+    ∷ 1 ∷ four 1 ++ eight 1 ++ 0x6A
+    ∷ 2 ∷ four 1 ++ eight 1 ++ 0x63 ∷ 1 ∷ 1
+    ∷ 2 ∷ four 1 ++ eight 1 ++ 0x64 ∷ 2 ∷ 0 ∷ int 5
+    ++ 3 ∷ four 1 ++ eight 1 ++ 0x65
+    ∷ 4 ∷ four 1 ++ eight 1 ++ 0x6B ∷ []
+
+-- index i on column 1 of table 1 enters delete-only; then, after the fill of element 2 and the clear of element 3, these go public and absent
+abbrev pub planned_bytes : List ℕ
+planned_bytes =
+    eight 2
+    ++ eight 0 ++ entering_bytes
+    ++ eight 2 ++ 0 ∷ four 2 ++ 1 ∷ four 3 ++ eight 2 ++ 1 ∷ four 2 ++ 3 ∷ 1 ∷ four 3 ++ 0 ∷ []
+
 pub record CodesSay : Type 0 where
   pub lease : entry_code (record { moment = 0; what = what.Lease first_lease }) ≡ 1 ∷ eight 0 ++ 0 ∷ lease_bytes
   pub transaction : entry_code (record { moment = 1; what = what.Txn first_lease insertion }) ≡ 1 ∷ eight 1 ++ 1 ∷ lease_bytes ++ insertion_bytes
@@ -51,3 +74,5 @@ pub record CodesSay : Type 0 where
   pub opening : opening_code (10, table_t ∷ []) ≡ 1 ∷ eight 10 ++ eight 1 ++ eight 1 ++ 0x74 ∷ eight 1 ++ eight 2 ++ 0x69 ∷ 0x64 ∷ 0 ∷ eight 1 ++ eight 1 ++ 0x61 ∷ 0 ∷ eight 0
   pub query : query_code (record { table = 1; columns = 2 ∷ 3 ∷ []; conditions = Key (Int (pos 7) ∷ []) ∷ Equal 2 Null ∷ Between 3 (Some (Text (0x61 ∷ []))) None ∷ [] }) ≡ 1 ∷ asked_bytes
   pub rows : rows_code (record { key = Int (pos 7) ∷ []; cells = (1, Int (pos 5)) ∷ [] } ∷ []) ≡ 1 ∷ eight 1 ++ eight 1 ++ int 7 ++ eight 1 ++ four 1 ++ int 5
+  pub changes : changes_code (AddIndex 1 (0x69 ∷ []) ((0x61 ∷ []) ∷ (0x62 ∷ []) ∷ []) ∷ DropIndex 1 (0x6A ∷ []) ∷ AddColumn 1 (0x63 ∷ []) (Optional column.Text) ∷ AddColumn 1 (0x64 ∷ []) (Required column.Int (Int (pos 5))) ∷ DropColumn 1 (0x65 ∷ []) ∷ Abandon 1 (0x6B ∷ []) ∷ []) ≡ 1 ∷ batch_bytes
+  pub plan : plan_code (record { before = []; step = to_delete_only } ∷ record { before = Fill 2 ∷ Clear 3 ∷ []; step = Go 2 Public ∷ Go 3 Absent ∷ [] } ∷ []) ≡ 1 ∷ planned_bytes

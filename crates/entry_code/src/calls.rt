@@ -1,13 +1,15 @@
-//! Entries, operations, steps, openings, queries and rows as bytes, and back.
+//! Entries, operations, steps, openings, queries, rows, changes and plans as bytes, and back.
 ghost use Rattle.std.specs.Prelude.{◌≡◌, IfOk, OnOk};
 ghost use Rattle.keycode.specs.Valid.{IsValue, IsStorable};
-ghost use Rattle.entry_code.specs.Code.{entry_code, ops_code, step_code, opening_code, query_code, rows_code};
-ghost use Rattle.entry_code.specs.Known.{IsEntry, AreOps, AreMoves, IsOpening, IsQuery, AreRows};
+ghost use Rattle.entry_code.specs.Code.{entry_code, ops_code, step_code, opening_code, query_code, rows_code, changes_code, plan_code};
+ghost use Rattle.entry_code.specs.Known.{IsEntry, AreOps, AreMoves, IsOpening, IsQuery, AreRows, AreChanges, IsPlan};
 ghost use Rattle.entry_code.specs.Read.{IsRead, IsAccepted};
 
 use crate::encoded::Encoded;
 use crate::fault::CodeFault;
+use crate::lists::push_items;
 use crate::whole::{decode, encode};
+use change_plan::{Change, PlanStep};
 use collections::List;
 use replay::Entry;
 use row_map::Row;
@@ -131,4 +133,43 @@ pub fn rows_of(alloc: Global, bytes: &[u8]) -> Result<List<Row>, CodeFault>
     ensures accepted { IsAccepted (AreRows IsStorable) rows_code bytes.now result }
 {
     decode::<List<Row>>(alloc, bytes)
+}
+
+/// The code of a batch of changes. Refused only when out of memory.
+pub fn changes_bytes(alloc: Global, changes: &[Change]) -> Result<Vec<u8>, AllocError>
+    ensures code { IfOk result (λ bytes. bytes.items ≡ changes_code changes.now) }
+    ensures known { OnOk result (AreChanges IsValue changes.now) }
+{
+    let mut out = Vec::new(alloc);
+    out.push(1)?;
+    push_items(&mut out, changes)?;
+    Ok(out)
+}
+
+/// The batch of changes whose code these `bytes` are. Refused, and bounded, as `entry_of` is.
+pub fn changes_of(alloc: Global, bytes: &[u8]) -> Result<List<Change>, CodeFault>
+    ensures read { IsRead (AreChanges IsStorable) changes_code bytes.now result }
+    ensures accepted { IsAccepted (AreChanges IsStorable) changes_code bytes.now result }
+{
+    decode::<List<Change>>(alloc, bytes)
+}
+
+/// The code of the steps of a plan, each with the reorganisations that must end before it. Refused
+/// only when out of memory.
+pub fn plan_bytes(alloc: Global, steps: &[PlanStep]) -> Result<Vec<u8>, AllocError>
+    ensures code { IfOk result (λ bytes. bytes.items ≡ plan_code steps.now) }
+    ensures known { OnOk result (IsPlan IsValue steps.now) }
+{
+    let mut out = Vec::new(alloc);
+    out.push(1)?;
+    push_items(&mut out, steps)?;
+    Ok(out)
+}
+
+/// The steps of the plan whose code these `bytes` are. Refused, and bounded, as `entry_of` is.
+pub fn plan_of(alloc: Global, bytes: &[u8]) -> Result<List<PlanStep>, CodeFault>
+    ensures read { IsRead (IsPlan IsStorable) plan_code bytes.now result }
+    ensures accepted { IsAccepted (IsPlan IsStorable) plan_code bytes.now result }
+{
+    decode::<List<PlanStep>>(alloc, bytes)
 }

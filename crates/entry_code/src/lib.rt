@@ -1,8 +1,9 @@
-//! Entries of a log, operations, steps, openings, queries and rows as bytes: each has one code, and
-//! what is read of bytes has these bytes as its code.
+//! Entries of a log, operations, steps, openings, queries, rows, changes and plans as bytes: each has
+//! one code, and what is read of bytes has these bytes as its code.
 #![tactic(auto)]
 
 mod calls;
+mod changes;
 mod encoded;
 mod entries;
 mod fault;
@@ -18,8 +19,8 @@ mod values;
 mod whole;
 
 pub use calls::{
-    entry_bytes, entry_of, opening_bytes, opening_of, ops_bytes, ops_of, query_bytes, query_of,
-    rows_bytes, rows_of, step_bytes, step_of,
+    changes_bytes, changes_of, entry_bytes, entry_of, opening_bytes, opening_of, ops_bytes, ops_of,
+    plan_bytes, plan_of, query_bytes, query_of, rows_bytes, rows_of, step_bytes, step_of,
 };
 pub use fault::CodeFault;
 pub use laws::{codes_say, one_code};

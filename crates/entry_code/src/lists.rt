@@ -30,8 +30,9 @@ impl<A: Encoded + Drop, B: Encoded + Drop> Encoded for (A, B) {
     }
 }
 
+/// Adds the code of a list of these items to `out`. Refused as `Encoded::push` is.
 #[tactic(auto, unfolding(crate::specs::Code::list_code))]
-fn push_items<T: Encoded>(out: &mut Vec<u8>, items: &[T]) -> Result<(), AllocError>
+pub(crate) fn push_items<T: Encoded>(out: &mut Vec<u8>, items: &[T]) -> Result<(), AllocError>
     ensures code { OnOk result (out.new.items ≡ out.old.items ++ list_code T.code items.now) }
     ensures known { OnOk result (IsList T.known items.now) }
 {

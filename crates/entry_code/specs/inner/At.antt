@@ -4,6 +4,11 @@ use Rattle.std.specs.Prelude.{ℕ, zero, suc, ◌==◌, List, [], ◌∷◌, ◌
 use Rattle.std.specs.Int.{w32, w64, from_be_bytes}
 use Rattle.std.specs.Str.{is_utf8}
 use Rattle.collections.specs.Answers.{◌>>>=◌}
+use Rattle.change_plan.specs.declared.change.Change.{Change}
+use Rattle.change_plan.specs.declared.change.Change.TheVariants.{AddIndex, DropIndex, AddColumn, DropColumn, Abandon}
+use Rattle.change_plan.specs.declared.least_plan.PlanStep.{PlanStep}
+use Rattle.change_plan.specs.declared.least_plan.Reorg.{Reorg}
+use Rattle.change_plan.specs.declared.least_plan.Reorg.TheVariants.{Fill, Clear}
 use Rattle.keycode.specs.declared.fault.KeyFault.{KeyFault}
 use Rattle.keycode.specs.declared.value.Value.{Value}
 use Rattle.keycode.specs.Read.{value_at as key_value_at}
@@ -203,6 +208,35 @@ query_at = map_at (λ r. record { table = r.0; columns = r.1.0; conditions = r.1
 
 unfoldable pub table_row_at : At Row
 table_row_at = map_at (λ r. record { key = r.0; cells = r.1 }) (pair_at key_at cells_at)
+
+-- ---- changes and plans
+
+abbrev pub named_at : At (ℕ × List ℕ)
+named_at = pair_at u32_at text_at
+
+abbrev pub change_by : ℕ → At Change
+change_by tag bytes =
+    if tag == 0 then map_at (λ r. AddIndex r.0 r.1.0 r.1.1) (pair_at u32_at (pair_at text_at (list_at text_at))) bytes
+    else (if tag == 1 then map_at (λ r. DropIndex r.0 r.1) named_at bytes
+    else (if tag == 2 then map_at (λ r. AddColumn r.0 r.1.0 r.1.1) (pair_at u32_at (pair_at text_at kind_at)) bytes
+    else (if tag == 3 then map_at (λ r. DropColumn r.0 r.1) named_at bytes
+    else (if tag == 4 then map_at (λ r. Abandon r.0 r.1) named_at bytes
+    else Err Malformed))))
+
+unfoldable pub change_at : At Change
+change_at = tagged_at change_by
+
+abbrev pub reorg_by : ℕ → At Reorg
+reorg_by tag bytes =
+    if tag == 0 then map_at Fill u32_at bytes
+    else (if tag == 1 then map_at Clear u32_at bytes
+    else Err Malformed)
+
+unfoldable pub reorg_at : At Reorg
+reorg_at = tagged_at reorg_by
+
+unfoldable pub plan_step_at : At PlanStep
+plan_step_at = map_at (λ r. record { before = r.0; step = r.1 }) (pair_at (list_at reorg_at) (list_at move_at))
 
 -- ---- the whole bytes
 

@@ -16,4 +16,6 @@ returns c =
       opening = refl;
       query = refl;
       rows = refl;
+      changes = refl;
+      plan = refl;
     }

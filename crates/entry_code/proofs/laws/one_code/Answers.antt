@@ -1,5 +1,6 @@
 use Rattle.entry_code.proofs.Codes.{entry_tells, ops_tell, step_tells, opening_tells}
 use Rattle.entry_code.proofs.Asked.{query_tells, rows_tell}
+use Rattle.entry_code.proofs.Planned.{changes_tell, plan_tells}
 use Rattle.entry_code.proofs.laws.one_code.Goals as goal
 
 pub returns-clause-entries : goal.returns-clause-entries
@@ -19,3 +20,9 @@ returns-clause-queries c = query_tells
 
 pub returns-clause-rows : goal.returns-clause-rows
 returns-clause-rows c = rows_tell
+
+pub returns-clause-changes : goal.returns-clause-changes
+returns-clause-changes c = changes_tell
+
+pub returns-clause-plans : goal.returns-clause-plans
+returns-clause-plans c = plan_tells
