@@ -8,3 +8,7 @@ pub mod Commit
 pub mod Snapshots
 pub mod Queries
 pub mod Changes
+pub mod Writes
+pub mod Plans
+pub mod Pieces
+pub mod Progress

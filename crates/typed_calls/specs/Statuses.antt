@@ -140,6 +140,9 @@ wrong_element = pos 44
 abbrev pub moved : ℤ
 moved = pos 45
 
+abbrev pub in_change : ℤ
+in_change = pos 46
+
 -- the text of each, in the order of their numbers
 abbrev pub texts : List (List ℕ)
 texts =
@@ -189,6 +192,7 @@ texts =
     codes "the piece has ended" ∷
     codes "the piece is not one of the element's reorganisation" ∷
     codes "the piece has moved since it was read" ∷
+    codes "an element that a change names is in change" ∷
     []
 
 abbrev pub no_text : List ℕ

@@ -13,7 +13,7 @@ use std::alloc::Global;
 use world::{CommitFault, Committed, World};
 
 // The status of a transaction that was not committed.
-fn commit_status(fault: &CommitFault) -> i32
+pub(crate) fn commit_status(fault: &CommitFault) -> i32
     ensures { result ≡ commit_status fault.now }
 {
     match fault {

@@ -32,7 +32,7 @@ impl PrepareOutcome {
 }
 
 // What a refusal is reported as.
-fn prepare_outcome(fault: PrepareFault) -> PrepareOutcome
+pub(crate) fn prepare_outcome(fault: PrepareFault) -> PrepareOutcome
     ensures { result ≡ prepare_outcome fault }
 {
     match fault {

@@ -94,9 +94,11 @@ pub const SPENT: i32 = 43;
 pub const WRONG_ELEMENT: i32 = 44;
 /// The piece has moved since it was read.
 pub const MOVED: i32 = 45;
+/// An element that a change names is in change.
+pub const IN_CHANGE: i32 = 46;
 
 // The texts of the statuses, in the order of their numbers.
-const TEXTS: [&str; 46] = [
+const TEXTS: [&str; 47] = [
     "ok",
     "bad line",
     "the handle is closed",
@@ -143,6 +145,7 @@ const TEXTS: [&str; 46] = [
     "the piece has ended",
     "the piece is not one of the element's reorganisation",
     "the piece has moved since it was read",
+    "an element that a change names is in change",
 ];
 
 // The text of this place.

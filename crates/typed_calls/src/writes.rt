@@ -1,0 +1,140 @@
+//! A transaction in one call: its operations are read, prepared and committed.
+ghost use Rattle.std.specs.Prelude.{◌≡◌, IfOk, IfErr};
+ghost use Rattle.typed_calls.specs.Prepare.{IsPreparedFrom, IsUnprepared};
+ghost use Rattle.typed_calls.specs.Writes.{IsReadFor, WritesPrepared, WritesRead, WritesOps, WritesWorld, WritesIn};
+
+use crate::commits::commit_status;
+use crate::preparation::{PrepareOutcome, prepare_outcome};
+use crate::status::{BAD_CODE, NOT_OPENED, OUT_OF_MEMORY};
+use entry_code::{CodeFault, ops_of};
+use row_map::ReadView;
+use row_write::{Prepared, RowOps, reads_of};
+use script_session::{ServerLease, Session};
+use std::alloc::{AllocError, Global};
+use world::{Committed, World};
+
+// What the operations read of the world.
+fn read_for(
+    alloc: Global,
+    world: &World,
+    held: &ServerLease,
+    ops: &RowOps,
+) -> Result<ReadView, AllocError>
+    ensures { IfOk result (λ view. IsReadFor world.now held.now ops.now view) }
+{
+    let keys = reads_of(alloc, held.schema.get(), ops.as_slice())?;
+    world.read(alloc, &keys)
+}
+
+// The transaction as it is prepared from what was read.
+fn prepared_from(
+    alloc: Global,
+    held: &ServerLease,
+    ops: RowOps,
+    view: ReadView,
+) -> Result<Prepared, PrepareOutcome>
+    ensures prepared { IfOk result (λ prepared. IsPreparedFrom held.now ops view prepared) }
+    ensures refused { IfErr result (λ outcome. IsUnprepared held.now ops view outcome) }
+{
+    let Ok(schema) = held.schema.clone() else {
+        return Err(PrepareOutcome::of(OUT_OF_MEMORY));
+    };
+    match row_write::prepare(alloc, schema, held.lease, ops, view) {
+        Ok(prepared) => Ok(prepared),
+        Err((fault, _)) => Err(prepare_outcome(fault)),
+    }
+}
+
+// A prepared transaction is committed to the world.
+fn commit_at_once(
+    alloc: Global,
+    world: &mut World,
+    moment: u64,
+    prepared: Prepared,
+) -> Result<Committed, PrepareOutcome>
+    ensures { WritesPrepared world.old moment prepared result world.new }
+{
+    match world.commit(alloc, moment, prepared) {
+        Ok(done) => Ok(done),
+        Err((fault, _)) => Err(PrepareOutcome::of(commit_status(&fault))),
+    }
+}
+
+// What was read is prepared and committed.
+fn write_read(
+    alloc: Global,
+    world: &mut World,
+    moment: u64,
+    held: &ServerLease,
+    ops: RowOps,
+    view: ReadView,
+) -> Result<Committed, PrepareOutcome>
+    ensures { WritesRead world.old moment held.now ops view result world.new }
+{
+    match prepared_from(alloc, held, ops, view) {
+        Ok(prepared) => commit_at_once(alloc, world, moment, prepared),
+        Err(outcome) => Err(outcome),
+    }
+}
+
+// The operations are read, prepared and committed.
+fn write_ops(
+    alloc: Global,
+    world: &mut World,
+    moment: u64,
+    held: &ServerLease,
+    ops: RowOps,
+) -> Result<Committed, PrepareOutcome>
+    ensures { WritesOps world.old moment held.now ops result world.new }
+{
+    match read_for(alloc, world, held, &ops) {
+        Ok(view) => write_read(alloc, world, moment, held, ops, view),
+        Err(_) => Err(PrepareOutcome::of(OUT_OF_MEMORY)),
+    }
+}
+
+// The same of the operations whose code these bytes are.
+fn write_to(
+    alloc: Global,
+    world: &mut World,
+    moment: u64,
+    held: &ServerLease,
+    code: &[u8],
+) -> Result<Committed, PrepareOutcome>
+    ensures { WritesWorld world.old moment held.now code.now result world.new }
+{
+    match ops_of(alloc, code) {
+        Ok(ops) => write_ops(alloc, world, moment, held, ops),
+        Err(CodeFault::Memory) => Err(PrepareOutcome::of(OUT_OF_MEMORY)),
+        Err(_) => Err(PrepareOutcome::of(BAD_CODE)),
+    }
+}
+
+/// Makes a transaction in one call: reads what its operations read of the session's world, prepares
+/// it, and commits it. That is `transaction`, `read`, `prepare` and `commit` for a caller who holds
+/// the session for all four anyway; since nothing comes between, no pair has changed meanwhile.
+///
+/// - `moment`: the present moment. The one that counts is the greater of it and the moment of the
+///   last entry.
+/// - `held`: the lease with the schema of its version.
+/// - `code`: what `entry_code::ops_bytes` gives for the operations.
+///
+/// Refused, in this order, and then nothing changes: `NOT_OPENED` if the session has no world yet;
+/// `BAD_CODE` if the bytes are the code of no operations; then as `row_write::prepare` refuses:
+/// `NO_TABLE`, `NOT_PUBLIC` with the column, `WRONG_TYPE` and `TOO_MANY_OPS`; then as
+/// `World::commit` refuses: `MOMENT_TOO_LARGE`, `BAD_LEASE`, `LEASE_ENDED` and `WRONG_SCHEMA`;
+/// `OUT_OF_MEMORY`, which may come in place of any but `NOT_OPENED`.
+pub fn write(
+    alloc: Global,
+    session: &mut Session,
+    moment: u64,
+    held: &ServerLease,
+    code: &[u8],
+) -> Result<Committed, PrepareOutcome>
+    ensures { WritesIn session.old moment held.now code.now result session.new }
+{
+    match session {
+        Session::Declaring(_) => Err(PrepareOutcome::of(NOT_OPENED)),
+        Session::Running(opened) => write_to(alloc, &mut opened.world, moment, held, code),
+    }
+}
