@@ -9,3 +9,7 @@ pub mod Commits
 pub mod Snapshots
 pub mod Changes
 pub mod Queries
+pub mod Plans
+pub mod Writes
+pub mod Pieces
+pub mod Progress

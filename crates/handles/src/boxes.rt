@@ -2,12 +2,13 @@
 //! allocation.
 ghost use Rattle.std.specs.Prelude.{◌≡◌, IfOk};
 
-use crate::engine::{Conversation, Engine};
+use crate::engine::Engine;
+use collections::List;
 use std::alloc::{AllocError, Global};
 
 // What is in a box that is to be filled.
 fn vacant(alloc: Global) -> Engine {
-    Engine::Session(Conversation::new(alloc))
+    Engine::Rows(List::new(Vec::new(alloc)))
 }
 
 /// A box with this engine. Refused only when out of memory; the engine is then let go.

@@ -7,8 +7,8 @@ use crate::outcome::{Outcome, lay};
 use collections::List;
 use script_session::{ServerLease, Session};
 use std::alloc::Global;
-use typed_calls::Txn;
 use typed_calls::status::{BAD_LINE, NOT_UTF8, OK, OUT_OF_MEMORY};
+use typed_calls::{PieceWork, Txn};
 use world::Snapshot;
 
 /// A session, and the last reply that it gave.
@@ -33,6 +33,8 @@ pub enum Engine {
     Snapshot(Snapshot),
     /// The code of the rows that a query answered.
     Rows(List<u8>),
+    /// A piece of a reorganisation of a session's world.
+    Piece(PieceWork),
 }
 
 impl Conversation {
