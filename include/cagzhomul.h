@@ -85,7 +85,8 @@ enum {
     CAGZHOMUL_BAD_PIECE = 42,      /* the reorganisation has no such piece */
     CAGZHOMUL_SPENT = 43,          /* the piece has ended */
     CAGZHOMUL_WRONG_ELEMENT = 44,  /* the piece is not one of the element's reorganisation */
-    CAGZHOMUL_MOVED = 45           /* the piece has moved since it was read */
+    CAGZHOMUL_MOVED = 45,          /* the piece has moved since it was read */
+    CAGZHOMUL_IN_CHANGE = 46       /* an element that a change names is in change */
 };
 
 /* All zeros is closed. Its fields are the library's. */
@@ -97,8 +98,8 @@ typedef struct cagzhomul_handle {
 /* What a call answers. */
 typedef struct cagzhomul_outcome {
     int32_t status;
-    size_t length; /* of the whole reply or code, however much of it fitted, or of the log; 0 after
-                      a refusal */
+    size_t length; /* of the whole reply, code or text, however much of it fitted, or of the log; 0
+                      after a refusal */
 } cagzhomul_outcome;
 
 /* What an advance did. */
@@ -130,6 +131,15 @@ typedef struct cagzhomul_committed {
                          refused, counted from 0; else 0 */
 } cagzhomul_committed;
 
+/* What a transaction in one call came to. */
+typedef struct cagzhomul_written {
+    int32_t status;
+    uint32_t column;  /* at CAGZHOMUL_NOT_PUBLIC the number that was named; else 0 */
+    uint64_t place;   /* at CAGZHOMUL_OK the place of its entry in the log; else 0 */
+    size_t operation; /* at CAGZHOMUL_DUPLICATE and CAGZHOMUL_NO_ROW the first operation that is
+                         refused, counted from 0; else 0 */
+} cagzhomul_written;
+
 /* What an audit found. */
 typedef struct cagzhomul_checked {
     int32_t status;   /* the other fields are 0 if it is not CAGZHOMUL_OK */
@@ -152,6 +162,22 @@ typedef struct cagzhomul_changed {
                         CAGZHOMUL_TOO_EARLY and CAGZHOMUL_STILL_USED the first moment at which the
                         call is not refused so; else 0 */
 } cagzhomul_changed;
+
+/* What the commit of a piece came to. */
+typedef struct cagzhomul_pieced {
+    int32_t status; /* the other fields are 0 if it is not CAGZHOMUL_OK */
+    bool ended;     /* whether the piece has come to its end */
+    uint64_t place; /* the place of its entry in the log */
+} cagzhomul_pieced;
+
+/* How far a reorganisation is. */
+typedef struct cagzhomul_progressed {
+    int32_t status; /* the other fields are 0 if it is not CAGZHOMUL_OK */
+    bool ended;     /* whether all its pieces have ended */
+    uint32_t next;  /* the number of the first piece that has not, from 0; 0 if all have */
+    uint64_t left;  /* how many items are left, of those that are there now */
+    uint64_t all;   /* how many there are */
+} cagzhomul_progressed;
 
 /* Opens a session, at its start: before the line `open`.
  * CAGZHOMUL_OK. Refusals: CAGZHOMUL_ALREADY_OPEN; CAGZHOMUL_OUT_OF_MEMORY, and the handle is closed
@@ -256,6 +282,22 @@ cagzhomul_prepared cagzhomul_prepare(cagzhomul_handle *txn);
 cagzhomul_committed cagzhomul_commit(cagzhomul_handle *session, uint64_t moment,
                                      cagzhomul_handle *txn);
 
+/* Makes a transaction in one call: its operations, whose code the bytes are, are read, prepared and
+ * committed in the session's world under a lease, as by cagzhomul_transaction, cagzhomul_read,
+ * cagzhomul_prepare and cagzhomul_commit, but with no handle of its own and no copy between them.
+ * It is the faster way for a caller who is alone, or holds the session's lock for all four.
+ * `moment` is as for cagzhomul_lease. The lease, the rest of the session and its last reply stay.
+ * CAGZHOMUL_OK; CAGZHOMUL_DUPLICATE or CAGZHOMUL_NO_ROW if the rows refuse it. Refusals:
+ * CAGZHOMUL_CLOSED and CAGZHOMUL_WRONG_KIND of `session`; CAGZHOMUL_CLOSED and
+ * CAGZHOMUL_WRONG_KIND of `lease`; CAGZHOMUL_NOT_OPENED; CAGZHOMUL_BAD_CODE; of the first operation
+ * with one of them, the first of CAGZHOMUL_NO_TABLE, CAGZHOMUL_NOT_PUBLIC and CAGZHOMUL_WRONG_TYPE;
+ * CAGZHOMUL_TOO_MANY_OPS; CAGZHOMUL_MOMENT_TOO_LARGE; CAGZHOMUL_BAD_LEASE; CAGZHOMUL_LEASE_ENDED;
+ * CAGZHOMUL_WRONG_SCHEMA; CAGZHOMUL_OUT_OF_MEMORY, which may come in place of CAGZHOMUL_BAD_CODE
+ * and those after it. Nothing changes but at CAGZHOMUL_OK. */
+cagzhomul_written cagzhomul_write(cagzhomul_handle *session, uint64_t moment,
+                                  cagzhomul_handle *lease, const uint8_t *operations,
+                                  size_t operations_length);
+
 /* Takes a snapshot of what the session's world holds, under a lease, which the closed handle
  * `snapshot` then holds. `moment` is as for cagzhomul_lease. The session and the lease stay, and
  * the snapshot stays what it is, whatever happens to them.
@@ -330,6 +372,60 @@ cagzhomul_changed cagzhomul_publish(cagzhomul_handle *session, uint64_t moment,
  * CAGZHOMUL_BEGUN; CAGZHOMUL_BAD_COUNT; CAGZHOMUL_OUT_OF_MEMORY. */
 cagzhomul_changed cagzhomul_begin_reorg(cagzhomul_handle *session, uint64_t moment,
                                         uint32_t element, uint32_t pieces);
+
+/* Plans a batch of changes, by its code, from the newest version of the session's world: writes the
+ * code of the least plan, as much of it as fits in `out`. A step of the plan has the
+ * reorganisations that must end before it, and moves, which are the code of a step for
+ * cagzhomul_publish once a byte 1 is put before them. Nothing changes, so it may be asked again
+ * with more room.
+ * CAGZHOMUL_OK, with the length of the whole code. Refusals: CAGZHOMUL_CLOSED;
+ * CAGZHOMUL_WRONG_KIND; CAGZHOMUL_NOT_OPENED; CAGZHOMUL_BAD_CODE, also of a default with a text of
+ * more than 1,024 bytes; of the first change that cannot be planned the first of CAGZHOMUL_UNKNOWN,
+ * CAGZHOMUL_NAME_TAKEN, CAGZHOMUL_DEPENDENT if an index is on the column, CAGZHOMUL_IN_CHANGE and
+ * CAGZHOMUL_OVER_LIMIT; CAGZHOMUL_OUT_OF_MEMORY, which may come in place of CAGZHOMUL_BAD_CODE and
+ * those after it. */
+cagzhomul_outcome cagzhomul_plan(cagzhomul_handle *session, const uint8_t *changes,
+                                 size_t changes_length, uint8_t *out, size_t out_length);
+
+/* Reads the next `limit` items (1 to 1,000) of a piece of the reorganisation that has begun of an
+ * element, into the closed handle `work`. Pieces count from 0. The session stays.
+ * CAGZHOMUL_OK. Refusals: CAGZHOMUL_ALREADY_OPEN, of `work`; CAGZHOMUL_CLOSED;
+ * CAGZHOMUL_WRONG_KIND; CAGZHOMUL_NOT_OPENED; CAGZHOMUL_NOT_WANTED; CAGZHOMUL_BAD_PIECE;
+ * CAGZHOMUL_SPENT; CAGZHOMUL_BAD_COUNT; CAGZHOMUL_OUT_OF_MEMORY. A refusal leaves `work` as it
+ * was. */
+int32_t cagzhomul_read_piece(cagzhomul_handle *session, uint32_t element, uint32_t piece,
+                             uint32_t limit, cagzhomul_handle *work);
+
+/* Prepares the items of a piece that were read: what is put or removed for them. It takes no
+ * session, so it needs no lock of one.
+ * CAGZHOMUL_OK. Refusals: CAGZHOMUL_CLOSED; CAGZHOMUL_WRONG_KIND; CAGZHOMUL_WRONG_STAGE if it is
+ * prepared already; CAGZHOMUL_OUT_OF_MEMORY, and it is as it was. */
+int32_t cagzhomul_prepare_piece(cagzhomul_handle *work);
+
+/* Commits the items of a piece that were prepared to the session's world, and `work` is closed: its
+ * pairs are written, and the piece goes on behind them. `moment` is as for cagzhomul_lease. The
+ * rest of the session and its last reply stay.
+ * CAGZHOMUL_OK. Refusals: CAGZHOMUL_CLOSED and CAGZHOMUL_WRONG_KIND of `session`; CAGZHOMUL_CLOSED
+ * and CAGZHOMUL_WRONG_KIND of `work`; CAGZHOMUL_NOT_OPENED; CAGZHOMUL_WRONG_STAGE if it is not
+ * prepared; CAGZHOMUL_MOMENT_TOO_LARGE; CAGZHOMUL_NOT_WANTED; CAGZHOMUL_WRONG_ELEMENT;
+ * CAGZHOMUL_MOVED; CAGZHOMUL_CONFLICT; CAGZHOMUL_OUT_OF_MEMORY, which may come in place of the two
+ * before it. A refusal leaves `work` as it was: at CAGZHOMUL_MOVED and CAGZHOMUL_CONFLICT it is to
+ * be closed and read again. */
+cagzhomul_pieced cagzhomul_commit_piece(cagzhomul_handle *session, uint64_t moment,
+                                        cagzhomul_handle *work);
+
+/* How far the reorganisation that has begun of an element is. Its items are counted, not walked
+ * over. The session stays.
+ * CAGZHOMUL_OK. Refusals: CAGZHOMUL_CLOSED; CAGZHOMUL_WRONG_KIND; CAGZHOMUL_NOT_OPENED;
+ * CAGZHOMUL_NOT_WANTED if none has begun, or it is over. */
+cagzhomul_progressed cagzhomul_progress(cagzhomul_handle *session, uint32_t element);
+
+/* How the session's world stands: writes one line of JSON without a line end, as the line `status`
+ * answers it (docs/SCRIPT.md), as much of it as fits in `out`. Nothing changes, so it may be asked
+ * again with more room.
+ * CAGZHOMUL_OK, with the length of the whole line. Refusals: CAGZHOMUL_CLOSED;
+ * CAGZHOMUL_WRONG_KIND; CAGZHOMUL_NOT_OPENED; CAGZHOMUL_OUT_OF_MEMORY. */
+cagzhomul_outcome cagzhomul_status(cagzhomul_handle *session, uint8_t *out, size_t out_length);
 
 /* Frees what the handle holds and closes it; it may be opened again.
  * CAGZHOMUL_OK. Refusal: CAGZHOMUL_CLOSED. */

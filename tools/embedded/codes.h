@@ -70,30 +70,60 @@ static inline void put_op(code *code, uint8_t kind, uint32_t table, int64_t id, 
     if (town) put_number(code, column, 4), put_text(code, town);
 }
 
-/* A step in which the index by_town on people (town) enters, delete-only. */
+enum { ABSENT = 0, DELETE_ONLY = 1, WRITE_ONLY = 2, PUBLIC = 3 };
+
+/* So many moves, which follow. */
+static inline code step_code(uint64_t many) { return ops_code(many); }
+
+/* The move by which the index by_town on people (town) enters, delete-only. */
+static inline void put_enter(code *code) {
+    put_byte(code, 0);
+    put_number(code, PEOPLE, 4);
+    put_name(code, "by_town");
+    put_byte(code, 0);         /* an index */
+    put_number(code, 1, 8);    /* over one column */
+    put_number(code, TOWN, 4);
+    put_byte(code, DELETE_ONLY);
+}
+
+/* The move by which an element goes to a state. */
+static inline void put_go(code *code, uint32_t element, uint8_t state) {
+    put_byte(code, 1);
+    put_number(code, element, 4);
+    put_byte(code, state);
+}
+
 static inline code enter_code(void) {
-    code it = {{1}, 1};
-    put_number(&it, 1, 8);    /* one move */
-    put_byte(&it, 0);         /* an element enters */
-    put_number(&it, PEOPLE, 4);
-    put_name(&it, "by_town");
-    put_byte(&it, 0);         /* an index */
-    put_number(&it, 1, 8);    /* over one column */
-    put_number(&it, TOWN, 4);
-    put_byte(&it, 1);         /* delete-only */
+    code it = step_code(1);
+    put_enter(&it);
     return it;
 }
 
-enum { ABSENT = 0, DELETE_ONLY = 1, WRITE_ONLY = 2, PUBLIC = 3 };
-
-/* A step in which an element goes to a state. */
 static inline code go_code(uint32_t element, uint8_t state) {
-    code it = {{1}, 1};
-    put_number(&it, 1, 8);
-    put_byte(&it, 1);
-    put_number(&it, element, 4);
-    put_byte(&it, state);
+    code it = step_code(1);
+    put_go(&it, element, state);
     return it;
+}
+
+/* So many changes, which follow. */
+static inline code changes_code(uint64_t many) { return ops_code(many); }
+
+enum { DROP_INDEX = 1, DROP_COLUMN = 3, ABANDON = 4 };
+
+/* The change that adds an index on the column town. */
+static inline void put_add_index(code *code, const char *name, const char *column) {
+    put_byte(code, 0);
+    put_number(code, PEOPLE, 4);
+    put_name(code, name);
+    put_number(code, 1, 8);
+    put_name(code, column);
+}
+
+/* A change of the element of this name. */
+static inline void put_named(code *code, uint8_t kind, const char *name) {
+    put_byte(code, kind);
+    put_number(code, PEOPLE, 4);
+    put_name(code, name);
 }
 
 /* A query of a table for one column of the rows that meet so many conditions, which follow. */

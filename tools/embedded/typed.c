@@ -4,21 +4,10 @@
    Each allocation is refused in turn, one in each run: the call that met it answers
    CAGZHOMUL_OUT_OF_MEMORY, changed nothing, and is made again. All values are worked out by hand. It prints how many allocations were refused, and ends with 0 if all was as
    include/cagzhomul.h says. */
-#include "cagzhomul.h"
+#include "calls.h"
 #include "codes.h"
-#include "refusing.h"
 
 enum { ROOM = 512 };
-
-static long again;
-
-/* Whether memory ran out, and the call is to be made again. */
-static int is_short(int32_t status) {
-    if (status != CAGZHOMUL_OUT_OF_MEMORY) return 0;
-    check(is_reached, "memory runs out only after a refusal");
-    again++;
-    return !wrong;
-}
 
 /* Whether the line has this reply; memory is ample for it. */
 static int replies(cagzhomul_handle *session, const char *line, const char *wanted) {
@@ -420,12 +409,5 @@ int main(void) {
     look_at_codes();
     look_at_kinds();
     look_at_queries();
-    is_ample = 0;
-    do {
-        count = is_reached = 0;
-        refused++;
-        play();
-    } while (is_reached && !wrong);
-    printf("%ld allocations were refused, and %ld calls made again\n", refused - 1, again);
-    return wrong || !again;
+    return refuse_each(play);
 }

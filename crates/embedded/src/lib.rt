@@ -11,10 +11,14 @@ ghost use Rattle.handles.specs.Commits.{Commits};
 ghost use Rattle.handles.specs.Snapshots.{Snapshots, Checks, LogLengths};
 ghost use Rattle.handles.specs.Queries.{Queries, SnapshotQueries, RowsFrom};
 ghost use Rattle.handles.specs.Changes.{Publishes, Begins};
+ghost use Rattle.handles.specs.Writes.{Writes};
+ghost use Rattle.handles.specs.Plans.{Plans};
+ghost use Rattle.handles.specs.Pieces.{ReadsPiece, PreparesPiece, CommitsPiece};
+ghost use Rattle.handles.specs.Progress.{Progresses, ShowsStatus};
 
 use handles::{
     AdvanceOutcome, ChangeOutcome, CheckOutcome, CommitOutcome, Handle, LeaseOutcome, Outcome,
-    show_text,
+    PieceOutcome, ProgressOutcome, WriteOutcome, show_text,
 };
 use std::alloc::Global;
 use typed_calls::{PrepareOutcome, QueryOutcome};
@@ -155,6 +159,21 @@ pub extern "C" fn cagzhomul_commit(
     session.commit(alloc, moment, txn)
 }
 
+/// `Handle::write`.
+#[unsafe(no_mangle)]
+pub extern "C" fn cagzhomul_write(
+    alloc: Global,
+    session: &mut Handle,
+    moment: u64,
+    lease: &mut Handle,
+    operations: &[u8],
+) -> WriteOutcome
+    ensures writes { Writes session.old.place.value moment lease.old.place.value operations.now result session.new.place.value }
+    ensures lease_stays { lease.new.place.value ≡ lease.old.place.value }
+{
+    session.write(alloc, moment, lease, operations)
+}
+
 /// `Handle::snapshot`.
 #[unsafe(no_mangle)]
 pub extern "C" fn cagzhomul_snapshot(
@@ -259,6 +278,79 @@ pub extern "C" fn cagzhomul_begin_reorg(
     ensures { Begins session.old.place.value moment element pieces result session.new.place.value }
 {
     session.begin_reorg(alloc, moment, element, pieces)
+}
+
+/// `Handle::plan`.
+#[unsafe(no_mangle)]
+pub extern "C" fn cagzhomul_plan(
+    alloc: Global,
+    session: &mut Handle,
+    changes: &[u8],
+    out: &mut [u8],
+) -> Outcome
+    ensures plans { Plans session.old.place.value changes.now out.old result out.new }
+    ensures same { session.new.place.value ≡ session.old.place.value }
+{
+    session.plan(alloc, changes, out)
+}
+
+/// `Handle::read_piece`.
+#[unsafe(no_mangle)]
+pub extern "C" fn cagzhomul_read_piece(
+    alloc: Global,
+    session: &mut Handle,
+    element: u32,
+    piece: u32,
+    limit: u32,
+    work: &mut Handle,
+) -> i32
+    ensures reads { ReadsPiece session.old.place.value element piece limit work.old.place.value result work.new.place.value }
+    ensures same { session.new.place.value ≡ session.old.place.value }
+{
+    session.read_piece(alloc, element, piece, limit, work)
+}
+
+/// `Handle::prepare_piece`.
+#[unsafe(no_mangle)]
+pub extern "C" fn cagzhomul_prepare_piece(alloc: Global, work: &mut Handle) -> i32
+    ensures { PreparesPiece work.old.place.value result work.new.place.value }
+{
+    work.prepare_piece(alloc)
+}
+
+/// `Handle::commit_piece`.
+#[unsafe(no_mangle)]
+pub extern "C" fn cagzhomul_commit_piece(
+    alloc: Global,
+    session: &mut Handle,
+    moment: u64,
+    work: &mut Handle,
+) -> PieceOutcome
+    ensures { CommitsPiece session.old.place.value moment work.old.place.value result session.new.place.value work.new.place.value }
+{
+    session.commit_piece(alloc, moment, work)
+}
+
+/// `Handle::progress`.
+#[unsafe(no_mangle)]
+pub extern "C" fn cagzhomul_progress(
+    alloc: Global,
+    session: &mut Handle,
+    element: u32,
+) -> ProgressOutcome
+    ensures progresses { Progresses session.old.place.value element result }
+    ensures same { session.new.place.value ≡ session.old.place.value }
+{
+    session.progress(alloc, element)
+}
+
+/// `Handle::status`.
+#[unsafe(no_mangle)]
+pub extern "C" fn cagzhomul_status(alloc: Global, session: &mut Handle, out: &mut [u8]) -> Outcome
+    ensures shows { ShowsStatus session.old.place.value out.old result out.new }
+    ensures same { session.new.place.value ≡ session.old.place.value }
+{
+    session.status(alloc, out)
 }
 
 /// `Handle::close`.
