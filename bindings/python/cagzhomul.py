@@ -31,15 +31,17 @@ from types import TracebackType
 from typing import Any, Callable, Dict, Iterable, Iterator, List, Mapping, NamedTuple, Optional, Sequence, Tuple, Type, TypeVar, Union, overload
 
 __all__ = [
-    "Acted", "AlreadyOpen", "Audit", "BadCount", "BadEntry", "BadLease", "BadLength", "BadLine", "BadTable", "CagzhomulError", "Clock", "Closed",
-    "Conflict", "Db", "Duplicate", "InChange", "Key", "Kind", "Lease", "LeaseEnded", "Moment", "MomentTooLarge", "NameTaken", "NoEntry", "NoRow",
-    "NoTable", "NotOpened", "NotPublic", "NotUtf8", "OutOfMemory", "OverLimit", "Query", "Receipt", "Row", "Session", "Snapshot", "Step", "StillIndexed",
-    "Table", "Tables", "TooManyOps", "Txn", "UnexpectedReply", "Unknown", "Value", "VersionsSpent", "Waiting", "WrongSchema", "WrongStage",
-    "WrongType", "literal", "open", "retry", "text_of",
+    "Abandon", "Acted", "AddColumn", "AddIndex", "AlreadyOpen", "Audit", "BadCode", "BadCount", "BadEntry", "BadLease", "BadLength", "BadLine", "BadPiece",
+    "BadTable", "Begun", "CagzhomulError", "Change", "Clock", "Closed", "Conflict", "Db", "Dependent", "DropColumn", "DropIndex", "Duplicate", "InChange",
+    "Key", "Kind", "Lease", "LeaseEnded", "Moment", "MomentTooLarge", "Move", "Moved", "NameTaken", "NoEntry", "NoRow", "NoTable", "NotAdjacent",
+    "NotOpened", "NotPublic", "NotUtf8", "NotWanted", "OutOfMemory", "OverLimit", "Piece", "PlannedStep", "Progress", "Query", "Receipt",
+    "Reorganisation", "Row", "Session", "Snapshot", "Spent", "Step", "StillIndexed", "StillUsed", "Table", "Tables", "TooEarly", "TooManyOps", "Txn",
+    "UnexpectedReply", "Unfinished", "Unknown", "Value", "VersionsSpent", "Waiting", "Worked", "WrongElement", "WrongSchema", "WrongStage",
+    "WrongType", "WrongWay", "literal", "open", "retry", "text_of",
 ]
 
 _ROOM, _OK, _BAD_LINE, _CLOSED, _NOT_NEXT, _WAITING, _FINISHED = 4096, 0, 1, 2, 9, 10, 11
-_WRONG_STAGE, _BAD_CODE, _NOT_PUBLIC, _WRONG_TYPE, _DUPLICATE, _NO_ROW = 16, 17, 21, 22, 29, 30
+_WRONG_STAGE, _BAD_CODE, _NOT_PUBLIC, _WRONG_TYPE, _DUPLICATE, _NO_ROW, _DEPENDENT = 16, 17, 21, 22, 29, 30, 35
 
 Value = Union[None, bool, int, str]
 Key = Union[Value, Sequence[Value]]
@@ -59,6 +61,9 @@ class _Advanced(ctypes.Structure): _fields_ = [("status", _STATUS), ("until", _N
 class _Granted(ctypes.Structure): _fields_ = [("status", _STATUS), ("version", _NUMBER), ("granted", _NUMBER), ("until", _NUMBER), ("place", _NUMBER)]
 class _Prepared(ctypes.Structure): _fields_ = [("status", _STATUS), ("column", _SMALL)]
 class _Committed(ctypes.Structure): _fields_ = [("status", _STATUS), ("place", _NUMBER), ("operation", _SIZE)]
+class _Written(ctypes.Structure): _fields_ = [("status", _STATUS), ("column", _SMALL), ("place", _NUMBER), ("operation", _SIZE)]
+class _Pieced(ctypes.Structure): _fields_ = [("status", _STATUS), ("ended", ctypes.c_bool), ("place", _NUMBER)]
+class _Progressed(ctypes.Structure): _fields_ = [("status", _STATUS), ("ended", ctypes.c_bool), ("next", _SMALL), ("left", _NUMBER), ("all", _NUMBER)]
 class _Queried(ctypes.Structure): _fields_ = [("status", _STATUS), ("column", _SMALL)]
 class _Checked(ctypes.Structure): _fields_ = [("status", _STATUS), ("rows", _NUMBER), ("missing", _NUMBER), ("extra", _NUMBER)]
 class _Changed(ctypes.Structure): _fields_ = [("status", _STATUS), ("number", _NUMBER)]
@@ -76,7 +81,10 @@ _FUNCTIONS: Dict[str, Tuple[Any, List[Any]]] = {
     "snapshot_query": (_Queried, [_HANDLE, _BYTES, _SIZE, _HANDLE]),
     "snapshot": (_STATUS, [_HANDLE, _NUMBER, _HANDLE, _HANDLE]), "check": (_Checked, [_HANDLE]), "log_length": (_Outcome, [_HANDLE]),
     "publish": (_Changed, [_HANDLE, _NUMBER, _BYTES, _SIZE]), "begin_reorg": (_Changed, [_HANDLE, _NUMBER, _SMALL, _SMALL]),
-    "text_of": (_SIZE, [_STATUS, _BYTES, _SIZE]),
+    "write": (_Written, [_HANDLE, _NUMBER, _HANDLE, _BYTES, _SIZE]), "plan": (_Outcome, [_HANDLE, _BYTES, _SIZE, _BYTES, _SIZE]),
+    "read_piece": (_STATUS, [_HANDLE, _SMALL, _SMALL, _SMALL, _HANDLE]), "prepare_piece": (_STATUS, [_HANDLE]),
+    "commit_piece": (_Pieced, [_HANDLE, _NUMBER, _HANDLE]), "progress": (_Progressed, [_HANDLE, _SMALL]),
+    "status": (_Outcome, [_HANDLE, _BYTES, _SIZE]), "text_of": (_SIZE, [_STATUS, _BYTES, _SIZE]),
 }
 
 
@@ -126,6 +134,18 @@ class _RowRefusal(CagzhomulError):
         self.operation = operation
 
 
+class _Numbered(CagzhomulError):
+    """A refusal with a number: of an element, or a moment."""
+
+    def __init__(self, status: int, number: int) -> None:
+        super().__init__(status, f"{text_of(status)}: {number}")
+        self.number = number
+
+
+class TooEarly(_Numbered): """The newest version has not been it for a lease length: at the moment `number` it will have been."""
+class StillUsed(_Numbered): """The version before may still be used: up to the moment `number`."""
+class Dependent(_Numbered): """The element of this number stands against the step."""
+class Unfinished(_Numbered): """The reorganisation of the element of this number is to end before the step."""
 class Duplicate(_RowRefusal): """A row that is inserted is there; `operation` is the first that is refused, from 0."""
 class NoRow(_RowRefusal): """A row that is changed is not there; `operation` is the first that is refused, from 0."""
 class BadLine(CagzhomulError): """The line, the query or the change is not of the language."""
@@ -139,7 +159,8 @@ class BadEntry(CagzhomulError): """The bytes are the code of no entry."""
 class BadCount(CagzhomulError): """The pieces are not 1 to 64, or the limit is not 1 to 1,000."""
 class MomentTooLarge(CagzhomulError): """The moment is above 2^62."""
 class VersionsSpent(CagzhomulError): """A publication is due, and there are 1,000,000 versions."""
-class WrongStage(CagzhomulError): """The transaction is prepared already."""
+class WrongStage(CagzhomulError): """The transaction, or the piece, is not at the call's stage: it is prepared already, or not yet."""
+class BadCode(CagzhomulError): """The bytes are the code of nothing that is asked for."""
 class BadTable(CagzhomulError): """The declaration breaks a limit, or uses a name twice."""
 class BadLength(CagzhomulError): """The lease length is not from 1 to 2^32."""
 class NoTable(CagzhomulError): """There is no table of this name."""
@@ -154,23 +175,40 @@ class NameTaken(CagzhomulError): """A change adds a name that is taken."""
 class OverLimit(CagzhomulError): """A name, a list, a default or a count of a change is over its limit."""
 class StillIndexed(CagzhomulError): """A change drops a column that an index is on."""
 class InChange(CagzhomulError): """A change is of something that another change is under way for."""
+class NotAdjacent(CagzhomulError): """No move joins the two states of a step's element."""
+class WrongWay(CagzhomulError): """A move of a step goes the other way than its element."""
+class NotWanted(CagzhomulError): """The element wants no reorganisation, or none has begun, or it is over."""
+class Begun(CagzhomulError): """The reorganisation has begun already."""
+class BadPiece(CagzhomulError): """The reorganisation has no piece of this number."""
+class Spent(CagzhomulError): """The piece has ended: nothing is left of it to be read."""
+class WrongElement(CagzhomulError): """The piece is not one of the element's reorganisation."""
+class Moved(CagzhomulError): """The piece has gone on since it was read: it is to be read again."""
 class UnexpectedReply(CagzhomulError): """A reply of the language that this module does not know; its text has the reply."""
 
 
 _ERRORS: Dict[int, Type[CagzhomulError]] = {
     1: BadLine, 2: Closed, 3: AlreadyOpen, 4: NotUtf8, 5: OutOfMemory, 6: NotOpened, 7: NoEntry, 8: BadEntry,
-    12: BadCount, 13: MomentTooLarge, 14: VersionsSpent, 16: WrongStage, 18: BadTable, 19: BadLength, 20: NoTable, 22: WrongType,
-    23: TooManyOps, 25: BadLease, 26: LeaseEnded, 27: WrongSchema, 28: Conflict, 32: Unknown, 36: NameTaken, 37: OverLimit,
+    12: BadCount, 13: MomentTooLarge, 14: VersionsSpent, 16: WrongStage, 17: BadCode, 18: BadTable, 19: BadLength, 20: NoTable, 22: WrongType,
+    23: TooManyOps, 25: BadLease, 26: LeaseEnded, 27: WrongSchema, 28: Conflict, 32: Unknown, 33: NotAdjacent, 34: WrongWay, 36: NameTaken,
+    37: OverLimit, 39: NotWanted, 41: Begun, 42: BadPiece, 43: Spent, 44: WrongElement, 45: Moved, 46: InChange,
 }
+_NUMBERED: Dict[int, Type[_Numbered]] = {31: TooEarly, _DEPENDENT: Dependent, 38: Unfinished, 40: StillUsed}
 # The language's refusals by name, each with its status and text; the text is the status's own if it is empty.
 _REFUSALS: Dict[str, Tuple[Type[CagzhomulError], int, str]] = {kind.__name__: (kind, status, "") for status, kind in _ERRORS.items()}
-_REFUSALS.update(Memory=(OutOfMemory, 5, ""), Limit=(OverLimit, 37, ""), StillIndexed=(StillIndexed, -1, "an index is on the column"),
-                 InChange=(InChange, -1, "another change of it is under way"))
+_REFUSALS.update(Memory=(OutOfMemory, 5, ""), Limit=(OverLimit, 37, ""), StillIndexed=(StillIndexed, _DEPENDENT, "an index is on the column"))
 
 
 def _check(status: int) -> None:
     if status != _OK:
         raise _ERRORS.get(status, CagzhomulError)(status)
+
+
+def _number_of(done: Any) -> int:
+    """The number of what a schema change came to."""
+    if done.status in _NUMBERED:
+        raise _NUMBERED[done.status](done.status, done.number)
+    _check(done.status)
+    return int(done.number)
 
 
 def _refusal(reply: str, names: Optional[_Names] = None) -> CagzhomulError:
@@ -226,6 +264,65 @@ class Query:
     between: Mapping[str, Tuple[Value, Value]] = field(default_factory=dict)
 
 
+@dataclass(frozen=True)
+class AddIndex:
+    """A change that adds an index of a table over these columns, in this order."""
+    table: str
+    name: str
+    columns: Sequence[str]
+
+
+@dataclass(frozen=True)
+class AddColumn:
+    """A change that adds a column of a table, whose values are of this type. A row that is given none
+    has the default, or no value if there is no default."""
+    table: str
+    name: str
+    kind: Kind
+    default: Value = None
+
+
+@dataclass(frozen=True)
+class _Named:
+    table: str
+    name: str
+
+
+class DropIndex(_Named): """A change that drops the table's index of this name."""
+class DropColumn(_Named): """A change that drops the table's column of this name."""
+class Abandon(_Named): """A change that turns back what is being added to a table by this name, and is not public yet."""
+
+
+Change = Union[AddIndex, AddColumn, DropIndex, DropColumn, Abandon]
+
+
+class Reorganisation(NamedTuple):
+    """What is to be done to all pairs of the element of a number: `work` is "fill" or "clear"."""
+    work: str
+    element: int
+
+
+class Move(NamedTuple):
+    """A move of a step. `act` is "enter": an element of this name gets the next number, of the table
+    with this number, and begins in the state; "go": the element goes to the state; or "turn": being
+    added, it is dropped from then on. A state is "absent", "delete_only", "write_only" or "public".
+    The numbers are 0, and the texts empty, where an act has none."""
+    act: str
+    element: int = 0
+    table: int = 0
+    name: str = ""
+    state: str = ""
+
+
+@dataclass(frozen=True)
+class PlannedStep:
+    """A step of a plan: its moves, the reorganisations that must end before it, in their order, and
+    its code for `Session.publish`."""
+    before: Tuple[Reorganisation, ...]
+    moves: Tuple[Move, ...]
+    code: bytes
+
+
 # Codes, as crates/entry_code has them.
 def _number(number: int, size: int = 8) -> bytes:
     return number.to_bytes(size, "big")
@@ -241,7 +338,7 @@ def _name(name: str) -> bytes:
 
 def _opening(lease_length: int, tables: Iterable[Table]) -> bytes:
     def columns(kinds: Mapping[str, Kind]) -> bytes:
-        return _list([_name(name) + bytes([[int, str, bool].index(kind)]) for name, kind in kinds.items()])
+        return _list([_name(name) + _type(kind) for name, kind in kinds.items()])
 
     def code(table: Table) -> bytes:
         indexes = [_name(name) + _list([_name(column) for column in indexed]) for name, indexed in table.indexes.items()]
@@ -279,6 +376,20 @@ def _query(query: Query, columns: Iterable[int], names: _Names) -> bytes:
     return b"\1" + _number(names.tables.get(query.table, 0), 4) + _list([_number(it, 4) for it in columns]) + _list(conditions)
 
 
+def _type(kind: Kind) -> bytes:
+    return bytes([[int, str, bool].index(kind)])
+
+
+def _change(change: Change, names: _Names) -> bytes:
+    acts = [AddIndex, DropIndex, AddColumn, DropColumn, Abandon]
+    code = bytes([acts.index(type(change))]) + _number(names.tables.get(change.table, 0), 4) + _name(change.name)
+    if isinstance(change, AddIndex):
+        return code + _list([_name(column) for column in change.columns])
+    if isinstance(change, AddColumn):
+        return code + (b"\1" + _type(change.kind) if change.default is None else b"\2" + _type(change.kind) + _value(change.default))
+    return code
+
+
 _number_at, _small_at = struct.Struct(">Q").unpack_from, struct.Struct(">I").unpack_from
 
 
@@ -311,6 +422,45 @@ def _coded_rows(code: bytes, key: Sequence[str], columns: Iterable[int], names: 
             row[name], at = _value_at(code, at + 4)
         rows.append(row)
     return rows
+
+
+_STATES = ("absent", "delete_only", "write_only", "public")
+
+
+def _kind_end(code: bytes, at: int) -> int:
+    """Where the kind of an element that begins there ends."""
+    if code[at] == 0:
+        return at + 9 + 4 * int(_number_at(code, at + 1)[0])
+    return at + 2 if code[at] == 1 else _value_at(code, at + 2)[1]
+
+
+def _move_at(code: bytes, at: int) -> Tuple[Move, int]:
+    """The move that begins there, and where it ends."""
+    if code[at] == 0:
+        name = at + 13 + int(_number_at(code, at + 5)[0])
+        end = _kind_end(code, name)
+        return Move("enter", 0, int(_small_at(code, at + 1)[0]), code[at + 13:name].decode(), _STATES[code[end]]), end + 1
+    element = int(_small_at(code, at + 1)[0])
+    return (Move("go", element, state=_STATES[code[at + 5]]), at + 6) if code[at] == 1 else (Move("turn", element), at + 5)
+
+
+def _planned(code: bytes) -> List[PlannedStep]:
+    """The steps of a plan's code."""
+    if code[0] != 1:
+        raise UnexpectedReply(text="a plan in another code")
+    steps: List[PlannedStep] = []
+    at = 9
+    for _ in range(_number_at(code, 1)[0]):
+        count, at = int(_number_at(code, at)[0]), at + 8
+        before = tuple(Reorganisation(("fill", "clear")[code[it]], int(_small_at(code, it + 1)[0])) for it in range(at, at + 5 * count, 5))
+        begin = at + 5 * count
+        moves: List[Move] = []
+        at = begin + 8
+        for _ in range(_number_at(code, begin)[0]):
+            move, at = _move_at(code, at)
+            moves.append(move)
+        steps.append(PlannedStep(before, tuple(moves), b"\1" + code[begin:at]))
+    return steps
 
 
 # What the language writes and reads.
@@ -399,6 +549,13 @@ def _code_of(rows: _Handle) -> bytes:
     return ctypes.string_at(out, length)
 
 
+def _small(number: int) -> int:
+    """A number of an element, a piece, pieces or items."""
+    if not 0 <= number < 2**32:
+        raise OverflowError("such a number has 32 bits")
+    return number
+
+
 def _at(now: Moment) -> int:
     """A moment that is given, or that a clock gives."""
     moment = now() if callable(now) else now
@@ -433,6 +590,22 @@ class Audit(NamedTuple):
     rows: int
     missing: int
     extra: int
+
+
+class Progress(NamedTuple):
+    """How far a reorganisation is: whether all its pieces have ended, the number of the first that has
+    not (0 if all have), and of the items that are there now, how many are left, and how many there
+    are."""
+    ended: bool
+    next: int
+    left: int
+    all: int
+
+
+class Worked(NamedTuple):
+    """A commit of a piece: the place of its entry in the log, and whether the piece has ended."""
+    place: int
+    ended: bool
 
 
 class _Owner:
@@ -525,20 +698,78 @@ class Session(_Audited):
         _check(_library.cagzhomul_reply_from(self._handle, 0, out, outcome.length).status)
         return out.raw.decode()
 
+    def _told(self, call: Callable[[Any, int], Any]) -> bytes:
+        """What a call writes: it is asked once more with more room if all did not fit."""
+        with self._lock:
+            outcome = call(self._out, _ROOM)
+            _check(outcome.status)
+            if outcome.length <= _ROOM:
+                return ctypes.string_at(self._out, outcome.length)
+            out = ctypes.create_string_buffer(outcome.length)
+            _check(call(out, outcome.length).status)
+            return out.raw
+
+    def status(self) -> Dict[str, Any]:
+        """How the world stands, as docs/SCRIPT.md has it of the line `status`: `elements`, `log`,
+        `moment`, `usable` and `version`. Raises Closed, NotOpened or OutOfMemory."""
+        told: Dict[str, Any] = json.loads(self._told(lambda out, room: _library.cagzhomul_status(self._handle, out, room)))
+        return told
+
+    def element(self, table: str, name: str) -> int:
+        """The number of an index or a column of the newest version. Raises Unknown, and what `status`
+        does."""
+        for element in self.status()["elements"]:
+            if (element["table"], element["name"]) == (table, name):
+                return int(element["number"])
+        raise Unknown(32)
+
+    def publish(self, now: Moment, step: bytes) -> int:
+        """Publishes the version that a step gives, by its code, as `PlannedStep.code` has it; the
+        answer is the version's number.
+
+        Raises Closed, NotOpened, BadCode, MomentTooLarge, TooEarly, Unknown, NotAdjacent, WrongWay,
+        Dependent, NameTaken, OverLimit, Unfinished, VersionsSpent or OutOfMemory.
+        """
+        moment = _at(now)
+        with self._lock:
+            return _number_of(_library.cagzhomul_publish(self._handle, moment, step, len(step)))
+
+    def begin_reorg(self, now: Moment, element: int, pieces: int = 8) -> int:
+        """Begins the fill or the clear that an element wants, in 1 to 64 pieces; the answer is the
+        place of its entry in the log.
+
+        Raises Closed, NotOpened, MomentTooLarge, NotWanted, StillUsed, Begun, BadCount or OutOfMemory.
+        """
+        moment = _at(now)
+        with self._lock:
+            return _number_of(_library.cagzhomul_begin_reorg(self._handle, moment, _small(element), _small(pieces)))
+
+    def read_piece(self, element: int, piece: int, limit: int = 1000) -> Piece:
+        """The next `limit` items (1 to 1,000) of a piece, from 0, of the reorganisation that has begun of
+        an element; it is to be prepared and committed, or closed.
+
+        Raises Closed, NotOpened, NotWanted, BadPiece, Spent, BadCount or OutOfMemory.
+        """
+        work = Piece(self)
+        with self._lock:
+            _check(_library.cagzhomul_read_piece(self._handle, _small(element), _small(piece), _small(limit), work._handle))
+        return work
+
+    def progress(self, element: int) -> Progress:
+        """How far the reorganisation that has begun of an element is. Raises Closed, NotOpened or
+        NotWanted."""
+        with self._lock:
+            done = _library.cagzhomul_progress(self._handle, _small(element))
+        _check(done.status)
+        return Progress(bool(done.ended), int(done.next), int(done.left), int(done.all))
+
     def entry(self, place: int) -> bytes:
         """The code of the log's entry of this place; places count from 1, as in `ok done PLACE`.
 
         Raises Closed, NotOpened, NoEntry or OutOfMemory, and the session is as it was.
         """
         at = place if 0 < place < 2**63 else 0  # place 0 has no entry
-        with self._lock:
-            outcome = _library.cagzhomul_entry(self._handle, at, self._out, _ROOM)
-            _check(outcome.status)
-            if outcome.length <= _ROOM:
-                return ctypes.string_at(self._out, outcome.length)
-            out = ctypes.create_string_buffer(outcome.length)
-            _check(_library.cagzhomul_entry(self._handle, at, out, outcome.length).status)
-            return out.raw
+        return self._told(lambda out, room: _library.cagzhomul_entry(self._handle, at, out, room))
 
     def log_length(self) -> int:
         """How many entries the log has. Raises Closed or NotOpened."""
@@ -615,6 +846,22 @@ class Db(Session):
             _check(_library.cagzhomul_snapshot(self._handle, moment, lease._handle, snapshot._handle))
         return snapshot
 
+    def plan(self, changes: Sequence[Change]) -> List[PlannedStep]:
+        """The least plan of a batch of changes, from the newest version: the fewest steps that bring it
+        about, each for `publish` once the reorganisations before it have ended. Nothing changes.
+
+        Raises Closed; of the first change that cannot be planned the first of Unknown, NameTaken,
+        StillIndexed, InChange and OverLimit, but a text that is too long is BadCode before all but
+        Closed; OutOfMemory.
+        """
+        code = b"\1" + _list([_change(change, self._names) for change in changes])
+        try:
+            return _planned(self._told(lambda out, room: _library.cagzhomul_plan(self._handle, code, len(code), out, room)))
+        except CagzhomulError as refusal:
+            if refusal.status == _DEPENDENT:
+                raise StillIndexed(_DEPENDENT, "an index is on the column") from None
+            raise
+
     def change(self, change: str, clock: Clock, *, pieces: int = 8, limit: int = 1000) -> Iterator[Step]:
         """Begins a schema change, and gives the steps that complete it. The change is one that the
         language's `plan` takes, as `add index by_town on people (town)`; the kept plan is lost.
@@ -677,16 +924,16 @@ class Lease(_Owner):
         return Txn(self, self._now if now is None else now)
 
     def insert(self, table: str, key: Key, /, **cells: Value) -> Receipt:
-        """Inserts a row by a transaction of its own: as `Txn.insert` and `Txn.commit`."""
-        return self.txn().insert(table, key, **cells).commit()
+        """Inserts a row by a transaction of its own: as `Txn.insert` and `Txn.write`."""
+        return self.txn().insert(table, key, **cells).write()
 
     def update(self, table: str, key: Key, /, **cells: Value) -> Receipt:
-        """Updates a row by a transaction of its own: as `Txn.update` and `Txn.commit`."""
-        return self.txn().update(table, key, **cells).commit()
+        """Updates a row by a transaction of its own: as `Txn.update` and `Txn.write`."""
+        return self.txn().update(table, key, **cells).write()
 
     def delete(self, table: str, key: Key, /) -> Receipt:
-        """Deletes a row by a transaction of its own: as `Txn.delete` and `Txn.commit`."""
-        return self.txn().delete(table, key).commit()
+        """Deletes a row by a transaction of its own: as `Txn.delete` and `Txn.write`."""
+        return self.txn().delete(table, key).write()
 
     def query(self, now: Moment, selection: str) -> List[Row]:
         """The rows of a query by rising primary key, each a dict of its key columns and the columns
@@ -781,10 +1028,42 @@ class Txn(_Owner):
             prepared = _library.cagzhomul_prepare(self._handle) if status == _OK else _Prepared(status, 0)
             if prepared.status:
                 _library.cagzhomul_close(self._handle)
-        if prepared.status == _NOT_PUBLIC:
-            raise NotPublic(lease._names.by_number.get(prepared.column) if prepared.column else self._unknown)
-        _check(prepared.status)
+        self._accept(prepared.status, prepared.column)
         return self
+
+    def _accept(self, status: int, column: int) -> None:
+        """Raises what a refused preparation does."""
+        if status == _NOT_PUBLIC:
+            raise NotPublic(self._lease._names.by_number.get(column) if column else self._unknown)
+        _check(status)
+
+    def _received(self, status: int, place: int, operation: int) -> Receipt:
+        """The receipt of what was committed; raises what the rows refuse, and other refusals."""
+        if status in (_DUPLICATE, _NO_ROW):
+            raise (Duplicate if status == _DUPLICATE else NoRow)(status, operation)
+        _check(status)
+        self.receipt = Receipt(place)
+        return self.receipt
+
+    def write(self, now: Optional[Moment] = None) -> Receipt:
+        """Reads, prepares and commits it in one call, at this moment or its own, under the store's lock:
+        the faster way for few operations, and no row that it names changes meanwhile. The receipt is
+        in `receipt`, too. A call after a refusal makes the transaction again.
+
+        Raises WrongStage; Closed; of the first faulty operation NoTable, NotPublic or WrongType, but
+        a text that is too long is WrongType before all; TooManyOps; MomentTooLarge, BadLease,
+        LeaseEnded, WrongSchema, OutOfMemory, Duplicate or NoRow.
+        """
+        moment, lease, db = _at(self._now if now is None else now), self._lease, self._lease._db
+        with self._lock:
+            if self.is_open:
+                raise WrongStage(_WRONG_STAGE)
+            code = b"\1" + _list(self._operations)
+            with lease._lock, db._lock:
+                done = _library.cagzhomul_write(db._handle, moment, lease._handle, code, len(code))
+            # only a text over 1,024 bytes makes a bad code of what this module writes
+            self._accept(_WRONG_TYPE if done.status == _BAD_CODE else _OK if done.status in (_DUPLICATE, _NO_ROW) else done.status, done.column)
+            return self._received(done.status, done.place, done.operation)
 
     def commit(self, now: Optional[Moment] = None) -> Receipt:
         """Commits it, at this moment or its own, and prepares it first if it is not. The receipt is in
@@ -801,11 +1080,7 @@ class Txn(_Owner):
                 done = _library.cagzhomul_commit(db._handle, moment, self._handle)
             if self.is_open:
                 _library.cagzhomul_close(self._handle)
-            if done.status in (_DUPLICATE, _NO_ROW):
-                raise (Duplicate if done.status == _DUPLICATE else NoRow)(done.status, done.operation)
-            _check(done.status)
-            self.receipt = Receipt(done.place)
-            return self.receipt
+            return self._received(done.status, done.place, done.operation)
 
     def __exit__(self, kind: Optional[Type[BaseException]], _error: Optional[BaseException], _trace: Optional[TracebackType]) -> None:
         try:
@@ -813,6 +1088,35 @@ class Txn(_Owner):
                 self.commit()
         finally:
             self.close()
+
+
+class Piece(_Owner):
+    """Items of a piece of a reorganisation, by `Session.read_piece`: they are prepared without the
+    store's lock, and then committed."""
+
+    def __init__(self, session: Session) -> None:
+        super().__init__()
+        self._session = session
+
+    def prepare(self) -> Piece:
+        """Prepares what is put or removed for the items that were read. Raises Closed, WrongStage or
+        OutOfMemory."""
+        with self._lock:
+            _check(_library.cagzhomul_prepare_piece(self._handle))
+        return self
+
+    def commit(self, now: Moment) -> Worked:
+        """Commits it, and it is closed: its pairs are written, and the piece goes on behind them. At Moved
+        and Conflict it is to be closed and read again.
+
+        Raises Closed, NotOpened, WrongStage, MomentTooLarge, NotWanted, WrongElement, Moved, Conflict
+        or OutOfMemory.
+        """
+        moment, session = _at(now), self._session
+        with self._lock, session._lock:
+            done = _library.cagzhomul_commit_piece(session._handle, moment, self._handle)
+        _check(done.status)
+        return Worked(int(done.place), bool(done.ended))
 
 
 def retry(attempts: int, attempt: Callable[[], _Result]) -> _Result:

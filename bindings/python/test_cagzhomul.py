@@ -4,6 +4,7 @@ import os
 import re
 import threading
 import unittest
+from typing import Callable, Dict, List, Tuple, Type, Union
 
 import cagzhomul
 
@@ -21,7 +22,7 @@ no row of this key is there; the newest version has not been the newest for a fu
 no move joins the two states; a move of the other way; another element stands against it; the name is taken
 a name, a list, a default or a count is over its limit; a reorganisation that the step needs is not finished
 the element wants no reorganisation, or none has begun; the version before may still be used; the reorganisation has begun; no such piece
-the piece has ended; the piece is not one of the element's reorganisation; the piece has moved since it was read""".replace("\n", "; ").split("; ")
+the piece has ended; the piece is not one of the element's reorganisation; the piece has moved since it was read; an element that a change names is in change""".replace("\n", "; ").split("; ")
 
 # Each has its version, 1, and then the moment. A lease is version 1 from 5 until 15.
 LEASE = "01 0000000000000005 00 0000000000000001 0000000000000005 000000000000000f"
@@ -58,7 +59,8 @@ class Sessions(unittest.TestCase):
 
     def test_lines_that_ask_for_nothing_have_an_empty_reply(self) -> None:
         with cagzhomul.open() as session:
-            self.assertEqual([session.reply_to(line) for line in ("", "   ", "# a remark", b"# caf\xc3\xa9")], [""] * 4)
+            lines: List[Union[str, bytes]] = ["", "   ", "# a remark", b"# caf\xc3\xa9"]
+            self.assertEqual([session.reply_to(line) for line in lines], [""] * 4)
 
     def test_a_long_reply_comes_whole(self) -> None:
         with cagzhomul.open() as session:
@@ -85,8 +87,8 @@ class Sessions(unittest.TestCase):
         self.assertTrue(issubclass(cagzhomul.OutOfMemory, MemoryError))
 
     def test_every_number_has_a_text(self) -> None:
-        self.assertEqual([cagzhomul.text_of(status) for status in range(46)], TEXTS)
-        self.assertEqual({cagzhomul.text_of(status) for status in (-1, 46, 2**31 - 1, -(2**31))}, {"no status"})
+        self.assertEqual([cagzhomul.text_of(status) for status in range(47)], TEXTS)
+        self.assertEqual({cagzhomul.text_of(status) for status in (-1, 47, 2**31 - 1, -(2**31))}, {"no status"})
 
     def test_the_header_is_declared(self) -> None:
         with open(HEADER, encoding="utf-8") as file:
@@ -94,7 +96,7 @@ class Sessions(unittest.TestCase):
         functions = {name: words.count(",") + 1 for name, words in re.findall(r"\bcagzhomul_(\w+)\(([^()]*)\);", header)}
         self.assertEqual({name: len(parameters) for name, (_, parameters) in cagzhomul._FUNCTIONS.items()}, functions)
         statuses = {int(number): name.title().replace("_", "") for name, number in re.findall(r"\bCAGZHOMUL_(\w+) = (\d+)", header)}
-        self.assertEqual(len(statuses), 46)
+        self.assertEqual(len(statuses), 47)
         for number, error in cagzhomul._ERRORS.items():
             self.assertEqual(error.__name__, statuses[number])
 
@@ -188,7 +190,9 @@ class Replicas(unittest.TestCase):
             self.assertEqual([session.advance(moment, pieces=1, limit=1) for moment, _ in acts], [done for _, done in acts])
             self.assertEqual(session.reply_to("log"), "ok log 8\n")
             self.assertEqual(session.reply_to("check"), "ok rows 2 missing 0 extra 0\n")
-            for more, error in (({"pieces": 0}, cagzhomul.BadCount), ({"limit": 1001}, cagzhomul.BadCount), ({}, cagzhomul.MomentTooLarge)):
+            bad: List[Tuple[Dict[str, int], Type[cagzhomul.CagzhomulError]]] = [
+                ({"pieces": 0}, cagzhomul.BadCount), ({"limit": 1001}, cagzhomul.BadCount), ({}, cagzhomul.MomentTooLarge)]
+            for more, error in bad:
                 with self.assertRaises(error):
                     session.advance(30 if more else 2**62 + 1, **more)
             with self.assertRaises(OverflowError):
@@ -208,7 +212,8 @@ class Replicas(unittest.TestCase):
 
     def test_errors(self) -> None:
         session = cagzhomul.open()
-        for call in (lambda: session.entry(1), lambda: session.repeat(b""), lambda: session.advance(0)):
+        calls: List[Callable[[], object]] = [lambda: session.entry(1), lambda: session.repeat(b""), lambda: session.advance(0)]
+        for call in calls:
             with self.assertRaises(cagzhomul.NotOpened) as early:
                 call()
         self.assertEqual((early.exception.status, str(early.exception)), (6, "no world is open yet"))
@@ -223,7 +228,7 @@ class Replicas(unittest.TestCase):
                 session.repeat(entry)
         self.assertEqual(session.reply_to("log"), "ok log 1\n")
         session.close()
-        for call in (lambda: session.entry(1), lambda: session.repeat(lease), lambda: session.advance(0)):
+        for call in calls:
             with self.assertRaises(cagzhomul.Closed):
                 call()
 

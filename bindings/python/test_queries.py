@@ -16,6 +16,11 @@ KINDS: Dict[str, List[Value]] = {
 }
 
 
+def asking(lease: cagzhomul.Lease, snapshot: cagzhomul.Snapshot) -> List[Callable[[Query], List[Row]]]:
+    """The calls that answer a query."""
+    return [lease.find, snapshot.query]
+
+
 def is_met(row: Row, query: Query) -> bool:
     """Whether a row of the table `rows` meets all conditions."""
     if query.key is not None and query.key != (row["a"], row["b"]):
@@ -142,7 +147,7 @@ class Queries(unittest.TestCase):
                     self.assertEqual(*[(it.status, str(it)) for it in (self.refused(kind, lambda: lease.find(query)), self.refused(kind, lambda: snapshot.query(query)))])
             for query, column in ((Query("people", ["town", "x", "y"], equal={"y": 1}), "x"), (Query("people", key=1, equal={"y": 1}, between={"x": (1, 2)}), "y"),
                                   (Query("people", between={"id": (1, 2)}), "id")):
-                for call in (lease.find, snapshot.query):
+                for call in asking(lease, snapshot):
                     self.assertEqual(vars(self.refused(cagzhomul.NotPublic, lambda: call(query)))["column"], column)
             self.refused(cagzhomul.LeaseEnded, lambda: lease.find(Query("nobody"), 15))
             self.refused(cagzhomul.MomentTooLarge, lambda: lease.find(Query("nobody"), 2**62 + 1))
@@ -155,7 +160,7 @@ class Queries(unittest.TestCase):
                 self.refused(cagzhomul.BadLease, lambda: stray.find(Query("people")))
             self.assertEqual(lease.find(Query("people", equal={"town": LONG[1:]})), [])
             self.assertEqual(db.log_length(), 1)
-        for call in (lease.find, snapshot.query):
+        for call in asking(lease, snapshot):
             self.refused(cagzhomul.Closed, lambda: call(Query("people")))
             self.refused(cagzhomul.Closed, lambda: call(Query("people", equal={"town": LONG})))
 

@@ -158,7 +158,8 @@ class Stores(unittest.TestCase):
             refused = self.refused(cagzhomul.NotPublic, lambda: lease.update("people", 1, age=1))
             self.assertEqual((vars(refused)["column"], str(refused)), ("age", "a named column is not a public column of its table: age"))
             several = lease.txn().update("nobody", 1, x=1).update("people", 1, y=1)
-            for call in (several.prepare, several.commit, several.commit):
+            calls: List[Callable[[], object]] = [several.prepare, several.commit, several.write]
+            for call in calls:
                 self.refused(cagzhomul.NoTable, call)
                 self.assertFalse(several.is_open)
             many = lease.txn()
@@ -168,7 +169,7 @@ class Stores(unittest.TestCase):
             self.refused(cagzhomul.TooManyOps, many.delete("people", 1).commit)
             for bad, error in ((2**63, OverflowError), (-(2**63) - 1, OverflowError), (1.5, TypeError)):
                 with self.assertRaises(error):
-                    lease.insert("people", bad)
+                    lease.insert("people", bad)  # type: ignore[arg-type]
             with self.assertRaises(OverflowError):
                 db.lease(-1)
             self.assertEqual((db.log_length(), db.check()), (3, Audit(65, 0, 0)))
