@@ -1,4 +1,4 @@
-"""Other programs that do the work of a load (tools/peers), beside loads."""
+"""Other programs that do the work of a load (tools/peers), beside loads; and the library, a map and SQLite from Rust."""
 import functools
 import os
 import re
@@ -36,17 +36,34 @@ def of_postgres():
     return {"": own_time([f"{ROOT}/tools/peers/postgres"])}
 
 
-@functools.cache
-def compiled(name, compiler, source, *libraries):
-    """The program made of a source of tools/peers."""
-    out = os.path.join(FOLDER.name, name)
+def make(words, **more):
+    """Runs a compiler."""
     try:
-        run = subprocess.run([*compiler.split(), "-o", out, f"{ROOT}/tools/peers/{source}", *libraries], capture_output=True, text=True)
+        run = subprocess.run(words, capture_output=True, text=True, env={**os.environ, **more})
     except OSError as error:
         raise Missing(str(error)) from error
     if run.returncode != 0:
         raise Missing(run.stderr.strip().splitlines()[0])
+
+
+@functools.cache
+def compiled(name, compiler, source, *libraries):
+    """The program made of a source of tools/peers."""
+    out = os.path.join(FOLDER.name, name)
+    make([*compiler.split(), "-o", out, f"{ROOT}/tools/peers/{source}", *libraries])
     return out
+
+
+@functools.cache
+def in_rust():
+    """The example of the Rust crate that does the work by each, over the library that is built; none is built here, since that may take
+    a proof."""
+    library = os.path.abspath(os.environ.get("CAGZHOMUL_LIBRARY_DIR", f"{ROOT}/out"))
+    if not os.path.exists(f"{library}/libcagzhomul.a"):
+        raise Missing(f"no {library}/libcagzhomul.a: tools/build_library makes it")
+    words = ["--offline", "--release", "--quiet", "--example", "peers", "--manifest-path", f"{ROOT}/bindings/rust/Cargo.toml"]
+    make(["cargo", "build", *words], CAGZHOMUL_LIBRARY_DIR=library, CARGO_TARGET_DIR=f"{FOLDER.name}/cargo")
+    return f"{FOLDER.name}/cargo/release/examples/peers"
 
 
 def cases():
@@ -59,6 +76,10 @@ def cases():
         ("an ordered map under a mutex, 4 threads", lambda _: {"": own_time([compiled("map", "g++ -O2 -pthread", "map.cpp")])}),
         ("SQLite in memory, 1 thread", lambda _: {"": own_time([compiled("sqlite", "gcc -O2", "sqlite.c", "-lsqlite3")])}),
         ("PostgreSQL, 4 clients, no wait for the disk", lambda _: of_postgres()),
+        ("Rust: Cagzhomul's library, 4 threads and 3 workers", lambda _: {"": own_time([in_rust(), "engine"])}),
+        ("Rust: Cagzhomul's library, 1 thread and 3 workers", lambda _: {"": own_time([in_rust(), "engine-1"])}),
+        ("Rust: an ordered map under a mutex, 4 threads", lambda _: {"": own_time([in_rust(), "map"])}),
+        ("Rust: SQLite in memory, 1 thread", lambda _: {"": own_time([in_rust(), "sqlite"])}),
     ]
     for name, measure in peers:
         found.append(Case("peers", name, ROWS, measure, work=ROWS, base="peers", is_shared=True))

@@ -1,5 +1,6 @@
-//! Tables, operations, queries and values as bytes, as `crates/entry_code` describes them.
+//! Tables, operations, queries, changes and values as bytes, as `crates/entry_code` describes them.
 
+use crate::plan::SchemaChange;
 use crate::query::Condition;
 use crate::table::{Table, Type};
 use crate::value::{Cells, Key, Value};
@@ -107,11 +108,35 @@ impl Code {
         self.count(columns.len());
         for (name, kind) in columns {
             self.name(name);
-            self.byte(match kind {
-                Type::Int => 0,
-                Type::Text => 1,
-                Type::Bool => 2,
-            });
+            self.kind(*kind);
+        }
+    }
+
+    fn kind(&mut self, kind: Type) {
+        self.byte(match kind {
+            Type::Int => 0,
+            Type::Text => 1,
+            Type::Bool => 2,
+        });
+    }
+
+    /// A change: which it is, its table and its name, and then what only it has.
+    fn change(&mut self, change: &SchemaChange, table: impl Fn(&str) -> u32) {
+        let (variant, of, name) = change.parts();
+        self.byte(variant);
+        self.small_number(table(of));
+        self.name(name);
+        match change {
+            SchemaChange::AddIndex { columns, .. } => {
+                self.count(columns.len());
+                columns.iter().for_each(|column| self.name(column));
+            }
+            SchemaChange::AddColumn { kind, default, .. } => {
+                self.byte(1 + u8::from(default.is_some()));
+                self.kind(*kind);
+                default.iter().for_each(|value| self.value(value));
+            }
+            _ => {}
         }
     }
 
@@ -156,6 +181,16 @@ pub(crate) fn query(
     code.count(conditions.len());
     for condition in conditions {
         code.condition(condition, &number);
+    }
+    code
+}
+
+/// The code of a batch of changes.
+pub(crate) fn changes(changes: &[SchemaChange], table: impl Fn(&str) -> u32) -> Code {
+    let mut code = Code::new();
+    code.count(changes.len());
+    for change in changes {
+        code.change(change, &table);
     }
     code
 }
@@ -278,6 +313,31 @@ mod tests {
         let wanted = b"\x01\0\0\0\x01\0\0\0\0\0\0\0\x02\0\0\0\x02\0\0\0\x03\0\0\0\0\0\0\0\x03\
             \0\0\0\0\0\0\0\0\x01\x02\x80\0\0\0\0\0\0\x07\x01\0\0\0\x02\x01\x02\0\0\0\x03\x01\x03a\0\x01\0";
         assert_eq!(query(1, &[2, 3], &conditions, number).as_bytes(), wanted);
+    }
+
+    /// A batch with each kind of change, in table 1, by hand.
+    #[test]
+    fn a_batch_of_changes() {
+        let batch = [
+            SchemaChange::add_index("t", "i", ["a", "b"]),
+            SchemaChange::drop_index("t", "j"),
+            SchemaChange::add_column("t", "c", Type::Text),
+            SchemaChange::add_column_with_default("t", "d", Type::Bool, true),
+            SchemaChange::drop_column("t", "e"),
+            SchemaChange::abandon("t", "f"),
+        ];
+        let wanted: [&[u8]; 7] = [
+            b"\x01\0\0\0\0\0\0\0\x06",
+            b"\0\0\0\0\x01\0\0\0\0\0\0\0\x01i\0\0\0\0\0\0\0\x02\0\0\0\0\0\0\0\x01a\0\0\0\0\0\0\0\x01b",
+            b"\x01\0\0\0\x01\0\0\0\0\0\0\0\x01j",
+            b"\x02\0\0\0\x01\0\0\0\0\0\0\0\x01c\x01\x01",
+            b"\x02\0\0\0\x01\0\0\0\0\0\0\0\x01d\x02\x02\x04\x01",
+            b"\x03\0\0\0\x01\0\0\0\0\0\0\0\x01e",
+            b"\x04\0\0\0\x01\0\0\0\0\0\0\0\x01f",
+        ];
+        let table = |name: &str| u32::from(name == "t");
+        assert_eq!(changes(&batch, table).as_bytes(), wanted.concat());
+        assert_eq!(changes(&[], table).as_bytes(), b"\x01\0\0\0\0\0\0\0\0");
     }
 
     /// The deletion of `crates/entry_code_tests`: row 7 of table 1 goes.

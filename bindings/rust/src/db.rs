@@ -7,7 +7,7 @@ use crate::ffi::{Granted, Handle};
 use crate::lease::Lease;
 use crate::names::Names;
 use crate::reply::Row;
-use crate::session::{done, reply_to, Session};
+use crate::session::{done, status_of, Session};
 use crate::snapshot::Check;
 use crate::table::Table;
 use std::sync::{Arc, Mutex, PoisonError};
@@ -74,7 +74,7 @@ impl Db {
         let tables: Vec<Table> = tables.into_iter().collect();
         let mut handle = Handle::closed();
         done(handle.open_tables(code::opening(lease_length, &tables).as_bytes()))?;
-        let names = Names::new(&tables).at(&reply_to(&mut handle, "status")?)?;
+        let names = Names::new(&tables).at(&status_of(&mut handle)?)?;
         Ok(Db {
             session: Session::over(handle),
             names: Mutex::new(Arc::new(names)),
@@ -108,9 +108,14 @@ impl Db {
         done(granted.status)?;
         let mut names = self.names.lock().unwrap_or_else(PoisonError::into_inner);
         if names.version() != granted.version {
-            *names = Arc::new(names.at(&reply_to(&mut session, "status")?)?);
+            *names = Arc::new(names.at(&status_of(&mut session)?)?);
         }
         Ok((granted, Arc::clone(&names)))
+    }
+
+    /// The names of the newest version that a lease was granted on, with those of all tables.
+    pub(crate) fn names(&self) -> Arc<Names> {
+        Arc::clone(&self.names.lock().unwrap_or_else(PoisonError::into_inner))
     }
 
     /// The rows of a query under a lease that it takes: [`Db::lease`], and then [`Lease::query`].

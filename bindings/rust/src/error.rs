@@ -51,7 +51,7 @@ pub enum Error {
     LeaseEnded,
     /// The transaction was prepared under another schema than that of its lease's version.
     WrongSchema,
-    /// A row that the transaction names changed since it was read: it may be made again
+    /// What a transaction or a piece has read changed since: it may be made, or read, again
     /// ([`retry`](crate::retry)).
     Conflict,
     /// The transaction inserts a row that is there.
@@ -64,8 +64,8 @@ pub enum Error {
         /// The first operation that is refused, counted from 0.
         operation: usize,
     },
-    /// A change names a table, an index or a column that is not there, or abandons one that is not
-    /// being added.
+    /// A change or a step names a table, an index or a column that is not there, or abandons one
+    /// that is not being added.
     Unknown,
     /// A change adds a name that is taken.
     NameTaken,
@@ -75,6 +75,42 @@ pub enum Error {
     InChange,
     /// A name, a list, a default or a count is over its limit.
     Limit,
+    /// The newest version has not been it for a lease length.
+    TooEarly {
+        /// The moment from which on it will have been.
+        until: u64,
+    },
+    /// No move joins the two states of a step's element.
+    NotAdjacent,
+    /// A move of a step goes the other way than its element.
+    WrongWay,
+    /// Another element stands against a step.
+    Dependent {
+        /// Its number.
+        element: u32,
+    },
+    /// A reorganisation that a step needs is not finished.
+    Unfinished {
+        /// The number of its element.
+        element: u32,
+    },
+    /// The element wants no reorganisation, or none has begun, or it is over.
+    NotWanted,
+    /// The version before may still be used.
+    StillUsed {
+        /// The moment from which on it is not.
+        until: u64,
+    },
+    /// The reorganisation has begun already.
+    Begun,
+    /// The reorganisation has no piece of this number.
+    BadPiece,
+    /// The piece has ended: nothing is left of it to be read.
+    Spent,
+    /// The piece is not one of the element's reorganisation.
+    WrongElement,
+    /// The piece has gone on since it was read: it is to be read again.
+    Moved,
     /// A status that no call of this crate should meet, by its number.
     Status(i32),
     /// A reply that this crate does not know.
@@ -104,7 +140,31 @@ impl Error {
             ffi::LEASE_ENDED => Error::LeaseEnded,
             ffi::WRONG_SCHEMA => Error::WrongSchema,
             ffi::CONFLICT => Error::Conflict,
+            ffi::UNKNOWN => Error::Unknown,
+            ffi::NOT_ADJACENT => Error::NotAdjacent,
+            ffi::WRONG_WAY => Error::WrongWay,
+            ffi::NAME_TAKEN => Error::NameTaken,
+            ffi::OVER_LIMIT => Error::Limit,
+            ffi::NOT_WANTED => Error::NotWanted,
+            ffi::BEGUN => Error::Begun,
+            ffi::BAD_PIECE => Error::BadPiece,
+            ffi::SPENT => Error::Spent,
+            ffi::WRONG_ELEMENT => Error::WrongElement,
+            ffi::MOVED => Error::Moved,
+            ffi::IN_CHANGE => Error::InChange,
             other => Error::Status(other),
+        }
+    }
+
+    /// Why a schema change with this status was refused, by the number that it has beside it.
+    pub(crate) fn of_change(status: i32, number: u64) -> Error {
+        let element = number as u32; // the numbers of elements have 32 bits
+        match status {
+            ffi::TOO_EARLY => Error::TooEarly { until: number },
+            ffi::DEPENDENT => Error::Dependent { element },
+            ffi::UNFINISHED => Error::Unfinished { element },
+            ffi::STILL_USED => Error::StillUsed { until: number },
+            other => Error::of(other),
         }
     }
 
@@ -135,8 +195,22 @@ impl Error {
             Error::Unknown => "no such table, element or column",
             Error::NameTaken => "the name is taken",
             Error::StillIndexed => "an index is on the column",
-            Error::InChange => "another change of it is under way",
+            Error::InChange => "an element that a change names is in change",
             Error::Limit => "a name, a list, a default or a count is over its limit",
+            Error::TooEarly { .. } => {
+                "the newest version has not been the newest for a full lease length"
+            }
+            Error::NotAdjacent => "no move joins the two states",
+            Error::WrongWay => "a move of the other way",
+            Error::Dependent { .. } => "another element stands against it",
+            Error::Unfinished { .. } => "a reorganisation that the step needs is not finished",
+            Error::NotWanted => "the element wants no reorganisation, or none has begun",
+            Error::StillUsed { .. } => "the version before may still be used",
+            Error::Begun => "the reorganisation has begun",
+            Error::BadPiece => "no such piece",
+            Error::Spent => "the piece has ended",
+            Error::WrongElement => "the piece is not one of the element's reorganisation",
+            Error::Moved => "the piece has moved since it was read",
             Error::Status(_) => "a status that is not expected",
             Error::Reply(_) => "a reply that is not expected",
         }
@@ -152,6 +226,10 @@ impl fmt::Display for Error {
             } => write!(f, ": {column}"),
             Error::Duplicate { operation } | Error::NoRow { operation } => {
                 write!(f, ": operation {operation}")
+            }
+            Error::TooEarly { until } | Error::StillUsed { until } => write!(f, ": until {until}"),
+            Error::Dependent { element } | Error::Unfinished { element } => {
+                write!(f, ": element {element}")
             }
             Error::Status(status) => write!(f, ": {status}, {}", ffi::text_of(*status)),
             Error::Reply(reply) => write!(f, ": {}", reply.trim_end()),
@@ -173,6 +251,16 @@ mod tests {
             if !matches!(error, Error::Status(_)) {
                 assert_eq!(error.to_string(), ffi::text_of(status), "{status}");
             }
+        }
+        for status in [
+            ffi::TOO_EARLY,
+            ffi::DEPENDENT,
+            ffi::UNFINISHED,
+            ffi::STILL_USED,
+        ] {
+            let error = Error::of_change(status, 7);
+            assert_eq!(error.text(), ffi::text_of(status), "{status}");
+            assert!(error.to_string().ends_with(" 7"), "{error}");
         }
     }
 

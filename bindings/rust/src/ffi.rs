@@ -9,102 +9,14 @@
 //!   that have values; two slices of which one is mutable do not overlap.
 #![allow(unsafe_code)]
 
+pub(crate) use crate::answers::*;
 use std::ffi::c_void;
 use std::ptr;
-
-pub(crate) const OK: i32 = 0;
-pub(crate) const BAD_LINE: i32 = 1;
-pub(crate) const CLOSED: i32 = 2;
-pub(crate) const OUT_OF_MEMORY: i32 = 5;
-pub(crate) const NOT_OPENED: i32 = 6;
-pub(crate) const NO_ENTRY: i32 = 7;
-pub(crate) const BAD_ENTRY: i32 = 8;
-pub(crate) const NOT_NEXT: i32 = 9;
-pub(crate) const WAITING: i32 = 10;
-pub(crate) const FINISHED: i32 = 11;
-pub(crate) const BAD_COUNT: i32 = 12;
-pub(crate) const MOMENT_TOO_LARGE: i32 = 13;
-pub(crate) const VERSIONS_SPENT: i32 = 14;
-pub(crate) const BAD_CODE: i32 = 17;
-pub(crate) const BAD_TABLE: i32 = 18;
-pub(crate) const BAD_LENGTH: i32 = 19;
-pub(crate) const NO_TABLE: i32 = 20;
-pub(crate) const NOT_PUBLIC: i32 = 21;
-pub(crate) const WRONG_TYPE: i32 = 22;
-pub(crate) const TOO_MANY_OPS: i32 = 23;
-pub(crate) const BAD_LEASE: i32 = 25;
-pub(crate) const LEASE_ENDED: i32 = 26;
-pub(crate) const WRONG_SCHEMA: i32 = 27;
-pub(crate) const CONFLICT: i32 = 28;
-pub(crate) const DUPLICATE: i32 = 29;
-pub(crate) const NO_ROW: i32 = 30;
 
 #[repr(C)]
 struct RawHandle {
     at: *mut c_void,
     is_open: bool,
-}
-
-/// `cagzhomul_outcome`.
-#[repr(C)]
-#[derive(Clone, Copy)]
-pub(crate) struct Outcome {
-    pub(crate) status: i32,
-    pub(crate) length: usize,
-}
-
-/// `cagzhomul_advanced`.
-#[repr(C)]
-#[derive(Clone, Copy)]
-pub(crate) struct Advanced {
-    pub(crate) status: i32,
-    pub(crate) until: u64,
-}
-
-/// `cagzhomul_granted`.
-#[repr(C)]
-#[derive(Clone, Copy)]
-pub(crate) struct Granted {
-    pub(crate) status: i32,
-    pub(crate) version: u64,
-    pub(crate) granted: u64,
-    pub(crate) until: u64,
-    pub(crate) place: u64,
-}
-
-/// `cagzhomul_prepared`.
-#[repr(C)]
-#[derive(Clone, Copy)]
-pub(crate) struct Prepared {
-    pub(crate) status: i32,
-    pub(crate) column: u32,
-}
-
-/// `cagzhomul_committed`.
-#[repr(C)]
-#[derive(Clone, Copy)]
-pub(crate) struct Committed {
-    pub(crate) status: i32,
-    pub(crate) place: u64,
-    pub(crate) operation: usize,
-}
-
-/// `cagzhomul_queried`.
-#[repr(C)]
-#[derive(Clone, Copy)]
-pub(crate) struct Queried {
-    pub(crate) status: i32,
-    pub(crate) column: u32,
-}
-
-/// `cagzhomul_checked`.
-#[repr(C)]
-#[derive(Clone, Copy)]
-pub(crate) struct Checked {
-    pub(crate) status: i32,
-    pub(crate) rows: u64,
-    pub(crate) missing: u64,
-    pub(crate) extra: u64,
 }
 
 unsafe extern "C" {
@@ -141,6 +53,13 @@ unsafe extern "C" {
     fn cagzhomul_read(session: *mut RawHandle, txn: *mut RawHandle) -> i32;
     fn cagzhomul_prepare(txn: *mut RawHandle) -> Prepared;
     fn cagzhomul_commit(session: *mut RawHandle, moment: u64, txn: *mut RawHandle) -> Committed;
+    fn cagzhomul_write(
+        session: *mut RawHandle,
+        moment: u64,
+        lease: *mut RawHandle,
+        operations: *const u8,
+        length: usize,
+    ) -> Written;
     fn cagzhomul_query(
         session: *mut RawHandle,
         moment: u64,
@@ -169,12 +88,43 @@ unsafe extern "C" {
     ) -> i32;
     fn cagzhomul_check(handle: *mut RawHandle) -> Checked;
     fn cagzhomul_log_length(session: *mut RawHandle) -> Outcome;
+    fn cagzhomul_publish(
+        session: *mut RawHandle,
+        moment: u64,
+        step: *const u8,
+        length: usize,
+    ) -> Changed;
+    fn cagzhomul_begin_reorg(
+        session: *mut RawHandle,
+        moment: u64,
+        element: u32,
+        pieces: u32,
+    ) -> Changed;
+    fn cagzhomul_plan(
+        session: *mut RawHandle,
+        changes: *const u8,
+        length: usize,
+        out: *mut u8,
+        out_length: usize,
+    ) -> Outcome;
+    fn cagzhomul_read_piece(
+        session: *mut RawHandle,
+        element: u32,
+        piece: u32,
+        limit: u32,
+        work: *mut RawHandle,
+    ) -> i32;
+    fn cagzhomul_prepare_piece(work: *mut RawHandle) -> i32;
+    fn cagzhomul_commit_piece(session: *mut RawHandle, moment: u64, work: *mut RawHandle)
+        -> Pieced;
+    fn cagzhomul_progress(session: *mut RawHandle, element: u32) -> Progressed;
+    fn cagzhomul_status(session: *mut RawHandle, out: *mut u8, out_length: usize) -> Outcome;
     fn cagzhomul_close(handle: *mut RawHandle) -> i32;
     fn cagzhomul_text_of(status: i32, out: *mut u8, out_length: usize) -> usize;
 }
 
-/// What the library keeps of a session, a lease, a transaction, a snapshot or a query's rows. It is
-/// closed when it is dropped.
+/// What the library keeps of a session, a lease, a transaction, a snapshot, a query's rows or the
+/// items of a piece. It is closed when it is dropped.
 pub(crate) struct Handle(Box<RawHandle>);
 
 // SAFETY: the header lets a handle go from one thread to another, if one call at a time uses it,
@@ -268,6 +218,13 @@ impl Handle {
         unsafe { cagzhomul_commit(self.raw(), moment, txn.raw()) }
     }
 
+    /// Makes a transaction in this session's world under a lease, by the code of its operations.
+    pub(crate) fn write(&mut self, moment: u64, lease: &mut Handle, operations: &[u8]) -> Written {
+        let (at, length) = (operations.as_ptr(), operations.len());
+        // SAFETY: both handles and the slice, as at the top of this file.
+        unsafe { cagzhomul_write(self.raw(), moment, lease.raw(), at, length) }
+    }
+
     /// Answers a query of this session's world under a lease, by its code, into a closed handle.
     pub(crate) fn query(
         &mut self,
@@ -314,6 +271,62 @@ impl Handle {
     pub(crate) fn log_length(&mut self) -> Outcome {
         // SAFETY: the handle, as at the top of this file.
         unsafe { cagzhomul_log_length(self.raw()) }
+    }
+
+    /// Publishes the version that a step gives, by its code, in this session's world.
+    pub(crate) fn publish(&mut self, moment: u64, step: &[u8]) -> Changed {
+        // SAFETY: the handle and the slice, as at the top of this file.
+        unsafe { cagzhomul_publish(self.raw(), moment, step.as_ptr(), step.len()) }
+    }
+
+    /// Begins the reorganisation that an element of this session's world wants.
+    pub(crate) fn begin_reorg(&mut self, moment: u64, element: u32, pieces: u32) -> Changed {
+        // SAFETY: the handle, as at the top of this file.
+        unsafe { cagzhomul_begin_reorg(self.raw(), moment, element, pieces) }
+    }
+
+    /// Plans a batch of changes, by its code, and writes as much of the plan's code to `out` as
+    /// fits.
+    pub(crate) fn plan(&mut self, changes: &[u8], out: &mut [u8]) -> Outcome {
+        let (at, length) = (out.as_mut_ptr(), out.len());
+        // SAFETY: the handle and both slices, as at the top of this file.
+        unsafe { cagzhomul_plan(self.raw(), changes.as_ptr(), changes.len(), at, length) }
+    }
+
+    /// Reads the next items of a piece, of this session's world, into a closed handle.
+    pub(crate) fn read_piece(
+        &mut self,
+        element: u32,
+        piece: u32,
+        limit: u32,
+        work: &mut Handle,
+    ) -> i32 {
+        // SAFETY: both handles, as at the top of this file.
+        unsafe { cagzhomul_read_piece(self.raw(), element, piece, limit, work.raw()) }
+    }
+
+    /// Prepares these items of a piece, which were read.
+    pub(crate) fn prepare_piece(&mut self) -> i32 {
+        // SAFETY: the handle, as at the top of this file.
+        unsafe { cagzhomul_prepare_piece(self.raw()) }
+    }
+
+    /// Commits the prepared items of a piece to this session's world.
+    pub(crate) fn commit_piece(&mut self, moment: u64, work: &mut Handle) -> Pieced {
+        // SAFETY: both handles, as at the top of this file.
+        unsafe { cagzhomul_commit_piece(self.raw(), moment, work.raw()) }
+    }
+
+    /// How far the reorganisation of an element of this session's world is.
+    pub(crate) fn progress(&mut self, element: u32) -> Progressed {
+        // SAFETY: the handle, as at the top of this file.
+        unsafe { cagzhomul_progress(self.raw(), element) }
+    }
+
+    /// Writes as much of how this session's world stands to `out` as fits.
+    pub(crate) fn status(&mut self, out: &mut [u8]) -> Outcome {
+        // SAFETY: the handle and the slice, as at the top of this file.
+        unsafe { cagzhomul_status(self.raw(), out.as_mut_ptr(), out.len()) }
     }
 }
 

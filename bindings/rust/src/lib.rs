@@ -36,6 +36,7 @@
 #![deny(missing_docs)]
 #![deny(unsafe_code)]
 
+mod answers;
 mod change;
 mod code;
 mod db;
@@ -43,11 +44,14 @@ mod error;
 mod ffi;
 mod lease;
 mod names;
+mod piece;
+mod plan;
 mod query;
 mod reply;
 mod rows;
 mod session;
 mod snapshot;
+mod steps;
 mod table;
 mod txn;
 mod value;
@@ -56,6 +60,8 @@ pub use change::Change;
 pub use db::{Db, DEFAULT_LEASE_LENGTH};
 pub use error::Error;
 pub use lease::Lease;
+pub use piece::{Piece, PreparedPiece, Progress, Worked};
+pub use plan::{Entering, Move, PlannedStep, Reorganisation, SchemaChange, State};
 pub use query::Query;
 pub use reply::Row;
 pub use session::{Session, Step};

@@ -40,7 +40,7 @@ impl Names {
         self.version
     }
 
-    /// The names of the newest version, by a reply to `status`.
+    /// The names of the newest version, by its status.
     pub(crate) fn at(&self, status: &str) -> Result<Names, Error> {
         let (version, elements) =
             status_of(status).ok_or_else(|| Error::Reply(status.to_string()))?;
@@ -56,6 +56,12 @@ impl Names {
     pub(crate) fn table(&self, name: &str) -> u32 {
         let place = self.tables.iter().position(|table| table == name);
         place.map_or(0, |place| place as u32 + 1)
+    }
+
+    /// The name of the table of this number.
+    pub(crate) fn table_of(&self, number: u32) -> Option<&str> {
+        let place = (number as usize).checked_sub(1)?;
+        self.tables.get(place).map(String::as_str)
     }
 
     /// The number of a column or an index of a table, or 0, which is none.
@@ -95,8 +101,8 @@ impl Names {
     }
 }
 
-/// The newest version and its elements, by a reply to `status`: JSON in one line, whose objects
-/// have their keys in alphabetic order, and whose names need no escapes.
+/// The newest version and its elements, by its status: JSON in one line, whose objects have their
+/// keys in alphabetic order, and whose names need no escapes.
 fn status_of(status: &str) -> Option<(u64, Vec<Element>)> {
     let mut reader = Reader(status);
     let mut elements = Vec::new();
@@ -109,7 +115,7 @@ fn status_of(status: &str) -> Option<(u64, Vec<Element>)> {
     }
     reader.until(",\"version\":")?;
     let version = reader.number()?;
-    (reader.0 == "}\n").then_some((version, elements))
+    (reader.0 == "}").then_some((version, elements))
 }
 
 fn element_of(reader: &mut Reader<'_>) -> Option<Element> {
@@ -131,7 +137,7 @@ fn element_of(reader: &mut Reader<'_>) -> Option<Element> {
 mod tests {
     use super::*;
 
-    const STATUS: &str = "{\"elements\":[{\"name\":\"a\",\"number\":1,\"state\":\"public\",\"table\":\"t\",\"way\":\"adding\"},{\"name\":\"i\",\"number\":4,\"state\":\"delete_only\",\"table\":\"u\",\"way\":\"dropping\"}],\"log\":4,\"moment\":15,\"usable\":[1,2],\"version\":2}\n";
+    const STATUS: &str = "{\"elements\":[{\"name\":\"a\",\"number\":1,\"state\":\"public\",\"table\":\"t\",\"way\":\"adding\"},{\"name\":\"i\",\"number\":4,\"state\":\"delete_only\",\"table\":\"u\",\"way\":\"dropping\"}],\"log\":4,\"moment\":15,\"usable\":[1,2],\"version\":2}";
 
     fn names() -> Names {
         Names::new(&[Table::new("t"), Table::new("u")])
@@ -147,6 +153,10 @@ mod tests {
             (names.table("t"), names.table("u"), names.table("v")),
             (1, 2, 0)
         );
+        assert_eq!(
+            [1, 2, 0, 3].map(|number| names.table_of(number)),
+            [Some("t"), Some("u"), None, None]
+        );
         assert_eq!((names.element("t", "a"), names.element("u", "a")), (1, 0));
         assert_eq!((names.element("u", "i"), names.element("v", "i")), (4, 0));
         assert_eq!((names.name_of(4), names.name_of(0)), (Some("i"), None));
@@ -157,7 +167,7 @@ mod tests {
 
     #[test]
     fn a_world_may_have_no_elements() {
-        let status = "{\"elements\":[],\"log\":0,\"moment\":0,\"usable\":[1],\"version\":1}\n";
+        let status = "{\"elements\":[],\"log\":0,\"moment\":0,\"usable\":[1],\"version\":1}";
         assert_eq!(status_of(status), Some((1, Vec::new())));
     }
 

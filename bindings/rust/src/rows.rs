@@ -6,24 +6,24 @@ use crate::reply::Row;
 use crate::value::Value;
 
 /// What is left to read of a code.
-struct Reader<'a>(&'a [u8]);
+pub(crate) struct Reader<'a>(pub(crate) &'a [u8]);
 
 impl<'a> Reader<'a> {
-    fn bytes(&mut self, count: usize) -> Option<&'a [u8]> {
+    pub(crate) fn bytes(&mut self, count: usize) -> Option<&'a [u8]> {
         let (taken, rest) = self.0.split_at_checked(count)?;
         self.0 = rest;
         Some(taken)
     }
 
-    fn byte(&mut self) -> Option<u8> {
+    pub(crate) fn byte(&mut self) -> Option<u8> {
         self.bytes(1).map(|bytes| bytes[0])
     }
 
-    fn number(&mut self) -> Option<u64> {
+    pub(crate) fn number(&mut self) -> Option<u64> {
         Some(u64::from_be_bytes(self.bytes(8)?.try_into().ok()?))
     }
 
-    fn small_number(&mut self) -> Option<u32> {
+    pub(crate) fn small_number(&mut self) -> Option<u32> {
         Some(u32::from_be_bytes(self.bytes(4)?.try_into().ok()?))
     }
 
@@ -41,7 +41,7 @@ impl<'a> Reader<'a> {
         String::from_utf8(bytes).ok()
     }
 
-    fn value(&mut self) -> Option<Value> {
+    pub(crate) fn value(&mut self) -> Option<Value> {
         match self.byte()? {
             1 => Some(Value::Null),
             2 => self.number().map(|it| Value::Int((it ^ (1 << 63)) as i64)),
@@ -51,7 +51,11 @@ impl<'a> Reader<'a> {
         }
     }
 
-    fn list<T>(&mut self, mut item: impl FnMut(&mut Self) -> Option<T>) -> Option<Vec<T>> {
+    /// Takes a list of items; a code that announces more than it has ends at the first that lacks.
+    pub(crate) fn list<T>(
+        &mut self,
+        mut item: impl FnMut(&mut Self) -> Option<T>,
+    ) -> Option<Vec<T>> {
         (0..self.number()?).map(|_| item(self)).collect()
     }
 
@@ -96,7 +100,7 @@ mod tests {
         };
         let elements = [(1, "a"), (2, "b"), (3, "c")].map(element).join(",");
         let status = format!(
-            "{{\"elements\":[{elements}],\"log\":0,\"moment\":0,\"usable\":[1],\"version\":1}}\n"
+            "{{\"elements\":[{elements}],\"log\":0,\"moment\":0,\"usable\":[1],\"version\":1}}"
         );
         Names::new(&[Table::new("t")]).at(&status).unwrap()
     }

@@ -166,6 +166,12 @@ pub(crate) fn reply_to(handle: &mut Handle, line: &str) -> Result<String, Error>
     String::from_utf8(reply).map_err(|error| Error::Reply(error.to_string()))
 }
 
+/// How the world of the session behind this handle stands, as one line of JSON.
+pub(crate) fn status_of(handle: &mut Handle) -> Result<String, Error> {
+    let status = fetch(|_, out| handle.status(out))?;
+    String::from_utf8(status).map_err(|error| Error::Reply(error.to_string()))
+}
+
 /// All bytes of what a call writes as far as it fits; the call is made again if it did not fit, and
 /// then it is not the first one.
 pub(crate) fn fetch(mut call: impl FnMut(bool, &mut [u8]) -> Outcome) -> Result<Vec<u8>, Error> {

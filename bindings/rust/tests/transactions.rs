@@ -52,6 +52,46 @@ fn rows_of_every_type_are_written_and_found() -> Result<(), Error> {
 }
 
 #[test]
+fn a_transaction_in_one_call_is_as_one_in_four() -> Result<(), Error> {
+    let db = people();
+    let lease = db.lease(5)?;
+    let both = || {
+        lease
+            .txn()
+            .insert("people", 1, [("town", "Ulm")])
+            .insert("people", 2, ())
+    };
+    assert_eq!(both().write(5)?.place, 2);
+    assert_eq!(both().write(5), Err(Error::Duplicate { operation: 0 }));
+    let gone = lease.txn().delete("people", 1).delete("people", 3);
+    assert_eq!(gone.clone().write(5), gone.commit(5));
+    let named = |column| {
+        lease
+            .txn()
+            .update("people", 1, [(column, "x".repeat(1025))])
+    };
+    assert_eq!(named("town").write(5), Err(Error::WrongType));
+    let column = Some("name".to_string());
+    let other = lease.txn().update("people", 1, [("name", "x")]);
+    assert_eq!(other.write(5), Err(Error::NotPublic { column }));
+    let wrong = lease.txn().delete("people", "1");
+    assert_eq!(wrong.write(5), Err(Error::WrongType));
+    assert_eq!(
+        lease.txn().delete("nobody", 1).write(5),
+        Err(Error::NoTable)
+    );
+    let late = || lease.txn().delete("people", 2);
+    assert_eq!(late().write(15), Err(Error::LeaseEnded));
+    assert_eq!(late().write((1 << 62) + 1), Err(Error::MomentTooLarge));
+    assert_eq!(
+        (db.session().log_length()?, late().write(14)?.place),
+        (2, 3)
+    );
+    assert!(db.check()?.is_clean());
+    Ok(())
+}
+
+#[test]
 fn a_transaction_is_refused_for_its_names_and_values() -> Result<(), Error> {
     let db = people();
     let lease = db.lease(5)?;
