@@ -5,10 +5,12 @@ ghost use Rattle.std.specs.Prelude.{◌≡◌, length};
 
 use crate::fixtures::{FIRST, are, insert, opened, update, whole_table};
 use crate::handle_port::{HandlePort, committed, prepared};
+use collections::ArcValue;
 use keycode::Value;
 use locked_store::{Handle, Shared, SharedFault, SharedLedger};
-use row_map::{ColumnType, ReadView, column_key, read_typed_value};
-use row_write::{prepare, reads_of};
+use row_map::{ColumnType, ReadSet, ReadView, column_key, read_typed_value};
+use row_write::{Prepared, prepare, reads_of};
+use schema_version::Schema;
 use std::alloc::Global;
 use std::marker::Brand;
 use std::sync::Wait;
@@ -29,21 +31,56 @@ fn value_of(alloc: Global, view: &ReadView) -> Option<i64> {
     }
 }
 
-// One try: whether it is committed, and not in conflict. What is read depends on the table and the
-// key alone, so the keys are asked for with a value that is not known yet.
-fn is_incremented<L: SharedLedger, R: Wait>(port: &mut HandlePort<L, R>) -> Option<bool> {
-    let alloc = port.alloc;
-    let schema = port.shared.schema(port.rt, &mut port.me, 1).ok()??;
+// The keys of the counter. What is read depends on the table and the key alone, so the keys are
+// asked for with a value that is not known yet.
+fn counter_keys(alloc: Global, schema: &Schema) -> Option<ReadSet> {
     let unknown = update(alloc, 1, 0).ok()?;
-    let keys = reads_of(alloc, schema.get(), unknown.as_slice()).ok()?;
-    let view = port.shared.read(port.rt, alloc, &mut port.me, &keys).ok()?;
+    reads_of(alloc, schema, unknown.as_slice()).ok()
+}
+
+// What the counter has.
+fn counter_view<L: SharedLedger, R: Wait>(
+    port: &mut HandlePort<L, R>,
+    schema: &Schema,
+) -> Option<ReadView> {
+    let keys = counter_keys(port.alloc, schema)?;
+    port.shared
+        .read(port.rt, port.alloc, &mut port.me, &keys)
+        .ok()
+}
+
+// The value one above the one that was read, prepared with just what was read.
+fn incremented(alloc: Global, schema: ArcValue<Schema>, view: ReadView) -> Option<Prepared> {
     let next = value_of(alloc, &view)?.checked_add(1)?;
-    let work = prepare(alloc, schema, FIRST, update(alloc, 1, next).ok()?, view).ok()?;
-    match port.shared.commit(port.rt, alloc, &mut port.me, 0, work) {
+    let ops = update(alloc, 1, next).ok()?;
+    prepare(alloc, schema, FIRST, ops, view).ok()
+}
+
+// The increment of what the counter has now.
+fn increment<L: SharedLedger, R: Wait>(port: &mut HandlePort<L, R>) -> Option<Prepared> {
+    let schema = port.shared.schema(port.rt, &mut port.me, 1).ok()??;
+    let view = counter_view(port, schema.get())?;
+    incremented(port.alloc, schema, view)
+}
+
+// Whether a commit is done, and not in conflict.
+fn is_done(answer: &Result<Committed, (SharedFault<CommitFault>, Prepared)>) -> Option<bool> {
+    match answer {
         Ok(Committed::Done(_)) => Some(true),
         Err((SharedFault::World(CommitFault::Conflict { key: _ }), _)) => Some(false),
         _ => None,
     }
+}
+
+// One try: whether it is committed, and not in conflict.
+fn is_incremented<L: SharedLedger, R: Wait>(port: &mut HandlePort<L, R>) -> Option<bool> {
+    let work = increment(port)?;
+    let answer = port
+        .shared
+        .commit(port.rt, port.alloc, &mut port.me, 0, work);
+    let done = is_done(&answer);
+    drop(answer);
+    done
 }
 
 // All increments of one handle. Each conflict is with one of the other's, so there are at most

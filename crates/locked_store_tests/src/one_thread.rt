@@ -114,6 +114,8 @@ fn handled<L: SharedLedger, R: Wait>(
         piece: None,
     };
     let right = walked(&mut port, &mut kept);
+    // it goes here by `drop`, which is proved apart, and not at the end, which is dear to prove
+    drop(kept);
     let HandlePort {
         rt: _,
         alloc: _,

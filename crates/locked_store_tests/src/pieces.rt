@@ -3,6 +3,7 @@
 use crate::handle_port::{HandlePort, Reported, judged};
 use locked_store::{SharedFault, SharedLedger};
 use reorganise::{PieceView, PreparedPiece, ViewFault, Work, prepare_piece};
+use std::mem;
 use std::sync::Wait;
 use world::{BeginFault, PieceFault, ReadFault};
 
@@ -58,6 +59,23 @@ fn prepared<L: SharedLedger, R: Wait>(
     }
 }
 
+// What is prepared of the piece comes back if memory was short.
+fn refused(
+    back: &mut Option<PreparedPiece>,
+    fault: SharedFault<PieceFault>,
+    piece: PreparedPiece,
+) -> Reported {
+    let is_short = matches!(&fault, SharedFault::World(PieceFault::Memory));
+    drop(fault);
+    if is_short {
+        drop(mem::replace(back, Some(piece)));
+        Reported::Short
+    } else {
+        drop(piece);
+        Reported::Wrong
+    }
+}
+
 // The piece ends with what is prepared of it, which comes back if memory was short.
 fn ends<L: SharedLedger, R: Wait>(
     port: &mut HandlePort<L, R>,
@@ -68,12 +86,12 @@ fn ends<L: SharedLedger, R: Wait>(
         .shared
         .commit_piece(port.rt, port.alloc, &mut port.me, 30, piece)
     {
-        Ok(done) => judged(done.ended),
-        Err((SharedFault::World(PieceFault::Memory), piece)) => {
-            *back = Some(piece);
-            Reported::Short
+        Ok(done) => {
+            let ended = done.ended;
+            drop(done);
+            judged(ended)
         }
-        Err(_) => Reported::Wrong,
+        Err((fault, piece)) => refused(back, fault, piece),
     }
 }
 

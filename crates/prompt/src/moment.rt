@@ -36,11 +36,14 @@ pub(crate) fn is_foreign(alloc: Global, line: &[u8]) -> Result<bool, AllocError>
     if is_silent(line) {
         return Ok(false);
     }
-    match read_command(alloc, line) {
+    let read = read_command(alloc, line);
+    let foreign = match &read {
         Ok(_) => Ok(false),
         Err(LineFault::Malformed) => Ok(true),
         Err(LineFault::Memory) => Err(AllocError),
-    }
+    };
+    drop(read);
+    foreign
 }
 
 // The moment that a left out one stands for: that of the log's last entry.
@@ -110,11 +113,14 @@ fn with_moment(
 fn is_command(alloc: Global, line: &[u8]) -> Result<bool, AllocError>
     ensures { IfOk result (λ found. found ≡ is_command line.now) }
 {
-    match read_command(alloc, line) {
+    let read = read_command(alloc, line);
+    let found = match &read {
         Ok(_) => Ok(true),
         Err(LineFault::Malformed) => Ok(false),
         Err(LineFault::Memory) => Err(AllocError),
-    }
+    };
+    drop(read);
+    found
 }
 
 /// What the session is given for a line: the line itself, or, if that is no command and one only

@@ -120,29 +120,19 @@ fn contended<L: SharedLedger + Send + Sync, R: Threads + Wait + Sync>(
     Some((shared.close(handles).ok()?, is_busy))
 }
 
-// So many updates, each of another row than the last, beside a fill of so many rows in one piece:
-// whether the piece was given up. Its fill has ended just if it was not.
-fn round<R: Threads + Wait + Sync>(
-    rt: &R,
-    alloc: Global,
-    rows: u32,
-    updates: i64,
-    tries: u32,
-) -> Option<bool> {
+// So many updates, each of another row than the last.
+fn updates_of(alloc: Global, rows: u32, updates: i64) -> Option<Vec<Request>> {
     let mut requests = Vec::new(alloc);
     for value in 0..updates {
         let id = value.wrapping_mul(7_919).checked_rem(i64::from(rows))?;
         requests.push(update(alloc, id, value).ok()?).ok()?;
     }
-    let world = filling(alloc, i64::from(rows), 1)?;
-    let (world, is_busy) = contended::<Brand, R>(
-        rt,
-        alloc,
-        Blank::new(2),
-        world,
-        requests.as_slice(),
-        tries,
-    )?;
+    Some(requests)
+}
+
+// Whether the piece was given up, if the world has its rows and one piece, and the fill has ended
+// just if it was not.
+fn outcome(alloc: Global, world: &World, rows: u32, is_busy: bool) -> Option<bool> {
     let (_, pieces, ended) = world.progress(2)?;
     let found = world.check(alloc).ok()?;
     if pieces == 1 && ended != is_busy && found.rows == u64::from(rows) && found.extra == 0 {
@@ -150,6 +140,35 @@ fn round<R: Threads + Wait + Sync>(
     } else {
         None
     }
+}
+
+// These updates beside the fill of a world of so many rows.
+fn beside<R: Threads + Wait + Sync>(
+    rt: &R,
+    alloc: Global,
+    rows: u32,
+    requests: &[Request],
+    tries: u32,
+) -> Option<bool> {
+    let world = filling(alloc, i64::from(rows), 1)?;
+    let (world, is_busy) = contended::<Brand, R>(rt, alloc, Blank::new(2), world, requests, tries)?;
+    let outcome = outcome(alloc, &world, rows, is_busy);
+    drop(world);
+    outcome
+}
+
+// So many updates beside a fill of so many rows in one piece: whether the piece was given up.
+fn round<R: Threads + Wait + Sync>(
+    rt: &R,
+    alloc: Global,
+    rows: u32,
+    updates: i64,
+    tries: u32,
+) -> Option<bool> {
+    let requests = updates_of(alloc, rows, updates)?;
+    let is_busy = beside(rt, alloc, rows, requests.as_slice(), tries);
+    drop(requests);
+    is_busy
 }
 
 // Each update fails one try at most, so two of them leave a third try that does not fail.

@@ -1,8 +1,9 @@
 //! Codes by hand: the version 01, then numbers by their bytes, the highest first, a byte for each
 //! variant, and lists, names and cursors after how many items they have, in eight bytes.
 use entry_code::{
-    CodeFault, entry_bytes, entry_of, opening_bytes, opening_of, ops_bytes, ops_of, query_bytes,
-    query_of, rows_bytes, rows_of, step_bytes, step_of,
+    CodeFault, changes_bytes, changes_of, entry_bytes, entry_of, opening_bytes, opening_of,
+    ops_bytes, ops_of, plan_bytes, plan_of, query_bytes, query_of, rows_bytes, rows_of, step_bytes,
+    step_of,
 };
 use std::alloc::{AllocError, Global};
 
@@ -15,23 +16,66 @@ enum What {
     Opening,
     Query,
     Rows,
+    Changes,
+    Plan,
 }
 
-use What::{Entry, Opening, Ops, Query, Rows, Step};
+use What::{Changes, Entry, Opening, Ops, Plan, Query, Rows, Step};
 
-/// The code of what these bytes are read as.
+fn opening_again(alloc: Global, bytes: &[u8]) -> Result<Vec<u8>, CodeFault> {
+    let (length, tables) = opening_of(alloc, bytes)?;
+    Ok(opening_bytes(alloc, length, &tables)?)
+}
+
+/// The code of what these bytes are read as. Each value goes by a `drop` before the exits are
+/// joined, where a value of each kind would be dear to prove.
 fn again(alloc: Global, what: What, bytes: &[u8]) -> Result<Vec<u8>, CodeFault> {
-    Ok(match what {
-        Entry => entry_bytes(alloc, &entry_of(alloc, bytes)?)?,
-        Ops => ops_bytes(alloc, &ops_of(alloc, bytes)?)?,
-        Step => step_bytes(alloc, &step_of(alloc, bytes)?)?,
-        Opening => {
-            let (length, tables) = opening_of(alloc, bytes)?;
-            opening_bytes(alloc, length, &tables)?
+    let code = match what {
+        Entry => {
+            let entry = entry_of(alloc, bytes)?;
+            let code = entry_bytes(alloc, &entry);
+            drop(entry);
+            code
         }
-        Query => query_bytes(alloc, &query_of(alloc, bytes)?)?,
-        Rows => rows_bytes(alloc, &rows_of(alloc, bytes)?)?,
-    })
+        Ops => {
+            let ops = ops_of(alloc, bytes)?;
+            let code = ops_bytes(alloc, &ops);
+            drop(ops);
+            code
+        }
+        Step => {
+            let step = step_of(alloc, bytes)?;
+            let code = step_bytes(alloc, &step);
+            drop(step);
+            code
+        }
+        Opening => return opening_again(alloc, bytes),
+        Query => {
+            let query = query_of(alloc, bytes)?;
+            let code = query_bytes(alloc, &query);
+            drop(query);
+            code
+        }
+        Rows => {
+            let rows = rows_of(alloc, bytes)?;
+            let code = rows_bytes(alloc, &rows);
+            drop(rows);
+            code
+        }
+        Changes => {
+            let changes = changes_of(alloc, bytes)?;
+            let code = changes_bytes(alloc, changes.as_slice());
+            drop(changes);
+            code
+        }
+        Plan => {
+            let steps = plan_of(alloc, bytes)?;
+            let code = plan_bytes(alloc, steps.as_slice());
+            drop(steps);
+            code
+        }
+    };
+    Ok(code?)
 }
 
 /// Whether they are read, and have the same code again.
@@ -114,6 +158,24 @@ const CODES: &[(What, &[u8], Result<bool, CodeFault>)] = &[
         Rows,
         b"\x01\0\0\0\0\0\0\0\x01\0\0\0\0\0\0\0\x01\x02\x80\0\0\0\0\0\0\x07\0\0\0\0\0\0\0\x01\0\0\0\x01\x02\x80\0\0\0\0\0\0\x05",
         Ok(true),
+    ),
+    // of table 1: index i on a and b in, j out, optional text c in, number d with 5 in, e out, k back
+    (
+        Changes,
+        b"\x01\0\0\0\0\0\0\0\x06\0\0\0\0\x01\0\0\0\0\0\0\0\x01i\0\0\0\0\0\0\0\x02\0\0\0\0\0\0\0\x01a\0\0\0\0\0\0\0\x01b\x01\0\0\0\x01\0\0\0\0\0\0\0\x01j\x02\0\0\0\x01\0\0\0\0\0\0\0\x01c\x01\x01\x02\0\0\0\x01\0\0\0\0\0\0\0\x01d\x02\0\x02\x80\0\0\0\0\0\0\x05\x03\0\0\0\x01\0\0\0\0\0\0\0\x01e\x04\0\0\0\x01\0\0\0\0\0\0\0\x01k",
+        Ok(true),
+    ),
+    // 3 goes write-only; once 2 is filled and 3 cleared, they go public and absent
+    (
+        Plan,
+        b"\x01\0\0\0\0\0\0\0\x02\0\0\0\0\0\0\0\0\0\0\0\0\0\0\0\x01\x01\0\0\0\x03\x02\0\0\0\0\0\0\0\x02\0\0\0\0\x02\x01\0\0\0\x03\0\0\0\0\0\0\0\x02\x01\0\0\0\x02\x03\x01\0\0\0\x03\0",
+        Ok(true),
+    ),
+    // a change of no kind
+    (
+        Changes,
+        b"\x01\0\0\0\0\0\0\0\x01\x05\0\0\0\x01\0\0\0\0\0\0\0\x01e",
+        Err(CodeFault::Malformed),
     ),
     (Ops, b"\x01\0\0\0\0\0\0\0\0", Ok(true)),
     (Ops, b"", Err(CodeFault::Version)),

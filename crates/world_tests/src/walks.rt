@@ -53,13 +53,13 @@ fn is_repeated(alloc: Global, world: &World) -> bool {
 // How many of the acts are answered as they have to be on a world of their own, whose log is then
 // repeated.
 fn walked_anew(alloc: Global, kept: &mut Kept, rows: &[Row]) -> usize {
-    match opened(alloc) {
-        Ok(mut world) => {
-            let place = walked(alloc, &mut world, kept, rows);
-            if is_repeated(alloc, &world) { place } else { 0 }
-        }
-        Err(_) => 0,
-    }
+    let Ok(mut world) = opened(alloc) else {
+        return 0;
+    };
+    let place = walked(alloc, &mut world, kept, rows);
+    let is_repeated = is_repeated(alloc, &world);
+    drop(world);
+    if is_repeated { place } else { 0 }
 }
 
 fn nothing() -> Kept {
@@ -70,12 +70,20 @@ fn nothing() -> Kept {
     }
 }
 
-// Behind the mark, the acts on two worlds in turn, which share what they keep.
-fn are_right<R: Print + Abort>(rt: &R, alloc: Global, first: &[Row], second: &[Row]) {
-    assert!(rt; mark(rt));
+// How many of the acts are on two worlds in turn, which share what they keep. That goes by `drop`,
+// which is proved apart: the end of a function that owns as much is dear to prove.
+fn both_walked(alloc: Global, first: &[Row], second: &[Row]) -> (usize, usize) {
     let mut kept = nothing();
     let one = walked_anew(alloc, &mut kept, first);
     let other = walked_anew(alloc, &mut kept, second);
+    drop(kept);
+    (one, other)
+}
+
+// Behind the mark, the acts on two worlds in turn.
+fn are_right<R: Print + Abort>(rt: &R, alloc: Global, first: &[Row], second: &[Row]) {
+    assert!(rt; mark(rt));
+    let (one, other) = both_walked(alloc, first, second);
     let are_all = (one, other) == (first.len(), second.len());
     assert!(rt; are_all, "acts {one} and {other}");
 }
@@ -204,16 +212,19 @@ fn fills_a_page(alloc: Global, world: &mut World, kept: &mut Kept) -> bool {
 // The row of an odd key comes between them.
 static CUT: [Row; 2] = [(Insert(FIRST, (21, 5)), 24), (Check(23), 24)];
 
+fn cuts_a_page<R: Print>(rt: &R, alloc: Global, world: &mut World, kept: &mut Kept) -> bool {
+    fills_a_page(alloc, world, kept) && mark(rt) && walked(alloc, world, kept, &CUT) == CUT.len()
+}
+
 fn is_page_cut<R: Print>(rt: &R, alloc: Global) -> bool {
+    let Ok(mut world) = opened(alloc) else {
+        return false;
+    };
     let mut kept = nothing();
-    match opened(alloc) {
-        Ok(mut world) => {
-            fills_a_page(alloc, &mut world, &mut kept)
-                && mark(rt)
-                && walked(alloc, &mut world, &mut kept, &CUT) == CUT.len()
-        }
-        Err(_) => false,
-    }
+    let is_cut = cuts_a_page(rt, alloc, &mut world, &mut kept);
+    drop(kept);
+    drop(world);
+    is_cut
 }
 
 #[test]

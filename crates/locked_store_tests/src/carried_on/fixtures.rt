@@ -116,17 +116,29 @@ fn first_step(alloc: Global) -> Result<List<Move>, AllocError> {
     ]?))
 }
 
-/// The world at moment 10, with the three changes under way.
-pub(crate) fn with_changes(alloc: Global) -> Option<World> {
-    let config = config(alloc).ok()?;
-    let mut world = World::open(alloc, &config).ok()?;
+// The five rows, and the step that begins the changes.
+fn begin_changes(alloc: Global, world: &mut World) -> Option<()> {
     for id in 1..6i64 {
-        add_row(alloc, &mut world, id)?;
+        add_row(alloc, world, id)?;
     }
     let step = first_step(alloc).ok()?;
     match world.publish(alloc, 10, &step) {
-        Ok(_) => Some(world),
+        Ok(_) => Some(()),
         Err(_) => None,
+    }
+}
+
+fn opened(alloc: Global) -> Option<World> {
+    let config = config(alloc).ok()?;
+    World::open(alloc, &config).ok()
+}
+
+/// The world at moment 10, with the three changes under way.
+pub(crate) fn with_changes(alloc: Global) -> Option<World> {
+    let mut world = opened(alloc)?;
+    match begin_changes(alloc, &mut world) {
+        Some(()) => Some(world),
+        None => None,
     }
 }
 

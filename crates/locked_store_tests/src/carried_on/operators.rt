@@ -9,15 +9,22 @@ use std::alloc::Global;
 use world::World;
 
 // The index is filled in part, and then abandoned.
-fn abandoned(alloc: Global) -> Option<World> {
-    let mut world = with_changes(alloc)?;
+fn abandon(alloc: Global, world: &mut World) -> Option<()> {
     for moment in [20u64, 20, 20, 20, 20, 20, 30, 30, 30, 30, 30] {
-        advance(alloc, &mut world, moment, 4, 1).ok()?;
+        advance(alloc, world, moment, 4, 1).ok()?;
     }
     let index = List::new(vec![in alloc; Move::Turn { element: 3 }].ok()?);
     match world.publish(alloc, 40, &index) {
-        Ok(_) => Some(world),
+        Ok(_) => Some(()),
         Err(_) => None,
+    }
+}
+
+fn abandoned(alloc: Global) -> Option<World> {
+    let mut world = with_changes(alloc)?;
+    match abandon(alloc, &mut world) {
+        Some(()) => Some(world),
+        None => None,
     }
 }
 

@@ -1,5 +1,5 @@
 use Rattle.std.specs.Prelude.{length}
-use Rattle.server_tests.proofs.contended.round.Given as goal
+use Rattle.server_tests.proofs.contended.beside.Given as goal
 
 abbrev pub ghosts-contended-L-Ledger : goal.ghosts-contended-L-Ledger
 ghosts-contended-L-Ledger g a = record { name = a.blank.name; parts = a.blank.parts }
