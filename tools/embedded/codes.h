@@ -4,7 +4,11 @@
 #include <stddef.h>
 #include <string.h>
 
-enum { CODE_ROOM = 512, PEOPLE = 1, TOWN = 1 };
+#ifndef CODE_ROOM
+#define CODE_ROOM 512
+#endif
+
+enum { PEOPLE = 1, TOWN = 1 };
 
 typedef struct code {
     uint8_t bytes[CODE_ROOM];

@@ -54,15 +54,19 @@ def compiled(name, compiler, source, *libraries):
     return out
 
 
+def library():
+    """The folder of the library that is built; none is built here, since that may take a proof."""
+    folder = os.path.abspath(os.environ.get("CAGZHOMUL_LIBRARY_DIR", f"{ROOT}/out"))
+    if not os.path.exists(f"{folder}/libcagzhomul.a"):
+        raise Missing(f"no {folder}/libcagzhomul.a: tools/build_library makes it")
+    return folder
+
+
 @functools.cache
 def in_rust():
-    """The example of the Rust crate that does the work by each, over the library that is built; none is built here, since that may take
-    a proof."""
-    library = os.path.abspath(os.environ.get("CAGZHOMUL_LIBRARY_DIR", f"{ROOT}/out"))
-    if not os.path.exists(f"{library}/libcagzhomul.a"):
-        raise Missing(f"no {library}/libcagzhomul.a: tools/build_library makes it")
+    """The example of the Rust crate that does the work by each, over the library."""
     words = ["--offline", "--release", "--quiet", "--example", "peers", "--manifest-path", f"{ROOT}/bindings/rust/Cargo.toml"]
-    make(["cargo", "build", *words], CAGZHOMUL_LIBRARY_DIR=library, CARGO_TARGET_DIR=f"{FOLDER.name}/cargo")
+    make(["cargo", "build", *words], CAGZHOMUL_LIBRARY_DIR=library(), CARGO_TARGET_DIR=f"{FOLDER.name}/cargo")
     return f"{FOLDER.name}/cargo/release/examples/peers"
 
 
