@@ -30,7 +30,6 @@ pub(crate) enum StatePath {
 }
 
 /// An element that the batch adds or takes out.
-#[derive(Drop)]
 pub(crate) struct Schedule {
     /// The steps before its first move. An added index waits for the columns that the batch adds, a
     /// column that goes for the indexes that list it; all else begins at once, and no one waits on
@@ -41,6 +40,18 @@ pub(crate) struct Schedule {
     pub number: u32,
     /// What enters, or what there is.
     pub fresh: NewElement,
+}
+
+// By hand, so that a caller's proof sees one call and not each field's.
+impl Drop for Schedule {
+    fn drop(self) {
+        let Schedule {
+            wait: _,
+            state_path: _,
+            number: _,
+            fresh: _,
+        } = self;
+    }
 }
 
 /// What is done in each step of a state path.

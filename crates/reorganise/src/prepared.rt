@@ -11,7 +11,6 @@ use std::marker::Model;
 /// A piece that was read and prepared: what it expects to find again, and what it then writes.
 /// `prepare_piece` alone makes one, and it can grow as old as it likes. Contracts see it as what
 /// was read.
-#[derive(Drop)]
 pub struct PreparedPiece {
     pub(crate) element: ElementDef,
     pub(crate) kind: Work,
@@ -20,6 +19,21 @@ pub struct PreparedPiece {
     pub(crate) high: Bytes,
     pub(crate) expect: Expect,
     pub(crate) batch: Batch,
+}
+
+// By hand, so that a caller's proof sees one call and not each field's.
+impl Drop for PreparedPiece {
+    fn drop(self) {
+        let PreparedPiece {
+            element: _,
+            kind: _,
+            piece: _,
+            low: _,
+            high: _,
+            expect: _,
+            batch: _,
+        } = self;
+    }
 }
 
 impl Model for PreparedPiece {

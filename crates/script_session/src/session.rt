@@ -53,7 +53,6 @@ pub enum Pending {
 
 /// An opened world, with the leases that servers were granted, what was prepared, and the plan that
 /// is kept.
-#[derive(Drop)]
 pub struct Opened {
     /// The world.
     pub world: World,
@@ -65,13 +64,33 @@ pub struct Opened {
     pub plan: List<Step>,
 }
 
+// By hand, so that a caller's proof sees one call and not each field's.
+impl Drop for Opened {
+    fn drop(self) {
+        let Opened {
+            world: _,
+            leases: _,
+            pending: _,
+            plan: _,
+        } = self;
+    }
+}
+
 /// What stands between two lines of a script.
-#[derive(Drop)]
 pub enum Session {
     /// Before `open`.
     Declaring(Declarations),
     /// Behind it.
     Running(Opened),
+}
+
+// By hand, so that a caller's proof sees one call and not each variant's.
+impl Drop for Session {
+    fn drop(self) {
+        match self {
+            Session::Declaring(_) | Session::Running(_) => {}
+        }
+    }
 }
 
 /// The text that answers a line, and whether it says that the line is bad.

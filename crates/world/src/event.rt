@@ -65,7 +65,6 @@ pub enum Event {
 }
 
 /// What the call of an event answered.
-#[derive(Drop)]
 pub enum Reply {
     /// The answer of `World::lease`.
     Lease(Result<Grant, GrantFault>),
@@ -79,4 +78,18 @@ pub enum Reply {
     Begin(Result<Receipt, BeginFault>),
     /// The answer of `World::commit_piece`.
     Piece(Result<PieceDone, (PieceFault, PreparedPiece)>),
+}
+
+// By hand, so that a caller's proof sees one call and not each variant's.
+impl Drop for Reply {
+    fn drop(self) {
+        match self {
+            Reply::Lease(_)
+            | Reply::Commit(_)
+            | Reply::Query(_)
+            | Reply::Publish(_)
+            | Reply::Begin(_)
+            | Reply::Piece(_) => {}
+        }
+    }
 }

@@ -1,6 +1,7 @@
 //! The publication of a version.
-ghost use Rattle.std.specs.Prelude.{◌≡◌, ◌≤◌, IfOk, IfErr, OnOk};
+ghost use Rattle.std.specs.Prelude.{◌≡◌, ◌≤◌, filter, IfOk, IfErr, OnOk};
 ghost use Rattle.collections.specs.Refusal.{IsRefusal};
+ghost use Rattle.replay.specs.Replay.{stays};
 ghost use Rattle.schema_version.specs.Moves.{after_step};
 ghost use Rattle.world.specs.declared.publish.PublishFault.TheVariants.{Memory, TooEarly as EarlyFault};
 ghost use Rattle.world.specs.Publish.{PublishStep, PublishAt, MayPublish, PublishCondition, publish_rank};
@@ -10,8 +11,9 @@ use crate::entry::Receipt;
 use crate::world::World;
 use collections::ArcValue;
 use lease::{MAX_MOMENT, TooEarly};
+use reorganise::Progress;
 use replay::{What, lemma_publications_keep};
-use schema_version::{Schema, Step, StepFault, moves_element};
+use schema_version::{Move, Schema, Step, StepFault, moves_element};
 use std::alloc::{AllocError, Global};
 use std::mem;
 use thiserror::Error;
@@ -61,6 +63,13 @@ impl From<TooEarly> for PublishFault {
             earliest: early.earliest,
         }
     }
+}
+
+// The reorganisations of the elements that a step moves are over.
+fn keep_unmoved(begun: &mut Vec<Progress>, step: &[Move])
+    ensures { begun.new.items ≡ filter (stays step.now) begun.old.items }
+{
+    begun.retain(|p| !moves_element(step, p.element.number));
 }
 
 impl World {
@@ -129,8 +138,7 @@ impl World {
         let draft = self.log.make_ready(alloc, now, what)?;
         let version = self.line.publish(now)?;
         self.before = Some(mem::replace(&mut self.newest, next));
-        self.begun
-            .retain(|p| !moves_element(step.as_slice(), p.element.number));
+        keep_unmoved(&mut self.begun, step.as_slice());
         let receipt = self.log.enter(draft);
         Ok((version, receipt))
     }

@@ -70,7 +70,6 @@ impl From<AllocError> for SnapshotFault {
 /// newest version. It stays that, whatever is committed to the World later, also when the lease has
 /// ended or the World is gone: it takes no lock and knows no World. Contracts see it as the two
 /// versions and the pairs.
-#[derive(Drop)]
 pub struct Snapshot {
     /// The schema of the lease's version.
     schema: ArcValue<Schema>,
@@ -78,6 +77,17 @@ pub struct Snapshot {
     newest: ArcValue<Schema>,
     /// The pairs of the store, shared with it.
     pairs: PairSnapshot,
+}
+
+// By hand, so that a caller's proof sees one call and not each field's.
+impl Drop for Snapshot {
+    fn drop(self) {
+        let Snapshot {
+            schema: _,
+            newest: _,
+            pairs: _,
+        } = self;
+    }
 }
 
 impl Model for Snapshot {

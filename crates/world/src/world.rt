@@ -21,7 +21,6 @@ use txn_store::Store;
 
 /// The core: the schema versions in use, the store of pairs, and the log of all accepted calls.
 /// Contracts see it as its state: what it was opened with, its log and its pairs.
-#[derive(Drop)]
 pub struct World {
     /// Version 1.
     pub(crate) first: ArcValue<Schema>,
@@ -33,6 +32,21 @@ pub struct World {
     pub(crate) begun: Vec<Progress>,
     pub(crate) store: Store,
     pub(crate) log: Log,
+}
+
+// By hand, so that a caller's proof sees one call and not each field's.
+impl Drop for World {
+    fn drop(self) {
+        let World {
+            first: _,
+            before: _,
+            newest: _,
+            line: _,
+            begun: _,
+            store: _,
+            log: _,
+        } = self;
+    }
 }
 
 impl Model for World {

@@ -1,8 +1,8 @@
-use Rattle.std.proofs.Common.{◌∙◌, List, Some, sym, ap, refl, rules}
+use Rattle.std.proofs.Common.{◌∙◌, List, Some, sym, ap, refl, filter}
 use Rattle.std.proofs.lemmas.Result.{err_from_is_err_and}
-use Rattle.std.proofs.lemmas.Fn.{filter_same}
 use Rattle.schema_version.specs.declared.step.Move.{Move}
 use Rattle.schema_version.specs.Moves.{after_step}
+use Rattle.replay.specs.Replay.{stays}
 use Rattle.world.proofs.Invariant.{logged, follow_of}
 use Rattle.world.proofs.Publications.{IsEntered, publish_entry, same_moves, short_step, same_room, entered_held, entered_step}
 use Rattle.world.proofs.world.World.enter.Goals as goal
@@ -33,31 +33,31 @@ pub invariant_of-self-2 : goal.invariant_of-self-2
 invariant_of-self-2 c =
     let w = follow_of c.self.inside c.args.self.now c.self.invariant c.self.view_is in
     let what = ap (λ (moves : List Move). publish_entry c.args.now moves) (same_moves c.args.step.now c.in_ok-clone.field-0 c.in_ok-clone.ensures.cases) in
-    let entered : IsEntered c.self.inside c.args.now c.args.step.now (Some c.replace.result) c.replace.new.dest c.publish.new.self c.retain.new.self c.enter-receipt.new.self c.enter-receipt.result
+    let entered : IsEntered c.self.inside c.args.now c.args.step.now (Some c.replace.result) c.replace.new.dest c.publish.new.self c.keep_unmoved.new.begun c.enter-receipt.new.self c.enter-receipt.result
     = record {
       before_is = ap Some c.replace.ensures.value;
       newest_is = c.replace.ensures.after ∙ c.in_ok-next.ensures ∙ c.requires.version ∙ ap (λ v. after_step v c.args.step.now) (sym w.newest);
       line_is = c.in_ok-version.ensures.ok;
-      begun_is = filter_same _ _ _ (λ x b f' k. search rules) _ _ c.retain.ensures.filtered;
+      begun_is = c.keep_unmoved.ensures ∙ ap (λ (moves : List Move). filter (stays moves) c.self.inside.begun.items) c.as_slice.ensures;
       log_is = logged c.self.inside.log c.make_ready.new.self c.enter-receipt.new.self c.in_ok-draft.draft (publish_entry c.args.now c.args.step.now) c.enter-receipt.result c.in_ok-draft.ensures.entries (c.in_ok-draft.ensures.draft ∙ what)
           c.enter-receipt.ensures.entries c.enter-receipt.ensures.moment c.enter-receipt.ensures.receipt;
     } in
-    entered_held c.self.inside c.args.self.now c.args.now c.args.step.now (Some c.replace.result) c.replace.new.dest c.publish.new.self c.retain.new.self c.enter-receipt.new.self c.enter-receipt.result c.lemma_publications_keep.ensures c.self.invariant c.self.view_is c.requires.later c.requires.may entered
+    entered_held c.self.inside c.args.self.now c.args.now c.args.step.now (Some c.replace.result) c.replace.new.dest c.publish.new.self c.keep_unmoved.new.begun c.enter-receipt.new.self c.enter-receipt.result c.lemma_publications_keep.ensures c.self.invariant c.self.view_is c.requires.later c.requires.may entered
 
 pub returns : goal.returns
 returns c =
     let w = follow_of c.self.inside c.args.self.now c.self.invariant c.self.view_is in
     let what = ap (λ (moves : List Move). publish_entry c.args.now moves) (same_moves c.args.step.now c.in_ok-clone.field-0 c.in_ok-clone.ensures.cases) in
-    let entered : IsEntered c.self.inside c.args.now c.args.step.now (Some c.replace.result) c.replace.new.dest c.publish.new.self c.retain.new.self c.enter-receipt.new.self c.enter-receipt.result
+    let entered : IsEntered c.self.inside c.args.now c.args.step.now (Some c.replace.result) c.replace.new.dest c.publish.new.self c.keep_unmoved.new.begun c.enter-receipt.new.self c.enter-receipt.result
     = record {
       before_is = ap Some c.replace.ensures.value;
       newest_is = c.replace.ensures.after ∙ c.in_ok-next.ensures ∙ c.requires.version ∙ ap (λ v. after_step v c.args.step.now) (sym w.newest);
       line_is = c.in_ok-version.ensures.ok;
-      begun_is = filter_same _ _ _ (λ x b f' k. search rules) _ _ c.retain.ensures.filtered;
+      begun_is = c.keep_unmoved.ensures ∙ ap (λ (moves : List Move). filter (stays moves) c.self.inside.begun.items) c.as_slice.ensures;
       log_is = logged c.self.inside.log c.make_ready.new.self c.enter-receipt.new.self c.in_ok-draft.draft (publish_entry c.args.now c.args.step.now) c.enter-receipt.result c.in_ok-draft.ensures.entries (c.in_ok-draft.ensures.draft ∙ what)
           c.enter-receipt.ensures.entries c.enter-receipt.ensures.moment c.enter-receipt.ensures.receipt;
     } in
     record {
-      step = entered_step c.self.inside c.args.self.now c.args.now c.in_ok-version.version c.args.step.now (Some c.replace.result) c.replace.new.dest c.publish.new.self c.retain.new.self c.enter-receipt.new.self c.enter-receipt.result
+      step = entered_step c.self.inside c.args.self.now c.args.now c.in_ok-version.version c.args.step.now (Some c.replace.result) c.replace.new.dest c.publish.new.self c.keep_unmoved.new.begun c.enter-receipt.new.self c.enter-receipt.result
           c.self.invariant c.self.view_is c.requires.may entered c.in_ok-version.ensures.number;
     }
