@@ -9,5 +9,6 @@ pub mod Encoded
 pub mod Keys
 pub mod Edited
 pub mod Wanted
+pub mod Own
 pub mod Ran
 pub mod Prepares

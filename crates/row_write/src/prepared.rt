@@ -13,7 +13,6 @@ use std::marker::Model;
 /// A transaction that was prepared under a schema version from what was read: what it expects to
 /// find again, and what it then writes. `prepare` alone makes one, and it can grow as old as it
 /// likes.
-#[derive(Drop)]
 pub struct Prepared {
     pub(crate) schema: ArcValue<Schema>,
     pub(crate) lease: Lease,
@@ -22,6 +21,20 @@ pub struct Prepared {
     pub(crate) expect: Expect,
     pub(crate) batch: Batch,
     pub(crate) reported: RowOutcome,
+}
+
+// By hand, so that a caller's proof sees one call and not each field's.
+impl Drop for Prepared {
+    fn drop(self) {
+        let Prepared {
+            schema: _,
+            lease: _,
+            ops: _,
+            expect: _,
+            batch: _,
+            reported: _,
+        } = self;
+    }
 }
 
 impl Model for Prepared {

@@ -13,6 +13,7 @@ ghost use Rattle.row_write.specs.inner.Run.{change_at, element_writes, live_writ
 
 use crate::lemmas::lemma_served;
 use crate::op::RowOp;
+use crate::public_columns::own_elements;
 use byte_map::Bytes;
 use element_state::{AnyElement, Element};
 use row_map::{Batch, Row, exists_key};
@@ -124,5 +125,6 @@ pub(crate) fn write_change(
 {
     lemma_served(schema);
     write_exists(alloc, op, old, new, batch)?;
-    write_elements(alloc, schema, schema.elements(), op, old, new, batch)
+    let own = own_elements(schema, op.table());
+    write_elements(alloc, schema, own, op, old, new, batch)
 }

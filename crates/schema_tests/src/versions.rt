@@ -30,9 +30,11 @@ enum Ask {
     Number(u32, ElementState, &'static str, &'static str, &'static str),
     /// Whether it has the columns of a table.
     Shape(u32, Option<&'static [(u32, ColumnType)]>),
+    /// How many live elements a table has.
+    Count(u32, Option<usize>),
 }
 
-use Ask::{Number, Numbers as Numbered, Refused, Shape};
+use Ask::{Count, Number, Numbers as Numbered, Refused, Shape};
 
 type Case = (PlainTable, Path, Ask);
 
@@ -195,7 +197,7 @@ static REQUIRED_REFUSED: [Case; 10] = [
 // table t (id int key, a int), index i on t (a)
 const Q: PlainTable = (b't', b"a", b"i", b"a");
 
-static ALLOWED: [Case; 25] = [
+static ALLOWED: [Case; 29] = [
     (TABLE_T, &[], Numbered("i", Some(6), Some(6), 7)),
     (
         TABLE_T,
@@ -276,6 +278,10 @@ static ALLOWED: [Case; 25] = [
     ),
     (TABLE_T, G_AND_J_COME, Number(8, Public, "j", "", "")),
     (TABLE_T, G_COMES_AND_GOES, Numbered("g", None, Some(6), 8)),
+    (TABLE_T, G_AND_J_COME, Count(1, Some(8))),
+    (TABLE_T, I_LEAVES, Count(1, Some(5))),
+    (TABLE_T, &[], Count(2, None)),
+    (TABLE_T, &[], Count(0, None)),
 ];
 
 fn number_of(element: Option<&ElementDef>) -> Option<u32> {
@@ -311,6 +317,11 @@ fn has_shape(
     }
 }
 
+fn count_of(schema: &Schema, table: u32) -> Option<usize> {
+    let own = schema.elements_of(table)?;
+    Some(own.len())
+}
+
 /// Whether these are the number of the element of a name, that of the sixth live element, and the
 /// next one.
 fn are_numbers(schema: &Schema, name: &str, numbers: (Option<u32>, Option<u32>, u32)) -> bool {
@@ -338,6 +349,7 @@ fn answers(alloc: Global, schema: &Schema, ask: &Ask) -> Answer {
             Ok(schema.state(number) == state && are_names(schema, number, (name, at_place, table)))
         }
         Shape(table, columns) => has_shape(alloc, schema, table, columns),
+        Count(table, count) => Ok(count_of(schema, table) == count),
     }
 }
 

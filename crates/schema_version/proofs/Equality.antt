@@ -13,13 +13,14 @@ use Rattle.std.specs.FinMap.{nat_cmp-IsAntisymmetric}
 use Rattle.std.specs.Map.{keys_of, values_of}
 use Rattle.row_map.specs.declared.shape.ColumnType.{ColumnType}
 use Rattle.schema_version.specs.declared.element.ElementDef.{ElementDef}
-use Rattle.schema_version.specs.Version.{Version, Table, element_at, live}
+use Rattle.schema_version.specs.Version.{Version, Table, element_at, live, grouped}
 use Rattle.schema_version.specs.Held.{table_held}
 use Rattle.schema_version.specs.Sound.{IsSoundVersion}
 use Rattle.schema_version.specs.inner.Encoding.{parts_bytes, encoding}
 use Rattle.schema_version.proofs.Encoded.{HasFairKind, parts_tell}
 use Rattle.schema_version.proofs.Lists.{here, later}
 use Rattle.schema_version.proofs.Live.{live_has, live_from}
+use Rattle.schema_version.proofs.Tables.{grouped_each}
 
 option_same : {X : Type 0} (o p : Option X) → ((x : X) → o ≡ Some x → p ≡ Some x) → ((x : X) → p ≡ Some x → o ≡ Some x) → o ≡ p
 option_same None None f g = refl
@@ -66,6 +67,14 @@ pub encoding_is : {Y : Type 0} (es : List (String Y × List (List ℕ × ColumnT
     → parts_bytes (each string_bytes (keys_of es)) (values_of es) (values_of ms) next ≡ encoding (record { tables = each (table_held {Y = Y}) es; elements = map.from_sorted ms; next = next })
 encoding_is es ms next rising =
     λ i. parts_bytes (sym (names_of_held es) i) (sym (keys_of_held es) i) (ap values_of (sym (map.entries-from_sorted nat_cmp ms rising)) i) next
+
+-- and so are each table's elements
+pub grouped_is : {Y : Type 0} (es : List (String Y × List (List ℕ × ColumnType))) (ms : List (ℕ × ElementDef)) → T (is_sorted nat_cmp ms)
+    → grouped 1 (values_of ms) (values_of es) ≡ grouped 1 (values_of (map.entries (map.from_sorted {R = nat_cmp} ms))) (each (table_held {Y = Y}) es)
+grouped_is {Y} es ms rising =
+    grouped_each (λ (e : String Y × List (List ℕ × ColumnType)). e.1) 1 (values_of ms) es
+    ∙ sym (grouped_each (table_held {Y = Y}) 1 (values_of ms) es)
+    ∙ ap (λ (own : List ElementDef). grouped 1 own (each (table_held {Y = Y}) es)) (ap values_of (sym (map.entries-from_sorted nat_cmp ms rising)))
 
 all_of : {X : Type 0} (P : X → Type 0) (xs : List X) → ((x : X) → Contains xs x → P x) → AllByRecursion P xs
 all_of P [] f = tt

@@ -1,9 +1,9 @@
 //! A version of the schema, and its readers.
 ghost use Rattle.std.specs.Bool.{Decides};
-ghost use Rattle.std.specs.Prelude.{◌≡◌, ◌+◌, Option, slice_get, bytes_eq, position};
+ghost use Rattle.std.specs.Prelude.{◌≡◌, ◌+◌, Option, filter, slice_get, bytes_eq, position};
 ghost use Rattle.std.specs.List.{find};
 ghost use Rattle.std.specs.Option.{option_copied, option_map};
-ghost use Rattle.schema_version.specs.Version.{Table, state_of, element_at, table_at, live, is_named as is_named_of};
+ghost use Rattle.schema_version.specs.Version.{Table, state_of, element_at, table_at, live, is_in, grouped, is_named as is_named_of};
 ghost use Rattle.schema_version.specs.Held.{table_held, IsHeld, holding};
 ghost use Rattle.std.specs.Prelude.{◌≤◌, ◌⊎◌, IfOk, IfErr, OnOk, count_by};
 ghost use Rattle.schema_version.specs.Moves.{after_step, IsAllowed, IsRefused, is_entry};
@@ -14,6 +14,7 @@ ghost use Rattle.schema_version.specs.declared.table.DeclareFault.TheVariants as
 ghost use Rattle.schema_version.specs.declared.step.StepFault.TheVariants.{Memory};
 
 use crate::apply::{copy_elements, copy_tables, make_all};
+use crate::by_table::by_table;
 use crate::declare::{enter_tables, hold_tables};
 use crate::element::{ElementDef, ElementState};
 use crate::encoding::{encode, same_bytes};
@@ -21,6 +22,7 @@ use crate::lawful::are_lawful;
 use crate::moves::is_named;
 use crate::step::{Move, Step, StepFault};
 use crate::table::{Columns, DeclareFault, TableDef};
+use collections::List;
 use indexmap::IndexMap;
 use keycode::Text;
 use row_map::ColumnType;
@@ -32,13 +34,27 @@ use std::marker::Model;
 ///
 /// Versions and their elements are those of "Online, Asynchronous Schema Change in F1" (Rae et al.,
 /// 2013).
-#[derive(Drop)]
 pub struct Schema {
     tables: IndexMap<String, Columns>,
     elements: IndexMap<u32, ElementDef>,
     next: u32,
     // All of the above as bytes, so that comparing two versions is comparing two strings.
     encoding: Vec<u8>,
+    // The elements once more, table by table.
+    by_table: Vec<List<ElementDef>>,
+}
+
+// By hand, so that a caller's proof sees one call and not each field's.
+impl Drop for Schema {
+    fn drop(self) {
+        let Schema {
+            tables: _,
+            elements: _,
+            next: _,
+            encoding: _,
+            by_table: _,
+        } = self;
+    }
 }
 
 impl Model for Schema {
@@ -95,6 +111,30 @@ impl Schema {
         ensures { result.now ≡ live self.now }
     {
         self.elements.values().as_slice()
+    }
+
+    // The live elements of each table.
+    fn groups(&self) -> &[List<ElementDef>]
+        ensures { result.now ≡ grouped 1 (live self.now) self.now.tables }
+    {
+        self.by_table.as_slice()
+    }
+
+    // The live elements of the table at this place, from 0.
+    fn group(&self, place: usize) -> Option<&List<ElementDef>>
+        ensures { option_copied result ≡ slice_get (grouped 1 (live self.now) self.now.tables) place }
+    {
+        self.groups().get(place)
+    }
+
+    /// The live elements of the table of this number, from 1, by rising number; None for any other
+    /// number.
+    pub fn elements_of(&self, table: u32) -> Option<&[ElementDef]>
+        ensures { option_map (λ own. own.now) result ≡ option_map (λ t. filter (is_in table) (live self.now)) (table_at self.now table) }
+    {
+        let place = table.checked_sub(1)?;
+        let own = self.group(place as usize)?;
+        Some(own.as_slice())
     }
 
     /// The live element at this place, from 0, among all live elements by rising number; None past
@@ -184,12 +224,19 @@ impl Schema {
         ensures { IfOk result (λ made. made ≡ holding self.now elements.entries next) }
     {
         let tables = copy_tables(&self.tables)?;
-        let encoding = encode(*self.encoding.allocator(), &tables, &elements, next)?;
+        let alloc = *self.encoding.allocator();
+        let encoding = encode(alloc, &tables, &elements, next)?;
+        let by_table = by_table(
+            alloc,
+            elements.values().as_slice(),
+            tables.values().as_slice(),
+        )?;
         Ok(Schema {
             tables,
             elements,
             next,
             encoding,
+            by_table,
         })
     }
 
@@ -233,11 +280,17 @@ impl Schema {
         let mut elements = IndexMap::new(alloc);
         let next = enter_tables(alloc, &mut elements, tables)?;
         let encoding = encode(alloc, &held, &elements, next)?;
+        let by_table = by_table(
+            alloc,
+            elements.values().as_slice(),
+            held.values().as_slice(),
+        )?;
         Ok(Schema {
             tables: held,
             elements,
             next,
             encoding,
+            by_table,
         })
     }
 }
