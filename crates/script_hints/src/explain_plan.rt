@@ -30,10 +30,13 @@ fn plan_hint(
 ) -> Result<String, AllocError> {
     let words = reply.strip_prefix("refused ").unwrap_or("");
     let refusal = refusal_of(words.trim_end());
-    match read_command(alloc, line.as_bytes()) {
-        Ok(command) => refusal_hint(alloc, opened, &command, refusal),
+    let read = read_command(alloc, line.as_bytes());
+    let hint = match &read {
+        Ok(command) => refusal_hint(alloc, opened, command, refusal),
         Err(_) => Ok(String::new(alloc)),
-    }
+    };
+    drop(read);
+    hint
 }
 
 // The refusal of a plan, and on a line of its own what the hint on it says.
@@ -69,6 +72,14 @@ fn plan_text(
     }
 }
 
+// The changes that a line `plan: ..` names.
+fn changes_in(alloc: Global, line: &str) -> Option<List<NamedChange>> {
+    match read_command(alloc, line.as_bytes()) {
+        Ok(Command::Plan { changes }) => Some(changes),
+        _ => None,
+    }
+}
+
 /// The steps of a plan, the moments from which each may be published, and what its fills would
 /// read, if that is known; or its refusal with the hint on it. The kept plan stays. Refused only
 /// when out of memory.
@@ -80,8 +91,8 @@ pub(crate) fn plan_explanation(
     opened: &Opened,
     line: &str,
 ) -> Result<String, AllocError> {
-    match read_command(alloc, line.as_bytes()) {
-        Ok(Command::Plan { changes }) => plan_text(alloc, opened, line, changes),
-        _ => "explain plan: add index i on people (town)".to_string(alloc),
+    match changes_in(alloc, line) {
+        Some(changes) => plan_text(alloc, opened, line, changes),
+        None => "explain plan: add index i on people (town)".to_string(alloc),
     }
 }

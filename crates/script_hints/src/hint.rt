@@ -33,6 +33,16 @@ fn misplaced(alloc: Global, session: &Session, command: &Command) -> Result<Stri
     }
 }
 
+// What was expected where a line stops being a command.
+fn unexpected_hint(alloc: Global, line: &str, may_omit: bool) -> Result<String, AllocError> {
+    match unexpected(alloc, line, may_omit)? {
+        Some(out) => Ok(out),
+        None => "a number does not fit its place, or a key column comes after another".to_string(
+            alloc,
+        ),
+    }
+}
+
 fn bad_hint(
     alloc: Global,
     session: &Session,
@@ -42,15 +52,13 @@ fn bad_hint(
     if line.len() > MAX_LINE {
         return "the line is longer than 65,536 bytes".to_string(alloc);
     }
-    if let Ok(command) = read_command(alloc, line.as_bytes()) {
-        return misplaced(alloc, session, &command);
-    }
-    match unexpected(alloc, line, may_omit)? {
-        Some(out) => Ok(out),
-        None => "a number does not fit its place, or a key column comes after another".to_string(
-            alloc,
-        ),
-    }
+    let read = read_command(alloc, line.as_bytes());
+    let hint = match &read {
+        Ok(command) => misplaced(alloc, session, command),
+        Err(_) => unexpected_hint(alloc, line, may_omit),
+    };
+    drop(read);
+    hint
 }
 
 fn refused_hint(
@@ -60,13 +68,14 @@ fn refused_hint(
     reply: &str,
 ) -> Result<String, AllocError> {
     let refusal = refusal_of(reply);
-    match (session, read_command(alloc, line.as_bytes())) {
-        (Session::Running(opened), Ok(command)) => {
-            refusal_hint(alloc, opened, &command, refusal)
-        }
+    let read = read_command(alloc, line.as_bytes());
+    let hint = match (session, &read) {
+        (Session::Running(opened), Ok(command)) => refusal_hint(alloc, opened, command, refusal),
         (Session::Declaring(_), Ok(_)) => opening_hint(alloc, refusal.name),
         _ => Ok(String::new(alloc)),
-    }
+    };
+    drop(read);
+    hint
 }
 
 // What an accepted plan leaves unfinished, and how many steps of the kept plan it replaces.
