@@ -1,25 +1,26 @@
-//! The engine for C: each function is a call of `handles` on a handle that the caller keeps, and
-//! takes any bytes and any numbers. What each does, and what its caller owes, is in
-//! `include/cagzhomul.h`.
+//! The engine for C: each function is a call of `handles` or `operator_calls` on a handle that the
+//! caller keeps, and takes any bytes and any numbers. What each does, and what its caller owes, is
+//! in `include/cagzhomul.h`.
 #![tactic(auto)]
 
 ghost use Rattle.std.specs.Prelude.{◌≡◌};
-ghost use Rattle.handles.specs.Calls.{Opens, RepliesTo, RepliesFrom, ShowsEntry, Repeats, Advances, Closes, ShowsText};
+ghost use Rattle.handles.specs.Calls.{Opens, RepliesTo, RepliesFrom, ShowsEntry, Repeats, Closes, ShowsText};
 ghost use Rattle.handles.specs.Leases.{OpensTables, Leases};
 ghost use Rattle.handles.specs.Txns.{Transacts, Reads, Prepares};
 ghost use Rattle.handles.specs.Commits.{Commits};
 ghost use Rattle.handles.specs.Snapshots.{Snapshots, Checks, LogLengths};
 ghost use Rattle.handles.specs.Queries.{Queries, SnapshotQueries, RowsFrom};
-ghost use Rattle.handles.specs.Changes.{Publishes, Begins};
 ghost use Rattle.handles.specs.Writes.{Writes};
-ghost use Rattle.handles.specs.Plans.{Plans};
-ghost use Rattle.handles.specs.Pieces.{ReadsPiece, PreparesPiece, CommitsPiece};
-ghost use Rattle.handles.specs.Progress.{Progresses, ShowsStatus};
+ghost use Rattle.operator_calls.specs.Changes.{Publishes, Begins};
+ghost use Rattle.operator_calls.specs.Plans.{Plans};
+ghost use Rattle.operator_calls.specs.Pieces.{ReadsPiece, PreparesPiece, CommitsPiece};
+ghost use Rattle.operator_calls.specs.Advances.{Advances};
+ghost use Rattle.operator_calls.specs.Standing.{Progresses, ShowsStatus};
 
 use handles::{
-    AdvanceOutcome, ChangeOutcome, CheckOutcome, CommitOutcome, Handle, LeaseOutcome, Outcome,
-    PieceOutcome, ProgressOutcome, WriteOutcome, show_text,
+    CheckOutcome, CommitOutcome, Handle, LeaseOutcome, Outcome, WriteOutcome, show_text,
 };
+use operator_calls::{AdvanceOutcome, ChangeOutcome, PieceOutcome, ProgressOutcome};
 use std::alloc::Global;
 use typed_calls::{PrepareOutcome, QueryOutcome};
 
@@ -80,7 +81,7 @@ pub extern "C" fn cagzhomul_repeat(alloc: Global, handle: &mut Handle, entry: &[
     handle.repeat(alloc, entry)
 }
 
-/// `Handle::advance`.
+/// `operator_calls::advance`.
 #[unsafe(no_mangle)]
 pub extern "C" fn cagzhomul_advance(
     alloc: Global,
@@ -91,7 +92,7 @@ pub extern "C" fn cagzhomul_advance(
 ) -> AdvanceOutcome
     ensures { Advances handle.old.place.value moment pieces limit result handle.new.place.value }
 {
-    handle.advance(alloc, moment, pieces, limit)
+    operator_calls::advance(alloc, handle, moment, pieces, limit)
 }
 
 /// `Handle::open_tables`.
@@ -253,7 +254,7 @@ pub extern "C" fn cagzhomul_log_length(alloc: Global, session: &mut Handle) -> O
     session.log_length(alloc)
 }
 
-/// `Handle::publish`.
+/// `operator_calls::publish`.
 #[unsafe(no_mangle)]
 pub extern "C" fn cagzhomul_publish(
     alloc: Global,
@@ -263,10 +264,10 @@ pub extern "C" fn cagzhomul_publish(
 ) -> ChangeOutcome
     ensures { Publishes session.old.place.value moment step.now result session.new.place.value }
 {
-    session.publish(alloc, moment, step)
+    operator_calls::publish(alloc, session, moment, step)
 }
 
-/// `Handle::begin_reorg`.
+/// `operator_calls::begin_reorg`.
 #[unsafe(no_mangle)]
 pub extern "C" fn cagzhomul_begin_reorg(
     alloc: Global,
@@ -277,10 +278,10 @@ pub extern "C" fn cagzhomul_begin_reorg(
 ) -> ChangeOutcome
     ensures { Begins session.old.place.value moment element pieces result session.new.place.value }
 {
-    session.begin_reorg(alloc, moment, element, pieces)
+    operator_calls::begin_reorg(alloc, session, moment, element, pieces)
 }
 
-/// `Handle::plan`.
+/// `operator_calls::plan`.
 #[unsafe(no_mangle)]
 pub extern "C" fn cagzhomul_plan(
     alloc: Global,
@@ -291,10 +292,10 @@ pub extern "C" fn cagzhomul_plan(
     ensures plans { Plans session.old.place.value changes.now out.old result out.new }
     ensures same { session.new.place.value ≡ session.old.place.value }
 {
-    session.plan(alloc, changes, out)
+    operator_calls::plan(alloc, session, changes, out)
 }
 
-/// `Handle::read_piece`.
+/// `operator_calls::read_piece`.
 #[unsafe(no_mangle)]
 pub extern "C" fn cagzhomul_read_piece(
     alloc: Global,
@@ -307,18 +308,18 @@ pub extern "C" fn cagzhomul_read_piece(
     ensures reads { ReadsPiece session.old.place.value element piece limit work.old.place.value result work.new.place.value }
     ensures same { session.new.place.value ≡ session.old.place.value }
 {
-    session.read_piece(alloc, element, piece, limit, work)
+    operator_calls::read_piece(alloc, session, element, piece, limit, work)
 }
 
-/// `Handle::prepare_piece`.
+/// `operator_calls::prepare_piece`.
 #[unsafe(no_mangle)]
 pub extern "C" fn cagzhomul_prepare_piece(alloc: Global, work: &mut Handle) -> i32
     ensures { PreparesPiece work.old.place.value result work.new.place.value }
 {
-    work.prepare_piece(alloc)
+    operator_calls::prepare_piece(alloc, work)
 }
 
-/// `Handle::commit_piece`.
+/// `operator_calls::commit_piece`.
 #[unsafe(no_mangle)]
 pub extern "C" fn cagzhomul_commit_piece(
     alloc: Global,
@@ -328,10 +329,10 @@ pub extern "C" fn cagzhomul_commit_piece(
 ) -> PieceOutcome
     ensures { CommitsPiece session.old.place.value moment work.old.place.value result session.new.place.value work.new.place.value }
 {
-    session.commit_piece(alloc, moment, work)
+    operator_calls::commit_piece(alloc, session, moment, work)
 }
 
-/// `Handle::progress`.
+/// `operator_calls::progress`.
 #[unsafe(no_mangle)]
 pub extern "C" fn cagzhomul_progress(
     alloc: Global,
@@ -341,16 +342,16 @@ pub extern "C" fn cagzhomul_progress(
     ensures progresses { Progresses session.old.place.value element result }
     ensures same { session.new.place.value ≡ session.old.place.value }
 {
-    session.progress(alloc, element)
+    operator_calls::progress(alloc, session, element)
 }
 
-/// `Handle::status`.
+/// `operator_calls::status`.
 #[unsafe(no_mangle)]
 pub extern "C" fn cagzhomul_status(alloc: Global, session: &mut Handle, out: &mut [u8]) -> Outcome
     ensures shows { ShowsStatus session.old.place.value out.old result out.new }
     ensures same { session.new.place.value ≡ session.old.place.value }
 {
-    session.status(alloc, out)
+    operator_calls::status(alloc, session, out)
 }
 
 /// `Handle::close`.

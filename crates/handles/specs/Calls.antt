@@ -15,9 +15,7 @@ use Rattle.script_session.specs.declared.session.Session.TheVariants.{Declaring,
 use Rattle.handles.specs.declared.engine.Conversation.{Conversation}
 use Rattle.handles.specs.declared.engine.Engine.{Engine}
 use Rattle.handles.specs.declared.engine.Engine.TheVariants as engine
-use Rattle.handles.specs.declared.advance.AdvanceOutcome.{AdvanceOutcome}
 use Rattle.handles.specs.declared.outcome.Outcome.{Outcome}
-use Rattle.handles.specs.Advance.{AdvancesWorld}
 use Rattle.handles.specs.Replies.{reply_status, repeat_status}
 use Rattle.typed_calls.specs.Statuses.{ok, closed, already_open, not_utf8, out_of_memory, not_opened, no_entry, bad_entry, wrong_kind, status_text}
 
@@ -116,21 +114,6 @@ Repeats None bytes status new = (status ≡ closed) × (new ≡ None)
 Repeats (Some (engine.Session c)) bytes status new =
     (session : Session) × RepeatsIn c.session bytes status session × (new ≡ Some (engine.Session (record c { session = session })))
 Repeats (Some other) bytes status new = (status ≡ wrong_kind) × (new ≡ Some other)
-
--- ---- changes under way
-
--- one act in a session, of which all but the world stays
-abbrev pub AdvancesIn : Session → ℕ → ℕ → ℕ → AdvanceOutcome → Session → Type 0
-AdvancesIn (Declaring declared) moment pieces limit outcome new = (outcome ≡ record { status = not_opened; until = 0 }) × (new ≡ Declaring declared)
-AdvancesIn (Running opened) moment pieces limit outcome new =
-    (world : State) × AdvancesWorld opened.world moment pieces limit outcome world × (new ≡ Running (record opened { world = world }))
-
--- behind a handle, which stays open, with the last reply
-abbrev pub Advances : Option Engine → ℕ → ℕ → ℕ → AdvanceOutcome → Option Engine → Type 0
-Advances None moment pieces limit outcome new = (outcome ≡ record { status = closed; until = 0 }) × (new ≡ None)
-Advances (Some (engine.Session c)) moment pieces limit outcome new =
-    (session : Session) × AdvancesIn c.session moment pieces limit outcome session × (new ≡ Some (engine.Session (record c { session = session })))
-Advances (Some other) moment pieces limit outcome new = (outcome ≡ record { status = wrong_kind; until = 0 }) × (new ≡ Some other)
 
 abbrev pub Closes : Option Engine → ℤ → Option Engine → Type 0
 Closes None status new = (status ≡ closed) × (new ≡ None)

@@ -1,15 +1,10 @@
 pub mod Calls
 pub mod Owned
 pub mod Replies
-pub mod Advance
 pub mod Handles
 pub mod Leases
 pub mod Txns
 pub mod Commits
 pub mod Snapshots
-pub mod Changes
 pub mod Queries
-pub mod Plans
 pub mod Writes
-pub mod Pieces
-pub mod Progress

@@ -24,10 +24,7 @@ pub(crate) fn room(alloc: Global) -> Result<Box<Engine, Global>, AllocError> {
 }
 
 /// The engine of a box, and the box, which is to be filled.
-pub(crate) fn taken_out(
-    alloc: Global,
-    mut engine: Box<Engine, Global>,
-) -> (Engine, Box<Engine, Global>)
+pub fn taken_out(alloc: Global, mut engine: Box<Engine, Global>) -> (Engine, Box<Engine, Global>)
     ensures { result.0 ≡ engine.value }
 {
     let held = std::mem::replace(&mut *engine, vacant(alloc));
@@ -35,7 +32,7 @@ pub(crate) fn taken_out(
 }
 
 /// The box with this engine.
-pub(crate) fn filled(mut room: Box<Engine, Global>, engine: Engine) -> Box<Engine, Global>
+pub fn filled(mut room: Box<Engine, Global>, engine: Engine) -> Box<Engine, Global>
     ensures { result.value ≡ engine }
 {
     drop(std::mem::replace(&mut *room, engine));

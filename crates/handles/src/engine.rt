@@ -12,12 +12,21 @@ use typed_calls::{PieceWork, Txn};
 use world::Snapshot;
 
 /// A session, and the last reply that it gave.
-#[derive(Drop)]
 pub struct Conversation {
     /// The session.
     pub session: Session,
     /// The reply to the last line that was answered.
     pub reply: String,
+}
+
+// By hand, so that a caller's proof sees one call and not each field's.
+impl Drop for Conversation {
+    fn drop(self) {
+        let Conversation {
+            session: _,
+            reply: _,
+        } = self;
+    }
 }
 
 /// What a handle may hold.

@@ -35,6 +35,13 @@ impl Handle {
         }
     }
 
+    /// Whether the handle holds an engine.
+    pub fn is_open(&self) -> bool
+        ensures { result ≡ is_some self.now.place.value }
+    {
+        self.is_open
+    }
+
     // A closed handle ends.
     pub(crate) fn end(self)
         requires { self.place.value ≡ None }
@@ -44,7 +51,7 @@ impl Handle {
     }
 
     /// The engine, which leaves the handle closed.
-    pub(crate) fn take(&mut self, alloc: Global) -> Option<Box<Engine, Global>>
+    pub fn take(&mut self, alloc: Global) -> Option<Box<Engine, Global>>
         ensures engine { option_map (λ b. b.value) result ≡ self.old.place.value }
         ensures closed { self.new.place.value ≡ None }
     {
@@ -58,7 +65,7 @@ impl Handle {
     }
 
     /// Puts an engine into a closed handle.
-    pub(crate) fn put(&mut self, engine: Box<Engine, Global>)
+    pub fn put(&mut self, engine: Box<Engine, Global>)
         requires { self.old.place.value ≡ None }
         ensures { self.new.place.value ≡ Some engine.value }
     {

@@ -78,7 +78,7 @@ impl Conversation {
 
 impl Handle {
     /// Fills a closed handle, unless memory runs out.
-    pub(crate) fn fill(&mut self, alloc: Global, engine: Engine) -> i32
+    pub fn fill(&mut self, alloc: Global, engine: Engine) -> i32
         requires { self.old.place.value ≡ None }
         ensures { Fills engine result self.new.place.value }
     {

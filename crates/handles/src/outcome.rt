@@ -16,7 +16,7 @@ pub struct Outcome {
 
 impl Outcome {
     /// A status without a reply.
-    pub(crate) fn refusal(status: i32) -> Outcome
+    pub fn refusal(status: i32) -> Outcome
         ensures { result ≡ record { status = status; length = 0 } }
     {
         Outcome { status, length: 0 }
@@ -24,7 +24,7 @@ impl Outcome {
 }
 
 /// Writes as much of the text as fits.
-pub(crate) fn lay(out: &mut [u8], text: &[u8])
+pub fn lay(out: &mut [u8], text: &[u8])
     ensures { out.new ≡ laid out.old text.now }
 {
     let count = if text.len() < out.len() {

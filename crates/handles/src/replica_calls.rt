@@ -1,8 +1,7 @@
-//! The calls for replicas and for changes under way, of a session behind a handle.
+//! The calls for replicas, of a session behind a handle.
 ghost use Rattle.std.specs.Prelude.{◌≡◌};
-ghost use Rattle.handles.specs.Calls.{ShowsEntry, Repeats, Advances};
+ghost use Rattle.handles.specs.Calls.{ShowsEntry, Repeats};
 
-use crate::advance::AdvanceOutcome;
 use crate::engine::Engine;
 use crate::handle::Handle;
 use crate::outcome::Outcome;
@@ -45,26 +44,5 @@ impl Handle {
         let status = conversation.repeat(alloc, entry);
         self.put(engine);
         status
-    }
-
-    /// Does the act that is due of the changes under way in the session's world: begins a
-    /// reorganisation in so many pieces, publishes a step in which all ready elements move on, or
-    /// works so many items. `OK`, and the log has one entry more; `WAITING`, with the moment before
-    /// which nothing can be done, or `FINISHED`, which change nothing; else `CLOSED`, `WRONG_KIND`,
-    /// `NOT_OPENED`, `BAD_COUNT`, `MOMENT_TOO_LARGE`, `VERSIONS_SPENT`, or `OUT_OF_MEMORY`, which
-    /// may come in place of the one before it. A refusal changes nothing.
-    pub fn advance(&mut self, alloc: Global, moment: u64, pieces: u32, limit: u32) -> AdvanceOutcome
-        ensures { Advances self.old.place.value moment pieces limit result self.new.place.value }
-    {
-        let Some(mut engine) = self.take(alloc) else {
-            return AdvanceOutcome::of(CLOSED);
-        };
-        let Engine::Session(conversation) = &mut *engine else {
-            self.put(engine);
-            return AdvanceOutcome::of(WRONG_KIND);
-        };
-        let outcome = conversation.advance(alloc, moment, pieces, limit);
-        self.put(engine);
-        outcome
     }
 }

@@ -1,0 +1,39 @@
+-- Cited by the contracts of cagzhomul_publish, cagzhomul_begin_reorg and of what they call.
+-- Schema changes in the world of a session behind a handle.
+use Rattle.std.specs.Prelude.{◌≡◌, ℕ, ℤ, List, Option, Some, None, Result, Ok, Err}
+use Rattle.script_session.specs.Session.{Session}
+use Rattle.typed_calls.specs.Changes.{PublishesIn, BeginsIn}
+use Rattle.typed_calls.specs.Statuses.{ok, closed, wrong_kind}
+use Rattle.typed_calls.specs.declared.changes.ChangeRefusal.{ChangeRefusal}
+use Rattle.handles.specs.declared.engine.Engine.{Engine}
+use Rattle.handles.specs.declared.engine.Engine.TheVariants as engine
+use Rattle.operator_calls.specs.declared.changes.ChangeOutcome.{ChangeOutcome}
+
+-- a status alone
+abbrev pub change_status : ℤ → ChangeOutcome
+change_status status = record { status = status; number = 0 }
+
+-- a version or a place, or a refusal with its number
+abbrev pub change_outcome : Result ℕ ChangeRefusal → ChangeOutcome
+change_outcome (Ok number) = record { status = ok; number = number }
+change_outcome (Err refusal) = record { status = refusal.status; number = refusal.number }
+
+-- in a session
+abbrev pub PublishesOf : Session → ℕ → List ℕ → ChangeOutcome → Session → Type 0
+PublishesOf old moment code outcome new = (answer : Result ℕ ChangeRefusal) × PublishesIn old moment code answer new × (outcome ≡ change_outcome answer)
+
+abbrev pub BeginsOf : Session → ℕ → ℕ → ℕ → ChangeOutcome → Session → Type 0
+BeginsOf old moment element pieces outcome new = (answer : Result ℕ ChangeRefusal) × BeginsIn old moment element pieces answer new × (outcome ≡ change_outcome answer)
+
+-- behind a handle, which stays open, with the last reply
+abbrev pub Publishes : Option Engine → ℕ → List ℕ → ChangeOutcome → Option Engine → Type 0
+Publishes None moment code outcome new = (outcome ≡ change_status closed) × (new ≡ None)
+Publishes (Some (engine.Session c)) moment code outcome new =
+    (session : Session) × PublishesOf c.session moment code outcome session × (new ≡ Some (engine.Session (record c { session = session })))
+Publishes (Some other) moment code outcome new = (outcome ≡ change_status wrong_kind) × (new ≡ Some other)
+
+abbrev pub Begins : Option Engine → ℕ → ℕ → ℕ → ChangeOutcome → Option Engine → Type 0
+Begins None moment element pieces outcome new = (outcome ≡ change_status closed) × (new ≡ None)
+Begins (Some (engine.Session c)) moment element pieces outcome new =
+    (session : Session) × BeginsOf c.session moment element pieces outcome session × (new ≡ Some (engine.Session (record c { session = session })))
+Begins (Some other) moment element pieces outcome new = (outcome ≡ change_status wrong_kind) × (new ≡ Some other)

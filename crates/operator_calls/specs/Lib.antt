@@ -1,0 +1,5 @@
+pub mod Advances
+pub mod Changes
+pub mod Pieces
+pub mod Plans
+pub mod Standing
