@@ -1,16 +1,22 @@
 //! Calls through a handle, each with the answer that it has to give.
 
 use crate::fixtures::{FIRST, are, delete, entering, going, insert, whole_table};
-use crate::handle_port::{HandlePort, Reported, committed, judged, prepared};
-use crate::pieces::{begins, stands, works};
+use crate::handle_port::{HandlePort, Reported, judged, prepared};
+use crate::pieces::{begun, works};
+use collections::{ArcValue, List};
 use locked_store::{SharedFault, SharedLedger};
 use reorganise::{PreparedPiece, Work};
+use row_map::Row;
 use row_query::QueryFault;
 use row_write::{Prepared, RowOps};
-use schema_version::{ElementState, Step};
-use std::alloc::AllocError;
+use schema_version::{ElementState, Schema, Step};
+use std::alloc::{AllocError, Global};
+use std::mem;
 use std::sync::Wait;
-use world::{GrantFault, PublishFault, QueryRefusal, Snapshot, SnapshotFault};
+use world::{
+    CommitFault, Committed, Grant, GrantFault, PublishFault, QueryRefusal, Receipt, Snapshot,
+    SnapshotFault,
+};
 
 /// Rows by their keys and their values of a.
 pub(crate) type Rows = &'static [(i64, i64)];
@@ -43,11 +49,34 @@ pub(crate) enum Act {
     State(u64, Option<ElementState>),
 }
 
-fn leases<L: SharedLedger, R: Wait>(port: &mut HandlePort<L, R>) -> Reported {
-    match port.shared.lease(port.rt, port.alloc, &mut port.me, 0) {
+fn granted(answer: Result<Grant, SharedFault<GrantFault>>) -> Reported {
+    match answer {
         Ok(grant) => judged(grant.lease == FIRST),
         Err(SharedFault::World(GrantFault::Memory)) => Reported::Short,
         Err(_) => Reported::Wrong,
+    }
+}
+
+// The insert of this value, or the delete if there is none.
+fn ops_of(alloc: Global, id: i64, value: Option<i64>) -> Result<RowOps, AllocError> {
+    match value {
+        Some(value) => insert(alloc, id, value),
+        None => delete(alloc, id),
+    }
+}
+
+// What was prepared comes back if memory was short.
+fn committed(
+    answer: Result<Committed, (SharedFault<CommitFault>, Prepared)>,
+    back: &mut Option<Prepared>,
+) -> Reported {
+    match answer {
+        Ok(Committed::Done(_)) => Reported::Right,
+        Err((SharedFault::World(CommitFault::Memory), work)) => {
+            drop(mem::replace(back, Some(work)));
+            Reported::Short
+        }
+        _ => Reported::Wrong,
     }
 }
 
@@ -55,42 +84,48 @@ fn leases<L: SharedLedger, R: Wait>(port: &mut HandlePort<L, R>) -> Reported {
 fn commits<L: SharedLedger, R: Wait>(
     port: &mut HandlePort<L, R>,
     back: &mut Option<Prepared>,
-    ops: Result<RowOps, AllocError>,
+    id: i64,
+    value: Option<i64>,
 ) -> Reported {
     let work = match back.take() {
-        Some(work) => work,
-        None => match prepared(port, ops) {
-            Ok(work) => work,
-            Err(reported) => return reported,
-        },
+        Some(work) => Ok(work),
+        None => prepared(port, ops_of(port.alloc, id, value)),
     };
-    match committed(port, back, work) {
-        Ok(_) => Reported::Right,
+    match work {
+        Ok(work) => {
+            let (rt, alloc) = (port.rt, port.alloc);
+            committed(port.shared.commit(rt, alloc, port.me, 0, work), back)
+        }
         Err(reported) => reported,
     }
 }
 
-fn finds<L: SharedLedger, R: Wait>(port: &mut HandlePort<L, R>, wanted: Rows) -> Reported {
-    let Ok(query) = whole_table(port.alloc) else {
-        return Reported::Short;
-    };
-    match port
-        .shared
-        .query(port.rt, port.alloc, &mut port.me, 0, &FIRST, &query)
-    {
+fn found(answer: Result<List<Row>, SharedFault<QueryRefusal>>, wanted: Rows) -> Reported {
+    match answer {
         Ok(rows) => judged(are(rows.as_slice(), wanted)),
         Err(SharedFault::World(QueryRefusal::Query(QueryFault::Memory))) => Reported::Short,
         Err(_) => Reported::Wrong,
     }
 }
 
-fn keeps<L: SharedLedger, R: Wait>(
-    port: &mut HandlePort<L, R>,
+fn finds<L: SharedLedger, R: Wait>(port: &mut HandlePort<L, R>, wanted: Rows) -> Reported {
+    let (rt, alloc) = (port.rt, port.alloc);
+    match whole_table(alloc) {
+        Ok(query) => found(
+            port.shared.query(rt, alloc, port.me, 0, &FIRST, &query),
+            wanted,
+        ),
+        Err(AllocError) => Reported::Short,
+    }
+}
+
+fn taken(
+    answer: Result<Snapshot, SharedFault<SnapshotFault>>,
     kept: &mut Option<Snapshot>,
 ) -> Reported {
-    match port.shared.snapshot(port.rt, &mut port.me, 0, &FIRST) {
+    match answer {
         Ok(snapshot) => {
-            *kept = Some(snapshot);
+            drop(mem::replace(kept, Some(snapshot)));
             Reported::Right
         }
         Err(SharedFault::World(SnapshotFault::Memory)) => Reported::Short,
@@ -98,20 +133,24 @@ fn keeps<L: SharedLedger, R: Wait>(
     }
 }
 
-fn looks<L: SharedLedger, R: Wait>(
-    port: &HandlePort<L, R>,
-    kept: &Option<Snapshot>,
-    wanted: Rows,
-) -> Reported {
+fn looks(alloc: Global, kept: &Option<Snapshot>, wanted: Rows) -> Reported {
     let Some(snapshot) = kept else {
         return Reported::Wrong;
     };
-    let Ok(query) = whole_table(port.alloc) else {
+    let Ok(query) = whole_table(alloc) else {
         return Reported::Short;
     };
-    match snapshot.query(port.alloc, &query) {
+    match snapshot.query(alloc, &query) {
         Ok(rows) => judged(are(rows.as_slice(), wanted)),
         Err(QueryFault::Memory) => Reported::Short,
+        Err(_) => Reported::Wrong,
+    }
+}
+
+fn published(answer: Result<(u64, Receipt), SharedFault<PublishFault>>) -> Reported {
+    match answer {
+        Ok(_) => Reported::Right,
+        Err(SharedFault::World(PublishFault::Memory)) => Reported::Short,
         Err(_) => Reported::Wrong,
     }
 }
@@ -121,25 +160,18 @@ fn publishes<L: SharedLedger, R: Wait>(
     moment: u64,
     step: Result<Step, AllocError>,
 ) -> Reported {
-    let Ok(step) = step else {
-        return Reported::Short;
-    };
-    match port
-        .shared
-        .publish(port.rt, port.alloc, &mut port.me, moment, &step)
-    {
-        Ok(_) => Reported::Right,
-        Err(SharedFault::World(PublishFault::Memory)) => Reported::Short,
-        Err(_) => Reported::Wrong,
+    let (rt, alloc) = (port.rt, port.alloc);
+    match step {
+        Ok(step) => published(port.shared.publish(rt, alloc, port.me, moment, &step)),
+        Err(AllocError) => Reported::Short,
     }
 }
 
-fn states<L: SharedLedger, R: Wait>(
-    port: &mut HandlePort<L, R>,
-    version: u64,
+fn stated(
+    answer: Result<Option<ArcValue<Schema>>, SharedFault<AllocError>>,
     wanted: Option<ElementState>,
 ) -> Reported {
-    match port.shared.schema(port.rt, &mut port.me, version) {
+    match answer {
         Ok(Some(schema)) => judged(Some(schema.get().state(2)) == wanted),
         Ok(None) => judged(wanted.is_none()),
         Err(SharedFault::World(AllocError)) => Reported::Short,
@@ -161,19 +193,22 @@ pub(crate) fn acted<L: SharedLedger, R: Wait>(
     kept: &mut Kept,
     act: &Act,
 ) -> Reported {
-    let alloc = port.alloc;
+    let (rt, alloc) = (port.rt, port.alloc);
     match act {
-        Act::Lease => leases(port),
-        Act::Insert(id, value) => commits(port, &mut kept.work, insert(alloc, *id, *value)),
-        Act::Delete(id) => commits(port, &mut kept.work, delete(alloc, *id)),
+        Act::Lease => granted(port.shared.lease(rt, alloc, port.me, 0)),
+        Act::Insert(id, value) => commits(port, &mut kept.work, *id, Some(*value)),
+        Act::Delete(id) => commits(port, &mut kept.work, *id, None),
         Act::Find(rows) => finds(port, *rows),
-        Act::Keep => keeps(port, &mut kept.snapshot),
-        Act::Look(rows) => looks(port, &kept.snapshot, *rows),
+        Act::Keep => taken(
+            port.shared.snapshot(rt, port.me, 0, &FIRST),
+            &mut kept.snapshot,
+        ),
+        Act::Look(rows) => looks(alloc, &kept.snapshot, *rows),
         Act::Enter => publishes(port, 10, entering(alloc)),
         Act::Go(to, moment) => publishes(port, *moment, going(alloc, *to)),
-        Act::Begin => begins(port),
+        Act::Begin => begun(port.shared.begin_reorg(rt, alloc, port.me, 30, 2, 1)),
         Act::Piece => works(port, &mut kept.piece),
-        Act::Stand(progress) => stands(port, *progress),
-        Act::State(version, state) => states(port, *version, *state),
+        Act::Stand(progress) => judged(port.shared.progress(rt, port.me, 2) == Ok(*progress)),
+        Act::State(version, state) => stated(port.shared.schema(rt, port.me, *version), *state),
     }
 }

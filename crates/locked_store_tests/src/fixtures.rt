@@ -5,7 +5,7 @@ use keycode::{Text, Value};
 use lease::Lease;
 use row_map::{ColumnType, Row};
 use row_query::Query;
-use row_write::{RowOp, RowOps};
+use row_write::{Prepared, RowOp, RowOps, prepare, reads_of};
 use schema_version::{ElementState, Kind, Move, NewElement, Step, TableDef};
 use std::alloc::{AllocError, Global};
 use world::{Config, OpenFault, World};
@@ -26,29 +26,49 @@ fn named(alloc: Global, name: &str) -> Result<Text, AllocError> {
     Ok(Text::new(String::from_str(alloc, name)?))
 }
 
-// NAME int
-fn column(alloc: Global, name: &str) -> Result<List<(Text, ColumnType)>, AllocError> {
-    Ok(List::new(vec![in alloc; (named(alloc, name)?, ColumnType::Int)]?))
+// NAME int, for each of the names
+fn columns_of(alloc: Global, names: &[&str]) -> Result<List<(Text, ColumnType)>, AllocError> {
+    let mut columns = Vec::new(alloc);
+    for name in names {
+        columns.push((named(alloc, *name)?, ColumnType::Int))?;
+    }
+    Ok(List::new(columns))
 }
 
-// table t (id int key, a int)
-fn table(alloc: Global) -> Result<TableDef, AllocError> {
+// table t (id int key, NAME int, ..)
+fn table(alloc: Global, names: &[&str]) -> Result<TableDef, AllocError> {
     Ok(TableDef {
         name: named(alloc, "t")?,
-        key: column(alloc, "id")?,
-        columns: column(alloc, "a")?,
+        key: columns_of(alloc, &["id"])?,
+        columns: columns_of(alloc, names)?,
         indexes: List::new(Vec::new(alloc)),
     })
 }
 
-fn config(alloc: Global) -> Result<Config, AllocError> {
-    let tables = List::new(vec![in alloc; table(alloc)?]?);
+fn config(alloc: Global, names: &[&str]) -> Result<Config, AllocError> {
+    let tables = List::new(vec![in alloc; table(alloc, names)?]?);
     Ok(Config { length: 10, tables })
 }
 
-/// A world of that table, with leases of ten moments.
-pub(crate) fn opened(alloc: Global) -> Result<World, OpenFault> {
-    World::open(alloc, &config(alloc)?)
+/// A world of table t with these columns beside its key, and with leases of ten moments.
+pub(crate) fn opened(alloc: Global, names: &[&str]) -> Result<World, OpenFault> {
+    World::open(alloc, &config(alloc, names)?)
+}
+
+/// What is prepared of operations over what the world has now, under a lease.
+pub(crate) fn prepared_in(
+    alloc: Global,
+    world: &World,
+    lease: Lease,
+    ops: &RowOps,
+) -> Option<Prepared> {
+    let schema = world.schema(lease.version)?;
+    let keys = reads_of(alloc, schema.get(), ops.as_slice()).ok()?;
+    let view = world.read(alloc, &keys).ok();
+    drop(keys);
+    let view = view?;
+    let ops = ops.clone().ok()?;
+    prepare(alloc, schema.clone().ok()?, lease, ops, view).ok()
 }
 
 /// insert t (ID) set a = VALUE
@@ -89,15 +109,28 @@ pub(crate) fn whole_table(alloc: Global) -> Result<Query, AllocError> {
     })
 }
 
+/// The index on t (a).
+pub(crate) fn index(alloc: Global) -> Result<Kind, AllocError> {
+    Ok(Kind::Index(List::new(vec![in alloc; 1u32]?)))
+}
+
+/// add this to t, with this name
+pub(crate) fn enter(alloc: Global, name: &str, kind: Kind) -> Result<Move, AllocError> {
+    let name = named(alloc, name)?;
+    Ok(Move::Enter {
+        fresh: NewElement {
+            table: 1,
+            name,
+            kind,
+        },
+        to: ElementState::DeleteOnly,
+    })
+}
+
 /// add index i on t (a): element 2, since 1 is the column
 pub(crate) fn entering(alloc: Global) -> Result<Step, AllocError> {
-    let fresh = NewElement {
-        table: 1,
-        name: named(alloc, "i")?,
-        kind: Kind::Index(List::new(vec![in alloc; 1u32]?)),
-    };
-    let to = ElementState::DeleteOnly;
-    Ok(List::new(vec![in alloc; Move::Enter { fresh, to }]?))
+    let index = enter(alloc, "i", index(alloc)?)?;
+    Ok(List::new(vec![in alloc; index]?))
 }
 
 /// move t.i to STATE

@@ -1,6 +1,6 @@
 //! A handle of a shared world, and a transaction through it.
 
-use crate::fixtures::FIRST;
+use crate::fixtures::{FIRST, insert};
 use collections::ArcValue;
 use locked_store::{Handle, Shared, SharedFault, SharedLedger};
 use row_map::ReadView;
@@ -16,7 +16,7 @@ pub(crate) struct HandlePort<'a, L: SharedLedger, R: Wait> {
     pub(crate) rt: &'a R,
     pub(crate) alloc: Global,
     pub(crate) shared: &'a Shared<L>,
-    pub(crate) me: Handle<L>,
+    pub(crate) me: &'a mut Handle<L>,
 }
 
 /// What a call answered.
@@ -39,29 +39,48 @@ pub(crate) fn judged(is_right: bool) -> Reported {
     }
 }
 
-// The schema of version 1.
-fn first_schema<L: SharedLedger, R: Wait>(
-    port: &mut HandlePort<L, R>,
+/// The schema of version 1, and what keys have in the store.
+pub(crate) type Read = (ArcValue<Schema>, ReadView);
+
+fn schema_of(
+    answer: Result<Option<ArcValue<Schema>>, SharedFault<AllocError>>,
 ) -> Result<ArcValue<Schema>, Reported> {
-    match port.shared.schema(port.rt, &mut port.me, 1) {
+    match answer {
         Ok(Some(schema)) => Ok(schema),
         Err(SharedFault::World(AllocError)) => Err(Reported::Short),
         _ => Err(Reported::Wrong),
     }
 }
 
-// What keys of operations have.
-fn view_of<L: SharedLedger, R: Wait>(
-    port: &mut HandlePort<L, R>,
-    schema: &Schema,
-    ops: &RowOps,
-) -> Result<ReadView, Reported> {
-    let Ok(keys) = reads_of(port.alloc, schema, ops.as_slice()) else {
-        return Err(Reported::Short);
-    };
-    match port.shared.read(port.rt, port.alloc, &mut port.me, &keys) {
-        Ok(view) => Ok(view),
+fn read_of(
+    schema: ArcValue<Schema>,
+    answer: Result<ReadView, SharedFault<AllocError>>,
+) -> Result<Read, Reported> {
+    match answer {
+        Ok(view) => Ok((schema, view)),
         Err(SharedFault::World(AllocError)) => Err(Reported::Short),
+        Err(_) => Err(Reported::Wrong),
+    }
+}
+
+/// What operations read.
+pub(crate) fn read_for<L: SharedLedger, R: Wait>(
+    port: &mut HandlePort<L, R>,
+    ops: &RowOps,
+) -> Result<Read, Reported> {
+    let (rt, alloc) = (port.rt, port.alloc);
+    let schema = schema_of(port.shared.schema(rt, port.me, 1))?;
+    match reads_of(alloc, schema.get(), ops.as_slice()) {
+        Ok(keys) => read_of(schema, port.shared.read(rt, alloc, port.me, &keys)),
+        Err(AllocError) => Err(Reported::Short),
+    }
+}
+
+fn work_of(alloc: Global, read: Result<Read, Reported>, ops: RowOps) -> Result<Prepared, Reported> {
+    let (schema, view) = read?;
+    match prepare(alloc, schema, FIRST, ops, view) {
+        Ok(work) => Ok(work),
+        Err((PrepareFault::Memory, _)) => Err(Reported::Short),
         Err(_) => Err(Reported::Wrong),
     }
 }
@@ -71,33 +90,26 @@ pub(crate) fn prepared<L: SharedLedger, R: Wait>(
     port: &mut HandlePort<L, R>,
     ops: Result<RowOps, AllocError>,
 ) -> Result<Prepared, Reported> {
-    let Ok(ops) = ops else {
-        return Err(Reported::Short);
-    };
-    let schema = first_schema(port)?;
-    let view = view_of(port, schema.get(), &ops)?;
-    match prepare(port.alloc, schema, FIRST, ops, view) {
-        Ok(work) => Ok(work),
-        Err((PrepareFault::Memory, _)) => Err(Reported::Short),
-        Err(_) => Err(Reported::Wrong),
+    match ops {
+        Ok(ops) => work_of(port.alloc, read_for(port, &ops), ops),
+        Err(AllocError) => Err(Reported::Short),
     }
 }
 
-/// The receipt of what was prepared at moment 0. It comes back if memory was short.
-pub(crate) fn committed<L: SharedLedger, R: Wait>(
-    port: &mut HandlePort<L, R>,
-    back: &mut Option<Prepared>,
-    work: Prepared,
-) -> Result<Receipt, Reported> {
-    match port
-        .shared
-        .commit(port.rt, port.alloc, &mut port.me, 0, work)
-    {
-        Ok(Committed::Done(receipt)) => Ok(receipt),
-        Err((SharedFault::World(CommitFault::Memory), work)) => {
-            *back = Some(work);
-            Err(Reported::Short)
-        }
-        _ => Err(Reported::Wrong),
+fn receipt_of(answer: Result<Committed, (SharedFault<CommitFault>, Prepared)>) -> Option<Receipt> {
+    match answer {
+        Ok(Committed::Done(receipt)) => Some(receipt),
+        _ => None,
     }
+}
+
+/// The receipt of an insert at moment 0.
+pub(crate) fn inserted<L: SharedLedger, R: Wait>(
+    port: &mut HandlePort<L, R>,
+    id: i64,
+    value: i64,
+) -> Option<Receipt> {
+    let (rt, alloc) = (port.rt, port.alloc);
+    let work = prepared(port, insert(alloc, id, value)).ok()?;
+    receipt_of(port.shared.commit(rt, alloc, port.me, 0, work))
 }

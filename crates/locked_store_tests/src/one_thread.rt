@@ -6,6 +6,7 @@ use crate::acts::{Act, Kept, acted};
 use crate::fixtures::{mark, opened};
 use crate::handle_port::{HandlePort, Reported};
 use Act::{Begin, Delete, Enter, Find, Go, Insert, Keep, Lease, Look, Piece, Stand, State};
+use audit::CheckReport;
 use locked_store::{
     Handle, ReceiptFault, ShareFault, Shared, SharedFault, SharedLedger, reconcile,
 };
@@ -50,12 +51,20 @@ static ACTS: [(Act, Seen); 25] = [
     (State(5, None), (9, 1)),
 ];
 
-// How the world stands, if no pair is missing and none too much.
-fn seen_once<L: SharedLedger, R: Wait>(port: &mut HandlePort<L, R>) -> Result<Seen, Reported> {
-    match port.shared.check(port.rt, port.alloc, &mut port.me) {
-        Ok(found) if (found.missing, found.extra) == (0, 0) => Ok((port.me.front(), found.rows)),
+// How many rows there are, if no pair is missing and none too much.
+fn rows_of(answer: Result<CheckReport, SharedFault<AllocError>>) -> Result<u64, Reported> {
+    match answer {
+        Ok(found) if (found.missing, found.extra) == (0, 0) => Ok(found.rows),
         Err(SharedFault::World(AllocError)) => Err(Reported::Short),
         _ => Err(Reported::Wrong),
+    }
+}
+
+// How the world stands.
+fn seen_once<L: SharedLedger, R: Wait>(port: &mut HandlePort<L, R>) -> Result<Seen, Reported> {
+    match rows_of(port.shared.check(port.rt, port.alloc, port.me)) {
+        Ok(rows) => Ok((port.me.front(), rows)),
+        Err(reported) => Err(reported),
     }
 }
 
@@ -95,13 +104,13 @@ fn walked<L: SharedLedger, R: Wait>(port: &mut HandlePort<L, R>, kept: &mut Kept
     ACTS.len()
 }
 
-// The same through a handle that is handed in, and comes back.
-fn handled<L: SharedLedger, R: Wait>(
-    rt: &R,
+// The same through the one handle.
+fn handled<'a, L: SharedLedger, R: Wait>(
+    rt: &'a R,
     alloc: Global,
-    shared: &Shared<L>,
-    me: Handle<L>,
-) -> (Handle<L>, usize) {
+    shared: &'a Shared<L>,
+    me: &'a mut Handle<L>,
+) -> usize {
     let mut port = HandlePort {
         rt,
         alloc,
@@ -116,13 +125,7 @@ fn handled<L: SharedLedger, R: Wait>(
     let right = walked(&mut port, &mut kept);
     // it goes here by `drop`, which is proved apart, and not at the end, which is dear to prove
     drop(kept);
-    let HandlePort {
-        rt: _,
-        alloc: _,
-        shared: _,
-        me,
-    } = port;
-    (me, right)
+    right
 }
 
 // How many are, and the world after them.
@@ -132,11 +135,10 @@ fn closed<L: SharedLedger, R: Wait>(
     shared: Shared<L>,
     mut handles: Vec<Handle<L>>,
 ) -> Option<(World, usize)> {
-    let me = handles.pop()?;
-    let (me, right) = handled(rt, alloc, &shared, me);
+    let mut me = handles.pop()?;
+    let right = handled(rt, alloc, &shared, &mut me);
     handles.push(me).ok()?;
-    let world = shared.close(handles).ok()?;
-    Some((world, right))
+    Some((shared.close(handles).ok()?, right))
 }
 
 // The world comes back as an error if there was no memory to share it.
@@ -258,7 +260,7 @@ fn is_each_reported(alloc: Global, world: &World) -> bool {
 #[test]
 fn under_refusal_calls_through_the_lock(rt: HostRuntime) {
     let alloc = rt.alloc();
-    let Ok(world) = opened(alloc) else {
+    let Ok(world) = opened(alloc, &["a"]) else {
         panic!(rt; "no world");
     };
     assert!(rt; mark(&rt));

@@ -2,29 +2,19 @@
 
 use crate::handle_port::{HandlePort, Reported, judged};
 use locked_store::{SharedFault, SharedLedger};
-use reorganise::{PieceView, PreparedPiece, ViewFault, Work, prepare_piece};
+use reorganise::{PieceView, PreparedPiece, ViewFault, prepare_piece};
+use std::alloc::Global;
 use std::mem;
 use std::sync::Wait;
-use world::{BeginFault, PieceFault, ReadFault};
+use world::{BeginFault, PieceDone, PieceFault, ReadFault, Receipt};
 
-/// It begins at 30, in one piece.
-pub(crate) fn begins<L: SharedLedger, R: Wait>(port: &mut HandlePort<L, R>) -> Reported {
-    match port
-        .shared
-        .begin_reorg(port.rt, port.alloc, &mut port.me, 30, 2, 1)
-    {
+/// Whether it has begun.
+pub(crate) fn begun(answer: Result<Receipt, SharedFault<BeginFault>>) -> Reported {
+    match answer {
         Ok(_) => Reported::Right,
         Err(SharedFault::World(BeginFault::Memory)) => Reported::Short,
         Err(_) => Reported::Wrong,
     }
-}
-
-/// How it stands.
-pub(crate) fn stands<L: SharedLedger, R: Wait>(
-    port: &mut HandlePort<L, R>,
-    progress: Option<(Work, usize, bool)>,
-) -> Reported {
-    judged(port.shared.progress(port.rt, &mut port.me, 2) == Ok(progress))
 }
 
 // The one piece goes from the front of table 1 to that of table 2, and has the row's two pairs.
@@ -33,29 +23,18 @@ fn is_whole(view: &PieceView) -> bool {
     ends && view.pairs().len() == 2
 }
 
-// The first ten items of the piece.
-fn read<L: SharedLedger, R: Wait>(port: &mut HandlePort<L, R>) -> Result<PieceView, Reported> {
-    match port
-        .shared
-        .read_piece(port.rt, port.alloc, &mut port.me, 2, 0, 10)
-    {
-        Ok(view) => Ok(view),
-        Err(SharedFault::World(ReadFault::View(ViewFault::Memory))) => Err(Reported::Short),
-        Err(_) => Err(Reported::Wrong),
-    }
-}
-
-// What is prepared of them.
-fn prepared<L: SharedLedger, R: Wait>(
-    port: &mut HandlePort<L, R>,
+// What is prepared of the piece that was read.
+fn prepared(
+    alloc: Global,
+    answer: Result<PieceView, SharedFault<ReadFault>>,
 ) -> Result<PreparedPiece, Reported> {
-    let view = read(port)?;
-    if !is_whole(&view) {
-        return Err(Reported::Wrong);
-    }
-    match prepare_piece(port.alloc, view) {
-        Ok(piece) => Ok(piece),
-        Err(_) => Err(Reported::Short),
+    match answer {
+        Ok(view) if is_whole(&view) => match prepare_piece(alloc, view) {
+            Ok(piece) => Ok(piece),
+            Err(_) => Err(Reported::Short),
+        },
+        Err(SharedFault::World(ReadFault::View(ViewFault::Memory))) => Err(Reported::Short),
+        _ => Err(Reported::Wrong),
     }
 }
 
@@ -76,36 +55,32 @@ fn refused(
     }
 }
 
-// The piece ends with what is prepared of it, which comes back if memory was short.
-fn ends<L: SharedLedger, R: Wait>(
-    port: &mut HandlePort<L, R>,
+// The piece ends with what is prepared of it.
+fn ended(
+    answer: Result<PieceDone, (SharedFault<PieceFault>, PreparedPiece)>,
     back: &mut Option<PreparedPiece>,
-    piece: PreparedPiece,
 ) -> Reported {
-    match port
-        .shared
-        .commit_piece(port.rt, port.alloc, &mut port.me, 30, piece)
-    {
-        Ok(done) => {
-            let ended = done.ended;
-            drop(done);
-            judged(ended)
-        }
+    match answer {
+        Ok(done) => judged(done.ended),
         Err((fault, piece)) => refused(back, fault, piece),
     }
 }
 
-/// Its piece is committed: what came back, else what is read and prepared anew.
+/// Its piece is committed: what came back, else what is prepared anew of the first ten items.
 pub(crate) fn works<L: SharedLedger, R: Wait>(
     port: &mut HandlePort<L, R>,
     back: &mut Option<PreparedPiece>,
 ) -> Reported {
+    let (rt, alloc) = (port.rt, port.alloc);
     let piece = match back.take() {
-        Some(piece) => piece,
-        None => match prepared(port) {
-            Ok(piece) => piece,
-            Err(reported) => return reported,
-        },
+        Some(piece) => Ok(piece),
+        None => prepared(alloc, port.shared.read_piece(rt, alloc, port.me, 2, 0, 10)),
     };
-    ends(port, back, piece)
+    match piece {
+        Ok(piece) => ended(
+            port.shared.commit_piece(rt, alloc, port.me, 30, piece),
+            back,
+        ),
+        Err(reported) => reported,
+    }
 }

@@ -1,17 +1,15 @@
 //! Two threads over one world, which keep snapshots of it; a second world then repeats its log.
 ghost use Rattle.std.specs.Prelude.{◌≡◌, length};
 
-use crate::fixtures::{FIRST, insert, opened, whole_table};
-use crate::handle_port::{HandlePort, committed, prepared};
-use lease::Lease;
-use locked_store::{Handle, Missing, ReceiptFault, Shared, SharedLedger, reconcile};
-use row_write::{Prepared, RowOps, prepare, reads_of};
+use crate::fixtures::{FIRST, opened, prepared_in, whole_table};
+use crate::handle_port::{HandlePort, inserted};
+use locked_store::{Handle, Missing, ReceiptFault, Shared, SharedFault, SharedLedger, reconcile};
 use std::alloc::Global;
 use std::marker::Brand;
 use std::sync::Wait;
 use std::sync::ledger::Blank;
 use std::thread::{Threads, join};
-use world::{Committed, Entry, Grant, Receipt, Snapshot, What, World};
+use world::{Committed, Entry, Grant, GrantFault, Receipt, Snapshot, What, World};
 
 // A snapshot that a thread took, and how long the log then was.
 #[derive(Drop)]
@@ -21,89 +19,82 @@ struct Seen {
 }
 
 // What threads were given and what they kept.
-#[derive(Drop)]
 struct Found {
     receipts: Vec<Receipt>,
     seen: Vec<Seen>,
 }
 
-// The receipt of an insert.
-fn receipt_of<L: SharedLedger, R: Wait>(port: &mut HandlePort<L, R>, id: i64) -> Option<Receipt> {
-    let ops = insert(port.alloc, id, 7);
-    let work = prepared(port, ops).ok()?;
-    committed(port, &mut None, work).ok()
+// By hand, so that a caller's proof sees one call and not each field's.
+impl Drop for Found {
+    fn drop(self) {
+        let Found {
+            receipts: _,
+            seen: _,
+        } = self;
+    }
 }
 
 // A snapshot of what there is now.
 fn look<L: SharedLedger, R: Wait>(port: &mut HandlePort<L, R>) -> Option<Seen> {
-    let snapshot = port.shared.snapshot(port.rt, &mut port.me, 0, &FIRST).ok()?;
+    let snapshot = port.shared.snapshot(port.rt, port.me, 0, &FIRST).ok()?;
     let front = port.me.front();
     Some(Seen { front, snapshot })
 }
 
-// One insert, and a snapshot of what there then is.
-fn insert_and_look<L: SharedLedger, R: Wait>(
-    port: &mut HandlePort<L, R>,
-    found: &mut Found,
-    id: i64,
-) -> Option<()> {
-    found.receipts.push(receipt_of(port, id)?).ok()?;
-    found.seen.push(look(port)?).ok()
-}
-
-// The receipt of a lease.
-fn lease_of<L: SharedLedger, R: Wait>(port: &mut HandlePort<L, R>) -> Option<Receipt> {
-    let grant = port
-        .shared
-        .lease(port.rt, port.alloc, &mut port.me, 0)
-        .ok()?;
+// Keeps the receipt of a lease.
+fn keep_lease(found: &mut Found, answer: Result<Grant, SharedFault<GrantFault>>) -> Option<()> {
     let Grant {
         lease: _,
         schema: _,
         receipt,
-    } = grant;
-    Some(receipt)
+    } = answer.ok()?;
+    found.receipts.push(receipt).ok()
+}
+
+// Keeps the receipt of an insert, and a snapshot of what there then is.
+fn keep(found: &mut Found, receipt: Option<Receipt>, seen: Option<Seen>) -> Option<()> {
+    found.receipts.push(receipt?).ok()?;
+    found.seen.push(seen?).ok()
 }
 
 // A lease, and a hundred inserts from this key on.
 fn inserts<L: SharedLedger, R: Wait>(
     port: &mut HandlePort<L, R>,
-    from: i64,
-    to: i64,
-) -> Option<Found> {
-    let mut found = Found {
-        receipts: Vec::new(port.alloc),
-        seen: Vec::new(port.alloc),
-    };
-    found.receipts.push(lease_of(port)?).ok()?;
-    for id in from..to {
-        insert_and_look(port, &mut found, id)?;
+    found: &mut Found,
+    keys: (i64, i64),
+) -> Option<()> {
+    let lease = port.shared.lease(port.rt, port.alloc, port.me, 0);
+    keep_lease(found, lease)?;
+    for id in keys.0..keys.1 {
+        let receipt = inserted(port, id, 7);
+        keep(found, receipt, look(port))?;
     }
-    Some(found)
+    Some(())
 }
 
 // The same through a handle that is handed in, and comes back.
-fn worked<L: SharedLedger, R: Wait>(
-    rt: &R,
+fn worked<'a, L: SharedLedger, R: Wait>(
+    rt: &'a R,
     alloc: Global,
-    shared: &Shared<L>,
+    shared: &'a Shared<L>,
     me: Handle<L>,
-    from: i64,
-    to: i64,
+    keys: (i64, i64),
 ) -> (Handle<L>, Option<Found>) {
+    let mut me = me;
     let mut port = HandlePort {
         rt,
         alloc,
         shared,
-        me,
+        me: &mut me,
     };
-    let found = inserts(&mut port, from, to);
-    let HandlePort {
-        rt: _,
-        alloc: _,
-        shared: _,
-        me,
-    } = port;
+    let mut found = Found {
+        receipts: Vec::new(alloc),
+        seen: Vec::new(alloc),
+    };
+    let found = match inserts(&mut port, &mut found, keys) {
+        Some(()) => Some(found),
+        None => None,
+    };
     (me, found)
 }
 
@@ -124,11 +115,8 @@ fn both(first: Option<Found>, second: Option<Found>) -> Option<Found> {
 }
 
 // The world comes back only with both handles.
-fn closed<L: SharedLedger>(
-    shared: Shared<L>,
-    handles: Vec<Handle<L>>,
-    last: Handle<L>,
-) -> Option<World> {
+fn closed<L: SharedLedger>(shared: Shared<L>, mut handles: Vec<Handle<L>>) -> Option<World> {
+    let last = handles.pop()?;
     let Err((missing, shared, mut handles)) = shared.close(handles) else {
         return None;
     };
@@ -144,15 +132,19 @@ fn at_once<L: SharedLedger + Send + Sync, R: Threads + Wait + Sync>(
     rt: &R,
     alloc: Global,
     shared: &Shared<L>,
-    first: Handle<L>,
-    second: Handle<L>,
-) -> (Handle<L>, Handle<L>, Option<Found>) {
+    handles: &mut Vec<Handle<L>>,
+) -> Option<Found> {
+    let first = handles.pop()?;
+    let second = handles.pop()?;
     let ((first, a), (second, b)) = join(
         rt,
-        move || worked(rt, alloc, shared, first, 0, 100),
-        move || worked(rt, alloc, shared, second, 100, 200),
+        move || worked(rt, alloc, shared, first, (0, 100)),
+        move || worked(rt, alloc, shared, second, (100, 200)),
     );
-    (first, second, both(a, b))
+    let found = both(a, b);
+    handles.push(first).ok()?;
+    handles.push(second).ok()?;
+    found
 }
 
 fn two_at_once<L: SharedLedger + Send + Sync, R: Threads + Wait + Sync>(
@@ -166,37 +158,23 @@ fn two_at_once<L: SharedLedger + Send + Sync, R: Threads + Wait + Sync>(
     requires picked { (L.handles ≡ 2) × (L.handles ≡ L.parts) × (L.opening ≡ world.opening) × (L.since ≡ length world.log) }
 {
     let (shared, mut handles) = Shared::<L>::new(alloc, blank, world, 2).ok()?;
-    let second = handles.pop()?;
-    let first = handles.pop()?;
-    let (first, second, found) = at_once(rt, alloc, &shared, first, second);
-    handles.push(first).ok()?;
-    let world = closed(shared, handles, second)?;
+    let found = at_once(rt, alloc, &shared, &mut handles);
+    let world = closed(shared, handles)?;
     Some((world, found?))
 }
 
-// A transaction prepared again, under its own lease.
-fn prepared_again(alloc: Global, world: &World, lease: Lease, ops: &RowOps) -> Option<Prepared> {
-    let schema = world.schema(lease.version)?.clone().ok()?;
-    let keys = reads_of(alloc, schema.get(), ops.as_slice()).ok()?;
-    let view = world.read(alloc, &keys).ok()?;
-    prepare(alloc, schema, lease, ops.clone().ok()?, view).ok()
-}
-
-// The call of an entry again.
-fn repeat(alloc: Global, world: &mut World, entry: &Entry) -> Option<()> {
+// Whether the call of an entry is accepted again.
+fn is_repeated(alloc: Global, world: &mut World, entry: &Entry) -> bool {
     match entry.what.get() {
-        What::Lease(_) => match world.lease(alloc, entry.moment) {
-            Ok(_) => Some(()),
-            Err(_) => None,
+        What::Lease(_) => world.lease(alloc, entry.moment).is_ok(),
+        What::Txn(lease, ops) => match prepared_in(alloc, world, *lease, ops.get()) {
+            Some(work) => matches!(
+                world.commit(alloc, entry.moment, work),
+                Ok(Committed::Done(_))
+            ),
+            None => false,
         },
-        What::Txn(lease, ops) => {
-            let work = prepared_again(alloc, world, *lease, ops.get())?;
-            match world.commit(alloc, entry.moment, work) {
-                Ok(Committed::Done(_)) => Some(()),
-                _ => None,
-            }
-        }
-        _ => None,
+        _ => false,
     }
 }
 
@@ -222,14 +200,13 @@ fn are_seen_again(alloc: Global, world: &World, seen: &[Seen]) -> bool {
 
 // A second world repeats the log entry by entry, and answers at each front what the snapshot that
 // was taken there does, after all commits of both threads.
-fn repeats(alloc: Global, again: &mut World, log: &[Entry], seen: &[Seen]) -> Option<bool> {
+fn repeats(alloc: Global, again: &mut World, log: &[Entry], seen: &[Seen]) -> bool {
     for entry in log {
-        repeat(alloc, again, entry)?;
-        if !are_seen_again(alloc, again, seen) {
-            return Some(false);
+        if !is_repeated(alloc, again, entry) || !are_seen_again(alloc, again, seen) {
+            return false;
         }
     }
-    Some(true)
+    true
 }
 
 // The receipts are the whole of both logs: 202 entries, each with its receipt.
@@ -259,7 +236,7 @@ fn fault_of(
 ) -> Option<ReceiptFault> {
     receipts.push(more).ok()?;
     let fault = reconcile(alloc, world, receipts.as_slice()).err();
-    let _more = receipts.pop();
+    drop(receipts.pop());
     fault
 }
 
@@ -267,21 +244,23 @@ fn fault_of(
 fn are_faults_found(alloc: Global, world: &World, receipts: &mut Vec<Receipt>) -> Option<bool> {
     let place = receipts.get(7)?.place;
     let past = place.checked_add(202)?;
-    let twice = altered(receipts.as_slice(), 0, 0)?;
-    let other = altered(receipts.as_slice(), 0, 1)?;
-    let none = altered(receipts.as_slice(), 202, 0)?;
-    Some(
-        fault_of(alloc, world, receipts, twice) == Some(ReceiptFault::Twice { place })
-            && fault_of(alloc, world, receipts, other) == Some(ReceiptFault::OtherEntry { place })
-            && fault_of(alloc, world, receipts, none)
-                == Some(ReceiptFault::NoPlace { place: past }),
-    )
+    for (places, moments, fault) in [
+        (0, 0, ReceiptFault::Twice { place }),
+        (0, 1, ReceiptFault::OtherEntry { place }),
+        (202, 0, ReceiptFault::NoPlace { place: past }),
+    ] {
+        let more = altered(receipts.as_slice(), places, moments)?;
+        if fault_of(alloc, world, receipts, more) != Some(fault) {
+            return Some(false);
+        }
+    }
+    Some(true)
 }
 
 fn agrees(alloc: Global, world: &World, found: &Found) -> bool {
-    match opened(alloc) {
+    match opened(alloc, &["a"]) {
         Ok(mut again) => {
-            repeats(alloc, &mut again, world.log(), found.seen.as_slice()) == Some(true)
+            repeats(alloc, &mut again, world.log(), found.seen.as_slice())
                 && found.seen.len() == 200
                 && is_same_log(alloc, world, &again, found.receipts.as_slice())
         }
@@ -292,7 +271,7 @@ fn agrees(alloc: Global, world: &World, found: &Found) -> bool {
 #[test]
 fn a_second_world_repeats_two_threads(rt: HostRuntime) {
     let alloc = rt.alloc();
-    let Ok(world) = opened(alloc) else {
+    let Ok(world) = opened(alloc, &["a"]) else {
         panic!(rt; "no world");
     };
     let Some((world, mut found)) = two_at_once::<Brand, _>(&rt, alloc, Blank::new(2), world) else {

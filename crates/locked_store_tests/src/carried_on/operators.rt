@@ -1,7 +1,8 @@
 //! One operator goes on where another stopped, after an element was abandoned in mid-course; also
 //! if a call is out of memory.
 
-use crate::carried_on::fixtures::{is_whole, mark, states, with_changes};
+use crate::carried_on::fixtures::{is_whole, states, with_changes};
+use crate::fixtures::mark;
 use collections::List;
 use rollout::{AdvanceFault, advance, complete};
 use schema_version::{ElementState, Move};

@@ -41,20 +41,30 @@ fn requests(alloc: Global) -> Result<Vec<Request>, AllocError> {
     Ok(all)
 }
 
-// An operator that completes all changes, with its receipts; None if it was refused.
+// An operator that completes all changes, in so many pieces of so many items, with its receipts;
+// None if it was refused.
 fn operated<L: SharedLedger, R: Wait>(
     rt: &R,
     alloc: Global,
     shared: &Shared<L>,
     me: Handle<L>,
-    pieces: u32,
-    limit: u32,
-) -> Option<(Handle<L>, Vec<Receipt>)> {
+    pace: (u32, u32),
+) -> (Handle<L>, Option<Vec<Receipt>>) {
     let mut me = me;
     let mut receipts = Vec::new(alloc);
     let (kept, now) = (&mut receipts, 10);
-    complete(rt, alloc, shared, &mut me, kept, now, pieces, limit, TRIES).ok()?;
-    Some((me, receipts))
+    match complete(rt, alloc, shared, &mut me, kept, now, pace.0, pace.1, TRIES) {
+        Ok(_) => (me, Some(receipts)),
+        Err(_) => (me, None),
+    }
+}
+
+// All receipts, if neither was refused.
+fn united(one: Option<Vec<Receipt>>, other: Option<Vec<Receipt>>) -> Option<Vec<Receipt>> {
+    let mut all = one?;
+    let mut more = other?;
+    all.append(&mut more).ok()?;
+    Some(all)
 }
 
 // Both operators at once.
@@ -63,20 +73,15 @@ fn both<L: SharedLedger + Send + Sync, R: Threads + Wait + Sync>(
     alloc: Global,
     shared: &Shared<L>,
     operators: (Handle<L>, Handle<L>),
-    pieces: u32,
-    limit: u32,
-) -> Option<Done<L>> {
+    pace: (u32, u32),
+) -> (Handle<L>, Handle<L>, Option<Vec<Receipt>>) {
     let (one, other) = operators;
-    let (one, other) = join(
+    let ((one, receipts), (other, more)) = join(
         rt,
-        move || operated(rt, alloc, shared, one, pieces, limit),
-        move || operated(rt, alloc, shared, other, pieces, limit),
+        move || operated(rt, alloc, shared, one, pace),
+        move || operated(rt, alloc, shared, other, pace),
     );
-    let (one, mut receipts) = one?;
-    let (other, mut more) = other?;
-    receipts.append(&mut more).ok()?;
-    let handles = vec![in alloc; one, other].ok()?;
-    Some(Done { handles, receipts })
+    (one, other, united(receipts, more))
 }
 
 // The receipts of all requests and leases; None if a request was not committed.
@@ -107,27 +112,25 @@ fn at_once<L: SharedLedger + Send + Sync, R: Threads + Wait + Sync>(
     servers: Vec<Handle<L>>,
     operators: (Handle<L>, Handle<L>),
     requests: &[Request],
-    pieces: u32,
-    limit: u32,
+    pace: (u32, u32),
 ) -> Option<Done<L>> {
-    let (served, done) = join(
+    let (served, (one, other, done)) = join(
         rt,
         move || serve(rt, alloc, shared, servers, requests, TRIES, &FreeGate),
-        move || both(rt, alloc, shared, operators, pieces, limit),
+        move || both(rt, alloc, shared, operators, pace),
     );
     let Served {
         outcomes,
         mut handles,
         receipts: leases,
     } = served.ok()?;
-    let Done {
-        handles: mut others,
-        mut receipts,
-    } = done?;
-    handles.append(&mut others).ok()?;
-    let mut more = receipts_of(alloc, outcomes, leases)?;
-    receipts.append(&mut more).ok()?;
-    Some(Done { handles, receipts })
+    let receipts = united(done, receipts_of(alloc, outcomes, leases));
+    handles.push(one).ok()?;
+    handles.push(other).ok()?;
+    Some(Done {
+        handles,
+        receipts: receipts?,
+    })
 }
 
 // The world that comes back, with all receipts since it was shared.
@@ -137,8 +140,7 @@ fn driven<L: SharedLedger + Send + Sync, R: Threads + Wait + Sync>(
     blank: Blank,
     world: World,
     requests: &[Request],
-    pieces: u32,
-    limit: u32,
+    pace: (u32, u32),
 ) -> Option<(World, Vec<Receipt>)>
     requires name { blank.name ≡ L.name }
     requires parts { blank.parts ≡ L.parts }
@@ -147,7 +149,7 @@ fn driven<L: SharedLedger + Send + Sync, R: Threads + Wait + Sync>(
     let (shared, mut servers) = Shared::<L>::new(alloc, blank, world, 6).ok()?;
     let operators = (servers.pop()?, servers.pop()?);
     let Done { handles, receipts } = at_once(
-        rt, alloc, &shared, servers, operators, requests, pieces, limit,
+        rt, alloc, &shared, servers, operators, requests, pace,
     )?;
     Some((shared.close(handles).ok()?, receipts))
 }
@@ -167,20 +169,15 @@ fn acts_in(world: &World) -> (u32, usize) {
 
 // One round: all changes are completed, and each is begun once, and each element moves once along
 // each edge.
-fn round<R: Threads + Wait + Sync>(rt: &R, alloc: Global, pieces: u32, limit: u32) -> Option<bool> {
+fn round<R: Threads + Wait + Sync>(rt: &R, alloc: Global, pace: (u32, u32)) -> Option<bool> {
     use ElementState::{Absent, Public};
     let world = with_changes(alloc)?;
     let since = world.log().len();
     let all = requests(alloc).ok()?;
-    let (world, receipts) = driven::<Brand, R>(
-        rt,
-        alloc,
-        Blank::new(6),
-        world,
-        all.as_slice(),
-        pieces,
-        limit,
-    )?;
+    let requests = all.as_slice();
+    let driven = driven::<Brand, R>(rt, alloc, Blank::new(6), world, requests, pace);
+    drop(all);
+    let (world, receipts) = driven?;
     let is_counted = since.checked_add(receipts.len()) == Some(world.log().len());
     let is_logged = reconcile(alloc, &world, receipts.as_slice()).is_ok();
     let is_done = states(&world) == (Absent, Public, Public) && is_whole(alloc, &world, 17);
@@ -190,10 +187,7 @@ fn round<R: Threads + Wait + Sync>(rt: &R, alloc: Global, pieces: u32, limit: u3
 #[test]
 fn two_operators_and_four_servers(rt: HostRuntime) {
     for seed in 0..50u32 {
-        let (pieces, limit) = (1 + seed % 5, 1 + seed % 3);
-        assert!(rt;
-            round(&rt, rt.alloc(), pieces, limit) == Some(true),
-            "{seed}"
-        );
+        let pace = (1 + seed % 5, 1 + seed % 3);
+        assert!(rt; round(&rt, rt.alloc(), pace) == Some(true), "{seed}");
     }
 }

@@ -7,15 +7,25 @@ use schema_version::ElementState;
 use std::alloc::Global;
 use world::World;
 
-// The next act but for pieces, and its element, version or moment.
+// An act but for pieces, and its element, version or moment.
+fn act_of(advanced: &Advanced) -> Option<(&'static str, u64)> {
+    match advanced {
+        Advanced::Began { element, .. } => Some(("begin", *element as u64)),
+        Advanced::Published { version, .. } => Some(("publish", *version)),
+        Advanced::Worked { .. } => None,
+        Advanced::Waiting { until } => Some(("wait", *until)),
+        Advanced::Finished => Some(("finished", 0)),
+    }
+}
+
+// The next one.
 fn next_act(alloc: Global, world: &mut World, moment: u64) -> Option<(&'static str, u64)> {
     for _pieces in 0..20u32 {
-        match advance(alloc, world, moment, 2, 2).ok()? {
-            Advanced::Began { element, .. } => return Some(("begin", element as u64)),
-            Advanced::Published { version, .. } => return Some(("publish", version)),
-            Advanced::Worked { .. } => {}
-            Advanced::Waiting { until } => return Some(("wait", until)),
-            Advanced::Finished => return Some(("finished", 0)),
+        let advanced = advance(alloc, world, moment, 2, 2).ok()?;
+        let act = act_of(&advanced);
+        drop(advanced);
+        if act.is_some() {
+            return act;
         }
     }
     None
