@@ -19,8 +19,10 @@ pub(crate) fn begun(answer: Result<Receipt, SharedFault<BeginFault>>) -> Reporte
 
 // The one piece goes from the front of table 1 to that of table 2, and has the row's two pairs.
 fn is_whole(view: &PieceView) -> bool {
-    let ends = matches!(view.cursors(), ([82, 0, 0, 0, 1], [82, 0, 0, 0, 2]));
-    ends && view.pairs().len() == 2
+    let (cursor, end) = view.cursors();
+    let is_between = cursor == [82u8, 0, 0, 0, 1].as_slice()
+        && end == [82u8, 0, 0, 0, 2].as_slice();
+    is_between && view.pairs().len() == 2
 }
 
 // What is prepared of the piece that was read.

@@ -4,13 +4,11 @@ use crate::carried_on::fixtures::{states, with_changes};
 use lease::MAX_MOMENT;
 use rollout::{AdvanceFault, advance, complete};
 use schema_version::ElementState;
+use std::alloc::Global;
+use world::World;
 
-#[test]
-fn bad_numbers_are_refused(rt: HostRuntime) {
-    let alloc = rt.alloc();
-    let Some(mut world) = with_changes(alloc) else {
-        panic!(rt; "no world");
-    };
+// Whether both calls refuse each row's moment, pieces and limit by its fault, and change nothing.
+fn are_refused(alloc: Global, world: &mut World) -> bool {
     let entries = world.log().len();
     let late = MAX_MOMENT + 1;
     for (moment, pieces, limit, fault) in [
@@ -20,10 +18,21 @@ fn bad_numbers_are_refused(rt: HostRuntime) {
         (late, 64, 1_001, AdvanceFault::BadCount),
         (late, 64, 1_000, AdvanceFault::MomentTooLarge),
     ] {
-        assert!(rt; advance(alloc, &mut world, moment, pieces, limit).err() == Some(fault));
-        assert!(rt; complete(alloc, &mut world, moment, pieces, limit) == Err(fault));
+        let one = advance(alloc, world, moment, pieces, limit).err();
+        if one != Some(fault) || complete(alloc, world, moment, pieces, limit) != Err(fault) {
+            return false;
+        }
     }
-    assert!(rt; world.log().len() == entries);
+    world.log().len() == entries
+}
+
+#[test]
+fn bad_numbers_are_refused(rt: HostRuntime) {
+    let alloc = rt.alloc();
+    let Some(mut world) = with_changes(alloc) else {
+        panic!(rt; "no world");
+    };
+    assert!(rt; are_refused(alloc, &mut world));
     // From here on each version has to wait for a moment that is too large: the first one is
     // published, and no other.
     assert!(rt; complete(alloc, &mut world, MAX_MOMENT, 1, 1) == Err(AdvanceFault::MomentTooLarge));

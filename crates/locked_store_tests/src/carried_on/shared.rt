@@ -104,6 +104,27 @@ fn receipts_of(
     Some(all)
 }
 
+// All handles and receipts.
+fn gathered<L: SharedLedger>(
+    alloc: Global,
+    served: Served<L>,
+    operators: (Handle<L>, Handle<L>),
+    done: Option<Vec<Receipt>>,
+) -> Option<Done<L>> {
+    let Served {
+        outcomes,
+        mut handles,
+        receipts: leases,
+    } = served;
+    let receipts = united(done, receipts_of(alloc, outcomes, leases));
+    handles.push(operators.0).ok()?;
+    handles.push(operators.1).ok()?;
+    Some(Done {
+        handles,
+        receipts: receipts?,
+    })
+}
+
 // The servers beside the operators.
 fn at_once<L: SharedLedger + Send + Sync, R: Threads + Wait + Sync>(
     rt: &R,
@@ -119,18 +140,10 @@ fn at_once<L: SharedLedger + Send + Sync, R: Threads + Wait + Sync>(
         move || serve(rt, alloc, shared, servers, requests, TRIES, &FreeGate),
         move || both(rt, alloc, shared, operators, pace),
     );
-    let Served {
-        outcomes,
-        mut handles,
-        receipts: leases,
-    } = served.ok()?;
-    let receipts = united(done, receipts_of(alloc, outcomes, leases));
-    handles.push(one).ok()?;
-    handles.push(other).ok()?;
-    Some(Done {
-        handles,
-        receipts: receipts?,
-    })
+    match served {
+        Ok(served) => gathered(alloc, served, (one, other), done),
+        Err(_) => None,
+    }
 }
 
 // The world that comes back, with all receipts since it was shared.

@@ -31,39 +31,43 @@ fn next_act(alloc: Global, world: &mut World, moment: u64) -> Option<(&'static s
     None
 }
 
+// What is done in turn, and its element, version or moment.
+static ACTS: [(&str, u64); 10] = [
+    ("wait", 20),
+    ("begin", 2),
+    ("publish", 3),
+    ("wait", 30),
+    ("begin", 3),
+    ("begin", 4),
+    ("publish", 4),
+    ("wait", 40),
+    ("publish", 5),
+    ("finished", 0),
+];
+
+// How many of the acts are done as they have to be, up to the first that is not.
+fn walked(alloc: Global, world: &mut World) -> usize {
+    let mut moment = 10u64;
+    for (place, (what, number)) in ACTS.iter().enumerate() {
+        if next_act(alloc, world, moment) != Some((*what, *number)) {
+            return place;
+        }
+        if *what == "wait" {
+            moment = *number;
+        }
+    }
+    ACTS.len()
+}
+
 #[test]
 fn changes_go_on_side_by_side(rt: HostRuntime) {
+    use ElementState::{Absent, Public};
     let alloc = rt.alloc();
     let Some(mut world) = with_changes(alloc) else {
         panic!(rt; "no world");
     };
-    let mut moment = 10u64;
-    let acts = [
-        ("wait", 20u64),
-        ("begin", 2),
-        ("publish", 3),
-        ("wait", 30),
-        ("begin", 3),
-        ("begin", 4),
-        ("publish", 4),
-        ("wait", 40),
-        ("publish", 5),
-        ("finished", 0),
-    ];
-    for (what, number) in acts {
-        let act = next_act(alloc, &mut world, moment);
-        assert!(rt; act == Some((what, number)), "{what} {number}");
-        if what == "wait" {
-            moment = number;
-        }
-    }
-    assert!(rt;
-        states(&world)
-            == (
-                ElementState::Absent,
-                ElementState::Public,
-                ElementState::Public
-            )
-    );
+    let right = walked(alloc, &mut world);
+    assert!(rt; right == ACTS.len(), "act {right}");
+    assert!(rt; states(&world) == (Absent, Public, Public));
     assert!(rt; is_whole(alloc, &world, 5));
 }
