@@ -4,8 +4,9 @@ ghost use Rattle.std.specs.Prelude.{◌≡◌, length};
 
 use crate::fills::filling;
 use crate::table::update;
+use collections::List;
 use locked_store::{Handle, Shared, SharedLedger};
-use reorganise_workers::{PieceEnd, Reorganised, reorganise_all};
+use reorganise_workers::{PieceEnd, ReorganiseFault, Reorganised, reorganise_all};
 use server::{Request, Served, serve};
 use std::alloc::Global;
 use std::marker::Brand;
@@ -14,7 +15,7 @@ use std::sync::atomic::{AtomicU64, Ordering};
 use std::sync::ledger::Blank;
 use std::thread::{Threads, join};
 use tasks::{FreeGate, Gate};
-use world::World;
+use world::{Receipt, World};
 
 // Whether a row was updated, and whether the piece has its end. The piece starts after the first
 // update.
@@ -56,18 +57,31 @@ fn updated<L: SharedLedger + Send + Sync, R: Threads + Wait + Sync>(
 }
 
 // Whether the piece was given up, or finished, which takes a commit; None for any other end.
-fn is_given_up<L: SharedLedger>(done: &Reorganised<L>, tries: u32) -> Option<bool> {
-    let [receipts] = done.receipts.as_slice() else {
-        return None;
-    };
-    let [(_, end)] = done.ends.as_slice() else {
-        return None;
-    };
-    match end {
-        PieceEnd::Finished if receipts.len() > 0 => Some(false),
-        PieceEnd::Busy { tries: failed } if *failed == tries => Some(true),
+fn is_given_up(ends: &[(usize, PieceEnd)], receipts: &[List<Receipt>], tries: u32) -> Option<bool> {
+    match (ends, receipts) {
+        ([(_, PieceEnd::Finished)], [receipts]) if receipts.len() > 0 => Some(false),
+        ([(_, PieceEnd::Busy { tries: failed })], [_]) if *failed == tries => Some(true),
         _ => None,
     }
+}
+
+// Both handles, and whether the piece was given up.
+fn gathered<L: SharedLedger>(
+    writer: Option<Vec<Handle<L>>>,
+    done: Result<Reorganised<L>, (ReorganiseFault, Vec<Handle<L>>)>,
+    tries: u32,
+) -> Option<(Vec<Handle<L>>, Option<bool>)> {
+    let mut handles = writer?;
+    let Reorganised {
+        ends,
+        handles: mut last,
+        receipts,
+    } = done.ok()?;
+    let is_busy = is_given_up(ends.as_slice(), receipts.as_slice(), tries);
+    drop(ends);
+    drop(receipts);
+    handles.append(&mut last).ok()?;
+    Some((handles, is_busy))
 }
 
 // One handle updates rows, while the other works on the piece.
@@ -78,23 +92,19 @@ fn at_once<L: SharedLedger + Send + Sync, R: Threads + Wait + Sync>(
     handles: (Vec<Handle<L>>, Vec<Handle<L>>),
     requests: &[Request],
     tries: u32,
-    contest: &Contest,
-) -> Option<(Vec<Handle<L>>, bool)> {
+) -> Option<(Vec<Handle<L>>, Option<bool>)> {
     let (writer, worker) = handles;
+    let contest = Contest {
+        updated: AtomicU64::new(0),
+        ended: AtomicU64::new(0),
+    };
+    let contest = &contest;
     let (writer, done) = join(
         rt,
         move || updated(rt, alloc, shared, writer, requests, contest),
         move || reorganise_all(rt, alloc, shared, worker, 30, 2, 1_000, tries, contest),
     );
-    let mut handles = writer?;
-    let done = done.ok()?;
-    let is_busy = is_given_up(&done, tries)?;
-    let Reorganised {
-        handles: mut last,
-        ..
-    } = done;
-    handles.append(&mut last).ok()?;
-    Some((handles, is_busy))
+    gathered(writer, done, tries)
 }
 
 fn contended<L: SharedLedger + Send + Sync, R: Threads + Wait + Sync>(
@@ -104,19 +114,15 @@ fn contended<L: SharedLedger + Send + Sync, R: Threads + Wait + Sync>(
     world: World,
     requests: &[Request],
     tries: u32,
-) -> Option<(World, bool)>
+) -> Option<(World, Option<bool>)>
     requires name { blank.name ≡ L.name }
     requires parts { blank.parts ≡ L.parts }
     requires picked { (L.handles ≡ 2) × (L.handles ≡ L.parts) × (L.opening ≡ world.opening) × (L.since ≡ length world.log) }
 {
     let (shared, mut writer) = Shared::<L>::new(alloc, blank, world, 2).ok()?;
     let worker = vec![in alloc; writer.pop()?].ok()?;
-    let contest = Contest {
-        updated: AtomicU64::new(0),
-        ended: AtomicU64::new(0),
-    };
     let handles = (writer, worker);
-    let (handles, is_busy) = at_once(rt, alloc, &shared, handles, requests, tries, &contest)?;
+    let (handles, is_busy) = at_once(rt, alloc, &shared, handles, requests, tries)?;
     Some((shared.close(handles).ok()?, is_busy))
 }
 
@@ -132,7 +138,8 @@ fn updates_of(alloc: Global, rows: u32, updates: i64) -> Option<Vec<Request>> {
 
 // Whether the piece was given up, if the world has its rows and one piece, and the fill has ended
 // just if it was not.
-fn outcome(alloc: Global, world: &World, rows: u32, is_busy: bool) -> Option<bool> {
+fn outcome(alloc: Global, world: &World, rows: u32, is_busy: Option<bool>) -> Option<bool> {
+    let is_busy = is_busy?;
     let (_, pieces, ended) = world.progress(2)?;
     let found = world.check(alloc).ok()?;
     if pieces == 1 && ended != is_busy && found.rows == u64::from(rows) && found.extra == 0 {

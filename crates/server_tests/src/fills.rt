@@ -39,10 +39,14 @@ pub(crate) fn turning(alloc: Global) -> Result<Step, AllocError> {
 
 // Whether a row is inserted.
 fn is_inserted(alloc: Global, port: &mut Stubborn, id: i64) -> bool {
-    match insert(alloc, id) {
-        Ok(request) => matches!(outcome_of(alloc, port, &request, 1), Some(Outcome::Done(_))),
-        Err(AllocError) => false,
-    }
+    let Ok(request) = insert(alloc, id) else {
+        return false;
+    };
+    let outcome = outcome_of(alloc, port, &request, 1);
+    drop(request);
+    let is_done = matches!(&outcome, Some(Outcome::Done(_)));
+    drop(outcome);
+    is_done
 }
 
 // A world with the rows from 0 on, each after a lease of its own.
@@ -57,23 +61,30 @@ fn with_rows(alloc: Global, rows: i64) -> Option<World> {
 }
 
 // Whether a step is published.
-fn is_published(alloc: Global, world: &mut World, moment: u64, step: &Step) -> bool {
-    world.publish(alloc, moment, step).is_ok()
+fn is_published(
+    alloc: Global,
+    world: &mut World,
+    moment: u64,
+    step: Result<Step, AllocError>,
+) -> bool {
+    match step {
+        Ok(step) => world.publish(alloc, moment, &step).is_ok(),
+        Err(AllocError) => false,
+    }
 }
 
 // Whether the index enters, and its fill begins in so many pieces.
-fn begins(alloc: Global, world: &mut World, steps: &(Step, Step), pieces: u32) -> bool {
-    is_published(alloc, world, 10, &steps.0)
-        && is_published(alloc, world, 20, &steps.1)
+fn begins(alloc: Global, world: &mut World, pieces: u32) -> bool {
+    is_published(alloc, world, 10, entering(alloc))
+        && is_published(alloc, world, 20, writing(alloc))
         && world.begin_reorg(alloc, 30, 2, pieces).is_ok()
 }
 
 /// A world with so many rows, whose index i, element 2, is write-only from 20 on and has its fill
 /// begun at 30 in so many pieces: two entries for each row and three more.
 pub(crate) fn filling(alloc: Global, rows: i64, pieces: u32) -> Option<World> {
-    let steps = (entering(alloc).ok()?, writing(alloc).ok()?);
     let mut world = with_rows(alloc, rows)?;
-    if begins(alloc, &mut world, &steps, pieces) {
+    if begins(alloc, &mut world, pieces) {
         Some(world)
     } else {
         None

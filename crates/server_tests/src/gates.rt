@@ -72,17 +72,21 @@ impl Gate for Together {
     fn answered(&self, _number: usize) {}
 }
 
-// How many of the outcomes are committed, each with the receipt of a transaction, and what came
-// back beside them: handles, receipts of leases, entries of the log, rows of the store.
-fn counted(alloc: Global, served: &[(usize, Outcome)], world: &World) -> Option<[u64; 3]> {
+// How many of the outcomes are committed, each with the receipt of a transaction.
+fn dones(served: &[(usize, Outcome)]) -> Option<u64> {
     let mut done = 0u64;
     for (_, outcome) in served {
         if let Outcome::Done(_) = outcome {
             done = done.checked_add(1)?;
         }
     }
+    Some(done)
+}
+
+// They, the rows of the store and the entries of the log.
+fn counted(alloc: Global, done: Option<u64>, world: &World) -> Option<[u64; 3]> {
     let rows = world.check(alloc).ok()?.rows;
-    Some([done, rows, world.log().len() as u64])
+    Some([done?, rows, world.log().len() as u64])
 }
 
 // Two inserts by two servers through a gate: committed outcomes, rows, entries of the log.
@@ -102,10 +106,13 @@ fn serves<L: SharedLedger + Send + Sync, G: Gate + Sync, R: Threads + Wait + Syn
     let Served {
         outcomes,
         handles,
-        receipts: _,
+        receipts,
     } = serve(rt, alloc, &shared, handles, requests, 1_000, gate).ok()?;
+    drop(receipts);
+    let done = dones(outcomes.as_slice());
+    drop(outcomes);
     let world = shared.close(handles).ok()?;
-    counted(alloc, outcomes.as_slice(), &world)
+    counted(alloc, done, &world)
 }
 
 fn two_inserts(alloc: Global) -> Option<(World, Vec<Request>)> {
@@ -116,25 +123,23 @@ fn two_inserts(alloc: Global) -> Option<(World, Vec<Request>)> {
     Some((world, requests))
 }
 
+// What is found after two inserts through a gate.
+fn found<G: Gate + Sync, R: Threads + Wait + Sync>(
+    rt: &R,
+    alloc: Global,
+    gate: &G,
+) -> Option<[u64; 3]> {
+    let (world, requests) = two_inserts(alloc)?;
+    serves::<Brand, G, R>(rt, alloc, Blank::new(2), world, requests.as_slice(), gate)
+}
+
 // Both are committed, and each server took a lease: two rows, four entries.
 #[test]
 fn one_request_waits_for_the_other(rt: HostRuntime) {
-    let alloc = rt.alloc();
-    let Some((world, requests)) = two_inserts(alloc) else {
-        panic!(rt; "no world");
-    };
-    let gate = Behind::new();
-    let found = serves::<Brand, _, _>(&rt, alloc, Blank::new(2), world, requests.as_slice(), &gate);
-    assert!(rt; found == Some([2, 2, 4]));
+    assert!(rt; found(&rt, rt.alloc(), &Behind::new()) == Some([2, 2, 4]));
 }
 
 #[test]
 fn two_requests_run_at_once(rt: HostRuntime) {
-    let alloc = rt.alloc();
-    let Some((world, requests)) = two_inserts(alloc) else {
-        panic!(rt; "no world");
-    };
-    let gate = Together::new();
-    let found = serves::<Brand, _, _>(&rt, alloc, Blank::new(2), world, requests.as_slice(), &gate);
-    assert!(rt; found == Some([2, 2, 4]));
+    assert!(rt; found(&rt, rt.alloc(), &Together::new()) == Some([2, 2, 4]));
 }

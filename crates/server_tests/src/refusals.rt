@@ -71,10 +71,9 @@ fn all_served<L: SharedLedger + Send + Sync, G: Gate + Sync, R: Threads + Wait +
 ) -> Option<Vec<Handle<L>>> {
     let (handles, first) = served(rt, alloc, shared, handles, requests, gate);
     let (handles, second) = served(rt, alloc, shared, handles, requests, &FreeGate);
-    if first?.wrapping_add(second?) == 2 {
-        Some(handles)
-    } else {
-        None
+    match (first, second) {
+        (Some(first), Some(second)) if first.wrapping_add(second) == 2 => Some(handles),
+        _ => None,
     }
 }
 
@@ -126,15 +125,35 @@ fn all_filled<L: SharedLedger + Send + Sync, R: Threads + Wait + Sync>(
     handles: Vec<Handle<L>>,
 ) -> Option<Vec<Handle<L>>> {
     let (handles, first) = filled(rt, alloc, shared, handles);
-    if first? {
-        return Some(handles);
+    let (handles, second) = match first {
+        Some(false) => filled(rt, alloc, shared, handles),
+        first => (handles, first),
+    };
+    if second == Some(true) {
+        Some(handles)
+    } else {
+        None
     }
-    let (handles, second) = filled(rt, alloc, shared, handles);
-    if second? { Some(handles) } else { None }
 }
 
-// Behind the mark the handles fill the index and serve the requests. The world comes back, so both
-// handles did.
+// Behind the mark the handles fill the index and serve the requests.
+fn fill_and_serve<L: SharedLedger + Send + Sync, R: Threads + Wait + Sync + Print>(
+    rt: &R,
+    alloc: Global,
+    shared: &Shared<L>,
+    handles: Vec<Handle<L>>,
+    requests: [&[Request]; 2],
+) -> Option<Vec<Handle<L>>> {
+    if !mark(rt) {
+        return None;
+    }
+    let [first, second] = requests;
+    let handles = all_filled(rt, alloc, shared, handles)?;
+    let handles = all_served(rt, alloc, shared, handles, first, &Behind::new())?;
+    all_served(rt, alloc, shared, handles, second, &Together::new())
+}
+
+// The world comes back, so both handles did.
 fn works<L: SharedLedger + Send + Sync, R: Threads + Wait + Sync + Print>(
     rt: &R,
     alloc: Global,
@@ -147,13 +166,7 @@ fn works<L: SharedLedger + Send + Sync, R: Threads + Wait + Sync + Print>(
     requires picked { (L.handles ≡ 2) × (L.handles ≡ L.parts) × (L.opening ≡ world.opening) × (L.since ≡ length world.log) }
 {
     let (shared, handles) = Shared::<L>::new(alloc, blank, world, 2).ok()?;
-    if !mark(rt) {
-        return None;
-    }
-    let handles = all_filled(rt, alloc, &shared, handles)?;
-    let [first, second] = requests;
-    let handles = all_served(rt, alloc, &shared, handles, first, &Behind::new())?;
-    let handles = all_served(rt, alloc, &shared, handles, second, &Together::new())?;
+    let handles = fill_and_serve(rt, alloc, &shared, handles, requests)?;
     shared.close(handles).ok()
 }
 

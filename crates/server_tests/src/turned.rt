@@ -4,6 +4,7 @@
 ghost use Rattle.std.specs.Prelude.{◌≡◌, length};
 
 use crate::fills::{dropping, filling, turning};
+use collections::List;
 use locked_store::{Handle, Shared, SharedLedger};
 use reorganise::Work;
 use reorganise_workers::{PieceEnd, Reorganised, reorganise_all};
@@ -15,7 +16,7 @@ use std::sync::ledger::Blank;
 use std::sync::{Mutex, Wait};
 use std::thread::Threads;
 use tasks::{FreeGate, Gate};
-use world::{PieceFault, World};
+use world::{PieceFault, Receipt, World};
 
 // What is published while the pieces are held: the turn, and if a clear is to begin, the step to
 // delete-only.
@@ -23,6 +24,16 @@ use world::{PieceFault, World};
 struct Steps {
     turn: Step,
     down: Option<Step>,
+}
+
+fn steps_of(alloc: Global, clears: bool) -> Option<Steps> {
+    let turn = turning(alloc).ok()?;
+    let down = if clears {
+        Some(dropping(alloc).ok()?)
+    } else {
+        None
+    };
+    Some(Steps { turn, down })
 }
 
 // A handle by which they are published, and once they were, the version that the turn gave and the
@@ -56,15 +67,16 @@ fn turn<L: SharedLedger, R: Wait>(
     if turner.given.is_some() {
         return;
     }
-    let Ok((version, receipt)) = shared.publish(rt, alloc, &mut turner.me, 30, &steps.turn) else {
-        return;
+    let given = match shared.publish(rt, alloc, &mut turner.me, 30, &steps.turn) {
+        Ok((version, receipt)) => (version, receipt.place),
+        Err(_) => return,
     };
     let begun = match &steps.down {
         Some(down) => has_begun(rt, alloc, shared, &mut turner.me, down),
         None => true,
     };
     if begun {
-        turner.given = Some((version, receipt.place));
+        turner.given = Some(given);
     }
 }
 
@@ -74,14 +86,14 @@ struct Held<'a, L: SharedLedger, R: Wait> {
     rt: &'a R,
     alloc: Global,
     shared: &'a Shared<L>,
-    steps: Steps,
+    steps: &'a Steps,
     turner: Mutex<Turner<L>>,
 }
 
 impl<'a, L: SharedLedger, R: Wait> Gate for Held<'a, L, R> {
     fn may_start(&self, _number: usize, _turn: u64) -> bool {
         let mut turner = self.turner.lock(self.rt);
-        turn(self.rt, self.alloc, self.shared, &mut *turner, &self.steps);
+        turn(self.rt, self.alloc, self.shared, &mut *turner, self.steps);
         turner.given.is_some()
     }
 
@@ -105,10 +117,14 @@ fn is_wanted(end: &PieceEnd, wanted: Wanted) -> bool {
     }
 }
 
-// Each of the three pieces ended so, both handles are back, and together they gave so many
-// receipts.
-fn are_ended<L: SharedLedger>(done: &Reorganised<L>, wanted: Wanted, given: usize) -> bool {
-    let each = match done.ends.as_slice() {
+// Each of the three pieces ended so, and both handles together gave so many receipts.
+fn are_ended(
+    ends: &[(usize, PieceEnd)],
+    receipts: &[List<Receipt>],
+    wanted: Wanted,
+    given: usize,
+) -> bool {
+    let each = match ends {
         [(one, first), (two, second), (three, third)] => {
             (*one, *two, *three) == (0, 1, 2)
                 && is_wanted(first, wanted)
@@ -117,32 +133,35 @@ fn are_ended<L: SharedLedger>(done: &Reorganised<L>, wanted: Wanted, given: usiz
         }
         _ => false,
     };
-    let counted = match done.receipts.as_slice() {
-        [first, second] => first.len().checked_add(second.len()) == Some(given),
+    match receipts {
+        [first, second] => each && first.len().checked_add(second.len()) == Some(given),
         _ => false,
-    };
-    each && counted && done.handles.len() == 2
+    }
 }
 
-// All pieces by two handles through a gate, which come back if the pieces ended so.
+// All pieces by two handles through a gate, which both come back if the pieces ended so.
 fn worked<L: SharedLedger + Send + Sync, G: Gate + Sync, R: Threads + Wait + Sync>(
     rt: &R,
     alloc: Global,
     shared: &Shared<L>,
     handles: Vec<Handle<L>>,
     gate: &G,
-    ends: (Wanted, usize),
+    wanted: (Wanted, usize),
 ) -> Option<Vec<Handle<L>>> {
     let done = reorganise_all(rt, alloc, shared, handles, 30, 2, 10, 5, gate).ok()?;
-    if !are_ended(&done, ends.0, ends.1) {
-        return None;
-    }
     let Reorganised {
-        ends: _,
+        ends,
         handles,
-        receipts: _,
+        receipts,
     } = done;
-    Some(handles)
+    let is_right = are_ended(ends.as_slice(), receipts.as_slice(), wanted.0, wanted.1);
+    drop(ends);
+    drop(receipts);
+    if is_right && handles.len() == 2 {
+        Some(handles)
+    } else {
+        None
+    }
 }
 
 // The clear is as it was begun, and then a second call finishes it: one piece has all items, the
@@ -160,17 +179,20 @@ fn cleared<L: SharedLedger + Send + Sync, R: Threads + Wait + Sync>(
     worked(rt, alloc, shared, handles, &FreeGate, (Wanted::Finished, 1))
 }
 
-// The pieces of the fill, held by a gate with the third handle, and then those of the clear, if one
-// has begun.
-fn worked_and_back<L: SharedLedger + Send + Sync, R: Threads + Wait + Sync>(
-    rt: &R,
+// The pieces of the fill, held by a gate with the third handle: what the gate had, and the handles.
+fn fill_held<'a, L: SharedLedger + Send + Sync, R: Threads + Wait + Sync>(
+    rt: &'a R,
     alloc: Global,
-    shared: &Shared<L>,
-    mut handles: Vec<Handle<L>>,
-    steps: Steps,
-) -> Option<(Vec<Handle<L>>, Option<(u64, u64)>)> {
-    let me = handles.pop()?;
-    let clears = steps.down.is_some();
+    shared: &'a Shared<L>,
+    handles: Vec<Handle<L>>,
+    me: Handle<L>,
+    steps: &'a Steps,
+) -> (Turner<L>, Option<Vec<Handle<L>>>) {
+    let wanted = if steps.down.is_some() {
+        Wanted::OfAnotherKind
+    } else {
+        Wanted::Unwanted
+    };
     let gate = Held {
         rt,
         alloc,
@@ -178,21 +200,29 @@ fn worked_and_back<L: SharedLedger + Send + Sync, R: Threads + Wait + Sync>(
         steps,
         turner: Mutex::new(Turner { me, given: None }),
     };
-    let wanted = if clears {
-        Wanted::OfAnotherKind
-    } else {
-        Wanted::Unwanted
-    };
-    let mut handles = worked(rt, alloc, shared, handles, &gate, (wanted, 0))?;
+    let handles = worked(rt, alloc, shared, handles, &gate, (wanted, 0));
     let Held {
         rt: _,
         alloc: _,
         shared: _,
-        steps: _steps,
+        steps: _,
         turner,
     } = gate;
-    let Turner { mut me, given } = turner.into_inner();
-    if clears {
+    (turner.into_inner(), handles)
+}
+
+// Then the pieces of the clear, if one has begun: all three handles, and what the turn gave.
+fn and_back<L: SharedLedger + Send + Sync, R: Threads + Wait + Sync>(
+    rt: &R,
+    alloc: Global,
+    shared: &Shared<L>,
+    turner: Turner<L>,
+    handles: Option<Vec<Handle<L>>>,
+    steps: &Steps,
+) -> Option<(Vec<Handle<L>>, Option<(u64, u64)>)> {
+    let Turner { mut me, given } = turner;
+    let mut handles = handles?;
+    if steps.down.is_some() {
         handles = cleared(rt, alloc, shared, &mut me, handles)?;
     }
     handles.push(me).ok()?;
@@ -205,16 +235,17 @@ fn turned<L: SharedLedger + Send + Sync, R: Threads + Wait + Sync>(
     alloc: Global,
     blank: Blank,
     world: World,
-    steps: Steps,
+    steps: &Steps,
 ) -> Option<(World, Option<(u64, u64)>)>
     requires name { blank.name ≡ L.name }
     requires parts { blank.parts ≡ L.parts }
     requires picked { (L.handles ≡ 3) × (L.handles ≡ L.parts) × (L.opening ≡ world.opening) × (L.since ≡ length world.log) }
 {
-    let (shared, handles) = Shared::<L>::new(alloc, blank, world, 3).ok()?;
-    let (handles, given) = worked_and_back(rt, alloc, &shared, handles, steps)?;
-    let world = shared.close(handles).ok()?;
-    Some((world, given))
+    let (shared, mut handles) = Shared::<L>::new(alloc, blank, world, 3).ok()?;
+    let me = handles.pop()?;
+    let (turner, handles) = fill_held(rt, alloc, &shared, handles, me, steps);
+    let (handles, given) = and_back(rt, alloc, &shared, turner, handles, steps)?;
+    Some((shared.close(handles).ok()?, given))
 }
 
 // After nine entries and the turn: the fill is forgotten and the index keeps its state; or it is
@@ -240,14 +271,11 @@ fn is_left(alloc: Global, world: &World, clears: bool) -> bool {
 }
 
 fn turns<R: Threads + Wait + Sync>(rt: &R, alloc: Global, clears: bool) -> Option<bool> {
-    let turn = turning(alloc).ok()?;
-    let down = if clears {
-        Some(dropping(alloc).ok()?)
-    } else {
-        None
-    };
+    let steps = steps_of(alloc, clears)?;
     let world = filling(alloc, 3, 3)?;
-    let (world, given) = turned::<Brand, R>(rt, alloc, Blank::new(3), world, Steps { turn, down })?;
+    let turned = turned::<Brand, R>(rt, alloc, Blank::new(3), world, &steps);
+    drop(steps);
+    let (world, given) = turned?;
     Some(given == Some((4, 10)) && is_left(alloc, &world, clears))
 }
 

@@ -1,5 +1,5 @@
 use Rattle.std.specs.Prelude.{length}
-use Rattle.server_tests.proofs.gates.two_requests_run_at_once.Given as goal
+use Rattle.server_tests.proofs.gates.found.Given as goal
 
 abbrev pub ghosts-serves-L-Ledger : goal.ghosts-serves-L-Ledger
 ghosts-serves-L-Ledger g a = record { name = a.blank.name; parts = a.blank.parts }
