@@ -2,7 +2,7 @@
 import csv
 import statistics
 
-DIGITS = {"s": 3, "ms": 3, "bytes": 0, "a second": 0}
+DIGITS = {"s": 3, "ms": 3, "us": 1, "bytes": 0, "a second": 0}
 
 
 def spelled(number, digits):
