@@ -1,0 +1,137 @@
+"""What makes a kept verdict be tried again, on a made checkout of two crates, and how many of the others are tried."""
+import os
+import sys
+import tempfile
+import unittest
+
+sys.path.insert(0, os.path.dirname(os.path.dirname(os.path.realpath(__file__))))
+import wrong_bodies
+from checks import Crates
+from verdicts import Checksums, read_rows, sample, signatures, write_rows
+
+LOW = '''//! Halves.
+ghost use Rattle.low.specs.Half.{half};
+
+/// Half of a number.
+pub fn half(n: u64) -> u64
+    requires small { n < 100 }
+    ensures { result ≡ half n } // exactly
+{
+    // a "quoted { brace" in a remark
+    let open = b'{';
+    n / 2 + u64::from(open == b'}')
+}
+
+pub const MOST: u64 = 100;
+'''
+FILES = {
+    "crates.txt": "low:\nhigh: low\n",
+    "crates/low/src/lib.rt": LOW,
+    "crates/low/specs/Half.antt": "-- the half\nabbrev pub half : ℕ → ℕ\nhalf n = n / 2\n",
+    "crates/low/proofs/Cited.antt": "pub small : ℕ\nsmall = 1\n",
+    "crates/low/proofs/Own.antt": "pub other : ℕ\nother = 1\n",
+    "crates/high/src/lib.rt": "pub fn quarter(n: u64) -> u64\n    ensures { result ≤ n }\n{\n    half(half(n))\n}\n",
+    "crates/high/specs/Quarter.antt": "abbrev pub quarter : ℕ → ℕ\nquarter n = n / 4\n",
+    "crates/high/proofs/quarter/Answers.antt": "use Rattle.low.proofs.Cited.{small}\n",
+}
+EDIT = "function: quarter\nfile: src/lib.rt\nold: half(half(n))\nnew: n + 1\n"
+
+
+class MadeCheckout(unittest.TestCase):
+    def setUp(self):
+        made = tempfile.TemporaryDirectory()
+        self.addCleanup(made.cleanup)
+        self.root = made.name
+        for path, text in FILES.items():
+            self.write(path, text)
+
+    def write(self, path, text):
+        os.makedirs(os.path.dirname(f"{self.root}/{path}"), exist_ok=True)
+        with open(f"{self.root}/{path}", "w", encoding="utf-8") as file:
+            file.write(text)
+
+    def checksum(self, edit=EDIT, logic="1f"):
+        return Checksums(Crates(self.root), logic).of("high", edit)
+
+    def test_what_a_verdict_rests_on(self):
+        before = self.checksum()
+        for what, path, old, new in [
+            ("a body", "crates/high/src/lib.rt", "half(half(n))", "half(n) / 2"),
+            ("a contract", "crates/high/src/lib.rt", "result ≤ n", "result < n"),
+            ("a definition", "crates/high/specs/Quarter.antt", "n / 4", "n / 5"),
+            ("a proof", "crates/high/proofs/quarter/Answers.antt", "{small}", "{}"),
+            ("a contract below", "crates/low/src/lib.rt", "n < 100", "n < 99"),
+            ("a result below", "crates/low/src/lib.rt", "result ≡ half n", "result ≤ half n"),
+            ("a constant below", "crates/low/src/lib.rt", "MOST: u64 = 100", "MOST: u64 = 99"),
+            ("a definition below", "crates/low/specs/Half.antt", "n / 2", "n / 3"),
+            ("a cited lemma below", "crates/low/proofs/Cited.antt", "= 1", "= 2"),
+            ("the crates that it names", "crates.txt", "high: low", "high: low thiserror"),
+        ]:
+            with self.subTest(what):
+                self.write(path, FILES[path].replace(old, new))
+                self.assertNotEqual(self.checksum(), before)
+                self.write(path, FILES[path])
+                self.assertEqual(self.checksum(), before)
+        self.assertNotEqual(self.checksum(edit=EDIT.replace("n + 1", "n + 2")), before)
+        self.assertNotEqual(self.checksum(logic="2f"), before)
+
+    def test_what_no_verdict_rests_on(self):
+        before = self.checksum()
+        for what, path, old, new in [
+            ("a comment below", "crates/low/src/lib.rt", "// exactly", "// just { that"),
+            ("a doc comment below", "crates/low/src/lib.rt", "/// Half of a number.", "/// A number's half."),
+            ("a body below", "crates/low/src/lib.rt", "n / 2 + ", "n / 2 + 0 + "),
+            ("layout below", "crates/low/src/lib.rt", "    requires small", "  requires small"),
+            ("a remark in a definition below", "crates/low/specs/Half.antt", "-- the half", "-- half of it"),
+            ("a lemma below that nothing cites", "crates/low/proofs/Own.antt", "= 1", "= 2"),
+        ]:
+            with self.subTest(what):
+                self.write(path, FILES[path].replace(old, new))
+                self.assertEqual(self.checksum(), before)
+                self.write(path, FILES[path])
+
+    def test_signatures_keep_all_but_bodies(self):
+        said = signatures(LOW)
+        self.assertIn("pub fn half(n: u64) -> u64 requires small { n < 100 } ensures { result ≡ half n }", said)
+        self.assertTrue(said.endswith("pub const MOST: u64 = 100;"))
+        self.assertNotIn("open", said)
+
+
+class ChosenEdits(unittest.TestCase):
+    def edits(self, *names):
+        edits = []
+        for name in names:
+            edit = wrong_bodies.Edit.__new__(wrong_bodies.Edit)
+            edit.crate, edit.name = name.split("/")
+            edits.append(edit)
+        return edits
+
+    def test_new_changed_named_and_all(self):
+        edits = self.edits("a/new", "a/changed", "a/kept", "b/kept", "c/kept")
+        sums = {it.key(): "now" for it in edits}
+        rows = {"a/changed": ("then", "g"), "a/kept": ("now", "g"), "b/kept": ("now", "g"), "c/kept": ("now", "g")}
+        tried = [it.key() for it in wrong_bodies.to_try(edits, rows, sums, ["--keep"])]
+        self.assertEqual(tried[:2], ["a/new", "a/changed"])
+        self.assertEqual(len(tried), 3)
+        for words in (["--all"], ["a"]):
+            self.assertEqual(wrong_bodies.to_try(edits, rows, sums, words), edits)
+
+    def test_a_tenth_that_the_commit_chooses(self):
+        edits = self.edits(*(f"{crate}/{number}" for crate in "abcdefghijklmnopqrst" for number in range(5)))
+        chosen = {commit: sample(edits, commit) for commit in ("1", "2", "3", "4")}
+        for some in chosen.values():
+            self.assertEqual(len(some), 10)
+        self.assertGreater(len({tuple(it.key() for it in some) for some in chosen.values()}), 1)
+        self.assertEqual(sample(edits, "1"), chosen["1"])
+        self.assertEqual(sample([], "1"), [])
+
+    def test_rows_come_back(self):
+        with tempfile.TemporaryDirectory() as room:
+            rows = {"b/two": ("34", "returns"), "a/one": ("12", "returns-clause-ok, loop-i-init")}
+            write_rows(f"{room}/verdicts.tsv", rows)
+            self.assertEqual(read_rows(f"{room}/verdicts.tsv"), rows)
+            self.assertEqual(read_rows(f"{room}/none.tsv"), {})
+
+
+if __name__ == "__main__":
+    unittest.main()

@@ -1,0 +1,141 @@
+"""Kept verdicts on wrong bodies: must-fail/verdicts.tsv, and the checksum that tells whether a row still holds.
+
+A verdict rests on the crate's own files, on the edit, on what the crates below promise, and on the logic. What a crate promises is its
+definitions (specs/), its signatures with their contracts, and those of its lemma files that a crate above cites; comments, layout and the
+bodies of its functions are no part of it, since a check of a crate above does not read them.
+"""
+import hashlib
+import os
+import re
+
+from checks import files_of
+
+COLUMNS = ("edit", "checksum", "goals")
+# a comment, a text, or a character; a lifetime is none of them
+RUST = re.compile(r"""//[^\n]*|/\*.*?\*/|b?"(?:\\.|[^"\\])*"|b?'(?:\\(?:u\{[^}]*\}|x..|.)|[^'\\\n])'""", re.S)
+ANTT = re.compile(r'"(?:\\.|[^"\\])*"|--[^\n]*')
+CLAUSE = re.compile(r"\b(requires|ensures|ghost)\b[^{};]*$")
+
+
+def plain(text, tokens, comments):
+    """The text without its comments."""
+    return tokens.sub(lambda found: " " if found[0].startswith(comments) else found[0], text)
+
+
+def antt_text(text):
+    """An antt file without its comments and blank lines; its indentation means something."""
+    lines = (line.rstrip() for line in plain(text, ANTT, ("--",)).split("\n"))
+    return "\n".join(line for line in lines if line)
+
+
+def closing(text, hidden, start):
+    """Where the brace that opens at start is closed; what is hidden, as a text is, holds no brace."""
+    depth = 0
+    for at in range(start, len(text)):
+        if text[at] in "{}" and at not in hidden:
+            depth += 1 if text[at] == "{" else -1
+            if depth == 0:
+                return at + 1
+    return len(text)
+
+
+def signatures(text):
+    """A Rattle file without comments and bodies of functions: each signature with its contract, and all other items as they are."""
+    text = plain(text, RUST, ("//", "/*"))
+    hidden = {at for found in RUST.finditer(text) for at in range(*found.span())}
+    kept, at = [], 0
+    for found in re.finditer(r"\bfn\s+\w+", text):
+        if found.start() < at or found.start() in hidden:
+            continue
+        kept.append(text[at : found.end()])
+        at = found.end()
+        while at < len(text):
+            stop = next((it for it in range(at, len(text)) if text[it] in "{;" and it not in hidden), len(text))
+            kept.append(text[at:stop])
+            if text[stop : stop + 1] == "{" and CLAUSE.search(text[at:stop]):
+                end = closing(text, hidden, stop)
+                kept.append(text[stop:end])
+                at = end
+                continue
+            at = closing(text, hidden, stop) if text[stop : stop + 1] == "{" else stop + 1
+            break
+    kept.append(text[at:])
+    return " ".join("".join(kept).split())
+
+
+def read(path):
+    with open(path, encoding="utf-8") as file:
+        return file.read()
+
+
+class Checksums:
+    """Checksums of the edits of a checkout. What several of them rest on is read once."""
+
+    def __init__(self, crates, logic):
+        self.crates, self.logic, self.promises, self.own, self.shared = crates, logic, {}, {}, {}
+
+    def promised(self, name):
+        """What a crate promises those above it, but for its lemmas."""
+        if name not in self.promises:
+            folder, found = self.crates.folder(name), []
+            for path in files_of(folder):
+                place = os.path.relpath(path, folder)
+                if place.startswith("specs/"):
+                    found.append((place, antt_text(read(path))))
+                elif place.endswith(".rt"):
+                    found.append((place, signatures(read(path))))
+            self.promises[name] = found
+        return self.promises[name]
+
+    def cited(self, name):
+        """The lemma files of crates below that a crate's proofs cite."""
+        found = set()
+        for path in files_of(self.crates.folder(name)):
+            for crate, lemmas in re.findall(r"Rattle\.(\w+)\.proofs\.([\w.]*\w)", read(path) if path.endswith(".antt") else ""):
+                place = lemmas.replace(".", "/")
+                while place and not os.path.isfile(f"{self.crates.folder(crate)}/proofs/{place}.antt"):
+                    place = place.rpartition("/")[0]
+                if crate != name and place:
+                    found.add((crate, place))
+        return [(crate, place, antt_text(read(f"{self.crates.folder(crate)}/proofs/{place}.antt"))) for crate, place in sorted(found)]
+
+    def own_files(self, name):
+        """All that a check reads of the crate itself."""
+        if name not in self.own:
+            folder = self.crates.folder(name)
+            self.own[name] = [(os.path.relpath(path, folder), read(path)) for path in files_of(folder)]
+        return self.own[name]
+
+    def of(self, name, text):
+        """The checksum of all that the verdict on an edit of the crate rests on."""
+        if name not in self.shared:
+            below = [(it, self.crates.deps[it], self.promised(it)) for it in self.crates.below(name)]
+            rests = (self.logic, name, self.crates.deps[name], self.own_files(name), self.cited(name), below)
+            self.shared[name] = hashlib.sha256(repr(rests).encode()).hexdigest()
+        return hashlib.sha256(f"{self.shared[name]}\n{text}".encode()).hexdigest()[:32]
+
+
+def read_rows(path):
+    """The kept verdicts: for each edit its checksum and the goals that refused it."""
+    if not os.path.isfile(path):
+        return {}
+    rows = (line.split("\t") for line in read(path).split("\n")[2:] if line)
+    return {edit: (checksum, goals) for edit, checksum, goals in rows}
+
+
+def write_rows(path, rows):
+    head = "# written by `.ci/must_fail --keep` alone: each wrong body, what its verdict rests on, and the goals that refused it"
+    lines = [head, "\t".join(COLUMNS), *("\t".join([edit, *rows[edit]]) for edit in sorted(rows))]
+    with open(path, "w", encoding="utf-8") as file:
+        file.write("".join(f"{line}\n" for line in lines))
+
+
+def sample(edits, commit):
+    """A tenth of these edits at least, by the hash of the commit: those of some crates, since the first of a crate costs most."""
+    crates = sorted({it.crate for it in edits}, key=lambda it: hashlib.sha256(f"{commit} {it}".encode()).hexdigest())
+    chosen = []
+    for crate in crates:
+        if 10 * len(chosen) >= len(edits):
+            break
+        chosen += [it for it in edits if it.crate == crate]
+    return chosen
