@@ -80,9 +80,13 @@ def kit():
 
 
 def logic():
-    """The identity of the logic, which kits of several names can share."""
-    said = subprocess.run(["rt", "version"], capture_output=True, text=True, check=True).stdout
-    return re.search(r"logic ([0-9a-f]+)", said)[1]
+    """The identity of this kit's logic."""
+    return logic_of(subprocess.run(["rt", "version"], capture_output=True, text=True, check=True).stdout)
+
+
+def logic_of(version):
+    """The identity of the logic in what `rt version` says: kits of several names can share it."""
+    return re.search(r"logic ([0-9a-f]+)", version)[1]
 
 
 def files_of(folder):
