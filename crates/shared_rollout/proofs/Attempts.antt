@@ -36,7 +36,7 @@ use Rattle.rollout.specs.declared.act.Act.{Act}
 use Rattle.rollout.specs.declared.act.Act.TheVariants as act
 use Rattle.rollout.specs.declared.advanced.Advanced.{Advanced}
 use Rattle.rollout.specs.Due.{IsDue}
-use Rattle.shared_rollout.specs.Operator.{IsAdvanced, IsWorkedElse, WasBegun, WasCommitted, WasDue, WasLooked, WasPublished, WasRead, WasOvertaken, WereOvertaken, entries_of}
+use Rattle.shared_rollout.specs.Operator.{IsAdvanced, IsSeen, IsWorkedElse, WasBegun, WasCommitted, WasDue, WasDueAt, WasLooked, WasPublished, WasRead, WasOvertaken, WereOvertaken, entries_of}
 use Rattle.shared_rollout.specs.inner.Attempts.{Attempt, Attempts, Says, of_begin, of_commit, of_look, of_publish, of_read, of_refusal}
 use Rattle.shared_rollout.specs.declared.ask.Ask.{Ask}
 use Rattle.shared_rollout.specs.declared.fault.OperatorFault.{OperatorFault}
@@ -67,7 +67,7 @@ later opening ask v u w attempt id count front a =
     record { same = a.same ∙ id; rises = omega (arith, front, a.rises); says = by attempt a.says }
   where
     by : (attempt : Attempt) → Says opening ask u attempt w → Says opening ask v attempt w
-    by (Ok (Some done)) s = (s.0, s.1 ∙ ap (λ n. n + entries_of done) count)
+    by (Ok (Some done)) s = (s.0, s.1, s.2 ∙ ap (λ n. n + entries_of done) count)
     by (Ok None) s = (s.0, s.1 ∙ count)
     by (Err why) s = (s.0, s.1 ∙ count)
 
@@ -89,10 +89,15 @@ pub was_due : (opening : Opening) (ask : Ask) (v w : Known) (what : Act) → ask
     → WasDue opening ask what
 was_due opening ask v w what seen a = (a.0, since opening ask.front v a.0 seen a.2.0 a.2.2, a.2.3.0)
 
+pub was_due_at : (opening : Opening) (ask : Ask) (v w : Known) (what : Act)
+    → Answers opening v (let r : Result Act (SharedFault AllocError) = Ok what in r) w (λ c r d. IfOk r (λ a. IsDue (facts_of c) (effective_moment c ask.moment) a) × (d ≡ c)) no_place
+    → WasDueAt opening w.front ask.moment what
+was_due_at opening ask v w what a = (a.0, a.2.0, sym (a.2.4 ∙ ap (λ (s : State). length s.log) a.2.3.1), a.2.3.0)
+
 -- an act that needs no call
-pub looked : (opening : Opening) (ask : Ask) (v w : Known) (done : Advanced) → entries_of done ≡ 0 → IsAdvanced opening ask done → (w.id ≡ v.id) × (w.count ≡ v.count) × (v.front ≤ w.front)
+pub looked : (opening : Opening) (ask : Ask) (v w : Known) (done : Advanced) → entries_of done ≡ 0 → IsAdvanced opening ask done → IsSeen opening ask.moment done w.front → (w.id ≡ v.id) × (w.count ≡ v.count) × (v.front ≤ w.front)
     → Attempts opening ask v (Ok (Some done)) w
-looked opening ask v w done none is q = record { same = q.0; rises = q.2; says = (is, omega (arith, q.1, none)) }
+looked opening ask v w done none is seen q = record { same = q.0; rises = q.2; says = (is, seen, omega (arith, q.1, none)) }
 
 pub unseen : (opening : Opening) (ask : Ask) (v w : Known) (why : SharedFault AllocError)
     → Answers opening v (let r : Result Act (SharedFault AllocError) = Err why in r) w (λ c r d. IfOk r (λ a. IsDue (facts_of c) (effective_moment c ask.moment) a) × (d ≡ c)) no_place
@@ -113,7 +118,7 @@ began opening ask v w element (Ok receipt) seen due a =
     record {
       same = a.2.5.0;
       rises = omega (arith, a.2.5.2, a.2.5.3);
-      says = ((due, (a.0, a.1, s, a.2.3), logged_after opening ask.front a.0 a.1 _ _ receipt a.2.1 s.since a.2.3.1), a.2.5.1);
+      says = ((due, (a.0, a.1, s, a.2.3), logged_after opening ask.front a.0 a.1 _ _ receipt a.2.1 s.since a.2.3.1), a.2.5.3, a.2.5.1);
     }
 began opening ask v w element (Err (shared.WentBack seen)) s due a = went_back opening ask v w seen a
 began opening ask v w element (Err (shared.World why)) seen due a = by why (a.0, a.1, since opening ask.front v a.0 seen a.2.0 a.2.2, a.2.3) a
@@ -141,7 +146,7 @@ published opening ask v w step (Ok done) seen due a =
     record {
       same = a.2.5.0;
       rises = omega (arith, a.2.5.2, a.2.5.3);
-      says = ((step, due, (a.0, a.1, s, a.2.3), logged_after opening ask.front a.0 a.1 _ _ done.1 a.2.1 s.since a.2.3.2), a.2.5.1);
+      says = ((step, due, (a.0, a.1, s, a.2.3), logged_after opening ask.front a.0 a.1 _ _ done.1 a.2.1 s.since a.2.3.2), a.2.5.3, a.2.5.1);
     }
 published opening ask v w step (Err (shared.WentBack seen)) s due a = went_back opening ask v w seen a
 published opening ask v w step (Err (shared.World why)) seen due a = by why (a.0, a.1, since opening ask.front v a.0 seen a.2.0 a.2.2, a.2.3) a
@@ -222,6 +227,7 @@ worked opening ask v w element read prepared (Ok done) seen due was is a =
           (prepared, subst (λ r. WasRead opening ask element r) (sym is) was, (a.0, a.1, s, a.2.3)),
           logged_after opening ask.front a.0 a.1 _ _ done.receipt a.2.1 s.since a.2.3.2,
         ),
+        a.2.5.3,
         a.2.5.1,
       );
     }

@@ -1,6 +1,7 @@
 -- Cited by the contracts of advance, complete.
 -- What an operator's calls through the lock answer.
-use Rattle.std.specs.Prelude.{◌≡◌, ℕ, ◌<◌, ◌≤◌, ◌⊎◌, List, length, All, Option, Some, None, Result, Ok, Err}
+use Rattle.std.specs.Prelude.{◌≡◌, ℕ, ◌<◌, ◌≤◌, ◌⊎◌, ◌++◌, List, [], ◌∷◌, length, All, Option, Some, None, Result, Ok, Err}
+use Rattle.std.specs.List.{flat_map}
 use Rattle.lease.specs.Timeline.{max_moment}
 use Rattle.schema_version.specs.declared.step.Move.{Move}
 use Rattle.reorganise.specs.declared.fault.ViewFault.TheVariants as view_fault
@@ -21,7 +22,7 @@ use Rattle.world.specs.Calls.{effective_moment}
 use Rattle.world.specs.Piece.{PieceStep}
 use Rattle.world.specs.Publish.{PublishStep}
 use Rattle.world.specs.State.{State, facts_of}
-use Rattle.locked_store.specs.Cores.{IsCoreSince, WasLength}
+use Rattle.locked_store.specs.Cores.{IsCore, IsCoreSince, WasLength}
 use Rattle.locked_store.specs.Receipts.{IsLogged}
 use Rattle.piece_work.specs.WorkOff.{NextStep}
 use Rattle.rollout.specs.declared.act.Act.{Act}
@@ -91,9 +92,51 @@ abbrev pub entries_in : Result Advanced OperatorFault → ℕ
 entries_in (Ok done) = entries_of done
 entries_in (Err why) = 0
 
--- in a core no change was under way
-abbrev pub HasFinished : Opening → Ask → Type 0
-HasFinished opening ask = WasDue opening ask act.Nothing
+-- its receipt, if it added an entry
+abbrev pub receipts_of : Advanced → List Receipt
+receipts_of (advanced.Began number receipt) = receipt ∷ []
+receipts_of (advanced.Published version receipt) = receipt ∷ []
+receipts_of (advanced.Worked number done) = done.receipt ∷ []
+receipts_of (advanced.Waiting until) = []
+receipts_of advanced.Finished = []
+
+-- the act was due in a core whose log has this length
+abbrev pub WasDueAt : Opening → ℕ → ℕ → Act → Type 0
+WasDueAt opening front moment what = (core : State) × IsCore opening core × (length core.log ≡ front) × IsDue (facts_of core) (effective_moment core moment) what
+
+-- the handle has then seen the log up to the entry of the act, or, if it added none, the log in which it was due
+abbrev pub IsSeen : Opening → ℕ → Advanced → ℕ → Type 0
+IsSeen opening moment (advanced.Began number receipt) front = front ≡ receipt.place
+IsSeen opening moment (advanced.Published version receipt) front = front ≡ receipt.place
+IsSeen opening moment (advanced.Worked number done) front = front ≡ done.receipt.place
+IsSeen opening moment (advanced.Waiting until) front = WasDueAt opening front moment (act.Wait until)
+IsSeen opening moment advanced.Finished front = WasDueAt opening front moment act.Nothing
+
+-- ---- one act after another
+
+-- the moment of the next act: a wait moves it to what is waited for; there is none if no change is under way
+abbrev pub next_of : ℕ → Advanced → Option ℕ
+next_of moment (advanced.Began number receipt) = Some moment
+next_of moment (advanced.Published version receipt) = Some moment
+next_of moment (advanced.Worked number done) = Some moment
+next_of moment (advanced.Waiting until) = Some until
+next_of moment advanced.Finished = None
+
+-- from this front and moment to the last ones each act was due and done, after all that the handle had seen by then; so the places rise
+abbrev pub AreActs : Opening → ℕ → ℕ → ℕ → ℕ → ℕ → List Advanced → ℕ → ℕ → Type 0
+AreActs opening pieces limit tries front moment [] last now = (last ≡ front) × (now ≡ moment)
+AreActs opening pieces limit tries front moment (done ∷ more) last now =
+    (seen : ℕ) × (next : ℕ) × IsAdvanced opening (asked moment pieces limit tries front) done × IsSeen opening moment done seen × (next_of moment done ≡ Some next)
+    × AreActs opening pieces limit tries seen next more last now
+
+-- the receipts that were kept are followed by those of such acts, and then no change was under way in the log that the handle has seen
+pub record HasCompleted (opening : Opening) (pieces limit tries front moment : ℕ) (old : List Receipt) (now seen : ℕ) (new : List Receipt) : Type 0 where
+  pub acts : List Advanced
+  pub last : ℕ
+  pub are : AreActs opening pieces limit tries front moment acts last now
+  pub kept : new ≡ old ++ flat_map receipts_of acts
+  pub since : last ≤ seen
+  pub nothing : WasDueAt opening seen now act.Nothing
 
 -- ---- an act at which others were first
 
@@ -161,3 +204,13 @@ IsRefused opening ask front fault.MomentTooLarge = IsTooLate opening ask
 IsRefused opening ask front fault.VersionsSpent = (step : List Move) × WasDue opening ask (act.Publish step) × WasPublished opening ask step (Err publish_fault.VersionsSpent)
 IsRefused opening ask front (fault.Busy tries) = (tries ≡ ask.tries) × WereOvertaken opening ask tries
 IsRefused opening ask front fault.Memory = Unit {0}
+
+-- the receipts that were kept are followed by those of such acts, and the next act was refused so
+pub record HasStopped (opening : Opening) (pieces limit tries front moment : ℕ) (old : List Receipt) (why : OperatorFault) (seen : ℕ) (new : List Receipt) : Type 0 where
+  pub acts : List Advanced
+  pub last : ℕ
+  pub now : ℕ
+  pub are : AreActs opening pieces limit tries front moment acts last now
+  pub later : moment ≤ now
+  pub kept : new ≡ old ++ flat_map receipts_of acts
+  pub refused : IsRefused opening (asked now pieces limit tries last) seen why

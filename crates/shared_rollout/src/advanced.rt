@@ -1,6 +1,7 @@
 //! One act that is due, done through the lock.
-ghost use Rattle.std.specs.Prelude.{◌≡◌, ◌+◌, ◌≤◌, IfOk, IfErr};
-ghost use Rattle.shared_rollout.specs.Operator.{AreNumbers, IsAdvanced, IsRefused, asked, entries_in};
+ghost use Rattle.std.specs.Prelude.{◌≡◌, ◌+◌, ◌≤◌, ◌↔◌, IfOk, IfErr};
+ghost use Rattle.shared_rollout.specs.Operator.{AreNumbers, IsAdvanced, IsRefused, IsSeen, asked, entries_in};
+ghost use Rattle.shared_rollout.specs.declared.fault.OperatorFault.TheVariants.{BadCount};
 ghost use Rattle.shared_rollout.specs.inner.Attempts.{Acts};
 
 use crate::ask::{Ask, are_numbers};
@@ -49,6 +50,8 @@ pub(crate) fn do_act<L: SharedLedger, R: Wait>(
 /// - `limit`: how many items of a piece are worked at most, 1 to 1,000.
 /// - `tries`: how often others may be first, 1 to 1,000,000.
 ///
+/// The handle has then seen the log up to the entry of the act, or the log in which the act was due.
+///
 /// Refused by the names of `OperatorFault`: first `BadCount`, if a number is out of its range; then
 /// `MomentTooLarge` if the moment is above 2^62; then what the first call through the lock that
 /// can't be tried again is refused with: `WentBack`, `MomentTooLarge`, `VersionsSpent` or `Memory`;
@@ -65,6 +68,8 @@ pub fn advance<L: SharedLedger, R: Wait>(
 ) -> Result<Advanced, OperatorFault>
     ensures numbers { IfOk result (λ _. AreNumbers pieces limit tries) }
     ensures done { IfOk result (λ done. IsAdvanced L.opening (asked moment pieces limit tries me.old.front) done) }
+    ensures seen { IfOk result (λ done. IsSeen L.opening moment done me.new.front) }
+    ensures order { IfErr result (λ fault. (fault ≡ BadCount) ↔ (¬ (AreNumbers pieces limit tries))) }
     ensures refused { IfErr result (λ fault. IsRefused L.opening (asked moment pieces limit tries me.old.front) me.new.front fault) }
     ensures counted { me.new.count ≡ me.old.count + entries_in result }
     ensures same { me.new.id ≡ me.old.id }

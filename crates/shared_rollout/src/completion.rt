@@ -1,8 +1,9 @@
 //! All changes that are under way, brought to their end through the lock.
-ghost use Rattle.std.specs.Prelude.{◌≡◌, ◌+◌, ◌<◌, ◌≤◌, ◌++◌, ℕ, All, IfOk, IfErr, length, vec_len, vec_capacity};
+ghost use Rattle.std.specs.Prelude.{◌≡◌, ◌+◌, ◌<◌, ◌≤◌, ◌++◌, ◌↔◌, All, IfOk, IfErr, length, vec_len, vec_capacity};
 ghost use Rattle.locked_store.specs.Receipts.{IsLogged};
-ghost use Rattle.shared_rollout.specs.Operator.{HasFinished, IsRefused, asked};
-ghost use Rattle.shared_rollout.specs.inner.Attempts.{ActsAndKeeps, next_of, receipts_of};
+ghost use Rattle.shared_rollout.specs.Operator.{AreNumbers, HasCompleted, HasStopped, next_of, receipts_of};
+ghost use Rattle.shared_rollout.specs.declared.fault.OperatorFault.TheVariants.{BadCount};
+ghost use Rattle.shared_rollout.specs.inner.Attempts.{ActsAndKeeps};
 
 use crate::advanced::do_act;
 use crate::ask::{Ask, are_numbers};
@@ -56,14 +57,16 @@ fn act_and_keep<L: SharedLedger, R: Wait>(
 }
 
 /// Does what is due, act after act, until no change is under way, and returns the moment at which
-/// it found that. If nothing can be done before a moment, it goes on at that moment. Other
-/// operators may do the same at once, and servers may write.
+/// it found that, in the log that the handle has then seen. If nothing can be done before a moment,
+/// it goes on at that moment. Other operators may do the same at once, and servers may write.
 ///
 /// It ends only when no change is under way, or with a refusal: if others begin changes for ever,
 /// it goes on for ever.
 ///
 /// - `me`: a handle of the shared world.
 /// - `receipts`: the receipt of each act is pushed to them, also if the call is refused in the end.
+///   Each act was due, and was done, after all that the handle had seen by then, so their places
+///   rise.
 /// - `moment`: the effective moment of each call is the greater of it and the moment of the last
 ///   entry.
 /// - `pieces`: in how many pieces a fill or a clear begins, 1 to 64.
@@ -84,8 +87,10 @@ pub fn complete<L: SharedLedger, R: Wait>(
     limit: u32,
     tries: u32,
 ) -> Result<u64, OperatorFault>
-    ensures done { IfOk result (λ now. (moment ≤ now) × HasFinished L.opening (asked now pieces limit tries me.old.front)) }
-    ensures refused { IfErr result (λ fault. (now : ℕ) × (moment ≤ now) × IsRefused L.opening (asked now pieces limit tries me.old.front) me.new.front fault) }
+    ensures numbers { IfOk result (λ _. AreNumbers pieces limit tries) }
+    ensures done { IfOk result (λ now. (moment ≤ now) × HasCompleted L.opening pieces limit tries me.old.front moment receipts.old.items now me.new.front receipts.new.items) }
+    ensures order { IfErr result (λ fault. (fault ≡ BadCount) ↔ (¬ (AreNumbers pieces limit tries))) }
+    ensures stopped { IfErr result (λ fault. HasStopped L.opening pieces limit tries me.old.front moment receipts.old.items fault me.new.front receipts.new.items) }
     ensures counted { me.new.count + length receipts.old.items ≡ me.old.count + length receipts.new.items }
     ensures logged { All (IsLogged L.opening me.old.front) receipts.old.items → All (IsLogged L.opening me.old.front) receipts.new.items }
     ensures same { me.new.id ≡ me.old.id }
@@ -94,7 +99,6 @@ pub fn complete<L: SharedLedger, R: Wait>(
     if !are_numbers(pieces, limit, tries) {
         return Err(OperatorFault::BadCount);
     }
-    let front = me.front();
     let mut now = moment;
     for _i in rt.forever() {
         let ask = Ask {
@@ -102,7 +106,7 @@ pub fn complete<L: SharedLedger, R: Wait>(
             pieces,
             limit,
             tries,
-            front,
+            front: me.front(),
         };
         match act_and_keep(rt, alloc, shared, me, receipts, &ask) {
             Ok(Some(next)) => now = next,

@@ -1,6 +1,6 @@
 -- Cited by private functions alone: of_begin, of_publish, of_look, of_read and 9 more.
 -- What one attempt comes to, by what the lock answered.
-use Rattle.std.specs.Prelude.{◌≡◌, ℕ, ◌+◌, ◌≤◌, List, [], ◌∷◌, length, All, Option, Some, None, Result, Ok, Err}
+use Rattle.std.specs.Prelude.{◌≡◌, ℕ, ◌+◌, ◌≤◌, ◌++◌, List, length, Option, Some, None, Result, Ok, Err}
 use Rattle.std.specs.declared.alloc.AllocError.{AllocError}
 use Rattle.reorganise.specs.declared.fault.ViewFault.TheVariants as view_fault
 use Rattle.reorganise.specs.declared.read.Reading.{Reading}
@@ -16,13 +16,12 @@ use Rattle.world.specs.declared.piece.ReadFault.TheVariants as read_fault
 use Rattle.world.specs.declared.publish.PublishFault.{PublishFault}
 use Rattle.world.specs.declared.publish.PublishFault.TheVariants as publish_fault
 use Rattle.locked_store.specs.Known.{Known}
-use Rattle.locked_store.specs.Receipts.{IsLogged}
 use Rattle.locked_store.specs.declared.fault.SharedFault.{SharedFault}
 use Rattle.locked_store.specs.declared.fault.SharedFault.TheVariants as shared
 use Rattle.rollout.specs.declared.act.Act.{Act}
 use Rattle.rollout.specs.declared.advanced.Advanced.{Advanced}
 use Rattle.rollout.specs.declared.advanced.Advanced.TheVariants as advanced
-use Rattle.shared_rollout.specs.Operator.{HasFinished, IsAdvanced, IsRefused, WasOvertaken, entries_of}
+use Rattle.shared_rollout.specs.Operator.{IsAdvanced, IsRefused, IsSeen, WasOvertaken, entries_of, next_of, receipts_of}
 use Rattle.shared_rollout.specs.declared.ask.Ask.{Ask}
 use Rattle.shared_rollout.specs.declared.fault.OperatorFault.{OperatorFault}
 use Rattle.shared_rollout.specs.declared.fault.OperatorFault.TheVariants as fault
@@ -79,7 +78,7 @@ of_commit element (Err refusal) = of_refusal refusal.0
 -- ---- what is known of an attempt, from the handle before it to the handle after it
 
 abbrev pub Says : Opening → Ask → Known → Attempt → Known → Type 0
-Says opening ask v (Ok (Some done)) w = IsAdvanced opening ask done × (w.count ≡ v.count + entries_of done)
+Says opening ask v (Ok (Some done)) w = IsAdvanced opening ask done × IsSeen opening ask.moment done w.front × (w.count ≡ v.count + entries_of done)
 Says opening ask v (Ok None) w = ((what : Act) × WasOvertaken opening ask what) × (w.count ≡ v.count)
 Says opening ask v (Err why) w = IsRefused opening ask w.front why × (w.count ≡ v.count)
 
@@ -91,7 +90,7 @@ pub record Attempts (opening : Opening) (ask : Ask) (v : Known) (attempt : Attem
 -- ---- what is known of an act
 
 abbrev pub ActSays : Opening → Ask → Known → Result Advanced OperatorFault → Known → Type 0
-ActSays opening ask v (Ok done) w = IsAdvanced opening ask done × (w.count ≡ v.count + entries_of done)
+ActSays opening ask v (Ok done) w = IsAdvanced opening ask done × IsSeen opening ask.moment done w.front × (w.count ≡ v.count + entries_of done)
 ActSays opening ask v (Err why) w = IsRefused opening ask w.front why × (w.count ≡ v.count)
 
 pub record Acts (opening : Opening) (ask : Ask) (v : Known) (result : Result Advanced OperatorFault) (w : Known) : Type 0 where
@@ -99,33 +98,21 @@ pub record Acts (opening : Opening) (ask : Ask) (v : Known) (result : Result Adv
   pub rises : v.front ≤ w.front
   pub says : ActSays opening ask v result w
 
--- ---- what is kept of an act
+-- ---- what is kept of an act: the moment of the next one, none if no change is under way, and its receipt
 
--- the moment of the next one; none if no change is under way
-abbrev pub next_of : ℕ → Advanced → Option ℕ
-next_of moment (advanced.Began number receipt) = Some moment
-next_of moment (advanced.Published version receipt) = Some moment
-next_of moment (advanced.Worked number done) = Some moment
-next_of moment (advanced.Waiting until) = Some until
-next_of moment advanced.Finished = None
+pub record IsKept (opening : Opening) (ask : Ask) (old : List Receipt) (next : Option ℕ) (front : ℕ) (new : List Receipt) : Type 0 where
+  pub done : Advanced
+  pub is_advanced : IsAdvanced opening ask done
+  pub seen : IsSeen opening ask.moment done front
+  pub next_is : next ≡ next_of ask.moment done
+  pub kept : new ≡ old ++ receipts_of done
 
-abbrev pub receipts_of : Advanced → List Receipt
-receipts_of (advanced.Began number receipt) = receipt ∷ []
-receipts_of (advanced.Published version receipt) = receipt ∷ []
-receipts_of (advanced.Worked number done) = done.receipt ∷ []
-receipts_of (advanced.Waiting until) = []
-receipts_of advanced.Finished = []
-
--- ---- what is known of an act: the moment of the next act, none if no change is under way
-
-abbrev pub NextSays : Opening → Ask → ℕ → Result (Option ℕ) OperatorFault → Type 0
-NextSays opening ask front (Ok (Some next)) = ask.moment ≤ next
-NextSays opening ask front (Ok None) = HasFinished opening ask
-NextSays opening ask front (Err why) = IsRefused opening ask front why
+abbrev pub KeptSays : Opening → Ask → List Receipt → Result (Option ℕ) OperatorFault → ℕ → List Receipt → Type 0
+KeptSays opening ask old (Ok next) front new = IsKept opening ask old next front new
+KeptSays opening ask old (Err why) front new = IsRefused opening ask front why × (new ≡ old)
 
 pub record ActsAndKeeps (opening : Opening) (ask : Ask) (v : Known) (old : List Receipt) (answer : Result (Option ℕ) OperatorFault) (w : Known) (new : List Receipt) : Type 0 where
   pub same : w.id ≡ v.id
   pub rises : v.front ≤ w.front
-  pub says : NextSays opening ask w.front answer
   pub counted : w.count + length old ≡ v.count + length new
-  pub logged : All (IsLogged opening ask.front) old → All (IsLogged opening ask.front) new
+  pub says : KeptSays opening ask old answer w.front new

@@ -1,5 +1,5 @@
-use Rattle.std.proofs.Common.{refl}
-use Rattle.shared_rollout.proofs.Acts.{acts_as, acts_counted, acts_done, acts_refused, any_ok}
+use Rattle.std.proofs.Common.{◌≡◌, ◌∙◌, false, true, sym, refl}
+use Rattle.shared_rollout.proofs.Acts.{acts_as, acts_counted, acts_done, acts_order, acts_refused, acts_seen, any_ok}
 use Rattle.shared_rollout.proofs.advanced.advance.Goals as goal
 
 pub returns-clause-done : goal.returns-clause-done
@@ -13,3 +13,13 @@ returns-clause-counted g c = acts_counted g.L.SharedLedger.opening _ c.args.me.n
 
 pub returns-clause-numbers : goal.returns-clause-numbers
 returns-clause-numbers g c = any_ok c.do_act.result (c.are_numbers.ensures.0 c.if-not-are_numbers.false)
+
+pub returns-clause-seen : goal.returns-clause-seen
+returns-clause-seen g c = acts_seen g.L.SharedLedger.opening _ c.args.me.now c.do_act.new.me c.do_act.result c.do_act.ensures
+
+pub returns-clause-order : goal.returns-clause-order
+returns-clause-order g c = acts_order g.L.SharedLedger.opening _ c.args.me.now c.do_act.new.me c.do_act.result (c.are_numbers.ensures.0 c.if-not-are_numbers.false) c.do_act.ensures
+
+pub returns-then-not-are_numbers-clause-order : goal.returns-then-not-are_numbers-clause-order
+returns-then-not-are_numbers-clause-order g c =
+    (λ _. λ p. let e : false ≡ true = sym c.if-not-are_numbers.true ∙ c.are_numbers.ensures.1 p in absurd cc, λ _. refl)

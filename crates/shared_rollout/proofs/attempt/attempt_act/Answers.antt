@@ -2,8 +2,8 @@ use Rattle.std.proofs.Common.{Ok, subst, refl, arith}
 use Rattle.rollout.specs.declared.act.Act.{Act}
 use Rattle.rollout.specs.declared.act.Act.TheVariants as act
 use Rattle.rollout.specs.declared.advanced.Advanced.TheVariants as advanced
-use Rattle.shared_rollout.specs.Operator.{WasDue}
-use Rattle.shared_rollout.proofs.Attempts.{due_quiet, later, looked, unseen, was_due}
+use Rattle.shared_rollout.specs.Operator.{WasDue, WasDueAt}
+use Rattle.shared_rollout.proofs.Attempts.{due_quiet, later, looked, unseen, was_due, was_due_at}
 use Rattle.shared_rollout.proofs.attempt.attempt_act.Goals as goal
 
 pub begin-requires-clause-seen : goal.begin-requires-clause-seen
@@ -50,6 +50,8 @@ returns-in-Ok-Wait g c =
     looked g.L.SharedLedger.opening c.args.ask.now c.args.me.now c.due.new.me (advanced.Waiting c.in-Ok-Wait.until) refl
     (subst (WasDue g.L.SharedLedger.opening c.args.ask.now) c.in-Ok-Wait.field-0-is
     (was_due g.L.SharedLedger.opening c.args.ask.now c.args.me.now c.due.new.me c.in-Ok-Wait.field-0 c.requires.seen c.in-Ok-Wait.ensures))
+    (subst (WasDueAt g.L.SharedLedger.opening c.due.new.me.front c.args.ask.now.moment) c.in-Ok-Wait.field-0-is
+    (was_due_at g.L.SharedLedger.opening c.args.ask.now c.args.me.now c.due.new.me c.in-Ok-Wait.field-0 c.in-Ok-Wait.ensures))
     (due_quiet g.L.SharedLedger.opening c.args.ask.now c.args.me.now c.due.new.me (Ok c.in-Ok-Wait.field-0) c.in-Ok-Wait.ensures)
 
 pub returns-in-Ok-Nothing : goal.returns-in-Ok-Nothing
@@ -57,6 +59,8 @@ returns-in-Ok-Nothing g c =
     looked g.L.SharedLedger.opening c.args.ask.now c.args.me.now c.due.new.me advanced.Finished refl
     (subst (WasDue g.L.SharedLedger.opening c.args.ask.now) c.in-Ok-Nothing.field-0-is
     (was_due g.L.SharedLedger.opening c.args.ask.now c.args.me.now c.due.new.me c.in-Ok-Nothing.field-0 c.requires.seen c.in-Ok-Nothing.ensures))
+    (subst (WasDueAt g.L.SharedLedger.opening c.due.new.me.front c.args.ask.now.moment) c.in-Ok-Nothing.field-0-is
+    (was_due_at g.L.SharedLedger.opening c.args.ask.now c.args.me.now c.due.new.me c.in-Ok-Nothing.field-0 c.in-Ok-Nothing.ensures))
     (due_quiet g.L.SharedLedger.opening c.args.ask.now c.args.me.now c.due.new.me (Ok c.in-Ok-Nothing.field-0) c.in-Ok-Nothing.ensures)
 
 pub returns-in-Err : goal.returns-in-Err
