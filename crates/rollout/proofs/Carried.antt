@@ -1,5 +1,5 @@
 -- What is so between two acts of `complete`, and what it answers.
-use Rattle.std.proofs.Common.{◌≡◌, ℕ, ◌+◌, ◌<◌, ◌≤◌, List, Result, Ok, Err, refl, sym, subst, ◌∙◌, arith}
+use Rattle.std.proofs.Common.{◌≡◌, ℕ, ◌+◌, ◌<◌, ◌≤◌, List, Result, Ok, Err, inr, refl, sym, subst, ◌∙◌, arith}
 use Rattle.lease.specs.Timeline.{max_moment, newest as newest_number}
 use Rattle.schema_version.specs.declared.step.Move.{Move}
 use Rattle.replay.specs.declared.entry.What.TheVariants.{Publish, Begin}
@@ -15,12 +15,14 @@ use Rattle.rollout.specs.declared.act.Act.TheVariants as act
 use Rattle.rollout.specs.declared.advanced.AdvanceFault.{AdvanceFault}
 use Rattle.rollout.specs.declared.advanced.AdvanceFault.TheVariants as advance_fault
 use Rattle.rollout.specs.Advance.{AreCounts, IsStepDue}
-use Rattle.rollout.specs.Complete.{CompleteAnswer, CompleteStep}
+use Rattle.rollout.specs.Complete.{IsTooLate, CompleteAnswer, CompleteStep}
+use Rattle.rollout.specs.Course.{IsCourse}
 use Rattle.rollout.specs.Due.{IsDue}
 use Rattle.rollout.specs.Few.{acts_in}
 use Rattle.rollout.specs.Left.{acts_left, all_left, IsOnTheWay}
 use Rattle.rollout.proofs.Ended.{all_rounds, worked_acts, completed, Carries, due_as, begin_carries, step_carries, work_carries}
 use Rattle.rollout.proofs.Few.{are_few_left, acts_then, rounds_act}
+use Rattle.rollout.proofs.Legs.{no_course}
 use Rattle.rollout.proofs.NoMore.{AddsNone, begin_adds_none, step_adds_none, rounds_on}
 use Rattle.rollout.proofs.Way.{same_way, way_on, way_ends}
 
@@ -93,37 +95,50 @@ some_rounds old middle new now number pieces limit so kept replayed rounds =
       adds_none = adds_none_on pieces limit old middle new so.adds_none (rounds_on rounds.0 pieces limit number now middle new rounds.1 kept replayed).adds_none;
     }
 
+-- a wait moves the moment on, and what waits for a moment above 2^62 waits too long
+pub wait_next : (old s : State) (moment now until : ℕ) (what : Act) → what ≡ act.Wait until → IsDue (facts_of s) (effective_moment s now) what → (now < until) × (max_moment < until → IsTooLate old moment s)
+wait_next old s moment now until what is due =
+    let d = due_as (facts_of s) (effective_moment s now) what (act.Wait until) is due in
+    let lt = d.0.1 in
+    (omega (arith, lt), λ late. inr (subst (λ (t : ℕ). max_moment < t) d.0.0 late, d.0.2))
+
 -- ---- the call
 
-pub complete_step : (old new : State) (moment pieces limit : ℕ) (result : Result ℕ AdvanceFault) → IsCarried pieces limit old new → CompleteAnswer old moment pieces limit result new → CompleteStep old moment pieces limit result new
-complete_step old new moment pieces limit result so answer =
+pub complete_step : (old new : State) (moment end pieces limit : ℕ) (result : Result ℕ AdvanceFault) → IsCourse pieces limit old (effective_moment old moment) new end → IsCarried pieces limit old new → CompleteAnswer old moment pieces limit result new end → CompleteStep old moment pieces limit result new
+complete_step old new moment end pieces limit result course so answer =
     let few = so.few in
     let most = are_few_left (facts_of old) in
-    record { way = so.way; rows = so.rows; few = omega (arith, few, most); pieces_few = λ k. (let none = so.adds_none k in omega (arith, none)); answer = answer }
+    record { end = end; course = course; way = so.way; rows = so.rows; few = omega (arith, few, most); pieces_few = λ k. (let none = so.adds_none k in omega (arith, none)); answer = answer }
+
+-- bad counts
+pub bad_step : (s : State) (moment pieces limit : ℕ) → ¬ (AreCounts pieces limit) → CompleteStep s moment pieces limit (Err advance_fault.BadCount) s
+bad_step s moment pieces limit bad =
+    complete_step s s moment (effective_moment s moment) pieces limit (Err advance_fault.BadCount) (no_course pieces limit s (effective_moment s moment)) (carried_at_first pieces limit s) (bad, refl, refl)
 
 -- out of memory
-pub memory_step : (old new : State) (moment pieces limit : ℕ) (result : Result ℕ AdvanceFault) → IsCarried pieces limit old new → AreCounts pieces limit → result ≡ Err advance_fault.Memory → CompleteStep old moment pieces limit result new
-memory_step old new moment pieces limit result so counts is =
-    subst (λ (r : Result ℕ AdvanceFault). CompleteStep old moment pieces limit r new) (sym is) (complete_step old new moment pieces limit (Err advance_fault.Memory) so counts)
+pub memory_step : (old new : State) (moment end pieces limit : ℕ) (result : Result ℕ AdvanceFault) → IsCourse pieces limit old (effective_moment old moment) new end → IsCarried pieces limit old new → AreCounts pieces limit → end ≤ max_moment → result ≡ Err advance_fault.Memory → CompleteStep old moment pieces limit result new
+memory_step old new moment end pieces limit result course so counts le is =
+    subst (λ (r : Result ℕ AdvanceFault). CompleteStep old moment pieces limit r new) (sym is) (complete_step old new moment end pieces limit (Err advance_fault.Memory) course so (counts, le))
 
 -- why a publication that is due was refused
 abbrev pub IsStepRefused : State → AdvanceFault → Type 0
 IsStepRefused middle fault =
     (fault ≡ advance_fault.VersionsSpent → max_versions ≤ newest_number (facts_of middle).line) × (fault ≡ advance_fault.MomentTooLarge → ⊥) × (fault ≡ advance_fault.BadCount → ⊥)
 
-refused_by : (old middle : State) (moment pieces limit : ℕ) (fault : AdvanceFault) → AreCounts pieces limit → ((now : ℕ) × IsStepDue middle now) → IsStepRefused middle fault → CompleteAnswer old moment pieces limit (Err fault) middle
-refused_by old middle moment pieces limit advance_fault.BadCount counts due why = absurd (why.2 refl)
-refused_by old middle moment pieces limit advance_fault.MomentTooLarge counts due why = absurd (why.1 refl)
-refused_by old middle moment pieces limit advance_fault.VersionsSpent counts due why = (counts, due, why.0 refl)
-refused_by old middle moment pieces limit advance_fault.Memory counts due why = counts
+refused_by : (old middle : State) (moment end pieces limit : ℕ) (fault : AdvanceFault) → AreCounts pieces limit → end ≤ max_moment → IsStepDue middle end → IsStepRefused middle fault → CompleteAnswer old moment pieces limit (Err fault) middle end
+refused_by old middle moment end pieces limit advance_fault.BadCount counts le due why = absurd (why.2 refl)
+refused_by old middle moment end pieces limit advance_fault.MomentTooLarge counts le due why = absurd (why.1 refl)
+refused_by old middle moment end pieces limit advance_fault.VersionsSpent counts le due why = (counts, le, due, why.0 refl)
+refused_by old middle moment end pieces limit advance_fault.Memory counts le due why = (counts, le)
 
-pub refused_step : (old middle new : State) (moment pieces limit : ℕ) (fault : AdvanceFault) (result : Result ℕ AdvanceFault) → IsCarried pieces limit old middle → new ≡ middle → AreCounts pieces limit → ((now : ℕ) × IsStepDue middle now) → IsStepRefused middle fault → result ≡ Err fault → CompleteStep old moment pieces limit result new
-refused_step old middle new moment pieces limit fault result so same counts due why is =
+pub refused_step : (old middle new : State) (moment end pieces limit : ℕ) (fault : AdvanceFault) (result : Result ℕ AdvanceFault) → IsCourse pieces limit old (effective_moment old moment) middle end → IsCarried pieces limit old middle → new ≡ middle → AreCounts pieces limit → end ≤ max_moment → IsStepDue middle end → IsStepRefused middle fault → result ≡ Err fault → CompleteStep old moment pieces limit result new
+refused_step old middle new moment end pieces limit fault result course so same counts le due why is =
     subst (λ (s : State). CompleteStep old moment pieces limit result s) (sym same)
     (subst (λ (r : Result ℕ AdvanceFault). CompleteStep old moment pieces limit r middle) (sym is)
-    (complete_step old middle moment pieces limit (Err fault) so (refused_by old middle moment pieces limit fault counts due why)))
+    (complete_step old middle moment end pieces limit (Err fault) course so (refused_by old middle moment end pieces limit fault counts le due why)))
 
-pub nothing_step : (old s : State) (moment pieces limit now : ℕ) (what : Act) → IsCarried pieces limit old s → AreCounts pieces limit → IsKept (facts_of s) → what ≡ act.Nothing → IsDue (facts_of s) (effective_moment s now) what → effective_moment old moment ≤ now → (facts_of s).moment ≤ now → now ≤ max_moment → CompleteStep old moment pieces limit (Ok now) s
-nothing_step old s moment pieces limit now what so counts kept is due since past le =
-    complete_step old s moment pieces limit (Ok now) so
-    (counts, completed (facts_of old) (facts_of s) kept (due_as (facts_of s) (effective_moment s now) what act.Nothing is due).0 (way_ends (facts_of old) (facts_of s) so.way), since, past, le)
+pub nothing_step : (old s : State) (moment pieces limit now : ℕ) (what : Act) → IsCourse pieces limit old (effective_moment old moment) s now → IsCarried pieces limit old s → AreCounts pieces limit → IsKept (facts_of s) → what ≡ act.Nothing → IsDue (facts_of s) (effective_moment s now) what → effective_moment old moment ≤ now → (facts_of s).moment ≤ now → now ≤ max_moment → CompleteStep old moment pieces limit (Ok now) s
+nothing_step old s moment pieces limit now what course so counts kept is due since past le =
+    let none = due_as (facts_of s) (effective_moment s now) what act.Nothing is due in
+    complete_step old s moment now pieces limit (Ok now) course so
+    (counts, refl, (none, refl), completed (facts_of old) (facts_of s) kept none.0 (way_ends (facts_of old) (facts_of s) so.way), since, past, le)

@@ -153,6 +153,7 @@ module _ (facts : Facts) (now : ℕ) (kept : IsKept facts) (step : List Move) (i
 -- of all that is left, only the progress of this element's reorganisation has changed
 pub record IsWorked (old new : Facts) (now number : ℕ) : Type 0 where
   pub newest : new.newest ≡ old.newest
+  pub older : new.older ≡ old.older
   pub line : new.line ≡ old.line
   pub rows : new.rows ≡ old.rows
   pub past : old.moment ≤ now → new.moment ≤ now
@@ -168,6 +169,7 @@ one_round old new number moment limit t =
     subst (λ (f : Facts). IsWorked (facts_of old) f moment number) (sym (facts_then old new (effective_moment old moment) (Piece t.read.element.number t.read.piece t.read.key_range.high) t.done.receipt t.committed.2))
     (record {
       newest = refl;
+      older = refl;
       line = refl;
       rows = refl;
       past = λ le. omega (arith, le);
@@ -181,12 +183,13 @@ one_round old new number moment limit t =
 pub all_rounds : (n : ℕ) (old new : State) (number moment limit : ℕ) → Rounds n old number moment limit new → IsWorked (facts_of old) (facts_of new) moment number
 all_rounds zero old new number moment limit same =
     subst (λ (s : State). IsWorked (facts_of old) (facts_of s) moment number) (sym same)
-    (record { newest = refl; line = refl; rows = refl; past = λ le. le; begun = λ k. refl; others = λ k ne. refl })
+    (record { newest = refl; older = refl; line = refl; rows = refl; past = λ le. le; begun = λ k. refl; others = λ k ne. refl })
 all_rounds (suc n) old new number moment limit (middle, rounds, last) =
     let first = all_rounds n old middle number moment limit rounds in
     let then = one_round middle new number moment limit last in
     record {
       newest = then.newest ∙ first.newest;
+      older = then.older ∙ first.older;
       line = then.line ∙ first.line;
       rows = then.rows ∙ first.rows;
       past = λ le. then.past (first.past le);

@@ -7,6 +7,9 @@ pub mod CountLemmas
 pub mod Few
 pub mod Way
 pub mod Ended
+pub mod Courses
+pub mod Stands
+pub mod Legs
 pub mod Carried
 pub mod Rises
 pub mod Taken

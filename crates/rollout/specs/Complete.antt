@@ -6,9 +6,11 @@ use Rattle.replay.specs.Replay.{Facts}
 use Rattle.world.specs.Calls.{effective_moment}
 use Rattle.world.specs.Publish.{max_versions}
 use Rattle.world.specs.State.{State, facts_of}
+use Rattle.rollout.specs.declared.advanced.Advanced.TheVariants as advanced
 use Rattle.rollout.specs.declared.advanced.AdvanceFault.{AdvanceFault}
 use Rattle.rollout.specs.declared.advanced.AdvanceFault.TheVariants as advance_fault
-use Rattle.rollout.specs.Advance.{AreCounts, IsStepDue}
+use Rattle.rollout.specs.Advance.{AreCounts, Advances, IsStepDue}
+use Rattle.rollout.specs.Course.{IsCourse}
 use Rattle.rollout.specs.Due.{IsUnderWay}
 use Rattle.rollout.specs.Few.{acts_in, changes_under_way}
 use Rattle.rollout.specs.Left.{AreCompleted, IsOnTheWay}
@@ -22,22 +24,32 @@ WaitsTooLong new = (max_moment < earliest (facts_of new).line) × ((number : ℕ
 abbrev pub IsTooLate : State → ℕ → State → Type 0
 IsTooLate old moment new = ((max_moment < effective_moment old moment) × (new ≡ old)) ⊎ WaitsTooLong new
 
-abbrev pub CompleteAnswer : State → ℕ → ℕ → ℕ → Result ℕ AdvanceFault → State → Type 0
-CompleteAnswer old moment pieces limit (Ok now) new =
-    AreCounts pieces limit × AreCompleted (facts_of old) (facts_of new) × (effective_moment old moment ≤ now) × ((facts_of new).moment ≤ now) × (now ≤ max_moment)
-CompleteAnswer old moment pieces limit (Err advance_fault.BadCount) new = (¬ (AreCounts pieces limit)) × (new ≡ old)
-CompleteAnswer old moment pieces limit (Err advance_fault.MomentTooLarge) new = AreCounts pieces limit × IsTooLate old moment new
-CompleteAnswer old moment pieces limit (Err advance_fault.VersionsSpent) new = AreCounts pieces limit × ((now : ℕ) × IsStepDue new now) × (max_versions ≤ newest_number (facts_of new).line)
-CompleteAnswer old moment pieces limit (Err advance_fault.Memory) new = AreCounts pieces limit
+-- end is the moment at which the acts end: it is answered if nothing more is to be done then; refused for the first reason that holds
+abbrev pub CompleteAnswer : State → ℕ → ℕ → ℕ → Result ℕ AdvanceFault → State → ℕ → Type 0
+CompleteAnswer old moment pieces limit (Ok answered) new end =
+    AreCounts pieces limit
+    × (answered ≡ end)
+    × Advances new end pieces limit advanced.Finished new
+    × AreCompleted (facts_of old) (facts_of new)
+    × (effective_moment old moment ≤ end)
+    × ((facts_of new).moment ≤ end)
+    × (end ≤ max_moment)
+CompleteAnswer old moment pieces limit (Err advance_fault.BadCount) new end = (¬ (AreCounts pieces limit)) × (new ≡ old) × (end ≡ effective_moment old moment)
+CompleteAnswer old moment pieces limit (Err advance_fault.MomentTooLarge) new end = AreCounts pieces limit × (max_moment < end) × IsTooLate old moment new
+CompleteAnswer old moment pieces limit (Err advance_fault.VersionsSpent) new end = AreCounts pieces limit × (end ≤ max_moment) × IsStepDue new end × (max_versions ≤ newest_number (facts_of new).line)
+CompleteAnswer old moment pieces limit (Err advance_fault.Memory) new end = AreCounts pieces limit × (end ≤ max_moment)
 
--- refused or not, each element is where it was or further on its way, the rows are as before, and the log has few entries more: at most three
--- begins and publications for each element that was under way, and of each such element the pieces that its items need
+-- refused or not, all that was done are advances, one after another, and nothing else; so each element is where it was or further on its way,
+-- the rows are as before, and the log has few entries more: at most three begins and publications for each element that was under way, and of
+-- each such element the pieces that its items need
 pub record CompleteStep (old : State) (moment pieces limit : ℕ) (result : Result ℕ AdvanceFault) (new : State) : Type 0 where
+  pub end : ℕ
+  pub course : IsCourse pieces limit old (effective_moment old moment) new end
   pub way : IsOnTheWay (facts_of old) (facts_of new)
   pub rows : (facts_of new).rows ≡ (facts_of old).rows
   pub few : acts_in new.log ≤ acts_in old.log + 3 * changes_under_way (facts_of old)
   pub pieces_few : ArePiecesFew pieces limit old new
-  pub answer : CompleteAnswer old moment pieces limit result new
+  pub answer : CompleteAnswer old moment pieces limit result new end
 
 -- what a refused call left, a later call completes
 abbrev pub CallsGoOn : Type 0

@@ -4,4 +4,5 @@ pub mod Left
 pub mod Advance
 pub mod Few
 pub mod Pieces
+pub mod Course
 pub mod Complete

@@ -11,8 +11,11 @@ use std::alloc::Global;
 use world::World;
 
 /// Brings every change that is under way to its end, and returns the effective moment of its end:
-/// then each element that was being added is public, and each that was being dropped is gone. If
-/// nothing can be done before a moment, it goes on at that moment.
+/// then each element that was being added is public, and each that was being dropped is gone.
+///
+/// All that it does is a course of advances: each act is the one that is due at its moment, as
+/// `advance` does it, and nothing else is added to the log. If nothing can be done before a moment,
+/// it goes on at that moment, and no later. The returned moment is that at which the course ends.
 ///
 /// It always comes to an end. Whatever it returns, it adds few entries to the log: at most three
 /// begins and publications for each element that was under way, and few pieces. Each of these takes
@@ -24,8 +27,8 @@ use world::World;
 ///
 /// Refused, in this order, by the names of `AdvanceFault`: bad counts, which change nothing; then a
 /// moment above 2^62, no version left, or out of memory, at the act that needs it. What was done
-/// before that act stays: the rows are as before, and each element is where it was or further on
-/// its way, so a second call goes on.
+/// before that act stays, and is a course too: the rows are as before, and each element is where it
+/// was or further on its way, so a second call goes on.
 pub fn complete(
     alloc: Global,
     world: &mut World,

@@ -1,6 +1,7 @@
 //! What is known of acts that are due, stated for the proofs above.
 ghost use Rattle.rollout.specs.Advance.{AreAccepted, AdvancesLower};
 ghost use Rattle.rollout.specs.Complete.{CallsGoOn};
+ghost use Rattle.rollout.specs.Course.{CoursesGrow, AdvancesStay};
 ghost use Rattle.rollout.specs.Few.{AreFewLeft};
 ghost use Rattle.rollout.specs.Left.{PiecesTakeItems};
 ghost use Rattle.rollout.specs.Pieces.{AdvancesTakeItems, ItemsAreRows};
@@ -27,6 +28,18 @@ pub fn few_acts_are_left()
 /// that were under way at first.
 pub fn calls_go_on()
     ensures { CallsGoOn }
+{}
+
+/// On a course of advances the opening stays, entries are added to the log and none is changed, and
+/// no moment goes back. All that `complete` does is such a course.
+pub fn courses_grow()
+    ensures { CoursesGrow }
+{}
+
+/// An advance leaves each element where it was or further on its way, with the rows as before; so
+/// do any number of them, and once one reports that all is finished, every change is completed.
+pub fn advances_stay()
+    ensures { AdvancesStay }
 {}
 
 /// A read takes exactly `limit` of the items that are left of a piece, or reaches the piece's end:

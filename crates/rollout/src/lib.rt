@@ -23,8 +23,8 @@ pub use act::{Act, due};
 pub use advanced::{AdvanceFault, Advanced, advance};
 pub use completion::complete;
 pub use laws::{
-    advances_lower, advances_take_items, calls_go_on, due_is_accepted, few_acts_are_left,
-    items_are_rows, pieces_take_items,
+    advances_lower, advances_stay, advances_take_items, calls_go_on, courses_grow, due_is_accepted,
+    few_acts_are_left, items_are_rows, pieces_take_items,
 };
 pub use limits::are_counts;
 pub use state_path::next_state;
