@@ -44,3 +44,9 @@ AreFree held numbers os = (x : ℕ) (d : ℕ × _) → 0 < times x numbers → x
 
 abbrev pub AreOnce : List ℕ → Type 0
 AreOnce numbers = (x : ℕ) → times x numbers ≤ 1
+
+-- an outcome that is as some plan says of the task of this number
+pub record HasOutcome {P O : Type 0} (fits : P → ℕ → O → Type 0) (number : ℕ) : Type 0 where
+  pub plan : P
+  pub outcome : O
+  pub is_fit : fits plan number outcome

@@ -7,7 +7,7 @@ ghost use Rattle.tasks.specs.Counts.{IsRefused};
 ghost use Rattle.tasks.specs.Outcomes.{held_in, held_all, IsOnPlan, IsRow};
 
 use crate::fault::TaskFault;
-use crate::gate::Gate;
+use crate::gate::{Gate, TaskGate};
 use crate::place::{blank_row, collect};
 use crate::worker::Worker;
 use crate::worker_slot::{WorkerSlot, seat_workers, work_all};
@@ -62,7 +62,7 @@ pub fn perform_all<W: Worker + Send, G: Gate + Sync, R: Threads + Sync>(
 }
 
 // The same, by this counter. Makes all room.
-fn perform_in<W: Worker + Send, T: Drawing + Send + Sync, G: Gate + Sync, R: Threads + Sync>(
+fn perform_in<W: Worker + Send, T: Drawing + Send + Sync, G: TaskGate<W> + Sync, R: Threads + Sync>(
     rt: &R,
     alloc: Global,
     opened: Opened,
@@ -97,7 +97,7 @@ fn perform_in<W: Worker + Send, T: Drawing + Send + Sync, G: Gate + Sync, R: Thr
 }
 
 // The same, with all room made.
-fn run<W: Worker + Send, T: Drawing + Send + Sync, G: Gate + Sync, R: Threads + Sync>(
+fn run<W: Worker + Send, T: Drawing + Send + Sync, G: TaskGate<W> + Sync, R: Threads + Sync>(
     rt: &R,
     alloc: Global,
     claims: Claims<T>,

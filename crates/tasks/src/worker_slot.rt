@@ -3,7 +3,7 @@ ghost use Rattle.std.specs.Prelude.{◌≡◌, ◌+◌, ◌<◌, ◌≤◌, [], 
 ghost use Rattle.claims.specs.Seats.{AreIdle};
 ghost use Rattle.tasks.specs.Outcomes.{held_in, held_all, numbers_of, early, AreFit, IsOnPlan, StaysOnPlan};
 
-use crate::gate::{Gate, has_passed};
+use crate::gate::{TaskGate, has_passed};
 use crate::worker::Worker;
 use claims::{ClaimSeat, Claims, Drawing};
 use std::alloc::Global;
@@ -52,7 +52,7 @@ pub(crate) fn seat_workers<W: Worker, T: Drawing>(
 }
 
 // The outcome of a task, once the gate lets it start.
-fn outcome_of<W: Worker, G: Gate>(
+fn outcome_of<W: Worker, G: TaskGate<W>>(
     alloc: Global,
     gate: &G,
     worker: &mut W,
@@ -63,17 +63,32 @@ fn outcome_of<W: Worker, G: Gate>(
     ensures counted { W.count worker.new + W.kept_receipts worker.old ≡ W.count worker.old + W.kept_receipts worker.new + W.held result }
     ensures fits { W.fits (W.plan worker.old) number result }
 {
-    let outcome = if has_passed(gate, number) {
+    if has_passed::<W, G>(gate, number) {
         worker.perform(alloc, number)
     } else {
         W::held_back()
-    };
-    gate.answered(number);
+    }
+}
+
+// The outcome of a task, of which the gate is told.
+fn outcome_told<W: Worker, G: TaskGate<W>>(
+    alloc: Global,
+    gate: &G,
+    worker: &mut W,
+    number: usize,
+) -> W::Outcome
+    requires inside { number < W.total (W.plan worker.old) }
+    ensures same { (W.plan worker.new ≡ W.plan worker.old) × (W.id worker.new ≡ W.id worker.old) }
+    ensures counted { W.count worker.new + W.kept_receipts worker.old ≡ W.count worker.old + W.kept_receipts worker.new + W.held result }
+    ensures fits { W.fits (W.plan worker.old) number result }
+{
+    let outcome = outcome_of(alloc, gate, worker, number);
+    gate.tell(number);
     outcome
 }
 
 // Performs tasks until there is none left, or no room for one more outcome.
-fn perform_drawn<W: Worker, T: Drawing, G: Gate>(
+fn perform_drawn<W: Worker, T: Drawing, G: TaskGate<W>>(
     alloc: Global,
     gate: &G,
     claims: &Claims<T>,
@@ -96,14 +111,14 @@ fn perform_drawn<W: Worker, T: Drawing, G: Gate>(
         let Some(number) = claims.claim(seat) else {
             return;
         };
-        let outcome = outcome_of(alloc, gate, worker, number);
+        let outcome = outcome_told(alloc, gate, worker, number);
         done.push_reserved((number, outcome));
     }
 }
 
 // One worker slot's run.
 #[tactic(auto, unfolding(crate::specs::Outcomes::StaysOnPlan))]
-fn work<W: Worker, T: Drawing, G: Gate>(
+fn work<W: Worker, T: Drawing, G: TaskGate<W>>(
     alloc: Global,
     gate: &G,
     claims: &Claims<T>,
@@ -120,7 +135,7 @@ fn work<W: Worker, T: Drawing, G: Gate>(
 }
 
 // Each worker slot's run, on a thread of its own if one can be started.
-fn work_each<W: Worker + Send, T: Drawing + Send + Sync, G: Gate + Sync, R: Threads + Sync>(
+fn work_each<W: Worker + Send, T: Drawing + Send + Sync, G: TaskGate<W> + Sync, R: Threads + Sync>(
     rt: &R,
     alloc: Global,
     gate: &G,
@@ -149,7 +164,7 @@ fn work_each<W: Worker + Send, T: Drawing + Send + Sync, G: Gate + Sync, R: Thre
 pub(crate) fn work_all<
     W: Worker + Send,
     T: Drawing + Send + Sync,
-    G: Gate + Sync,
+    G: TaskGate<W> + Sync,
     R: Threads + Sync,
 >(
     rt: &R,
