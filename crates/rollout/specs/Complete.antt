@@ -24,7 +24,7 @@ WaitsTooLong new = (max_moment < earliest (facts_of new).line) × ((number : ℕ
 abbrev pub IsTooLate : State → ℕ → State → Type 0
 IsTooLate old moment new = ((max_moment < effective_moment old moment) × (new ≡ old)) ⊎ WaitsTooLong new
 
--- end is the moment at which the acts end: it is answered if nothing more is to be done then; refused for the first reason that holds
+-- end is the moment at which its course ends: it is answered if no change is under way then, and a moment above 2^62 is refused if the end is one
 abbrev pub CompleteAnswer : State → ℕ → ℕ → ℕ → Result ℕ AdvanceFault → State → ℕ → Type 0
 CompleteAnswer old moment pieces limit (Ok answered) new end =
     AreCounts pieces limit
@@ -39,9 +39,9 @@ CompleteAnswer old moment pieces limit (Err advance_fault.MomentTooLarge) new en
 CompleteAnswer old moment pieces limit (Err advance_fault.VersionsSpent) new end = AreCounts pieces limit × (end ≤ max_moment) × IsStepDue new end × (max_versions ≤ newest_number (facts_of new).line)
 CompleteAnswer old moment pieces limit (Err advance_fault.Memory) new end = AreCounts pieces limit × (end ≤ max_moment)
 
--- refused or not, all that was done are advances, one after another, and nothing else; so each element is where it was or further on its way,
--- the rows are as before, and the log has few entries more: at most three begins and publications for each element that was under way, and of
--- each such element the pieces that its items need
+-- refused or not, all that was done is a course of advances: each act was due at its moment, and nothing else was added. Each element is where
+-- it was or further on its way, the rows are as before, and the log has few entries more: at most three begins and publications for each
+-- element that was under way, and of each such element the pieces that its items need
 pub record CompleteStep (old : State) (moment pieces limit : ℕ) (result : Result ℕ AdvanceFault) (new : State) : Type 0 where
   pub end : ℕ
   pub course : IsCourse pieces limit old (effective_moment old moment) new end

@@ -1,4 +1,4 @@
--- Cited by the contracts of complete, courses_grow, advances_stay.
+-- Cited by the contracts of courses_grow, advances_stay.
 -- A course: one advance after another, each at its moment; and what they keep.
 use Rattle.std.specs.Prelude.{◌≡◌, ◌≢◌, ℕ, zero, suc, ◌≤◌, List, ◌++◌}
 use Rattle.replay.specs.declared.entry.Entry.{Entry}
