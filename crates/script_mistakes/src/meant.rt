@@ -88,12 +88,20 @@ fn two_words(text: &str) -> (&str, &str) {
     (first, second)
 }
 
+// Whether the words of a row are these two, or the one is the first.
+fn are_words(words: &str, first: &str, second: &str) -> bool {
+    match words.split_once(' ') {
+        Some((word, other)) => word.eq_ignore_ascii_case(first)
+            && other.eq_ignore_ascii_case(second),
+        None => words.eq_ignore_ascii_case(first),
+    }
+}
+
 // What does here what these two words ask for elsewhere.
 fn foreign(first: &str, second: &str) -> Option<&'static str> {
     for line in SQL.lines() {
         let (words, text) = line.split_once('|').unwrap_or((line, ""));
-        let (word, other) = words.split_once(' ').unwrap_or((words, second));
-        if word.eq_ignore_ascii_case(first) && other.eq_ignore_ascii_case(second) {
+        if are_words(words, first, second) {
             return Some(text);
         }
     }
