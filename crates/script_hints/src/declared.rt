@@ -1,11 +1,12 @@
 //! What `open` will refuse of the declarations.
 use keycode::Text;
+use lease::MAX_LENGTH;
 use row_map::ColumnType;
 use schema_version::{
     MAX_COLUMNS, MAX_INDEXES, MAX_KEY_COLUMNS, MAX_LISTED, MAX_NAME, MAX_TABLES, TableDef,
 };
-use script_grammar::Command;
-use script_session::Declarations;
+use script_grammar::{Command, read_command};
+use script_session::{Declarations, Session};
 use script_views::push_nearest;
 use std::alloc::{AllocError, Global};
 
@@ -218,7 +219,102 @@ pub(crate) fn declared_hint(
                 push_index(alloc, &mut out, table, place)?;
             }
         }
+        Command::Length(length) if *length == 0 || *length > MAX_LENGTH => {
+            write!(out, "a length is from 1 to {MAX_LENGTH}")?;
+        }
         _ => {}
     }
     Ok(out)
+}
+
+// Adds the faults of one declaration, each on a line that begins with its words.
+fn push_under(
+    out: &mut String,
+    named: (&'static str, &str),
+    table: &str,
+    faults: &str,
+) -> Result<(), AllocError> {
+    let (kind, name) = named;
+    let on = if table.is_empty() { "" } else { " on " };
+    for fault in faults.lines() {
+        begin(out)?;
+        write!(out, "{kind} {name}{on}{table}: {fault}")?;
+    }
+    Ok(())
+}
+
+// Adds what is wrong with the table at this place.
+fn push_table_faults(
+    alloc: Global,
+    out: &mut String,
+    tables: &[TableDef],
+    place: usize,
+    name: &str,
+) -> Result<(), AllocError> {
+    let mut faults = String::new(alloc);
+    push_table(&mut faults, tables, place)?;
+    push_under(out, ("table", name), "", faults.as_str())
+}
+
+// Adds what is wrong with the index at this place of a table.
+fn push_index_faults(
+    alloc: Global,
+    out: &mut String,
+    table: &TableDef,
+    place: usize,
+    name: &str,
+) -> Result<(), AllocError> {
+    let mut faults = String::new(alloc);
+    push_index(alloc, &mut faults, table, place)?;
+    push_under(out, ("index", name), table.name.as_str(), faults.as_str())
+}
+
+fn push_faults(
+    alloc: Global,
+    out: &mut String,
+    tables: &[TableDef],
+    place: usize,
+    table: &TableDef,
+) -> Result<(), AllocError> {
+    push_table_faults(alloc, out, tables, place, table.name.as_str())?;
+    for (i, index) in table.indexes.as_slice().iter().enumerate() {
+        push_index_faults(alloc, out, table, i, index.0.as_str())?;
+    }
+    Ok(())
+}
+
+// What is wrong with each declaration that `open` refuses; empty if it refuses none.
+fn all_faults(alloc: Global, tables: &[TableDef]) -> Result<String, AllocError> {
+    if tables.is_empty() {
+        return "no table is declared".to_string(alloc);
+    }
+    let mut out = String::new(alloc);
+    for (place, table) in tables.iter().enumerate() {
+        push_faults(alloc, &mut out, tables, place, table)?;
+    }
+    if !out.is_empty() {
+        out.push_str("\nall must be declared again")?;
+    }
+    Ok(out)
+}
+
+fn is_open(alloc: Global, line: &str) -> bool {
+    let read = read_command(alloc, line.as_bytes());
+    let found = matches!(&read, Ok(Command::Open));
+    drop(read);
+    found
+}
+
+/// Each declaration that `open` will refuse `BadTable`, and why, a line each; empty if it refuses
+/// none, or if the line is not `open`. Refused only when out of memory.
+///
+/// - `session`: the session before the reply, which is only read.
+/// - `line`: the line without its ending.
+pub fn opening_faults(alloc: Global, session: &Session, line: &str) -> Result<String, AllocError> {
+    match session {
+        Session::Declaring(declared) if is_open(alloc, line) => {
+            all_faults(alloc, declared.tables.as_slice())
+        }
+        _ => Ok(String::new(alloc)),
+    }
 }

@@ -17,5 +17,6 @@ mod rows;
 mod timeline;
 mod views;
 
+pub use declared::opening_faults;
 pub use hint::hint_of;
 pub use views::view_of;
