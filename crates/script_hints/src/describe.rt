@@ -114,7 +114,11 @@ fn all_tables(alloc: Global, world: &World) -> Result<String, AllocError> {
     Ok(out)
 }
 
+// That there is no table of this name, and the nearest; a `;` after it is no part of a name.
 fn missing_table(alloc: Global, schema: &Schema, table: &str) -> Result<String, AllocError> {
+    if table.ends_with(';') {
+        return "no `;` ends a line".to_string(alloc);
+    }
     let mut out = format!(in alloc; "there is no table {table}")?;
     let names = table_names(alloc, schema)?;
     push_nearest(alloc, &mut out, table, names.as_slice())?;
