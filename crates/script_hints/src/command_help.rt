@@ -1,5 +1,5 @@
 //! What each command is for.
-use crate::table::row_of;
+use script_mistakes::row_of;
 use std::alloc::{AllocError, Global};
 
 /// A command: its word, what it does, its form by an example, and its refusals.

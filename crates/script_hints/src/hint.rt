@@ -1,15 +1,20 @@
 //! The hint that goes with a reply.
 
-use crate::bad::unexpected;
+use crate::declared::declared_hint;
 use crate::in_way::{left_out, push_replaced};
 use crate::refused::{opening_hint, refusal_hint, refusal_of};
+use crate::rows::row_hint;
 use script_grammar::{Command, read_command};
+use script_mistakes::unexpected;
 use script_session::{Declarations, Session};
 use script_views::push_nearest;
 use std::alloc::{AllocError, Global};
 
 /// The longest line, in bytes.
 const MAX_LINE: usize = 65_536;
+
+/// What a line that comes after `open` is told before it.
+pub(crate) const NOT_OPEN: &str = "nothing is open yet: declare tables, then `open`";
 
 // Why an `index` line before `open` is bad: its table is not declared.
 fn undeclared(alloc: Global, declared: &Declarations, table: &str) -> Result<String, AllocError> {
@@ -28,18 +33,8 @@ fn misplaced(alloc: Global, session: &Session, command: &Command) -> Result<Stri
         (Session::Declaring(declared), Command::Index { table, .. }) => {
             undeclared(alloc, declared, table.as_str())
         }
-        (Session::Declaring(_), _) => "1: this line comes after open".to_string(alloc),
+        (Session::Declaring(_), _) => NOT_OPEN.to_string(alloc),
         (Session::Running(_), _) => "1: this line comes before open".to_string(alloc),
-    }
-}
-
-// What was expected where a line stops being a command.
-fn unexpected_hint(alloc: Global, line: &str, may_omit: bool) -> Result<String, AllocError> {
-    match unexpected(alloc, line, may_omit)? {
-        Some(out) => Ok(out),
-        None => "a number does not fit its place, or a key column comes after another".to_string(
-            alloc,
-        ),
     }
 }
 
@@ -55,7 +50,7 @@ fn bad_hint(
     let read = read_command(alloc, line.as_bytes());
     let hint = match &read {
         Ok(command) => misplaced(alloc, session, command),
-        Err(_) => unexpected_hint(alloc, line, may_omit),
+        Err(_) => unexpected(alloc, line, may_omit),
     };
     drop(read);
     hint
@@ -79,25 +74,55 @@ fn refused_hint(
 }
 
 // What an accepted plan leaves unfinished, and how many steps of the kept plan it replaces.
-fn accepted_hint(
-    alloc: Global,
-    session: &Session,
-    reply: &str,
-    steps: usize,
-) -> Result<String, AllocError> {
+fn plan_hint(alloc: Global, session: &Session, steps: usize) -> Result<String, AllocError> {
     match session {
-        Session::Running(opened) if reply.contains("ok plan ") => {
+        Session::Running(opened) => {
             let mut out = left_out(alloc, opened)?;
             push_replaced(&mut out, steps)?;
             Ok(out)
         }
+        Session::Declaring(_) => Ok(String::new(alloc)),
+    }
+}
+
+// What goes with a line that is answered `ok`: what is wrong with a declaration, or which row an
+// operation is refused for.
+fn answered_hint(
+    alloc: Global,
+    session: &Session,
+    line: &str,
+    reply: &str,
+) -> Result<String, AllocError> {
+    let read = read_command(alloc, line.as_bytes());
+    let hint = match (session, &read) {
+        (Session::Declaring(declared), Ok(command)) => declared_hint(alloc, declared, command),
+        (Session::Running(_), Ok(command)) => row_hint(alloc, command, reply),
         _ => Ok(String::new(alloc)),
+    };
+    drop(read);
+    hint
+}
+
+fn accepted_hint(
+    alloc: Global,
+    session: &Session,
+    line: &str,
+    reply: &str,
+    steps: usize,
+) -> Result<String, AllocError> {
+    if reply.contains("ok plan ") {
+        plan_hint(alloc, session, steps)
+    } else if reply == "ok\n" || reply.starts_with("ok refused ") {
+        answered_hint(alloc, session, line, reply)
+    } else {
+        Ok(String::new(alloc))
     }
 }
 
 /// The hint that goes with a reply: where a bad line stops being a command and what was expected
-/// there, what a refusal means and what may be done, or what an accepted plan leaves unfinished and
-/// what it replaces. Empty for any other reply.
+/// there, what a refusal means and what may be done, which row an operation is refused for, what
+/// `open` will refuse of a declaration, or what an accepted plan leaves unfinished and what it
+/// replaces. Empty for any other reply.
 ///
 /// - `session`: the session after the reply, which is only read.
 /// - `line`: the line that was answered, without its ending.
@@ -119,6 +144,6 @@ pub fn hint_of(
     }
     match reply.strip_prefix("refused ") {
         Some(refusal) => refused_hint(alloc, session, line, refusal.trim_end()),
-        None => accepted_hint(alloc, session, reply, steps),
+        None => accepted_hint(alloc, session, line, reply, steps),
     }
 }

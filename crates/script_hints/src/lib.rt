@@ -2,8 +2,8 @@
 //! stand. Each is a text made of a session that is only read, so none can change it.
 #![tactic(auto)]
 
-mod bad;
 mod command_help;
+mod declared;
 mod describe;
 mod explain_plan;
 mod fills;
@@ -11,13 +11,12 @@ mod hint;
 mod in_way;
 mod meanings;
 mod moves;
-mod pieces;
 mod progress;
 mod refused;
-mod rules;
-mod table;
+mod rows;
 mod timeline;
 mod views;
 
+pub use declared::opening_faults;
 pub use hint::hint_of;
 pub use views::view_of;

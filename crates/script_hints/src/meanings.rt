@@ -1,5 +1,5 @@
 //! What each refusal means.
-use crate::table::row_of;
+use script_mistakes::row_of;
 
 /// A refusal and what it means. `{1}` and `{2}` are its numbers, `{e}` is the element of the first,
 /// `{s}` the server or work of the line, `{t}` its element, and `{m}` the last moment.

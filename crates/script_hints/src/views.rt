@@ -6,6 +6,7 @@ ghost use Rattle.script_views.specs.Explain.{ShowsPath, ShowsPathIn};
 use crate::command_help::help_text;
 use crate::describe::description;
 use crate::explain_plan::plan_explanation;
+use crate::hint::NOT_OPEN;
 use crate::progress::{plan_left, progress};
 use crate::timeline::timeline;
 use lease::LeaseFault;
@@ -67,7 +68,7 @@ fn opened_view(
 ) -> Result<Option<String>, AllocError> {
     match (command, rest) {
         ("help", command) => Ok(Some(help_text(alloc, command)?)),
-        ("describe", table) => Ok(Some(description(alloc, opened.world.newest().get(), table)?)),
+        ("describe", table) => Ok(Some(description(alloc, &opened.world, table)?)),
         ("check", name) => element_view(alloc, opened, name),
         ("leases", "") => Ok(Some(leases(alloc, opened)?)),
         ("progress", "") => Ok(Some(progress(alloc, opened, is_shown)?)),
@@ -132,7 +133,7 @@ fn declaring_view(alloc: Global, line: &str) -> Result<Option<String>, AllocErro
         | "explain"
         | "check"
         | "advance"
-        | "finish" => Ok(Some("nothing is open yet".to_string(alloc)?)),
+        | "finish" => Ok(Some(NOT_OPEN.to_string(alloc)?)),
         _ => Ok(None),
     }
 }

@@ -3,8 +3,8 @@
 
 /// All rules, a line each, those of one place in the order in which they are named:
 /// `PLACE|WHAT|NEXT`, a place, what may be there, and the place after it. Words in capitals are not
-/// themselves: `N` and `M` are numbers, `VALUE` a value, `END` the end of the line, and all others
-/// names. One text, since a table of 300 triples takes the prover a minute.
+/// themselves: those that `numbers` has bounds of are numbers, `VALUE` is a value, `END` the end of
+/// the line, and all others are names. One text, since a table of 300 triples takes the prover a minute.
 pub(crate) const RULES: &str = "\
 end|END|\n\
 |open|end\n\
@@ -14,7 +14,7 @@ check|END|\n\
 |status|end\n\
 |log|end\n\
 |length|length\n\
-length|N|end\n\
+length|LENGTH|end\n\
 |table|table\n\
 table|NAME|table.1\n\
 table.1|(|decl\n\
@@ -131,9 +131,9 @@ piece.1|of|piece.2\n\
 piece.2|TABLE|piece.3\n\
 piece.3|.|piece.4\n\
 piece.4|NAME|piece.5\n\
-piece.5|N|piece.6\n\
+piece.5|PIECE|piece.6\n\
 piece.6|limit|piece.7\n\
-piece.7|N|end\n\
+piece.7|LIMIT|end\n\
 |reorganise|reorganise\n\
 reorganise|TABLE|reorganise.1\n\
 reorganise.1|.|reorganise.2\n\
@@ -141,7 +141,7 @@ reorganise.2|NAME|reorganise.3\n\
 reorganise.3|at|reorganise.4\n\
 reorganise.4|M|reorganise.5\n\
 reorganise.5|pieces|reorganise.6\n\
-reorganise.6|N|end\n\
+reorganise.6|PIECES|end\n\
 |work|work\n\
 work|TABLE|work.1\n\
 work.1|.|work.2\n\
@@ -149,7 +149,7 @@ work.2|NAME|work.3\n\
 work.3|at|work.4\n\
 work.4|M|work.5\n\
 work.5|limit|work.6\n\
-work.6|N|end\n\
+work.6|LIMIT|end\n\
 |publish|publish\n\
 publish|at|publish.1\n\
 publish.1|M|publish.2\n\
@@ -225,10 +225,23 @@ to|to|state\n\
 to|;|move\n\
 to|END|\n";
 
-/// The rules of a prompt alone, in whose lines `at M` may be left out; two lines it has of its own.
+/// The rules of a prompt alone, in whose lines `at M` may be left out, and of the lines of its own.
 pub(crate) const LEFT_OUT: &str = "\
 |advance|finish\n\
 |finish|finish\n\
+|help|help\n\
+help|COMMAND|end\n\
+help|END|\n\
+|describe|describe\n\
+describe|TABLE|end\n\
+describe|END|\n\
+|leases|end\n\
+|progress|end\n\
+|timeline|end\n\
+|explain|explain\n\
+explain|query|end\n\
+explain|plan|end\n\
+|quit|end\n\
 finish|at|lease.2\n\
 finish|END|\n\
 check|TABLE|check.1\n\

@@ -8,6 +8,8 @@ pub(crate) struct Piece<'a> {
     pub column: usize,
     /// Its bytes.
     pub text: &'a [u8],
+    /// The line from there on.
+    pub rest: &'a [u8],
 }
 
 fn is_word_byte(byte: u8) -> bool {
@@ -80,7 +82,7 @@ pub(crate) fn pieces_of<'a>(alloc: Global, line: &'a [u8]) -> Result<Vec<Piece<'
             return Ok(pieces);
         };
         if *first != b' ' {
-            pieces.push(Piece { column, text })?;
+            pieces.push(Piece { column, text, rest })?;
         }
         rest = behind;
         column = column.saturating_add(text.len());
