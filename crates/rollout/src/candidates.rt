@@ -85,7 +85,7 @@ fn may_begin(world: &World, now: u64, number: u32) -> bool
         && world.is_settled(now, number)
 }
 
-/// The first element whose fill or clear may begin.
+/// An element whose fill or clear may begin, if there is one.
 pub(crate) fn find_begin(world: &World, now: u64) -> Option<u32>
     ensures { MatchOption result ((number : ℕ) → ¬ (MayBegin (facts_of world.now) now number)) (MayBegin (facts_of world.now) now) }
 {
@@ -112,7 +112,7 @@ fn is_open(world: &World, number: u32) -> bool
     }
 }
 
-/// The first element whose fill or clear has begun and is not finished.
+/// An element whose fill or clear has begun and is not finished, if there is one.
 pub(crate) fn find_open(world: &World) -> Option<u32>
     ensures { MatchOption result ((number : ℕ) → ¬ (IsOpen (facts_of world.now) number)) (IsOpen (facts_of world.now)) }
 {
