@@ -1,5 +1,5 @@
 -- One more line.
-use Rattle.std.proofs.Common.{◌≡◌, ◌++◌, ◌∷◌, ◌+◌, ◌≤◌, ℕ, List, [], length, Option, Some, None, Result, Ok, Err, IsErrAnd, OnErr, Bool, cond, length-append, inl, inr, ap, sym, subst, ◌∙◌, refl, arith, true, false, append_assoc}
+use Rattle.std.proofs.Common.{◌≡◌, ◌++◌, ◌∷◌, ◌+◌, ◌≤◌, ℕ, List, [], Option, Some, None, Result, Ok, Err, IfErr, IsErrAnd, OnErr, Bool, cond, length-append, ap, sym, subst, ◌∙◌, refl, arith, true, false, append_assoc}
 use mathlib.Core.List.{map}
 use mir.Val.{bool_byte}
 use Rattle.std.specs.List.{concat}
@@ -9,9 +9,9 @@ use Rattle.std.proofs.lemmas.List.{append-nil, map-append}
 use Rattle.std.proofs.lemmas.List.Folds.{concat-append}
 use Rattle.script_session.specs.Session.{Session, empty}
 use Rattle.prompt.specs.Lines.{HasRead, IsRaw, AreRaw, stripped}
-use Rattle.prompt.specs.Conversation.{IsAnswered, AreAnswered, AppendsPrefix, Conversed, IsAwaited, IsCut, IsWritten, IsWrittenInPart, is_quit, prompt_text}
-use Rattle.prompt.specs.declared.conversation.Summary.{Summary}
+use Rattle.prompt.specs.Conversation.{IsAnswered, AreAnswered, AppendsPrefix, Conversed, IsAwaited, IsCut, IsSoFar, IsUnanswered, IsWritten, is_quit, prompt_text}
 use Rattle.prompt.specs.declared.fault.PromptFault.{PromptFault}
+use Rattle.prompt.specs.declared.fault.PromptFault.TheVariants.{Write}
 
 -- the text of one more answer
 abbrev pub longer : Bool → List ℕ → Session → List ℕ → List ℕ
@@ -79,15 +79,6 @@ read_more input mid rest ls raw l h c r e =
       ),
     )
 
--- What was read and written so far: these lines were answered, with so many bad lines, which leaves the session.
-pub record IsSoFar (shown : Bool) (input rest old new : Option (List ℕ)) (lines bad : ℕ) (session : Session) : Type 0 where
-  pub read : List (List ℕ)
-  pub text : List ℕ
-  pub taken : HasRead input read rest
-  pub written : Appends old new text
-  pub answered : AreAnswered shown empty read text bad session
-  pub count : lines ≡ length read
-
 pub so_far-empty : (shown : Bool) (input old : Option (List ℕ)) (s : Session) → s ≡ empty → IsSoFar shown input input old old 0 0 s
 so_far-empty shown input old s e = record {
   read = [];
@@ -111,75 +102,22 @@ so_far-more {shown} {input} {inner} {rest} {old} {mid} {at} {new} {n} {bad} {s} 
   count = let c = h.count in omega (arith, c, length-append h.read (l ∷ []));
 }
 
--- The prompt, or a start of it, was written, and then it failed.
-err_in_prompt : {shown : Bool} {input rest old mid : Option (List ℕ)} {n bad : ℕ} {s : Session} (new x y : Option (List ℕ)) (e : PromptFault)
-    → IsSoFar shown input rest old mid n bad s → AppendsPrefix mid new (prompt_text shown s) → Conversed shown x y old new (Err e)
-err_in_prompt {shown} {old = old} {mid = mid} {bad = bad} {s = s} new x y e h p = (
-  h.read,
-  h.text ++ prompt_text shown s,
-  bad,
-  (h.text, s, h.answered, refl),
-  (
-    h.text ++ p.0,
-    p.1,
-    Appends-trans old mid new h.text p.0 h.written p.2,
-    ap (λ x. h.text ++ x) p.3 ∙ sym (append_assoc {A = ℕ} h.text p.0 p.1),
-  ),
-)
-
--- A start of an answer was written, and then it failed.
-err_cut : {shown : Bool} {input inner old mid at new : Option (List ℕ)} {n bad : ℕ} {s : Session} {l : List ℕ} (x y : Option (List ℕ)) (e : PromptFault)
-    → IsSoFar shown input inner old mid n bad s → Appends mid at (prompt_text shown s) → is_quit l ≡ false → IsCut s l at new → Conversed shown x y old new (Err e)
-err_cut {shown} {input} {inner} {old} {mid} {at} {new} {n} {bad} {s} {l} x y e h p q t =
-    let prompt = prompt_text shown s in
-    let after = prompt_text shown t.new in
-    let w = t.written in (
-      h.read ++ l ∷ [],
-      longer shown h.text s t.text ++ after,
-      bad + cond t.bad 1 0,
-      (longer shown h.text s t.text, t.new, one_more shown empty h.read h.text bad s l t.text t.bad t.new h.answered t.answered q, refl),
-      (
-        (h.text ++ prompt) ++ w.0,
-        w.1 ++ after,
-        Appends-trans old at new (h.text ++ prompt) w.0 (Appends-trans old mid at h.text prompt h.written p) w.2,
-        ap (λ x. x ++ after) (sym (append_assoc {A = ℕ} h.text prompt t.text) ∙ ap (λ x. (h.text ++ prompt) ++ x) w.3 ∙ sym (append_assoc {A = ℕ} (h.text ++ prompt) w.0 w.1))
-            ∙ append_assoc {A = ℕ} ((h.text ++ prompt) ++ w.0) w.1 after,
-      ),
-    )
-
-err_in_part : {shown : Bool} {input inner old mid : Option (List ℕ)} {n bad : ℕ} {s : Session} (rest at new x y : Option (List ℕ)) (l : List ℕ) (e : PromptFault)
-    → IsSoFar shown input inner old mid n bad s → Appends mid at (prompt_text shown s) → IsAwaited inner rest (Some l) → IsWrittenInPart s l at new → Conversed shown x y old new (Err e)
-err_in_part {shown} {old = old} {mid = mid} {s = s} rest at new x y l e h p w (inl none) =
-    let prompt = prompt_text shown s in
-    err_in_prompt new x y e h (prompt ++ [], [], Appends-trans mid at new prompt [] p none, sym (append-nil prompt) ∙ sym (append-nil (prompt ++ [])))
-err_in_part rest at new x y l e h p w (inr cut) = err_cut x y e h p w.1 cut
-
--- Asking failed.
-pub err_asking : {shown : Bool} {input rest old mid : Option (List ℕ)} {n bad : ℕ} {s : Session} (new x y : Option (List ℕ)) (Q : PromptFault → Type 0) (r : Result Summary PromptFault) → IsErrAnd r Q
-    → IsSoFar shown input rest old mid n bad s → AppendsPrefix mid new (prompt_text shown s) → Conversed shown x y old new r
-err_asking new x y Q (Ok v) f h p = absurd f
-err_asking new x y Q (Err e) f h p = err_in_prompt new x y e h p
-
--- Telling failed.
-pub err_telling : {shown : Bool} {input inner old mid : Option (List ℕ)} {n bad : ℕ} {s : Session} (rest at new x y : Option (List ℕ)) (l : List ℕ) (Q : PromptFault → Type 0) (r : Result Summary PromptFault) → IsErrAnd r Q
-    → IsSoFar shown input inner old mid n bad s → Appends mid at (prompt_text shown s) → IsAwaited inner rest (Some l) → IsWrittenInPart s l at new → Conversed shown x y old new r
-err_telling rest at new x y l Q (Ok v) f h p w t = absurd f
-err_telling rest at new x y l Q (Err e) f h p w t = err_in_part rest at new x y l e h p w t
-
-pub at_end : {shown : Bool} {input inner old mid : Option (List ℕ)} {n bad : ℕ} {s : Session} (rest new : Option (List ℕ))
-    → IsSoFar shown input inner old mid n bad s → Appends mid new (prompt_text shown s) → IsAwaited inner rest None → Conversed shown input rest old new (Ok (record { lines = n; bad = bad }))
-at_end {shown} {inner = inner} {old = old} {mid = mid} {s = s} rest new h p w =
-    (h.read, inner, h.text ++ prompt_text shown s, h.taken, w, (h.text, s, h.answered, refl), Appends-trans old mid new h.text (prompt_text shown s) h.written p, h.count)
-
--- No more line was read.
-pub err_at_last : {shown : Bool} {input rest old new : Option (List ℕ)} {n bad : ℕ} {s : Session} (x y : Option (List ℕ)) (e : PromptFault) → IsSoFar shown input rest old new n bad s → Conversed shown x y old new (Err e)
-err_at_last {shown} {new = new} {s = s} x y e h = err_in_prompt new x y e h ([], prompt_text shown s, Appends-nil new, refl)
+pub at_end : {shown : Bool} {input inner old mid : Option (List ℕ)} {n bad : ℕ} {s : Session} (rest new handed : Option (List ℕ))
+    → IsSoFar shown input inner old mid n bad s → Appends mid new (prompt_text shown s) → IsAwaited inner rest None → handed ≡ new → Conversed shown input rest old new handed (Ok (record { lines = n; bad = bad }))
+at_end {shown} {inner = inner} {old = old} {mid = mid} {s = s} rest new handed h p w e =
+    (h.read, inner, h.text ++ prompt_text shown s, h.taken, w, (h.text, s, h.answered, refl), Appends-trans old mid new h.text (prompt_text shown s) h.written p, h.count, e)
 
 -- ---- what one call wrote
 
 pub on_err : {T E : Type 0} (r : Result T E) {P : Type 0} → P → OnErr r P
 on_err (Ok x) p = tt
 on_err (Err e) p = p
+
+-- The writer failed in an answer.
+pub cut_by_writer : {T : Type 0} {old : Session} {line : List ℕ} {before after : Option (List ℕ)} (kept : Type 0) (r : Result T PromptFault) (Q : PromptFault → Type 0) → IsErrAnd r Q → ((e : PromptFault) → Q e → e ≡ Write)
+    → IsCut old line before after → IfErr r (λ e. IsUnanswered kept old line before after e)
+cut_by_writer kept (Ok v) Q f is cut = absurd f
+cut_by_writer {old = old} {line = line} {before = before} {after = after} kept (Err e) Q f is cut = subst (λ (x : PromptFault). IsUnanswered kept old line before after x) (sym (is e f)) cut
 
 -- The whole prompt was written and kept.
 pub prompt_kept : (before after flushed : Option (List ℕ)) (text prompt : List ℕ) → Appends before after text → text ≡ prompt → Keeps after flushed → Appends before flushed prompt

@@ -1,10 +1,10 @@
 -- Cited by the contracts of converse and of the functions below it.
 -- What is read and written, line by line.
-use Rattle.std.specs.Prelude.{◌≡◌, ◌⊎◌, ◌++◌, ◌∷◌, ◌+◌, ◌==◌, ℕ, zero, suc, List, [], length, Option, Some, None, Result, Ok, Err, Bool, true, false, cond, codes, if◌then◌else◌}
+use Rattle.std.specs.Prelude.{◌≡◌, ◌⊎◌, ◌++◌, ◌∷◌, ◌+◌, ◌-◌, ◌^◌, ◌==◌, ◌||◌, ⊤, ℕ, zero, suc, List, [], length, Option, Some, None, Result, Ok, Err, Bool, true, false, cond, codes, if◌then◌else◌}
 use Rattle.std.specs.Fmt.{decimal}
 use Rattle.std.specs.Io.KnownBytes.{Appends}
 use Rattle.std.specs.List.{flat_map}
-use Rattle.std.specs.Str.{IsUtf8}
+use Rattle.std.specs.Str.{IsUtf8, bytes_eq, trim}
 use Rattle.lease.specs.Timeline.{newest}
 use Rattle.script_replies.specs.Texts.{bad_line}
 use Rattle.script_session.specs.Replies.{Reply}
@@ -16,8 +16,8 @@ use Rattle.script_tokens.specs.Tokens.{tokens_of}
 use Rattle.world.specs.State.{facts_of}
 use Rattle.prompt.specs.Carry.{CarriesOn, carry_in}
 use Rattle.prompt.specs.declared.carry.CarryLine.{CarryLine}
-use Rattle.prompt.specs.Lines.{HasRead, IsNext}
-use Rattle.prompt.specs.Moment.{IsForeign, IsGiven}
+use Rattle.prompt.specs.Lines.{HasRead, IsNext, IsReadInPart}
+use Rattle.prompt.specs.Moment.{IsForeign, IsGiven, first_word}
 use Rattle.prompt.specs.declared.conversation.Summary.{Summary}
 use Rattle.prompt.specs.declared.fault.PromptFault.{PromptFault}
 use Rattle.prompt.specs.declared.fault.PromptFault.TheVariants.{Read, Write, Memory}
@@ -51,10 +51,20 @@ steps_left (Running r) = length r.plan
 abbrev pub Replied : Session → List ℕ → List ℕ → Bool → Session → Type 0
 Replied old line reply bad new = IsCalm old line × ((given : List ℕ) × IsGiven old line given × Reply old given reply bad new)
 
--- a line that has no reply, or is bad, without the session
+-- the first words of the lines that show a view of the session
+abbrev pub is_view_word : List ℕ → Bool
+is_view_word word =
+    (bytes_eq word (codes "help") || bytes_eq word (codes "describe") || bytes_eq word (codes "check") || bytes_eq word (codes "leases") || bytes_eq word (codes "progress"))
+    || (bytes_eq word (codes "plan") || bytes_eq word (codes "timeline") || bytes_eq word (codes "explain") || bytes_eq word (codes "advance") || bytes_eq word (codes "finish"))
+
+-- such a line, whatever white space is around it
+abbrev pub is_view : List ℕ → Bool
+is_view line = is_view_word (first_word (trim line))
+
+-- A line that has no reply, since it shows a view, or that is no UTF-8, and so bad. The session is not given it.
 abbrev pub Passed : Session → List ℕ → List ℕ → Bool → Session → Type 0
 Passed old line reply bad new =
-    (new ≡ old) × ((IsForeign line × IsCalm old line × (reply ≡ []) × (bad ≡ false)) ⊎ ((IsUtf8 line → ⊥) × (reply ≡ bad_line) × (bad ≡ true)))
+    (new ≡ old) × ((IsForeign line × IsCalm old line × (is_view line ≡ true) × (reply ≡ []) × (bad ≡ false)) ⊎ ((IsUtf8 line → ⊥) × (reply ≡ bad_line) × (bad ≡ true)))
 
 abbrev pub CarriedBy : Session → Option CarryLine → List ℕ → Session → Type 0
 CarriedBy old None reply new = ⊥
@@ -127,17 +137,64 @@ pub record IsCut (old : Session) (line : List ℕ) (before after : Option (List 
   pub answered : IsAnswered old line text bad new
   pub written : AppendsPrefix before after text
 
--- nothing was written for the line, or a start of its answer
-abbrev pub IsWrittenInPart : Session → List ℕ → Option (List ℕ) → Option (List ℕ) → Type 0
-IsWrittenInPart old line before after = Appends before after [] ⊎ IsCut old line before after
+-- Lines that were read and answered in turn, each after a prompt: all of that was written, and they leave the session.
+pub record IsSoFar (shown : Bool) (input rest old new : Option (List ℕ)) (lines bad : ℕ) (session : Session) : Type 0 where
+  pub read : List (List ℕ)
+  pub text : List ℕ
+  pub taken : HasRead input read rest
+  pub written : Appends old new text
+  pub answered : AreAnswered shown empty read text bad session
+  pub count : lines ≡ length read
 
--- What was read and written, and how the call ends.
-abbrev pub Conversed : Bool → Option (List ℕ) → Option (List ℕ) → Option (List ℕ) → Option (List ℕ) → Result Summary PromptFault → Type 0
-Conversed shown input rest old new (Ok s) =
+-- a fault that is not the writer's
+abbrev pub IsReaders : PromptFault → Type 0
+IsReaders Read = ⊤
+IsReaders Write = ⊥
+IsReaders Memory = ⊤
+
+-- The whole prompt was written and handed on, and then a part of the next line was read, or all of it.
+pub record IsAsked (prompt : List ℕ) (input rest old new handed : Option (List ℕ)) : Type 0 where
+  pub shown : Appends old new prompt
+  pub handed_on : handed ≡ new
+  pub part : IsReadInPart input rest
+
+-- Why the next line was not read: the reader failed; the writer did, before anything more was read; or memory ran out, before the prompt or after it.
+abbrev pub IsUnasked : List ℕ → Option (List ℕ) → Option (List ℕ) → Option (List ℕ) → Option (List ℕ) → Option (List ℕ) → PromptFault → Type 0
+IsUnasked prompt input rest old new handed Read = IsAsked prompt input rest old new handed
+IsUnasked prompt input rest old new handed Write = AppendsPrefix old new prompt × (rest ≡ input)
+IsUnasked prompt input rest old new handed Memory = (Appends old new [] × (rest ≡ input)) ⊎ IsAsked prompt input rest old new handed
+
+-- Why a line was not answered: the writer failed in the answer; or memory ran out, and the writer was kept.
+abbrev pub IsUnanswered : Type 0 → Session → List ℕ → Option (List ℕ) → Option (List ℕ) → PromptFault → Type 0
+IsUnanswered kept old line before after Read = ⊥
+IsUnanswered kept old line before after Write = IsCut old line before after
+IsUnanswered kept old line before after Memory = kept
+
+-- The prompt was written, the next line was read, and a start of its answer was written.
+pub record IsCutAfter (shown : Bool) (session : Session) (input rest old new : Option (List ℕ)) : Type 0 where
+  pub line : List ℕ
+  pub at : Option (List ℕ)
+  pub prompt : Appends old at (prompt_text shown session)
+  pub awaited : IsAwaited input rest (Some line)
+  pub cut : IsCut session line at new
+
+-- How it ends early, after lines that were answered: the next line was not read; or the writer failed in its answer.
+abbrev pub IsBroken : Bool → Session → Option (List ℕ) → Option (List ℕ) → Option (List ℕ) → Option (List ℕ) → Option (List ℕ) → PromptFault → Type 0
+IsBroken shown session input rest old new handed fault =
+    IsUnasked (prompt_text shown session) input rest old new handed fault ⊎ ((fault ≡ Write) × IsCutAfter shown session input rest old new)
+
+-- as many lines were answered as can be counted
+abbrev pub IsSpent : ℕ → Option (List ℕ) → Option (List ℕ) → Option (List ℕ) → Option (List ℕ) → PromptFault → Type 0
+IsSpent lines input rest old new fault = (lines ≡ 2 ^ 64 - 1) × (rest ≡ input) × Appends old new [] × (fault ≡ Read)
+
+-- What was read and written, and how the call ends. What was handed on is known where nothing was written since the writer was asked to.
+abbrev pub Conversed : Bool → Option (List ℕ) → Option (List ℕ) → Option (List ℕ) → Option (List ℕ) → Option (List ℕ) → Result Summary PromptFault → Type 0
+Conversed shown input rest old new handed (Ok s) =
     (lines : List (List ℕ)) × (mid : Option (List ℕ)) × (out : List ℕ)
-    × HasRead input lines mid × Ends mid rest × IsTranscript shown lines out s.bad × Appends old new out × (s.lines ≡ length lines)
-Conversed shown input rest old new (Err fault) =
-    (lines : List (List ℕ)) × (text : List ℕ) × (bad : ℕ) × IsTranscript shown lines text bad × AppendsPrefix old new text
+    × HasRead input lines mid × Ends mid rest × IsTranscript shown lines out s.bad × Appends old new out × (s.lines ≡ length lines) × (handed ≡ new)
+Conversed shown input rest old new handed (Err fault) =
+    (lines : ℕ) × (bad : ℕ) × (session : Session) × (mid : Option (List ℕ)) × (at : Option (List ℕ))
+    × IsSoFar shown input mid old at lines bad session × (IsBroken shown session mid rest at new handed fault ⊎ IsSpent lines mid rest at new fault)
 
 abbrev pub with_bad : ℕ → ℕ
 with_bad zero = 0

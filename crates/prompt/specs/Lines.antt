@@ -28,6 +28,10 @@ AreRaw (raw ∷ raws) = IsRaw raw × AreRaw raws
 abbrev pub AreLines : List ℕ → List (List ℕ) → Type 0
 AreLines bytes lines = (raws : List (List ℕ)) × (bytes ≡ concat raws) × AreRaw raws × (lines ≡ map stripped raws)
 
+-- a part of the next line was read, or all of it, or nothing
+abbrev pub IsReadInPart : Option (List ℕ) → Option (List ℕ) → Type 0
+IsReadInPart input rest = (raw : List ℕ) × Consumes input rest raw × StopsAt raw 10
+
 -- these lines were read from the input, and this is left of it
 abbrev pub HasRead : Option (List ℕ) → List (List ℕ) → Option (List ℕ) → Type 0
 HasRead input lines rest = (bytes : List ℕ) × Consumes input rest bytes × AreLines bytes lines

@@ -1,17 +1,20 @@
 //! The loop over the lines.
-ghost use Rattle.std.specs.Prelude.{◌≡◌, true, IfOk, OnOk, OnErr};
+ghost use Rattle.std.specs.Prelude.{◌≡◌, true, IfOk, IfErr, OnOk, OnErr};
 ghost use Rattle.std.specs.Option.{option_map};
 ghost use Rattle.std.specs.Io.KnownBytes.{Appends};
 ghost use Rattle.script_session.specs.Session.{empty};
-ghost use Rattle.prompt.specs.Conversation.{AppendsPrefix, Conversed, IsAwaited, IsWritten, IsWrittenInPart, prompt_text};
+ghost use Rattle.prompt.specs.Lines.{IsReadInPart};
+ghost use Rattle.prompt.specs.declared.fault.PromptFault.TheVariants as fault;
+ghost use Rattle.prompt.specs.Conversation.{AppendsPrefix, Conversed, IsAwaited, IsReaders, IsUnanswered, IsUnasked, IsWritten, prompt_text};
 
 use crate::fault::PromptFault;
+use crate::handover::Handover;
 use crate::line_answer::{answer_line, prompt_text};
 use crate::moment::is_quit;
 use crate::streams::Streams;
 use script_session::Session;
 use std::alloc::Global;
-use std::io::{BufRead, Write};
+use std::io::BufRead;
 
 /// What came of a conversation that was led to its end.
 #[derive(Clone, Copy, PartialEq, Eq)]
@@ -23,12 +26,14 @@ pub struct Summary {
 }
 
 // The next line that is to be answered: `None` at the end of the input and at a line `quit`.
-fn next_to_answer<R: BufRead + Drop, W: Write + Drop>(
+fn next_to_answer<R: BufRead + Drop, W: Handover + Drop>(
     alloc: Global,
     streams: &mut Streams<R, W>,
 ) -> Result<Option<Vec<u8>>, PromptFault>
     requires flushed { streams.old.is_flushed ≡ true }
     ensures line { IfOk result (λ found. IsAwaited (R.remaining streams.old.reader) (R.remaining streams.new.reader) (option_map (λ line. line.items) found)) }
+    ensures part { OnErr result (IsReadInPart (R.remaining streams.old.reader) (R.remaining streams.new.reader)) }
+    ensures err { IfErr result IsReaders }
     ensures writer { streams.new.writer ≡ streams.old.writer }
 {
     let Some(line) = streams.next_line(alloc)? else {
@@ -40,8 +45,23 @@ fn next_to_answer<R: BufRead + Drop, W: Write + Drop>(
     Ok(Some(line))
 }
 
+// Writes the prompt, and has all that was written handed on.
+fn show<R: BufRead + Drop, W: Handover + Drop>(
+    streams: &mut Streams<R, W>,
+    prompt: &[u8],
+) -> Result<(), PromptFault>
+    ensures shown { OnOk result (Appends (W.contents streams.old.writer) (W.contents streams.new.writer) prompt.now) }
+    ensures flushed { OnOk result (streams.new.is_flushed ≡ true) }
+    ensures cut { OnErr result (AppendsPrefix (W.contents streams.old.writer) (W.contents streams.new.writer) prompt.now) }
+    ensures err { IfErr result (λ e. e ≡ fault.Write) }
+    ensures reader { streams.new.reader ≡ streams.old.reader }
+{
+    streams.write(prompt)?;
+    streams.flush()
+}
+
 // Writes the prompt, flushes all that was written, and reads the next line that is to be answered.
-fn ask<R: BufRead + Drop, W: Write + Drop>(
+fn ask<R: BufRead + Drop, W: Handover + Drop>(
     alloc: Global,
     streams: &mut Streams<R, W>,
     session: &Session,
@@ -49,16 +69,16 @@ fn ask<R: BufRead + Drop, W: Write + Drop>(
 ) -> Result<Option<Vec<u8>>, PromptFault>
     ensures line { IfOk result (λ found. IsAwaited (R.remaining streams.old.reader) (R.remaining streams.new.reader) (option_map (λ line. line.items) found)) }
     ensures shown { OnOk result (Appends (W.contents streams.old.writer) (W.contents streams.new.writer) (prompt_text is_shown session.now)) }
-    ensures cut { OnErr result (AppendsPrefix (W.contents streams.old.writer) (W.contents streams.new.writer) (prompt_text is_shown session.now)) }
+    ensures handed { OnOk result (W.handed streams.new.writer ≡ W.contents streams.new.writer) }
+    ensures cut { IfErr result (λ fault. IsUnasked (prompt_text is_shown session.now) (R.remaining streams.old.reader) (R.remaining streams.new.reader) (W.contents streams.old.writer) (W.contents streams.new.writer) (W.handed streams.new.writer) fault) }
 {
     let prompt = prompt_text(alloc, session, is_shown)?;
-    streams.write(prompt.as_str().as_bytes())?;
-    streams.flush()?;
+    show(streams, prompt.as_str().as_bytes())?;
     next_to_answer(alloc, streams)
 }
 
 // Answers a line, writes the answer, and gives whether the line is bad.
-fn write_answer<R: BufRead + Drop, W: Write + Drop>(
+fn write_answer<R: BufRead + Drop, W: Handover + Drop>(
     alloc: Global,
     streams: &mut Streams<R, W>,
     session: &mut Session,
@@ -66,7 +86,7 @@ fn write_answer<R: BufRead + Drop, W: Write + Drop>(
     is_shown: bool,
 ) -> Result<bool, PromptFault>
     ensures whole { IfOk result (λ bad. IsWritten session.old line.now bad session.new (W.contents streams.old.writer) (W.contents streams.new.writer)) }
-    ensures cut { OnErr result (IsWrittenInPart session.old line.now (W.contents streams.old.writer) (W.contents streams.new.writer)) }
+    ensures cut { IfErr result (λ fault. IsUnanswered (streams.new.writer ≡ streams.old.writer) session.old line.now (W.contents streams.old.writer) (W.contents streams.new.writer) fault) }
     ensures reader { streams.new.reader ≡ streams.old.reader }
 {
     let answer = answer_line(alloc, session, line, is_shown)?;
@@ -75,14 +95,14 @@ fn write_answer<R: BufRead + Drop, W: Write + Drop>(
 }
 
 // Answers each line, from the session at the start of a script.
-fn answer_all<R: BufRead + Drop, W: Write + Drop>(
+fn answer_all<R: BufRead + Drop, W: Handover + Drop>(
     alloc: Global,
     streams: &mut Streams<R, W>,
     session: &mut Session,
     is_shown: bool,
 ) -> Result<Summary, PromptFault>
     requires start { session.old ≡ empty }
-    ensures { Conversed is_shown (R.remaining streams.old.reader) (R.remaining streams.new.reader) (W.contents streams.old.writer) (W.contents streams.new.writer) result }
+    ensures { Conversed is_shown (R.remaining streams.old.reader) (R.remaining streams.new.reader) (W.contents streams.old.writer) (W.contents streams.new.writer) (W.handed streams.new.writer) result }
 {
     let mut bad = 0u64;
     for lines in 0..u64::MAX {
@@ -96,20 +116,21 @@ fn answer_all<R: BufRead + Drop, W: Write + Drop>(
 }
 
 /// Answers each line as it comes: its reply is written, and after it the remarks, lines that begin
-/// with `# `; then all is flushed, and the next line is read. It ends at a line `quit`, and at the
+/// with `# `; then all is handed on, and the next line is read. It ends at a line `quit`, and at the
 /// end of the input.
 ///
 /// - `streams`: where lines come from and replies go.
 /// - `is_shown`: whether a prompt is written before each line is read.
 ///
-/// Refused if the reader fails (`Read`), if the writer fails or takes nothing (`Write`), and if
-/// memory runs out (`Memory`): what was written is a start of what is due.
-pub fn converse<R: BufRead + Drop, W: Write + Drop>(
+/// Refused if the reader fails, or after 2^64 - 1 lines (`Read`), if the writer fails or takes
+/// nothing (`Write`), and if memory runs out (`Memory`): what was written is what is due for the
+/// lines that were read, in turn. Only at `Write` is the last prompt or answer cut short.
+pub fn converse<R: BufRead + Drop, W: Handover + Drop>(
     alloc: Global,
     streams: &mut Streams<R, W>,
     is_shown: bool,
 ) -> Result<Summary, PromptFault>
-    ensures { Conversed is_shown (R.remaining streams.old.reader) (R.remaining streams.new.reader) (W.contents streams.old.writer) (W.contents streams.new.writer) result }
+    ensures { Conversed is_shown (R.remaining streams.old.reader) (R.remaining streams.new.reader) (W.contents streams.old.writer) (W.contents streams.new.writer) (W.handed streams.new.writer) result }
 {
     let mut session = Session::new(alloc);
     answer_all(alloc, streams, &mut session, is_shown)

@@ -1,11 +1,11 @@
 //! What one line is answered.
-ghost use Rattle.std.specs.Prelude.{◌≡◌, ◌++◌, IfOk, OnOk, Some, None, string_bytes};
+ghost use Rattle.std.specs.Prelude.{◌≡◌, ◌++◌, IfOk, IfSome, OnOk, Some, None, string_bytes, true};
 ghost use Rattle.std.specs.List.{flat_map};
-ghost use Rattle.prompt.specs.Conversation.{IsCalm, IsAnswered, carry_asked, remark_text, remark_byte, prompt_text, steps_left};
+ghost use Rattle.prompt.specs.Conversation.{IsCalm, IsAnswered, carry_asked, is_view, remark_text, remark_byte, prompt_text, steps_left};
 ghost use Rattle.prompt.specs.Moment.{IsForeign};
 
 use crate::carry::{CarryLine, carry_of, carry_on};
-use crate::moment::{given_line, is_foreign};
+use crate::moment::{given_line, is_foreign, is_view};
 use script_hints::{hint_of, view_of};
 use script_session::Session;
 use std::alloc::{AllocError, Global};
@@ -93,6 +93,22 @@ fn reply_line(alloc: Global, session: &mut Session, line: &str) -> Result<LineAn
     Ok(answer)
 }
 
+// A view of the session, which stays as it was; none, if the line has not the first word of one.
+fn view_shown(
+    alloc: Global,
+    session: &Session,
+    line: &str,
+    is_shown: bool,
+) -> Result<Option<String>, AllocError>
+    ensures { IfOk result (λ shown. IfSome shown (λ _. is_view line.now ≡ true)) }
+{
+    if is_view(line) {
+        view_of(alloc, session, line, is_shown)
+    } else {
+        Ok(None)
+    }
+}
+
 // A view of the session, which stays as it was, or else its reply.
 fn view_line(
     alloc: Global,
@@ -104,7 +120,7 @@ fn view_line(
     requires calm { carry_asked session.old line.now ≡ None }
     ensures { IfOk result (λ answer. IsAnswered session.old line.now answer.text.items answer.is_bad session.new) }
 {
-    if let Some(view) = view_of(alloc, session, line, is_shown)? {
+    if let Some(view) = view_shown(alloc, session, line, is_shown)? {
         let answer = answer_of(alloc, "", false, view.as_str())?;
         return Ok(answer);
     }

@@ -3,7 +3,7 @@ ghost use Rattle.std.specs.Prelude.{◌≡◌, ◌++◌, ◌==◌, IfOk, codes, 
 ghost use Rattle.std.specs.Fmt.{decimal};
 ghost use Rattle.std.specs.List.{before_first};
 ghost use Rattle.std.specs.Option.{option_map};
-ghost use Rattle.prompt.specs.Conversation.{is_quit};
+ghost use Rattle.prompt.specs.Conversation.{is_quit, is_view, is_view_word};
 ghost use Rattle.prompt.specs.Moment.{IsForeign, IsCutAt, IsGiven, first_word, is_command, last_moment, moment_mark};
 
 use script_grammar::{is_silent, read_command};
@@ -64,6 +64,26 @@ fn first_word(line: &str) -> &str
         Some((word, _)) => word,
         None => line,
     }
+}
+
+// Whether a line with this first word may show a view of the session.
+fn is_view_word(word: &str) -> bool
+    ensures { result ≡ is_view_word word.now }
+{
+    match word {
+        "help" | "describe" | "check" | "leases" | "progress" => true,
+        "plan" | "timeline" | "explain" | "advance" | "finish" => true,
+        _ => false,
+    }
+}
+
+/// Whether a line may show a view of the session, by its first word.
+///
+/// - `line`: the line without its ending; white space around it does not matter.
+pub(crate) fn is_view(line: &str) -> bool
+    ensures { result ≡ is_view line.now }
+{
+    is_view_word(first_word(line.trim()))
 }
 
 // What follows a left out moment, by the first word of the line: a colon, one of the words `pieces`

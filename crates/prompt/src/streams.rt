@@ -3,23 +3,25 @@ ghost use Rattle.std.specs.Prelude.{◌≡◌, true, IfOk, IfErr, OnOk, OnErr};
 ghost use Rattle.std.specs.Option.{option_map};
 ghost use Rattle.std.specs.Io.BufRead.{strip_last};
 ghost use Rattle.std.specs.Io.KnownBytes.{Appends, Keeps};
-ghost use Rattle.prompt.specs.Lines.{IsNext, stripped};
-ghost use Rattle.prompt.specs.Conversation.{AppendsPrefix};
+ghost use Rattle.prompt.specs.Lines.{IsNext, IsReadInPart, stripped};
+ghost use Rattle.prompt.specs.Conversation.{AppendsPrefix, IsReaders};
 ghost use Rattle.prompt.specs.declared.fault.PromptFault.TheVariants as fault;
 
 use crate::fault::PromptFault;
+use crate::handover::Handover;
 use std::alloc::{AllocError, Global};
 use std::io::{BufRead, ErrorKind, Write};
 
 /// A reader of lines and a writer of replies.
 #[derive(Drop)]
-pub struct Streams<R: Drop, W: Drop> {
+pub struct Streams<R: Drop, W: Handover + Drop> {
     /// Where lines come from.
     pub reader: R,
     /// Where replies go.
     pub writer: W,
-    /// Whether the writer was asked to hand on all that was written.
+    /// Whether the writer handed on all that was written.
     pub is_flushed: bool,
+    ghost flushed: { is_flushed ≡ true → W.handed writer ≡ W.contents writer },
 }
 
 // The line without its last byte, if that is `byte`.
@@ -69,7 +71,7 @@ fn write_all<W: Write>(writer: &mut W, text: &[u8]) -> Result<(), PromptFault>
     Ok(())
 }
 
-impl<R: BufRead + Drop, W: Write + Drop> Streams<R, W> {
+impl<R: BufRead + Drop, W: Handover + Drop> Streams<R, W> {
     /// The next line without its ending, or `None` at the end of the input. All that was written
     /// has to be flushed before.
     ///
@@ -79,6 +81,8 @@ impl<R: BufRead + Drop, W: Write + Drop> Streams<R, W> {
     pub(crate) fn next_line(&mut self, alloc: Global) -> Result<Option<Vec<u8>>, PromptFault>
         requires flushed { self.old.is_flushed ≡ true }
         ensures next { IfOk result (λ found. IsNext (R.remaining self.old.reader) (R.remaining self.new.reader) (option_map (λ line. line.items) found)) }
+        ensures part { OnErr result (IsReadInPart (R.remaining self.old.reader) (R.remaining self.new.reader)) }
+        ensures err { IfErr result IsReaders }
         ensures writer { self.new.writer ≡ self.old.writer }
     {
         let mut bytes = Vec::new(alloc);
@@ -97,6 +101,7 @@ impl<R: BufRead + Drop, W: Write + Drop> Streams<R, W> {
     /// The only refusal is `Write`: the writer failed or took nothing.
     pub(crate) fn write(&mut self, text: &[u8]) -> Result<(), PromptFault>
         ensures ok { OnOk result (Appends (W.contents self.old.writer) (W.contents self.new.writer) text.now) }
+        ensures err { IfErr result (λ e. e ≡ fault.Write) }
         ensures cut { OnErr result (AppendsPrefix (W.contents self.old.writer) (W.contents self.new.writer) text.now) }
         ensures reader { self.new.reader ≡ self.old.reader }
     {
@@ -109,14 +114,16 @@ impl<R: BufRead + Drop, W: Write + Drop> Streams<R, W> {
     /// The only refusal is `Write`: the writer failed.
     pub(crate) fn flush(&mut self) -> Result<(), PromptFault>
         ensures flushed { OnOk result (self.new.is_flushed ≡ true) }
+        ensures err { IfErr result (λ e. e ≡ fault.Write) }
         ensures kept { Keeps (W.contents self.old.writer) (W.contents self.new.writer) }
         ensures reader { self.new.reader ≡ self.old.reader }
     {
-        let flushed = self.writer.flush();
-        self.is_flushed = flushed.is_ok();
-        match flushed {
-            Ok(()) => Ok(()),
-            Err(_) => Err(PromptFault::Write),
+        let flushed = self.writer.hand_on().is_ok();
+        self.is_flushed = flushed;
+        if flushed {
+            Ok(())
+        } else {
+            Err(PromptFault::Write)
         }
     }
 }

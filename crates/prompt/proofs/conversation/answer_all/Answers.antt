@@ -1,26 +1,13 @@
-use Rattle.std.proofs.Common.{◌≡◌, Option, Some, None, ℕ, Vec, Global, arith, subst, sym}
+use Rattle.std.proofs.Common.{Option, Some, ℕ, Vec, Global, arith, subst, sym}
 use Rattle.std.specs.Option.{option_map}
-use Rattle.prompt.specs.Conversation.{IsAwaited, IsWritten, IsWrittenInPart}
-use Rattle.prompt.proofs.Transcripts.{so_far-empty, so_far-more, err_asking, err_telling, err_at_last, at_end, byte_few}
-use Rattle.prompt.specs.declared.fault.PromptFault.TheVariants as fault
+use Rattle.prompt.specs.Conversation.{IsAwaited, IsWritten}
+use Rattle.prompt.proofs.Transcripts.{so_far-more, at_end, byte_few}
 use Rattle.prompt.proofs.conversation.answer_all.Goals as goal
-
-pub loop-lines-init : goal.loop-lines-init
-loop-lines-init g c = record { done = so_far-empty c.args.is_shown _ _ _ c.requires.start; few = omega arith }
-
-pub returns-in_err-line : goal.returns-in_err-line
-returns-in_err-line g c = err_asking _ _ _ _ c.from_residual.result c.from_residual.ensures.1 c.loop-lines.invariant.done c.in_err-line.ensures.cut
 
 pub returns-in_default : goal.returns-in_default
 returns-in_default g c =
     let P : Option (Vec ℕ Global) → Type 0 = λ o. IsAwaited (g.R.Read.remaining c.loop-lines.streams.reader) (g.R.Read.remaining c.ask.new.streams.reader) (option_map (λ (v : Vec ℕ Global). v.items) o) in
-    at_end _ _ c.loop-lines.invariant.done c.in_ok-line.ensures.shown (subst P c.in_default.is c.in_ok-line.ensures.line)
-
-pub returns-in_err-is_bad : goal.returns-in_err-is_bad
-returns-in_err-is_bad g c =
-    let P : Option (Vec ℕ Global) → Type 0 = λ o. IsAwaited (g.R.Read.remaining c.loop-lines.streams.reader) (g.R.Read.remaining c.ask.new.streams.reader) (option_map (λ (v : Vec ℕ Global). v.items) o) in
-    let cut = subst (λ l. IsWrittenInPart c.loop-lines.session l (g.W.Write.contents c.ask.new.streams.writer) (g.W.Write.contents c.write_answer.new.streams.writer)) c.as_slice.ensures.value c.in_err-is_bad.ensures.cut in
-    err_telling _ (g.W.Write.contents c.ask.new.streams.writer) _ _ _ c.in-Some.line.items _ c.from_residual-in_err-is_bad.result c.from_residual-in_err-is_bad.ensures.1 c.loop-lines.invariant.done c.in_ok-line.ensures.shown (subst P c.in-Some.is c.in_ok-line.ensures.line) cut
+    at_end _ _ _ c.loop-lines.invariant.done c.in_ok-line.ensures.shown (subst P c.in_default.is c.in_ok-line.ensures.line) c.in_ok-line.ensures.handed
 
 pub loop-lines-preserved : goal.loop-lines-preserved
 loop-lines-preserved g c =
@@ -31,6 +18,3 @@ loop-lines-preserved g c =
       done = so_far-more c.from-bad.result c.loop-lines.invariant.done c.in_ok-line.ensures.shown (subst (λ r. IsAwaited (g.R.Read.remaining c.loop-lines.streams.reader) (g.R.Read.remaining r) (Some c.in-Some.line.items)) (sym c.write_answer.ensures.reader) awaited) whole c.from-bad.ensures;
       few = let h = byte_few c.in_ok-is_bad.is_bad c.from-bad.result c.from-bad.ensures in let k = c.loop-lines.invariant.few in omega (arith, h, k);
     }
-
-pub returns : goal.returns
-returns g c = err_at_last None None fault.Read c.loop-lines.invariant.done

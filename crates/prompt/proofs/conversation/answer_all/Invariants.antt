@@ -1,5 +1,5 @@
 use Rattle.std.proofs.Common.{◌≤◌}
-use Rattle.prompt.proofs.Transcripts.{IsSoFar}
+use Rattle.prompt.specs.Conversation.{IsSoFar}
 use Rattle.prompt.proofs.conversation.answer_all.Given as goal
 
 abbrev pub invariant-loop-lines : goal.invariant-loop-lines
