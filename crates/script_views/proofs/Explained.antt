@@ -1,6 +1,7 @@
 -- A line with a moment put into it, a line that begins with `explain query`, and the names of `check TABLE.NAME`.
-use Rattle.std.proofs.Common.{Bor, lit<, Option, inl, inr, Some, None, unwrap_or, ◌≡◌, ◌≢◌, ◌++◌, ℕ, suc, List, [], ◌∷◌, Bool, false, codes, Result, Ok, Err, IfOk, ap, refl, sym, subst, ◌∙◌, arith}
+use Rattle.std.proofs.Common.{Bor, lit<, Option, inl, inr, Some, None, unwrap_or, ◌≡◌, ◌≢◌, ◌++◌, ◌<◌, ℕ, suc, List, [], ◌∷◌, Bool, true, false, not, length, get_or, codes, Result, Ok, Err, IfOk, ap, refl, sym, subst, ◌∙◌, arith}
 use Rattle.std.specs.Prelude.{if◌then◌else◌}
+use Rattle.std.specs.Bool.{Decides}
 use Rattle.std.specs.List.{starts_with}
 use Rattle.std.proofs.Math.Dec.{eqb}
 use Rattle.std.proofs.lemmas.Bool.{false≢true}
@@ -8,7 +9,7 @@ use Rattle.std.proofs.lemmas.Bool.Decides.{eqb_tells}
 use Rattle.std.proofs.lemmas.Str.Pattern.{IsSplitOnceResult, split_after}
 use Rattle.std.specs.Option.{MatchOption}
 use Rattle.script_session.specs.declared.session.Opened.{Opened}
-use Rattle.script_views.specs.Check.{HasNo}
+use Rattle.script_views.specs.Check.{HasNo, HasNoSpace, IsCheckLine}
 use Rattle.script_views.specs.Explain.{timed, ShowsPathIn}
 
 not_equal : (a b : ℕ) → a ≢ b → eqb a b ≡ false
@@ -55,3 +56,14 @@ not_begun opened line never = λ rest same. absurd (none_is_some (codes "query" 
 pub cut_names : (names table name : List ℕ) (r : Option (Bor (List ℕ) × Bor (List ℕ))) → IsSplitOnceResult 46 names r → names ≡ table ++ 46 ∷ name → HasNo 46 table
     → MatchOption r ⊥ (λ x. (x.0.now ≡ table) × (x.1.now ≡ name))
 cut_names names table name r cut same none = split_after 46 names table name r cut (lit< tt) same none
+
+-- no space, and a tab just where one is found
+pub bare_by : (bytes : List ℕ) (tab : Bool) → HasNo 32 bytes → (tab ≡ true → (k : ℕ) × (k < length bytes) × (get_or bytes k 0 ≡ 9)) × ((k : ℕ) → k < length bytes → get_or bytes k 0 ≡ 9 → tab ≡ true)
+    → Decides (not tab) (HasNoSpace bytes)
+bare_by bytes true none found = ((λ e. absurd (false≢true e)), λ bare. let at = found.0 refl in absurd (bare.0 at.0 at.1 at.2))
+bare_by bytes false none found = ((λ _. ((λ i small is. false≢true (found.1 i small is)), none)), λ _. refl)
+
+-- what follows `check ` is cut at its first dot
+pub check_line : (line rest names table name : List ℕ) → line ≡ codes "check " ++ rest → names ≡ rest → (names ≡ table ++ 46 ∷ name) × HasNo 46 table → HasNoSpace table → HasNoSpace name → IsCheckLine line
+check_line line rest names table name begun after cut bare_table bare_name =
+    (table, name, record { no_tab = bare_table.0; no_space = bare_table.1; no_dot = cut.1 }, bare_name, begun ∙ ap (λ (l : List ℕ). codes "check " ++ l) (sym after ∙ cut.0))

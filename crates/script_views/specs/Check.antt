@@ -66,6 +66,14 @@ pub record IsBare (name : List ℕ) : Type 0 where
   pub no_space : HasNo 32 name
   pub no_dot : HasNo 46 name
 
+-- no tab and no space
+abbrev pub HasNoSpace : List ℕ → Type 0
+HasNoSpace bytes = HasNo 9 bytes × HasNo 32 bytes
+
+-- the line is `check TABLE.NAME`: the first dot ends the table's name
+abbrev pub IsCheckLine : List ℕ → Type 0
+IsCheckLine line = (table : List ℕ) × (name : List ℕ) × IsBare table × HasNoSpace name × (line ≡ codes "check " ++ (table ++ 46 ∷ name))
+
 -- the line `check TABLE.NAME` shows the check of that element
 abbrev pub ShowsCheckIn : Opened → List ℕ → Option (List ℕ) → Type 0
 ShowsCheckIn opened line shown =

@@ -62,6 +62,10 @@ abbrev pub Explains : Opened → Option (List ℕ × Selection) → List ℕ →
 Explains opened None text = text ≡ codes "explain query SERVER: select .. from TABLE where .."
 Explains opened (Some query) text = ExplainsUnder (map.get opened.leases query.0) query.1 text
 
+-- the line begins with `explain query`
+abbrev pub IsExplainLine : List ℕ → Type 0
+IsExplainLine line = (rest : List ℕ) × (line ≡ codes "explain query" ++ rest)
+
 -- a line that begins with `explain query` shows the path of the query that it goes on with
 abbrev pub ShowsPathIn : Opened → List ℕ → Option (List ℕ) → Type 0
 ShowsPathIn opened line shown =

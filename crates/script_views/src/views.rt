@@ -1,8 +1,9 @@
 //! The views whose texts are proved: `check TABLE.NAME` and `explain query`.
-ghost use Rattle.std.specs.Prelude.{◌≡◌, ◌++◌, ◌∷◌, IfOk, List, ℕ, Some, codes, option_map, string_bytes, true};
+ghost use Rattle.std.specs.Prelude.{◌≡◌, ◌⊎◌, ◌++◌, ◌∷◌, IfOk, IfSome, List, ℕ, Some, codes, option_map, string_bytes};
+ghost use Rattle.std.specs.Bool.{Decides};
 ghost use Rattle.std.specs.Option.{IsSomeAnd};
-ghost use Rattle.script_views.specs.Check.{HasNo, IsBare, ShowsCheckIn, ShowsElement};
-ghost use Rattle.script_views.specs.Explain.{ShowsPathIn};
+ghost use Rattle.script_views.specs.Check.{HasNoSpace, IsBare, IsCheckLine, ShowsCheckIn, ShowsElement};
+ghost use Rattle.script_views.specs.Explain.{IsExplainLine, ShowsPathIn};
 
 use crate::element_pairs::element_pairs;
 use crate::explain::explanation;
@@ -33,7 +34,8 @@ pub fn named_pairs(
 
 // What a line asks to explain, if it begins with `explain query`.
 fn explained_query(line: &str) -> Option<&str>
-    ensures { (rest : List ℕ) → line.now ≡ codes "explain query" ++ rest → option_map (λ q. q.now) result ≡ Some (codes "query" ++ rest) }
+    ensures query { (rest : List ℕ) → line.now ≡ codes "explain query" ++ rest → option_map (λ q. q.now) result ≡ Some (codes "query" ++ rest) }
+    ensures only { IfSome result (λ query. IsExplainLine line.now) }
 {
     if !line.starts_with("explain query") {
         return None;
@@ -44,14 +46,15 @@ fn explained_query(line: &str) -> Option<&str>
 
 // Whether a name has no white space in it.
 fn is_bare(name: &str) -> bool
-    ensures { HasNo 32 name.now → HasNo 9 name.now → result ≡ true }
+    ensures { Decides result (HasNoSpace name.now) }
 {
     !name.contains(' ') && !name.contains('\t')
 }
 
 // The names of `check TABLE.NAME`, if there is no white space in them.
 fn checked_names(line: &str) -> Option<(&str, &str)>
-    ensures { (table name : List ℕ) → IsBare table → IsBare name → line.now ≡ codes "check " ++ (table ++ 46 ∷ name) → IsSomeAnd result (λ n. (n.0.now ≡ table) × (n.1.now ≡ name)) }
+    ensures names { (table name : List ℕ) → IsBare table → IsBare name → line.now ≡ codes "check " ++ (table ++ 46 ∷ name) → IsSomeAnd result (λ n. (n.0.now ≡ table) × (n.1.now ≡ name)) }
+    ensures only { IfSome result (λ names. IsCheckLine line.now) }
 {
     if !line.starts_with("check ") {
         return None;
@@ -67,7 +70,8 @@ fn checked_names(line: &str) -> Option<(&str, &str)>
 
 // The view of a line that may be `check TABLE.NAME`.
 fn checked_view(alloc: Global, opened: &Opened, line: &str) -> Result<Option<String>, AllocError>
-    ensures { IfOk result (λ shown. ShowsCheckIn opened.now line.now (option_map string_bytes shown)) }
+    ensures check { IfOk result (λ shown. ShowsCheckIn opened.now line.now (option_map string_bytes shown)) }
+    ensures only { IfOk result (λ shown. IfSome shown (λ text. IsCheckLine line.now)) }
 {
     match checked_names(line) {
         Some((table, name)) => Ok(Some(named_pairs(alloc, opened, table, name)?)),
@@ -77,7 +81,8 @@ fn checked_view(alloc: Global, opened: &Opened, line: &str) -> Result<Option<Str
 
 // The view of a line that may be `explain query`.
 fn explained_view(alloc: Global, opened: &Opened, line: &str) -> Result<Option<String>, AllocError>
-    ensures { IfOk result (λ shown. ShowsPathIn opened.now line.now (option_map string_bytes shown)) }
+    ensures path { IfOk result (λ shown. ShowsPathIn opened.now line.now (option_map string_bytes shown)) }
+    ensures only { IfOk result (λ shown. IfSome shown (λ text. IsExplainLine line.now)) }
 {
     match explained_query(line) {
         Some(query) => Ok(Some(explanation(alloc, opened, query)?)),
@@ -86,13 +91,15 @@ fn explained_view(alloc: Global, opened: &Opened, line: &str) -> Result<Option<S
 }
 
 /// The view of `check TABLE.NAME` and of `explain query ..` in an opened world; `None` if the line
-/// is neither. Refused only when out of memory.
+/// is neither. The table's name ends at the first dot; a line with white space in one of the names
+/// is neither of the two. Refused only when out of memory.
 ///
 /// - `opened`: the world and the leases, which are only read.
 /// - `line`: the line without white space around it.
 pub fn named_view(alloc: Global, opened: &Opened, line: &str) -> Result<Option<String>, AllocError>
     ensures path { IfOk result (λ shown. ShowsPathIn opened.now line.now (option_map string_bytes shown)) }
     ensures check { IfOk result (λ shown. ShowsCheckIn opened.now line.now (option_map string_bytes shown)) }
+    ensures only { IfOk result (λ shown. IfSome shown (λ text. IsCheckLine line.now ⊎ IsExplainLine line.now)) }
 {
     if line.starts_with('c') {
         checked_view(alloc, opened, line)
