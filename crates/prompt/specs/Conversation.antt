@@ -1,6 +1,6 @@
 -- Cited by the contracts of converse and of the functions below it.
 -- What is read and written, line by line.
-use Rattle.std.specs.Prelude.{◌≡◌, ◌⊎◌, ◌++◌, ◌∷◌, ◌+◌, ◌-◌, ◌^◌, ◌==◌, ◌||◌, ⊤, ℕ, zero, suc, List, [], length, Option, Some, None, Result, Ok, Err, Bool, true, false, cond, codes, if◌then◌else◌}
+use Rattle.std.specs.Prelude.{◌≡◌, ◌⊎◌, ◌++◌, ◌∷◌, ◌+◌, ◌-◌, ◌^◌, ◌==◌, ◌||◌, ◌&&◌, ⊤, ℕ, zero, suc, List, [], length, Option, Some, None, Result, Ok, Err, Bool, true, false, cond, codes, if◌then◌else◌}
 use Rattle.std.specs.Fmt.{decimal}
 use Rattle.std.specs.Io.KnownBytes.{Appends}
 use Rattle.std.specs.List.{flat_map}
@@ -10,8 +10,9 @@ use Rattle.script_replies.specs.Texts.{bad_line}
 use Rattle.script_session.specs.Replies.{Reply}
 use Rattle.script_session.specs.Session.{Session, empty}
 use Rattle.script_session.specs.declared.session.Session.TheVariants.{Declaring, Running}
+use Rattle.script_tokens.specs.declared.token.Mark.TheVariants.{Dot}
 use Rattle.script_tokens.specs.declared.token.Token.{Token}
-use Rattle.script_tokens.specs.Productions.{is_word}
+use Rattle.script_tokens.specs.Productions.{is_mark, is_word}
 use Rattle.script_tokens.specs.Tokens.{tokens_of}
 use Rattle.world.specs.State.{facts_of}
 use Rattle.prompt.specs.Carry.{CarriesOn, carry_in}
@@ -22,16 +23,17 @@ use Rattle.prompt.specs.declared.conversation.Summary.{Summary}
 use Rattle.prompt.specs.declared.fault.PromptFault.{PromptFault}
 use Rattle.prompt.specs.declared.fault.PromptFault.TheVariants.{Read, Write, Memory}
 
--- the word `quit` alone
+-- the word `quit` or `exit` alone, or `.quit`
 abbrev pub quits : Option (List Token) → Bool
 quits None = false
 quits (Some []) = false
-quits (Some (t ∷ [])) = is_word (codes "quit") t
-quits (Some (t ∷ u ∷ ts)) = false
+quits (Some (t ∷ [])) = is_word (codes "quit") t || is_word (codes "exit") t
+quits (Some (t ∷ u ∷ [])) = is_mark Dot t && is_word (codes "quit") u
+quits (Some (t ∷ u ∷ v ∷ ts)) = false
 
--- a line that ends the conversation
+-- a line that ends the conversation: one of these, or the bytes of `\q`
 abbrev pub is_quit : List ℕ → Bool
-is_quit line = quits (tokens_of line)
+is_quit line = bytes_eq line (92 ∷ 113 ∷ []) || quits (tokens_of line)
 
 -- what an opened session is asked for by a line that no script has: to carry changes on
 abbrev pub carry_asked : Session → List ℕ → Option CarryLine
@@ -97,7 +99,7 @@ prompt_text false session = []
 prompt_text true (Declaring d) = codes "> "
 prompt_text true (Running r) = codes "v" ++ decimal (newest (facts_of r.world).line) ++ codes " @" ++ decimal (facts_of r.world).moment ++ codes "> "
 
--- From old, the lines in answer may be given this text, each after a prompt, with so many bad lines, and leave new. None of them is `quit`.
+-- From old, the lines in answer may be given this text, each after a prompt, with so many bad lines, and leave new. None of them ends the conversation.
 abbrev pub AreAnswered : Bool → Session → List (List ℕ) → List ℕ → ℕ → Session → Type 0
 AreAnswered shown old [] text bad new = (text ≡ []) × (bad ≡ 0) × (new ≡ old)
 AreAnswered shown old (l ∷ ls) text bad new =
@@ -110,7 +112,7 @@ abbrev pub IsTranscript : Bool → List (List ℕ) → List ℕ → ℕ → Type
 IsTranscript shown lines out bad =
     (text : List ℕ) × (new : Session) × AreAnswered shown empty lines text bad new × (out ≡ text ++ prompt_text shown new)
 
--- what is read at the end: nothing more, or a line `quit`
+-- what is read at the end: nothing more, or a line that ends the conversation
 abbrev pub Ends : Option (List ℕ) → Option (List ℕ) → Type 0
 Ends input rest = IsNext input rest None ⊎ ((line : List ℕ) × IsNext input rest (Some line) × (is_quit line ≡ true))
 
@@ -118,7 +120,7 @@ Ends input rest = IsNext input rest None ⊎ ((line : List ℕ) × IsNext input 
 abbrev pub AppendsPrefix : Option (List ℕ) → Option (List ℕ) → List ℕ → Type 0
 AppendsPrefix old new text = (out : List ℕ) × (cut : List ℕ) × Appends old new out × (text ≡ out ++ cut)
 
--- the next line that is to be answered; none at the end, and at a line `quit`
+-- the next line that is to be answered; none at the end, and at a line that ends the conversation
 abbrev pub IsAwaited : Option (List ℕ) → Option (List ℕ) → Option (List ℕ) → Type 0
 IsAwaited input rest None = Ends input rest
 IsAwaited input rest (Some line) = IsNext input rest (Some line) × (is_quit line ≡ false)

@@ -25,7 +25,8 @@ pub struct Summary {
     pub bad: u64,
 }
 
-// The next line that is to be answered: `None` at the end of the input and at a line `quit`.
+// The next line that is to be answered: `None` at the end of the input and at a line that ends the
+// conversation.
 fn next_to_answer<R: BufRead + Drop, W: Handover + Drop>(
     alloc: Global,
     streams: &mut Streams<R, W>,
@@ -116,8 +117,8 @@ fn answer_all<R: BufRead + Drop, W: Handover + Drop>(
 }
 
 /// Answers each line as it comes: its reply is written, and after it the remarks, lines that begin
-/// with `# `; then all is handed on, and the next line is read. It ends at a line `quit`, and at the
-/// end of the input.
+/// with `# `; then all is handed on, and the next line is read. It ends at a line `quit`, `exit`,
+/// `.quit` or `\q`, and at the end of the input.
 ///
 /// - `streams`: where lines come from and replies go.
 /// - `is_shown`: whether a prompt is written before each line is read.

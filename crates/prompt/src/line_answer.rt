@@ -6,7 +6,7 @@ ghost use Rattle.prompt.specs.Moment.{IsForeign};
 
 use crate::carry::{CarryLine, carry_of, carry_on};
 use crate::moment::{given_line, is_foreign, is_view};
-use script_hints::{hint_of, view_of};
+use script_hints::{hint_of, opening_faults, view_of};
 use script_session::Session;
 use std::alloc::{AllocError, Global};
 
@@ -79,6 +79,22 @@ fn steps_left(session: &Session) -> usize
     }
 }
 
+// The faults of the declarations, or else the hint that goes with the reply.
+fn hint_or(
+    alloc: Global,
+    faults: String,
+    session: &Session,
+    line: &str,
+    reply: &str,
+    steps: usize,
+) -> Result<String, AllocError> {
+    if faults.is_empty() {
+        hint_of(alloc, session, line, reply, true, steps)
+    } else {
+        Ok(faults)
+    }
+}
+
 // The session's own reply to a line, and the hint that goes with it.
 fn reply_line(alloc: Global, session: &mut Session, line: &str) -> Result<LineAnswer, AllocError>
     requires calm { IsCalm session.old line.now }
@@ -86,9 +102,10 @@ fn reply_line(alloc: Global, session: &mut Session, line: &str) -> Result<LineAn
 {
     let given = given_line(alloc, session, line)?;
     let steps = steps_left(session);
+    let faults = opening_faults(alloc, session, given.as_str())?;
     let answer = session.reply_to(alloc, given.as_str())?;
     let reply = answer.text.as_str();
-    let hint = hint_of(alloc, session, given.as_str(), reply, true, steps)?;
+    let hint = hint_or(alloc, faults, session, given.as_str(), reply, steps)?;
     let answer = answer_of(alloc, reply, answer.is_bad, hint.as_str())?;
     Ok(answer)
 }

@@ -1,27 +1,38 @@
 //! Lines whose `at M` was left out.
-ghost use Rattle.std.specs.Prelude.{◌≡◌, ◌++◌, ◌==◌, IfOk, codes, string_bytes, true, false};
+ghost use Rattle.std.specs.Prelude.{◌≡◌, ◌++◌, ◌==◌, IfOk, Some, codes, string_bytes, true, false};
 ghost use Rattle.std.specs.Fmt.{decimal};
 ghost use Rattle.std.specs.List.{before_first};
 ghost use Rattle.std.specs.Option.{option_map};
-ghost use Rattle.prompt.specs.Conversation.{is_quit, is_view, is_view_word};
+ghost use Rattle.prompt.specs.Conversation.{is_quit, is_view, is_view_word, quits};
 ghost use Rattle.prompt.specs.Moment.{IsForeign, IsCutAt, IsGiven, first_word, is_command, last_moment, moment_mark};
 
 use script_grammar::{is_silent, read_command};
 use script_session::Session;
-use script_tokens::{LineFault, is_word, tokens_of};
+use script_tokens::{LineFault, Mark, Token, is_mark, is_word, tokens_of};
 use std::alloc::{AllocError, Global};
 
-/// Whether a line ends the conversation: it is the word `quit` alone.
+// Whether these are `quit`, `exit` or `.quit` alone.
+fn quits(tokens: &[Token<'_>]) -> bool
+    ensures { result ≡ quits (Some tokens.now) }
+{
+    match tokens {
+        [only] => is_word(only, b"quit") || is_word(only, b"exit"),
+        [dot, word] => is_mark(dot, Mark::Dot) && is_word(word, b"quit"),
+        _ => false,
+    }
+}
+
+/// Whether a line ends the conversation: it is `quit`, `exit`, `.quit` or `\q` alone.
 ///
 /// - `line`: the line without its ending.
 pub(crate) fn is_quit(alloc: Global, line: &[u8]) -> Result<bool, AllocError>
     ensures { IfOk result (λ quits. quits ≡ is_quit line.now) }
 {
+    if line == b"\\q".as_slice() {
+        return Ok(true);
+    }
     match tokens_of(alloc, line)? {
-        Some(tokens) => match tokens.as_slice() {
-            [only] => Ok(is_word(only, b"quit")),
-            _ => Ok(false),
-        },
+        Some(tokens) => Ok(quits(tokens.as_slice())),
         None => Ok(false),
     }
 }
