@@ -44,7 +44,7 @@ fn act_and_keep<L: SharedLedger, R: Wait>(
     ask: &Ask,
 ) -> Result<Option<u64>, OperatorFault>
     requires seen { ask.now.front ≤ me.old.front }
-    ensures { ActsAndKeeps L.opening ask.now me.old receipts.old.items result me.new receipts.new.items }
+    ensures { ActsAndKeeps L.start ask.now me.old receipts.old.items result me.new receipts.new.items }
 {
     if receipts.reserve(1).is_err() {
         return Err(OperatorFault::Memory);
@@ -84,10 +84,10 @@ pub fn complete<L: SharedLedger, R: Wait>(
     limit: u32,
     tries: u32,
 ) -> Result<u64, OperatorFault>
-    ensures done { IfOk result (λ now. (moment ≤ now) × HasFinished L.opening (asked now pieces limit tries me.old.front)) }
-    ensures refused { IfErr result (λ fault. (now : ℕ) × (moment ≤ now) × IsRefused L.opening (asked now pieces limit tries me.old.front) me.new.front fault) }
+    ensures done { IfOk result (λ now. (moment ≤ now) × HasFinished L.start (asked now pieces limit tries me.old.front)) }
+    ensures refused { IfErr result (λ fault. (now : ℕ) × (moment ≤ now) × IsRefused L.start (asked now pieces limit tries me.old.front) me.new.front fault) }
     ensures counted { me.new.count + length receipts.old.items ≡ me.old.count + length receipts.new.items }
-    ensures logged { All (IsLogged L.opening me.old.front) receipts.old.items → All (IsLogged L.opening me.old.front) receipts.new.items }
+    ensures logged { All (IsLogged L.start me.old.front) receipts.old.items → All (IsLogged L.start me.old.front) receipts.new.items }
     ensures same { me.new.id ≡ me.old.id }
     ensures rises { me.old.front ≤ me.new.front }
 {

@@ -4,7 +4,6 @@ use Rattle.std.specs.Prelude.{◌≡◌, ℕ, ◌+◌, ◌≤◌, List, [], ◌�
 use Rattle.std.specs.declared.alloc.AllocError.{AllocError}
 use Rattle.reorganise.specs.declared.fault.ViewFault.TheVariants as view_fault
 use Rattle.reorganise.specs.declared.read.Reading.{Reading}
-use Rattle.replay.specs.Replay.{Opening}
 use Rattle.world.specs.declared.begin_reorg.BeginFault.{BeginFault}
 use Rattle.world.specs.declared.begin_reorg.BeginFault.TheVariants as begin_fault
 use Rattle.world.specs.declared.entry.PieceDone.{PieceDone}
@@ -15,6 +14,7 @@ use Rattle.world.specs.declared.piece.ReadFault.{ReadFault}
 use Rattle.world.specs.declared.piece.ReadFault.TheVariants as read_fault
 use Rattle.world.specs.declared.publish.PublishFault.{PublishFault}
 use Rattle.world.specs.declared.publish.PublishFault.TheVariants as publish_fault
+use Rattle.world.specs.State.{State}
 use Rattle.locked_store.specs.Known.{Known}
 use Rattle.locked_store.specs.Receipts.{IsLogged}
 use Rattle.locked_store.specs.declared.fault.SharedFault.{SharedFault}
@@ -78,26 +78,26 @@ of_commit element (Err refusal) = of_refusal refusal.0
 
 -- ---- what is known of an attempt, from the handle before it to the handle after it
 
-abbrev pub Says : Opening → Ask → Known → Attempt → Known → Type 0
-Says opening ask v (Ok (Some done)) w = IsAdvanced opening ask done × (w.count ≡ v.count + entries_of done)
-Says opening ask v (Ok None) w = ((what : Act) × WasOvertaken opening ask what) × (w.count ≡ v.count)
-Says opening ask v (Err why) w = IsRefused opening ask w.front why × (w.count ≡ v.count)
+abbrev pub Says : State → Ask → Known → Attempt → Known → Type 0
+Says start ask v (Ok (Some done)) w = IsAdvanced start ask done × (w.count ≡ v.count + entries_of done)
+Says start ask v (Ok None) w = ((what : Act) × WasOvertaken start ask what) × (w.count ≡ v.count)
+Says start ask v (Err why) w = IsRefused start ask w.front why × (w.count ≡ v.count)
 
-pub record Attempts (opening : Opening) (ask : Ask) (v : Known) (attempt : Attempt) (w : Known) : Type 0 where
+pub record Attempts (start : State) (ask : Ask) (v : Known) (attempt : Attempt) (w : Known) : Type 0 where
   pub same : w.id ≡ v.id
   pub rises : v.front ≤ w.front
-  pub says : Says opening ask v attempt w
+  pub says : Says start ask v attempt w
 
 -- ---- what is known of an act
 
-abbrev pub ActSays : Opening → Ask → Known → Result Advanced OperatorFault → Known → Type 0
-ActSays opening ask v (Ok done) w = IsAdvanced opening ask done × (w.count ≡ v.count + entries_of done)
-ActSays opening ask v (Err why) w = IsRefused opening ask w.front why × (w.count ≡ v.count)
+abbrev pub ActSays : State → Ask → Known → Result Advanced OperatorFault → Known → Type 0
+ActSays start ask v (Ok done) w = IsAdvanced start ask done × (w.count ≡ v.count + entries_of done)
+ActSays start ask v (Err why) w = IsRefused start ask w.front why × (w.count ≡ v.count)
 
-pub record Acts (opening : Opening) (ask : Ask) (v : Known) (result : Result Advanced OperatorFault) (w : Known) : Type 0 where
+pub record Acts (start : State) (ask : Ask) (v : Known) (result : Result Advanced OperatorFault) (w : Known) : Type 0 where
   pub same : w.id ≡ v.id
   pub rises : v.front ≤ w.front
-  pub says : ActSays opening ask v result w
+  pub says : ActSays start ask v result w
 
 -- ---- what is kept of an act
 
@@ -118,14 +118,14 @@ receipts_of advanced.Finished = []
 
 -- ---- what is known of an act: the moment of the next act, none if no change is under way
 
-abbrev pub NextSays : Opening → Ask → ℕ → Result (Option ℕ) OperatorFault → Type 0
-NextSays opening ask front (Ok (Some next)) = ask.moment ≤ next
-NextSays opening ask front (Ok None) = HasFinished opening ask
-NextSays opening ask front (Err why) = IsRefused opening ask front why
+abbrev pub NextSays : State → Ask → ℕ → Result (Option ℕ) OperatorFault → Type 0
+NextSays start ask front (Ok (Some next)) = ask.moment ≤ next
+NextSays start ask front (Ok None) = HasFinished start ask
+NextSays start ask front (Err why) = IsRefused start ask front why
 
-pub record ActsAndKeeps (opening : Opening) (ask : Ask) (v : Known) (old : List Receipt) (answer : Result (Option ℕ) OperatorFault) (w : Known) (new : List Receipt) : Type 0 where
+pub record ActsAndKeeps (start : State) (ask : Ask) (v : Known) (old : List Receipt) (answer : Result (Option ℕ) OperatorFault) (w : Known) (new : List Receipt) : Type 0 where
   pub same : w.id ≡ v.id
   pub rises : v.front ≤ w.front
-  pub says : NextSays opening ask w.front answer
+  pub says : NextSays start ask w.front answer
   pub counted : w.count + length old ≡ v.count + length new
-  pub logged : All (IsLogged opening ask.front) old → All (IsLogged opening ask.front) new
+  pub logged : All (IsLogged start ask.front) old → All (IsLogged start ask.front) new
