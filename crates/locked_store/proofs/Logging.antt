@@ -1,10 +1,8 @@
 -- A receipt that a call gives is of an entry in the log that the call left; and no front falls.
-use Rattle.std.proofs.Common.{◌≡◌, ℕ, ◌+◌, ◌-◌, ◌<◌, ◌≤◌, zero, suc, List, [], ◌∷◌, ◌++◌, length, Option, Some, refl, sym, ap, ◌∙◌, subst, arith, Result, Ok, Err}
-use Rattle.std.specs.Prelude.{slice_get, None}
-use Rattle.lease.specs.declared.lease.Lease.{Lease}
+use Rattle.std.proofs.Common.{◌≡◌, ℕ, ◌+◌, ◌-◌, ◌≤◌, List, [], ◌∷◌, ◌++◌, length, Some, refl, ap, ◌∙◌, arith, Result, Ok, Err}
+use Rattle.std.specs.Prelude.{slice_get}
 use Rattle.row_write.specs.Made.{PreparedTxn}
 use Rattle.reorganise.specs.declared.read.Reading.{Reading}
-use Rattle.replay.specs.declared.entry.Entry.{Entry}
 use Rattle.replay.specs.declared.entry.What.{What}
 use Rattle.world.specs.declared.committed.Committed.{Committed}
 use Rattle.world.specs.declared.committed.Committed.TheVariants as committed
@@ -16,7 +14,7 @@ use Rattle.world.specs.declared.grant.GrantFault.{GrantFault}
 use Rattle.world.specs.declared.piece.PieceFault.{PieceFault}
 use Rattle.world.specs.Calls.{Appends, LeaseStep, CommitStep}
 use Rattle.world.specs.Piece.{PieceStep}
-use Rattle.world.specs.State.{State, effect}
+use Rattle.world.specs.State.{State}
 use Rattle.locked_store.specs.declared.fault.SharedFault.{SharedFault}
 use Rattle.locked_store.specs.declared.fault.SharedFault.TheVariants as shared
 use Rattle.locked_store.specs.declared.fault.WentBack.{WentBack}

@@ -1,6 +1,6 @@
 //! What lies behind the lock, and the calls of one critical section: each is one call of the world.
-ghost use Rattle.std.specs.Prelude.{◌≡◌, ◌<◌, ◌≤◌, length, IfOk, IfErr, OnOk, option_map};
-ghost use Rattle.locked_store.specs.Answers.{Takes, Found, no_place, grant_place, commit_place, publish_place, receipt_place, piece_place};
+ghost use Rattle.std.specs.Prelude.{◌≡◌, ◌+◌, ◌<◌, ◌≤◌, length, IfOk, IfErr, OnOk, option_map};
+ghost use Rattle.locked_store.specs.Answers.{Counts, Takes, Found, place_of, no_place, grant_place, commit_place, publish_place, receipt_place, piece_place};
 ghost use Rattle.locked_store.specs.Cores.{IsCore, WasLength};
 ghost use Rattle.world.specs.BeginReorg.{BeginStep};
 ghost use Rattle.piece_work.specs.WorkOff.{NextStep};
@@ -75,6 +75,34 @@ fn same(schema: Option<&ArcValue<Schema>>) -> Result<Option<ArcValue<Schema>>, A
         Some(schema) => Ok(Some(schema.clone()?)),
         None => Ok(None),
     }
+}
+
+// Commits, counts the entry, if there is one, and moves the front to the length of the log.
+fn commit_counted<L: SharedLedger>(
+    alloc: Global,
+    world: &mut World,
+    added: &mut u64,
+    book: &mut Book<L>,
+    me: &mut Handle<L>,
+    moment: u64,
+    prepared: Prepared,
+) -> Result<Committed, (CommitFault, Prepared)>
+    requires seen { me.old.front ≤ length world.old.log }
+    requires few { added.old ≤ length world.old.log }
+    ensures step { CommitStep world.old moment prepared result world.new }
+    ensures added { length world.new.log + added.old ≡ length world.old.log + added.new }
+    ensures total { book.new.total + added.old ≡ book.old.total + added.new }
+    ensures front { me.new.front ≡ length world.new.log }
+    ensures counts { Counts me.old (place_of commit_place result) me.new }
+{
+    let result = world.commit(alloc, moment, prepared);
+    let len = log_len(world);
+    if matches!(&result, Ok(Committed::Done(_))) {
+        book.add(&mut me.share, 1);
+        *added += 1;
+    }
+    me.front = len;
+    result
 }
 
 impl<L: SharedLedger> Locked<L> {
@@ -167,13 +195,7 @@ impl<L: SharedLedger> Locked<L> {
     {
         self.lemma_is_core();
         let Locked { world, added, book } = self;
-        let result = world.commit(alloc, moment, prepared);
-        let len = log_len(world);
-        if matches!(&result, Ok(Committed::Done(_))) {
-            book.add(&mut me.share, 1);
-            *added += 1;
-        }
-        me.front = len;
+        let result = commit_counted(alloc, world, added, book, me, moment, prepared);
         world.lemma_agrees();
         result
     }
