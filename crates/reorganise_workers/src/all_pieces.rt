@@ -135,7 +135,7 @@ fn into_parts<L: SharedLedger, R: Wait>(
     requires receipts { (receipts.old.items ≡ []) × (vec_len workers ≤ vec_capacity receipts.old) }
     ensures back { handles.new.items ≡ reverse (map (λ w. w.handle) workers.entry.items) }
     ensures risen { All (λ w. w.first_front ≤ w.handle.front) workers.entry.items }
-    ensures lists { vec_len receipts.new ≡ vec_len workers.entry }
+    ensures lists { length receipts.new.items ≡ length workers.entry.items }
     ensures kept_receipts { sum_by length receipts.new.items ≡ sum_by (λ w. length w.kept_receipts) workers.entry.items }
     ensures pieces { (job : Job) → All (λ w. w.job ≡ job) workers.entry.items → All (All (IsPieceReceipt L.start job)) receipts.new.items }
 {

@@ -178,10 +178,10 @@ fn try_once<P: Port>(
 /// memory `Memory`.
 ///
 /// What the outcome tells is what the port said after all that it had seen when the call began:
-/// `Done` has the receipt of a commit of the operations at the request's moment, `Row` and `Rejected` have a refusal,
-/// `Unprepared` comes of a lease that was granted and of what was read under it, `WentBack` has a
-/// length of the log, and `Busy` comes after that many tries that ended in a conflict or with the
-/// end of their lease. The receipts that the port keeps are of leases.
+/// `Done` has the receipt of a commit of the operations at the request's moment, `Row` and
+/// `Rejected` have a refusal, `Unprepared` comes of a lease that was granted and of what was read
+/// under it, `WentBack` has a length of the log, and `Busy` comes after that many tries that ended
+/// in a conflict or with the end of their lease. The receipts that the port keeps are of leases.
 #[tactic(auto, using(crate::proofs::Ends::served))]
 pub fn serve_one<P: Port>(alloc: Global, port: &mut P, request: &Request, tries: u32) -> Outcome
     requires tries { (1 ≤ tries) × (tries ≤ 1000) }
