@@ -1,5 +1,5 @@
 //! The run of a load.
-ghost use Rattle.std.specs.Prelude.{◌≡◌, length, IfOk, None, true};
+ghost use Rattle.std.specs.Prelude.{◌≡◌, IfOk, None, true};
 ghost use Rattle.command_line.specs.LoadSize.{IsLoadSize};
 ghost use Rattle.locked_store.specs.Receipts.{AreTheLog};
 
@@ -230,7 +230,7 @@ fn load_in<L: SharedLedger + Send + Sync, R: Threads + Wait + Eprint + Sync>(
 ) -> Result<Report, LoadFault>
     requires name { blank.name ≡ L.name }
     requires parts { blank.parts ≡ L.parts }
-    requires picked { (L.handles ≡ count) × (L.handles ≡ L.parts) × (L.opening ≡ world.opening) × (L.since ≡ length world.log) }
+    requires picked { (L.handles ≡ count) × (L.handles ≡ L.parts) × (L.start ≡ world) }
 {
     let Ok((shared, handles)) = Shared::<L>::new(alloc, blank, world, count) else {
         return Err(LoadFault::Memory);

@@ -2,3 +2,5 @@ pub mod Through
 pub mod Marks
 pub mod WholeLog
 pub mod Logging
+pub mod Growing
+pub mod Fronts

@@ -1,12 +1,9 @@
 -- A receipt that a call gives is of an entry in the log that the call left; and no front falls.
-use Rattle.std.proofs.Common.{◌≡◌, ℕ, ◌+◌, ◌-◌, ◌<◌, ◌≤◌, zero, suc, List, [], ◌∷◌, ◌++◌, length, Option, Some, refl, sym, ap, ◌∙◌, subst, arith, Result, Ok, Err}
-use Rattle.std.specs.Prelude.{slice_get, None}
-use Rattle.lease.specs.declared.lease.Lease.{Lease}
+use Rattle.std.proofs.Common.{◌≡◌, ℕ, ◌+◌, ◌-◌, ◌≤◌, List, [], ◌∷◌, ◌++◌, length, Some, refl, ap, ◌∙◌, arith, Result, Ok, Err}
+use Rattle.std.specs.Prelude.{slice_get}
 use Rattle.row_write.specs.Made.{PreparedTxn}
 use Rattle.reorganise.specs.declared.read.Reading.{Reading}
-use Rattle.replay.specs.declared.entry.Entry.{Entry}
 use Rattle.replay.specs.declared.entry.What.{What}
-use Rattle.replay.specs.Replay.{Opening}
 use Rattle.world.specs.declared.committed.Committed.{Committed}
 use Rattle.world.specs.declared.committed.Committed.TheVariants as committed
 use Rattle.world.specs.declared.commit.CommitFault.{CommitFault}
@@ -17,7 +14,7 @@ use Rattle.world.specs.declared.grant.GrantFault.{GrantFault}
 use Rattle.world.specs.declared.piece.PieceFault.{PieceFault}
 use Rattle.world.specs.Calls.{Appends, LeaseStep, CommitStep}
 use Rattle.world.specs.Piece.{PieceStep}
-use Rattle.world.specs.State.{State, effect}
+use Rattle.world.specs.State.{State}
 use Rattle.locked_store.specs.declared.fault.SharedFault.{SharedFault}
 use Rattle.locked_store.specs.declared.fault.SharedFault.TheVariants as shared
 use Rattle.locked_store.specs.declared.fault.WentBack.{WentBack}
@@ -35,8 +32,8 @@ one_less n m e = omega arith
 
 -- ---- receipts
 
-pub logged_after : (opening : Opening) (front : ℕ) (found left : State) (now : ℕ) (what : What) (receipt : Receipt) → IsCore opening left → front ≤ length found.log → Appends found now what receipt left → IsLogged opening front receipt
-logged_after opening front found left now what receipt core seen appends =
+pub logged_after : (start : State) (front : ℕ) (found left : State) (now : ℕ) (what : What) (receipt : Receipt) → IsCore start left → front ≤ length found.log → Appends found now what receipt left → IsLogged start front receipt
+logged_after start front found left now what receipt core seen appends =
     record {
       core = left;
       is_core = core;
@@ -49,20 +46,20 @@ logged_after opening front found left now what receipt core seen appends =
       new = omega (arith, appends.place, seen);
     }
 
-pub lease_logged : (opening : Opening) (v w : Known) (front moment : ℕ) (given : Grant)
-    → Answers opening v (let r : Result Grant (SharedFault GrantFault) = Ok given in r) w (λ c r d. LeaseStep c moment r d) grant_place
-    → front ≤ v.front → IsLogged opening front given.receipt
-lease_logged opening v w front moment given a seen = logged_after opening front a.0 a.1 _ _ given.receipt a.2.1 (omega (arith, seen, a.2.2)) a.2.3.3
+pub lease_logged : (start : State) (v w : Known) (front moment : ℕ) (given : Grant)
+    → Answers start v (let r : Result Grant (SharedFault GrantFault) = Ok given in r) w (λ c r d. LeaseStep c moment r d) grant_place
+    → front ≤ v.front → IsLogged start front given.receipt
+lease_logged start v w front moment given a seen = logged_after start front a.0 a.1 _ _ given.receipt a.2.1 (omega (arith, seen, a.2.2)) a.2.3.3
 
-pub commit_logged : (opening : Opening) (v w : Known) (front moment : ℕ) (prepared : PreparedTxn) (receipt : Receipt)
-    → AnswersBack opening v prepared (let r : Result Committed (SharedFault CommitFault × PreparedTxn) = Ok (committed.Done receipt) in r) w (λ c r d. CommitStep c moment prepared r d) commit_place
-    → front ≤ v.front → IsLogged opening front receipt
-commit_logged opening v w front moment prepared receipt a seen = logged_after opening front a.0 a.1 _ _ receipt a.2.1 (omega (arith, seen, a.2.2)) a.2.3.2
+pub commit_logged : (start : State) (v w : Known) (front moment : ℕ) (prepared : PreparedTxn) (receipt : Receipt)
+    → AnswersBack start v prepared (let r : Result Committed (SharedFault CommitFault × PreparedTxn) = Ok (committed.Done receipt) in r) w (λ c r d. CommitStep c moment prepared r d) commit_place
+    → front ≤ v.front → IsLogged start front receipt
+commit_logged start v w front moment prepared receipt a seen = logged_after start front a.0 a.1 _ _ receipt a.2.1 (omega (arith, seen, a.2.2)) a.2.3.2
 
-pub piece_logged : (opening : Opening) (v w : Known) (front moment : ℕ) (read : Reading) (done : PieceDone)
-    → AnswersBack opening v read (let r : Result PieceDone (SharedFault PieceFault × Reading) = Ok done in r) w (λ c r d. PieceStep c moment read r d) piece_place
-    → front ≤ v.front → IsLogged opening front done.receipt
-piece_logged opening v w front moment read done a seen = logged_after opening front a.0 a.1 _ _ done.receipt a.2.1 (omega (arith, seen, a.2.2)) a.2.3.2
+pub piece_logged : (start : State) (v w : Known) (front moment : ℕ) (read : Reading) (done : PieceDone)
+    → AnswersBack start v read (let r : Result PieceDone (SharedFault PieceFault × Reading) = Ok done in r) w (λ c r d. PieceStep c moment read r d) piece_place
+    → front ≤ v.front → IsLogged start front done.receipt
+piece_logged start v w front moment read done a seen = logged_after start front a.0 a.1 _ _ done.receipt a.2.1 (omega (arith, seen, a.2.2)) a.2.3.2
 
 -- ---- fronts
 
@@ -73,39 +70,39 @@ pub same_front : (v w : Known) → w ≡ v → v.front ≤ w.front
 same_front v w same = omega (arith, ap (λ (k : Known). k.front) same)
 
 -- a call whose step changes nothing
-pub reads_rise : {T E : Type 0} (opening : Opening) (v w : Known) (answer : Result T (SharedFault E)) (says : State → Result T E → Type 0)
-    → Answers opening v answer w (λ c r d. says c r × (d ≡ c)) no_place → v.front ≤ w.front
-reads_rise opening v w (Ok x) says a = stays v w a.0 a.1 a.2.2 a.2.4 a.2.3.1
-reads_rise opening v w (Err (shared.World e)) says a = stays v w a.0 a.1 a.2.2 a.2.4 a.2.3.1
-reads_rise opening v w (Err (shared.WentBack seen)) says a = same_front v w a.2
+pub reads_rise : {T E : Type 0} (start : State) (v w : Known) (answer : Result T (SharedFault E)) (says : State → Result T E → Type 0)
+    → Answers start v answer w (λ c r d. says c r × (d ≡ c)) no_place → v.front ≤ w.front
+reads_rise start v w (Ok x) says a = stays v w a.0 a.1 a.2.2 a.2.4 a.2.3.1
+reads_rise start v w (Err (shared.World e)) says a = stays v w a.0 a.1 a.2.2 a.2.4 a.2.3.1
+reads_rise start v w (Err (shared.WentBack seen)) says a = same_front v w a.2
 
-pub finds_rise : {T : Type 0} (opening : Opening) (v w : Known) (answer : Result T WentBack) (says : State → T → Type 0) → Finds opening v answer w says → v.front ≤ w.front
-finds_rise opening v w (Ok x) says a = omega (arith, a.1.1, a.1.3)
-finds_rise opening v w (Err back) says a = same_front v w a.2
+pub finds_rise : {T : Type 0} (start : State) (v w : Known) (answer : Result T WentBack) (says : State → T → Type 0) → Finds start v answer w says → v.front ≤ w.front
+finds_rise start v w (Ok x) says a = omega (arith, a.1.1, a.1.3)
+finds_rise start v w (Err back) says a = same_front v w a.2
 
-pub lease_rises : (opening : Opening) (v w : Known) (moment : ℕ) (answer : Result Grant (SharedFault GrantFault))
-    → Answers opening v answer w (λ c r d. LeaseStep c moment r d) grant_place → v.front ≤ w.front
-lease_rises opening v w moment (Ok given) a = omega (arith, a.2.5.2, a.2.5.3)
-lease_rises opening v w moment (Err (shared.World e)) a = stays v w a.0 a.1 a.2.2 a.2.4 a.2.3.1
-lease_rises opening v w moment (Err (shared.WentBack seen)) a = same_front v w a.2
+pub lease_rises : (start : State) (v w : Known) (moment : ℕ) (answer : Result Grant (SharedFault GrantFault))
+    → Answers start v answer w (λ c r d. LeaseStep c moment r d) grant_place → v.front ≤ w.front
+lease_rises start v w moment (Ok given) a = omega (arith, a.2.5.2, a.2.5.3)
+lease_rises start v w moment (Err (shared.World e)) a = stays v w a.0 a.1 a.2.2 a.2.4 a.2.3.1
+lease_rises start v w moment (Err (shared.WentBack seen)) a = same_front v w a.2
 
-commit_back_rises : (opening : Opening) (v w : Known) (moment : ℕ) (prepared back : PreparedTxn) (fault : SharedFault CommitFault)
-    → BackBy {T = Committed} opening v fault back prepared w (λ c r d. CommitStep c moment prepared r d) commit_place → v.front ≤ w.front
-commit_back_rises opening v w moment prepared back (shared.World e) a = stays v w a.0 a.1 a.2.2 a.2.4 a.2.3.0.1
-commit_back_rises opening v w moment prepared back (shared.WentBack seen) a = same_front v w a.0.2
+commit_back_rises : (start : State) (v w : Known) (moment : ℕ) (prepared back : PreparedTxn) (fault : SharedFault CommitFault)
+    → BackBy {T = Committed} start v fault back prepared w (λ c r d. CommitStep c moment prepared r d) commit_place → v.front ≤ w.front
+commit_back_rises start v w moment prepared back (shared.World e) a = stays v w a.0 a.1 a.2.2 a.2.4 a.2.3.0.1
+commit_back_rises start v w moment prepared back (shared.WentBack seen) a = same_front v w a.0.2
 
-pub commit_rises : (opening : Opening) (v w : Known) (moment : ℕ) (prepared : PreparedTxn) (answer : Result Committed (SharedFault CommitFault × PreparedTxn))
-    → AnswersBack opening v prepared answer w (λ c r d. CommitStep c moment prepared r d) commit_place → v.front ≤ w.front
-commit_rises opening v w moment prepared (Ok (committed.Done receipt)) a = omega (arith, a.2.5.2, a.2.5.3)
-commit_rises opening v w moment prepared (Ok (committed.Refused op why)) a = stays v w a.0 a.1 a.2.2 a.2.4 a.2.3.2
-commit_rises opening v w moment prepared (Err refusal) a = commit_back_rises opening v w moment prepared refusal.1 refusal.0 a
+pub commit_rises : (start : State) (v w : Known) (moment : ℕ) (prepared : PreparedTxn) (answer : Result Committed (SharedFault CommitFault × PreparedTxn))
+    → AnswersBack start v prepared answer w (λ c r d. CommitStep c moment prepared r d) commit_place → v.front ≤ w.front
+commit_rises start v w moment prepared (Ok (committed.Done receipt)) a = omega (arith, a.2.5.2, a.2.5.3)
+commit_rises start v w moment prepared (Ok (committed.Refused op why)) a = stays v w a.0 a.1 a.2.2 a.2.4 a.2.3.2
+commit_rises start v w moment prepared (Err refusal) a = commit_back_rises start v w moment prepared refusal.1 refusal.0 a
 
-piece_back_rises : (opening : Opening) (v w : Known) (moment : ℕ) (read back : Reading) (fault : SharedFault PieceFault)
-    → BackBy {T = PieceDone} opening v fault back read w (λ c r d. PieceStep c moment read r d) piece_place → v.front ≤ w.front
-piece_back_rises opening v w moment read back (shared.World e) a = stays v w a.0 a.1 a.2.2 a.2.4 a.2.3.0.1
-piece_back_rises opening v w moment read back (shared.WentBack seen) a = same_front v w a.0.2
+piece_back_rises : (start : State) (v w : Known) (moment : ℕ) (read back : Reading) (fault : SharedFault PieceFault)
+    → BackBy {T = PieceDone} start v fault back read w (λ c r d. PieceStep c moment read r d) piece_place → v.front ≤ w.front
+piece_back_rises start v w moment read back (shared.World e) a = stays v w a.0 a.1 a.2.2 a.2.4 a.2.3.0.1
+piece_back_rises start v w moment read back (shared.WentBack seen) a = same_front v w a.0.2
 
-pub piece_rises : (opening : Opening) (v w : Known) (moment : ℕ) (read : Reading) (answer : Result PieceDone (SharedFault PieceFault × Reading))
-    → AnswersBack opening v read answer w (λ c r d. PieceStep c moment read r d) piece_place → v.front ≤ w.front
-piece_rises opening v w moment read (Ok done) a = omega (arith, a.2.5.2, a.2.5.3)
-piece_rises opening v w moment read (Err refusal) a = piece_back_rises opening v w moment read refusal.1 refusal.0 a
+pub piece_rises : (start : State) (v w : Known) (moment : ℕ) (read : Reading) (answer : Result PieceDone (SharedFault PieceFault × Reading))
+    → AnswersBack start v read answer w (λ c r d. PieceStep c moment read r d) piece_place → v.front ≤ w.front
+piece_rises start v w moment read (Ok done) a = omega (arith, a.2.5.2, a.2.5.3)
+piece_rises start v w moment read (Err refusal) a = piece_back_rises start v w moment read refusal.1 refusal.0 a

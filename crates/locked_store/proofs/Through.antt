@@ -1,19 +1,28 @@
 -- The world's answer is the lock's.
-use Rattle.std.proofs.Common.{ℕ, Option, Result, Ok, Err}
-use Rattle.replay.specs.Replay.{Opening}
+use Rattle.std.proofs.Common.{◌≡◌, ℕ, Option, Result, Ok, Err, subst, sym}
 use Rattle.world.specs.State.{State}
 use Rattle.locked_store.specs.Answers.{Answers, AnswersBack, Finds, Found, Takes, reported, to_fault}
 use Rattle.locked_store.specs.Known.{Known}
+use Rattle.locked_store.specs.declared.fault.SharedFault.{SharedFault}
 
-pub answers : {T E : Type 0} (opening : Opening) (v : Known) (answer : Result T E) (w : Known) (step : State → Result T E → State → Type 0) (place : T → Option ℕ) (found left : State)
-    → Takes opening v found answer left w step place → Answers opening v (reported answer) w step place
-answers opening v (Ok x) w step place found left takes = (found, left, takes)
-answers opening v (Err e) w step place found left takes = (found, left, takes)
+pub answers : {T E : Type 0} (start : State) (v : Known) (answer : Result T E) (w : Known) (step : State → Result T E → State → Type 0) (place : T → Option ℕ) (found left : State)
+    → Takes start v found answer left w step place → Answers start v (reported answer) w step place
+answers start v (Ok x) w step place found left takes = (found, left, takes)
+answers start v (Err e) w step place found left takes = (found, left, takes)
 
-pub answers_back : {T E P : Type 0} (opening : Opening) (v : Known) (prepared : P) (answer : Result T (E × P)) (w : Known) (step : State → Result T (E × P) → State → Type 0) (place : T → Option ℕ) (found left : State)
-    → Takes opening v found answer left w step place → AnswersBack opening v prepared (to_fault answer) w step place
-answers_back opening v prepared (Ok x) w step place found left takes = (found, left, takes)
-answers_back opening v prepared (Err e) w step place found left takes = (found, left, takes)
+pub answers_back : {T E P : Type 0} (start : State) (v : Known) (prepared : P) (answer : Result T (E × P)) (w : Known) (step : State → Result T (E × P) → State → Type 0) (place : T → Option ℕ) (found left : State)
+    → Takes start v found answer left w step place → AnswersBack start v prepared (to_fault answer) w step place
+answers_back start v prepared (Ok x) w step place found left takes = (found, left, takes)
+answers_back start v prepared (Err e) w step place found left takes = (found, left, takes)
 
-pub finds : {T : Type 0} (opening : Opening) (v : Known) (answer : T) (w : Known) (says : State → T → Type 0) (found : State) → Found opening v found answer w says → Finds opening v (Ok answer) w says
-finds opening v answer w says found is = (found, is)
+pub finds : {T : Type 0} (start : State) (v : Known) (answer : T) (w : Known) (says : State → T → Type 0) (found : State) → Found start v found answer w says → Finds start v (Ok answer) w says
+finds start v answer w says found is = (found, is)
+
+pub answers_so : {T E : Type 0} (start : State) (v : Known) (answer : Result T E) (told : Result T (SharedFault E)) (w : Known) (step : State → Result T E → State → Type 0) (place : T → Option ℕ) (found left : State)
+    → told ≡ reported answer → Takes start v found answer left w step place → Answers start v told w step place
+answers_so start v answer told w step place found left is takes = subst (λ r. Answers start v r w step place) (sym is) (answers start v answer w step place found left takes)
+
+pub answers_back_so : {T E P : Type 0} (start : State) (v : Known) (prepared : P) (answer : Result T (E × P)) (told : Result T (SharedFault E × P)) (w : Known) (step : State → Result T (E × P) → State → Type 0) (place : T → Option ℕ) (found left : State)
+    → told ≡ to_fault answer → Takes start v found answer left w step place → AnswersBack start v prepared told w step place
+answers_back_so start v prepared answer told w step place found left is takes =
+    subst (λ r. AnswersBack start v prepared r w step place) (sym is) (answers_back start v prepared answer w step place found left takes)

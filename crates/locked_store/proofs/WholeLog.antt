@@ -1,12 +1,12 @@
 -- Receipts at places of their own that are as many as the places have one place each.
-use Rattle.std.proofs.Common.{◌≡◌, ◌≢◌, ℕ, zero, suc, ◌+◌, ◌-◌, ◌<◌, ◌≤◌, List, [], ◌∷◌, length, refl, sym, ap, ◌∙◌, subst, arith, rules, inl, inr, ◌⊎◌, Option, Some, None}
+use Rattle.std.proofs.Common.{◌≡◌, ◌≢◌, ℕ, zero, suc, ◌+◌, ◌-◌, ◌<◌, ◌≤◌, List, [], ◌∷◌, length, refl, sym, ap, ◌∙◌, arith, rules, inl, inr, ◌⊎◌, Some}
 use Rattle.std.specs.Prelude.{slice_get, ◌==◌, if◌then◌else◌}
 use mathlib.Core.Logic.{dite}
 use native.Mathlib.Decide.{ℕ_discrete}
 use Rattle.replay.specs.declared.entry.Entry.{Entry}
 use Rattle.world.specs.declared.entry.Receipt.{Receipt}
 use Rattle.std.proofs.lemmas.Option.{slice_get_within}
-use Rattle.locked_store.specs.Receipts.{Stands, EachOnce, Agree, AreAfter, IsReceiptAt, AreTheLog, ReceiptsAreTheLog}
+use Rattle.locked_store.specs.Receipts.{EachOnce, IsReceiptAt, ReceiptsAreTheLog}
 
 abbrev one : ℕ → ℕ → ℕ
 one x p = if x == p then 1 else 0

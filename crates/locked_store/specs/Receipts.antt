@@ -2,7 +2,6 @@
 -- Receipts against a log.
 use Rattle.std.specs.Prelude.{◌≡◌, ◌≢◌, ℕ, ◌+◌, ◌-◌, ◌<◌, ◌≤◌, List, length, Some, slice_get}
 use Rattle.replay.specs.declared.entry.Entry.{Entry}
-use Rattle.replay.specs.Replay.{Opening}
 use Rattle.world.specs.declared.entry.Receipt.{Receipt}
 use Rattle.world.specs.State.{State}
 use Rattle.locked_store.specs.Cores.{IsCore}
@@ -44,8 +43,8 @@ ReceiptsAreTheLog = (log : List Entry) (since : ℕ) (rs : List Receipt) → Agr
 -- ---- receipts that a call gives
 
 -- the receipt's entry is in the log of a core behind the lock, after all that a handle of this front has seen
-pub record IsLogged (opening : Opening) (front : ℕ) (receipt : Receipt) : Type 0 where
+pub record IsLogged (start : State) (front : ℕ) (receipt : Receipt) : Type 0 where
   pub core : State
-  pub is_core : IsCore opening core
+  pub is_core : IsCore start core
   pub stands : Stands core.log receipt
   pub new : front < receipt.place

@@ -65,7 +65,7 @@ impl<L: SharedLedger> Shared<L> {
         me: &mut Handle<L>,
         moment: u64,
     ) -> Result<Grant, SharedFault<GrantFault>>
-        ensures { Answers L.opening me.old result me.new (λ c r d. LeaseStep c moment r d) grant_place }
+        ensures { Answers L.start me.old result me.new (λ c r d. LeaseStep c moment r d) grant_place }
     {
         let mut locked = self.locked.lock(rt);
         locked.check_front(me)?;
@@ -85,7 +85,7 @@ impl<L: SharedLedger> Shared<L> {
         me: &mut Handle<L>,
         version: u64,
     ) -> Result<Option<ArcValue<Schema>>, SharedFault<AllocError>>
-        ensures { Answers L.opening me.old result me.new (λ c r d. IfOk r (λ s. s ≡ recent (facts_of c) version) × (d ≡ c)) no_place }
+        ensures { Answers L.start me.old result me.new (λ c r d. IfOk r (λ s. s ≡ recent (facts_of c) version) × (d ≡ c)) no_place }
     {
         let locked = self.locked.lock(rt);
         locked.check_front(me)?;
@@ -104,7 +104,7 @@ impl<L: SharedLedger> Shared<L> {
         me: &mut Handle<L>,
         keys: &ReadSet,
     ) -> Result<ReadView, SharedFault<AllocError>>
-        ensures { Answers L.opening me.old result me.new (λ c r d. IfOk r (λ view. IsReadView c keys.now view) × (d ≡ c)) no_place }
+        ensures { Answers L.start me.old result me.new (λ c r d. IfOk r (λ view. IsReadView c keys.now view) × (d ≡ c)) no_place }
     {
         let locked = self.locked.lock(rt);
         locked.check_front(me)?;
@@ -124,7 +124,7 @@ impl<L: SharedLedger> Shared<L> {
         moment: u64,
         prepared: Prepared,
     ) -> Result<Committed, (SharedFault<CommitFault>, Prepared)>
-        ensures { AnswersBack L.opening me.old prepared result me.new (λ c r d. CommitStep c moment prepared r d) commit_place }
+        ensures { AnswersBack L.start me.old prepared result me.new (λ c r d. CommitStep c moment prepared r d) commit_place }
     {
         let mut locked = self.locked.lock(rt);
         if let Err(WentBack { seen }) = locked.check_front(me) {
@@ -147,7 +147,7 @@ impl<L: SharedLedger> Shared<L> {
         lease: &Lease,
         query: &Query,
     ) -> Result<List<Row>, SharedFault<QueryRefusal>>
-        ensures { Answers L.opening me.old result me.new (λ c r d. QueryStep c moment lease.now query.now r × (d ≡ c)) no_place }
+        ensures { Answers L.start me.old result me.new (λ c r d. QueryStep c moment lease.now query.now r × (d ≡ c)) no_place }
     {
         let locked = self.locked.lock(rt);
         locked.check_front(me)?;
@@ -167,7 +167,7 @@ impl<L: SharedLedger> Shared<L> {
         moment: u64,
         lease: &Lease,
     ) -> Result<Snapshot, SharedFault<SnapshotFault>>
-        ensures { Answers L.opening me.old result me.new (λ c r d. SnapshotStep c moment lease.now r × (d ≡ c)) no_place }
+        ensures { Answers L.start me.old result me.new (λ c r d. SnapshotStep c moment lease.now r × (d ≡ c)) no_place }
     {
         let locked = self.locked.lock(rt);
         locked.check_front(me)?;
@@ -187,7 +187,7 @@ impl<L: SharedLedger> Shared<L> {
         moment: u64,
         step: &Step,
     ) -> Result<(u64, Receipt), SharedFault<PublishFault>>
-        ensures { Answers L.opening me.old result me.new (λ c r d. PublishStep c moment step.now r d) publish_place }
+        ensures { Answers L.start me.old result me.new (λ c r d. PublishStep c moment step.now r d) publish_place }
     {
         let mut locked = self.locked.lock(rt);
         locked.check_front(me)?;
@@ -208,7 +208,7 @@ impl<L: SharedLedger> Shared<L> {
         element: u32,
         pieces: u32,
     ) -> Result<Receipt, SharedFault<BeginFault>>
-        ensures { Answers L.opening me.old result me.new (λ c r d. BeginStep c moment element pieces r d) receipt_place }
+        ensures { Answers L.start me.old result me.new (λ c r d. BeginStep c moment element pieces r d) receipt_place }
     {
         let mut locked = self.locked.lock(rt);
         locked.check_front(me)?;
@@ -227,7 +227,7 @@ impl<L: SharedLedger> Shared<L> {
         me: &mut Handle<L>,
         moment: u64,
     ) -> Result<Act, SharedFault<AllocError>>
-        ensures { Answers L.opening me.old result me.new (λ c r d. IfOk r (λ act. IsDue (facts_of c) (effective_moment c moment) act) × (d ≡ c)) no_place }
+        ensures { Answers L.start me.old result me.new (λ c r d. IfOk r (λ act. IsDue (facts_of c) (effective_moment c moment) act) × (d ≡ c)) no_place }
     {
         let locked = self.locked.lock(rt);
         locked.check_front(me)?;
@@ -243,7 +243,7 @@ impl<L: SharedLedger> Shared<L> {
         me: &mut Handle<L>,
         element: u32,
     ) -> Result<Option<(Work, usize, bool)>, WentBack>
-        ensures { Finds L.opening me.old result me.new (λ c x. x ≡ standing_at (facts_of c) element) }
+        ensures { Finds L.start me.old result me.new (λ c x. x ≡ standing_at (facts_of c) element) }
     {
         let locked = self.locked.lock(rt);
         locked.check_front(me)?;
@@ -260,7 +260,7 @@ impl<L: SharedLedger> Shared<L> {
         element: u32,
         piece: u32,
     ) -> Result<Option<(Work, bool)>, WentBack>
-        ensures { Finds L.opening me.old result me.new (λ c x. x ≡ piece_standing_at (facts_of c) element piece) }
+        ensures { Finds L.start me.old result me.new (λ c x. x ≡ piece_standing_at (facts_of c) element piece) }
     {
         let locked = self.locked.lock(rt);
         locked.check_front(me)?;
@@ -281,7 +281,7 @@ impl<L: SharedLedger> Shared<L> {
         piece: u32,
         limit: u32,
     ) -> Result<PieceView, SharedFault<ReadFault>>
-        ensures { Answers L.opening me.old result me.new (λ c r d. ReadStep c element piece limit r × (d ≡ c)) no_place }
+        ensures { Answers L.start me.old result me.new (λ c r d. ReadStep c element piece limit r × (d ≡ c)) no_place }
     {
         let locked = self.locked.lock(rt);
         locked.check_front(me)?;
@@ -301,7 +301,7 @@ impl<L: SharedLedger> Shared<L> {
         element: u32,
         limit: u32,
     ) -> Result<Option<PieceView>, SharedFault<ReadFault>>
-        ensures { Answers L.opening me.old result me.new (λ c r d. NextStep c element limit r × (d ≡ c)) no_place }
+        ensures { Answers L.start me.old result me.new (λ c r d. NextStep c element limit r × (d ≡ c)) no_place }
     {
         let locked = self.locked.lock(rt);
         locked.check_front(me)?;
@@ -321,7 +321,7 @@ impl<L: SharedLedger> Shared<L> {
         moment: u64,
         prepared: PreparedPiece,
     ) -> Result<PieceDone, (SharedFault<PieceFault>, PreparedPiece)>
-        ensures { AnswersBack L.opening me.old prepared result me.new (λ c r d. PieceStep c moment prepared r d) piece_place }
+        ensures { AnswersBack L.start me.old prepared result me.new (λ c r d. PieceStep c moment prepared r d) piece_place }
     {
         let mut locked = self.locked.lock(rt);
         if let Err(WentBack { seen }) = locked.check_front(me) {
@@ -341,7 +341,7 @@ impl<L: SharedLedger> Shared<L> {
         alloc: Global,
         me: &mut Handle<L>,
     ) -> Result<CheckReport, SharedFault<AllocError>>
-        ensures { Answers L.opening me.old result me.new (λ c r d. IfOk r (λ report. IsCheck c report) × (d ≡ c)) no_place }
+        ensures { Answers L.start me.old result me.new (λ c r d. IfOk r (λ report. IsCheck c report) × (d ≡ c)) no_place }
     {
         let locked = self.locked.lock(rt);
         locked.check_front(me)?;

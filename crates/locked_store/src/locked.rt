@@ -1,6 +1,6 @@
 //! What lies behind the lock, and the calls of one critical section: each is one call of the world.
-ghost use Rattle.std.specs.Prelude.{◌≡◌, ◌<◌, ◌≤◌, length, IfOk, IfErr, OnOk, option_map};
-ghost use Rattle.locked_store.specs.Answers.{Takes, Found, no_place, grant_place, commit_place, publish_place, receipt_place, piece_place};
+ghost use Rattle.std.specs.Prelude.{◌≡◌, ◌+◌, ◌<◌, ◌≤◌, length, IfOk, IfErr, OnOk, option_map};
+ghost use Rattle.locked_store.specs.Answers.{Counts, Takes, Found, place_of, no_place, grant_place, commit_place, publish_place, receipt_place, piece_place};
 ghost use Rattle.locked_store.specs.Cores.{IsCore, WasLength};
 ghost use Rattle.world.specs.BeginReorg.{BeginStep};
 ghost use Rattle.piece_work.specs.WorkOff.{NextStep};
@@ -57,7 +57,7 @@ impl<L: SharedLedger> Model for Locked<L> {
 
     ghost view = { λ l. l.world };
 
-    ghost invariant = { λ l. IsCore L.opening l.world × (length l.world.log ≡ L.since + l.added) × (l.book.total ≡ l.added) × (L.handles ≡ L.parts) };
+    ghost invariant = { λ l. IsCore L.start l.world × (length l.world.log ≡ length L.start.log + l.added) × (l.book.total ≡ l.added) × (L.handles ≡ L.parts) };
 }
 
 /// The length of the log.
@@ -77,11 +77,39 @@ fn same(schema: Option<&ArcValue<Schema>>) -> Result<Option<ArcValue<Schema>>, A
     }
 }
 
+// Commits, counts the entry, if there is one, and moves the front to the length of the log.
+fn commit_counted<L: SharedLedger>(
+    alloc: Global,
+    world: &mut World,
+    added: &mut u64,
+    book: &mut Book<L>,
+    me: &mut Handle<L>,
+    moment: u64,
+    prepared: Prepared,
+) -> Result<Committed, (CommitFault, Prepared)>
+    requires seen { me.old.front ≤ length world.old.log }
+    requires few { added.old ≤ length world.old.log }
+    ensures step { CommitStep world.old moment prepared result world.new }
+    ensures added { length world.new.log + added.old ≡ length world.old.log + added.new }
+    ensures total { book.new.total + added.old ≡ book.old.total + added.new }
+    ensures front { me.new.front ≡ length world.new.log }
+    ensures counts { Counts me.old (place_of commit_place result) me.new }
+{
+    let result = world.commit(alloc, moment, prepared);
+    let len = log_len(world);
+    if matches!(&result, Ok(Committed::Done(_))) {
+        book.add(&mut me.share, 1);
+        *added += 1;
+    }
+    me.front = len;
+    result
+}
+
 impl<L: SharedLedger> Locked<L> {
     // Refuses if the log is shorter than the handle's front.
     pub(crate) fn check_front(&self, me: &Handle<L>) -> Result<(), WentBack>
         ensures ok { OnOk result (me.now.front ≤ length self.now.log) }
-        ensures back { IfErr result (λ back. (back.seen < me.now.front) × WasLength L.opening back.seen) }
+        ensures back { IfErr result (λ back. (back.seen < me.now.front) × WasLength L.start back.seen) }
     {
         let seen = log_len(&self.world);
         if seen < me.front {
@@ -90,16 +118,16 @@ impl<L: SharedLedger> Locked<L> {
         Ok(())
     }
 
-    // Tells that the world is a core of the opening.
+    // Tells that the world is a core.
     fn lemma_is_core(&self)
-        ensures { IsCore L.opening self.now }
+        ensures { IsCore L.start self.now }
     {
         let _world = &self.world;
     }
 
     // Moves the front to the length of the log.
     fn look(&self, me: &mut Handle<L>)
-        ensures core { IsCore L.opening self.now }
+        ensures core { IsCore L.start self.now }
         ensures front { me.new.front ≡ length self.now.log }
         ensures same { (me.new.id ≡ me.old.id) × (me.new.count ≡ me.old.count) }
     {
@@ -107,6 +135,7 @@ impl<L: SharedLedger> Locked<L> {
         self.lemma_is_core();
     }
 
+    #[tactic(auto, using(crate::proofs::Growing::lease))]
     pub(crate) fn lease(
         &mut self,
         alloc: Global,
@@ -114,7 +143,7 @@ impl<L: SharedLedger> Locked<L> {
         moment: u64,
     ) -> Result<Grant, GrantFault>
         requires { me.old.front ≤ length self.old.log }
-        ensures { Takes L.opening me.old self.old result self.new me.new (λ c r d. LeaseStep c moment r d) grant_place }
+        ensures { Takes L.start me.old self.old result self.new me.new (λ c r d. LeaseStep c moment r d) grant_place }
     {
         self.lemma_is_core();
         let Locked { world, added, book } = self;
@@ -135,7 +164,7 @@ impl<L: SharedLedger> Locked<L> {
         version: u64,
     ) -> Result<Option<ArcValue<Schema>>, AllocError>
         requires { me.old.front ≤ length self.now.log }
-        ensures { Takes L.opening me.old self.now result self.now me.new (λ c r d. IfOk r (λ s. s ≡ recent (facts_of c) version) × (d ≡ c)) no_place }
+        ensures { Takes L.start me.old self.now result self.now me.new (λ c r d. IfOk r (λ s. s ≡ recent (facts_of c) version) × (d ≡ c)) no_place }
     {
         self.look(me);
         same(self.world.schema(version))
@@ -148,7 +177,7 @@ impl<L: SharedLedger> Locked<L> {
         keys: &ReadSet,
     ) -> Result<ReadView, AllocError>
         requires { me.old.front ≤ length self.now.log }
-        ensures { Takes L.opening me.old self.now result self.now me.new (λ c r d. IfOk r (λ view. IsReadView c keys.now view) × (d ≡ c)) no_place }
+        ensures { Takes L.start me.old self.now result self.now me.new (λ c r d. IfOk r (λ view. IsReadView c keys.now view) × (d ≡ c)) no_place }
     {
         self.look(me);
         self.world.read(alloc, keys)
@@ -162,17 +191,11 @@ impl<L: SharedLedger> Locked<L> {
         prepared: Prepared,
     ) -> Result<Committed, (CommitFault, Prepared)>
         requires { me.old.front ≤ length self.old.log }
-        ensures { Takes L.opening me.old self.old result self.new me.new (λ c r d. CommitStep c moment prepared r d) commit_place }
+        ensures { Takes L.start me.old self.old result self.new me.new (λ c r d. CommitStep c moment prepared r d) commit_place }
     {
         self.lemma_is_core();
         let Locked { world, added, book } = self;
-        let result = world.commit(alloc, moment, prepared);
-        let len = log_len(world);
-        if matches!(&result, Ok(Committed::Done(_))) {
-            book.add(&mut me.share, 1);
-            *added += 1;
-        }
-        me.front = len;
+        let result = commit_counted(alloc, world, added, book, me, moment, prepared);
         world.lemma_agrees();
         result
     }
@@ -186,7 +209,7 @@ impl<L: SharedLedger> Locked<L> {
         query: &Query,
     ) -> Result<List<Row>, QueryRefusal>
         requires { me.old.front ≤ length self.now.log }
-        ensures { Takes L.opening me.old self.now result self.now me.new (λ c r d. QueryStep c moment lease.now query.now r × (d ≡ c)) no_place }
+        ensures { Takes L.start me.old self.now result self.now me.new (λ c r d. QueryStep c moment lease.now query.now r × (d ≡ c)) no_place }
     {
         self.look(me);
         self.world.query(alloc, moment, lease, query)
@@ -199,12 +222,13 @@ impl<L: SharedLedger> Locked<L> {
         lease: &Lease,
     ) -> Result<Snapshot, SnapshotFault>
         requires { me.old.front ≤ length self.now.log }
-        ensures { Takes L.opening me.old self.now result self.now me.new (λ c r d. SnapshotStep c moment lease.now r × (d ≡ c)) no_place }
+        ensures { Takes L.start me.old self.now result self.now me.new (λ c r d. SnapshotStep c moment lease.now r × (d ≡ c)) no_place }
     {
         self.look(me);
         self.world.snapshot(moment, lease)
     }
 
+    #[tactic(auto, using(crate::proofs::Growing::publish))]
     pub(crate) fn publish(
         &mut self,
         alloc: Global,
@@ -213,7 +237,7 @@ impl<L: SharedLedger> Locked<L> {
         step: &Step,
     ) -> Result<(u64, Receipt), PublishFault>
         requires { me.old.front ≤ length self.old.log }
-        ensures { Takes L.opening me.old self.old result self.new me.new (λ c r d. PublishStep c moment step.now r d) publish_place }
+        ensures { Takes L.start me.old self.old result self.new me.new (λ c r d. PublishStep c moment step.now r d) publish_place }
     {
         self.lemma_is_core();
         let Locked { world, added, book } = self;
@@ -228,6 +252,7 @@ impl<L: SharedLedger> Locked<L> {
         result
     }
 
+    #[tactic(auto, using(crate::proofs::Growing::begin))]
     pub(crate) fn begin_reorg(
         &mut self,
         alloc: Global,
@@ -237,7 +262,7 @@ impl<L: SharedLedger> Locked<L> {
         pieces: u32,
     ) -> Result<Receipt, BeginFault>
         requires { me.old.front ≤ length self.old.log }
-        ensures { Takes L.opening me.old self.old result self.new me.new (λ c r d. BeginStep c moment element pieces r d) receipt_place }
+        ensures { Takes L.start me.old self.old result self.new me.new (λ c r d. BeginStep c moment element pieces r d) receipt_place }
     {
         self.lemma_is_core();
         let Locked { world, added, book } = self;
@@ -259,7 +284,7 @@ impl<L: SharedLedger> Locked<L> {
         moment: u64,
     ) -> Result<Act, AllocError>
         requires { me.old.front ≤ length self.now.log }
-        ensures { Takes L.opening me.old self.now result self.now me.new (λ c r d. IfOk r (λ act. IsDue (facts_of c) (effective_moment c moment) act) × (d ≡ c)) no_place }
+        ensures { Takes L.start me.old self.now result self.now me.new (λ c r d. IfOk r (λ act. IsDue (facts_of c) (effective_moment c moment) act) × (d ≡ c)) no_place }
     {
         self.look(me);
         due(alloc, &self.world, moment)
@@ -267,7 +292,7 @@ impl<L: SharedLedger> Locked<L> {
 
     pub(crate) fn progress(&self, me: &mut Handle<L>, element: u32) -> Option<(Work, usize, bool)>
         requires { me.old.front ≤ length self.now.log }
-        ensures { Found L.opening me.old self.now result me.new (λ c x. x ≡ standing_at (facts_of c) element) }
+        ensures { Found L.start me.old self.now result me.new (λ c x. x ≡ standing_at (facts_of c) element) }
     {
         self.look(me);
         self.world.progress(element)
@@ -280,7 +305,7 @@ impl<L: SharedLedger> Locked<L> {
         piece: u32,
     ) -> Option<(Work, bool)>
         requires { me.old.front ≤ length self.now.log }
-        ensures { Found L.opening me.old self.now result me.new (λ c x. x ≡ piece_standing_at (facts_of c) element piece) }
+        ensures { Found L.start me.old self.now result me.new (λ c x. x ≡ piece_standing_at (facts_of c) element piece) }
     {
         self.look(me);
         self.world.piece_progress(element, piece)
@@ -294,7 +319,7 @@ impl<L: SharedLedger> Locked<L> {
         limit: u32,
     ) -> Result<Option<PieceView>, ReadFault>
         requires { me.old.front ≤ length self.now.log }
-        ensures { Takes L.opening me.old self.now result self.now me.new (λ c r d. NextStep c element limit r × (d ≡ c)) no_place }
+        ensures { Takes L.start me.old self.now result self.now me.new (λ c r d. NextStep c element limit r × (d ≡ c)) no_place }
     {
         self.look(me);
         next_view(alloc, &self.world, element, limit)
@@ -309,12 +334,13 @@ impl<L: SharedLedger> Locked<L> {
         limit: u32,
     ) -> Result<PieceView, ReadFault>
         requires { me.old.front ≤ length self.now.log }
-        ensures { Takes L.opening me.old self.now result self.now me.new (λ c r d. ReadStep c element piece limit r × (d ≡ c)) no_place }
+        ensures { Takes L.start me.old self.now result self.now me.new (λ c r d. ReadStep c element piece limit r × (d ≡ c)) no_place }
     {
         self.look(me);
         self.world.read_piece(alloc, element, piece, limit)
     }
 
+    #[tactic(auto, using(crate::proofs::Growing::piece))]
     pub(crate) fn commit_piece(
         &mut self,
         alloc: Global,
@@ -323,7 +349,7 @@ impl<L: SharedLedger> Locked<L> {
         prepared: PreparedPiece,
     ) -> Result<PieceDone, (PieceFault, PreparedPiece)>
         requires { me.old.front ≤ length self.old.log }
-        ensures { Takes L.opening me.old self.old result self.new me.new (λ c r d. PieceStep c moment prepared r d) piece_place }
+        ensures { Takes L.start me.old self.old result self.new me.new (λ c r d. PieceStep c moment prepared r d) piece_place }
     {
         self.lemma_is_core();
         let Locked { world, added, book } = self;
@@ -340,7 +366,7 @@ impl<L: SharedLedger> Locked<L> {
 
     pub(crate) fn check(&self, alloc: Global, me: &mut Handle<L>) -> Result<CheckReport, AllocError>
         requires { me.old.front ≤ length self.now.log }
-        ensures { Takes L.opening me.old self.now result self.now me.new (λ c r d. IfOk r (λ report. IsCheck c report) × (d ≡ c)) no_place }
+        ensures { Takes L.start me.old self.now result self.now me.new (λ c r d. IfOk r (λ report. IsCheck c report) × (d ≡ c)) no_place }
     {
         self.look(me);
         self.world.check(alloc)

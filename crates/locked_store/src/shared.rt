@@ -31,6 +31,7 @@ impl<L: SharedLedger> Shared<L> {
     ///
     /// Refused in this order, and then the world comes back: `BadCount` if the number is not from 1
     /// to 64; `Memory`.
+    #[tactic(auto, using(crate::proofs::Growing::at_start))]
     pub fn new(
         alloc: Global,
         blank: Blank,
@@ -39,7 +40,7 @@ impl<L: SharedLedger> Shared<L> {
     ) -> Result<(Shared<L>, Vec<Handle<L>>), (ShareFault, World)>
         requires name { blank.name ≡ L.name }
         requires parts { blank.parts ≡ L.parts }
-        requires picked { (L.handles ≡ count) × (L.handles ≡ L.parts) × (L.opening ≡ world.opening) × (L.since ≡ length world.log) }
+        requires picked { (L.handles ≡ count) × (L.handles ≡ L.parts) × (L.start ≡ world) }
         ensures fresh { IfOk result (λ r. IsCount count × AreFresh count (length world.log) r.1.items) }
         ensures refused { IfErr result (λ r. IsRefused count r.0) }
         ensures back { IfErr result (λ r. r.1 ≡ world) }
@@ -82,8 +83,8 @@ impl<L: SharedLedger> Shared<L> {
         self,
         handles: Vec<Handle<L>>,
     ) -> Result<World, (Missing, Shared<L>, Vec<Handle<L>>)>
-        ensures core { IfOk result (λ w. IsCore L.opening w) }
-        ensures counted { IfOk result (λ w. length w.log ≡ L.since + total_count handles.items) }
+        ensures core { IfOk result (λ w. IsCore L.start w) }
+        ensures counted { IfOk result (λ w. length w.log ≡ length L.start.log + total_count handles.items) }
         ensures all { IfOk result (λ _. L.handles ≤ vec_len handles) }
         ensures short { IfErr result (λ r. (r.0.held ≡ vec_len handles) × (r.0.want ≡ L.handles) × (r.0.held < r.0.want)) }
         ensures back { IfErr result (λ r. r.2.items ≡ handles.items) }

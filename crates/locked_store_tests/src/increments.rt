@@ -1,7 +1,7 @@
 //! Two handles increment one counter at once, each by what it read: it reads, computes the new
 //! value from what it read, prepares with just that, and commits; after a conflict it reads again.
 //! No increment is lost.
-ghost use Rattle.std.specs.Prelude.{◌≡◌, length};
+ghost use Rattle.std.specs.Prelude.{◌≡◌};
 
 use crate::fixtures::{FIRST, are, opened, update, whole_table};
 use crate::handle_port::{HandlePort, Read, inserted, read_for};
@@ -142,7 +142,7 @@ fn both_at_once<L: SharedLedger + Send + Sync, R: Threads + Wait + Sync>(
 ) -> Option<(World, Option<Counts>)>
     requires name { blank.name ≡ L.name }
     requires parts { blank.parts ≡ L.parts }
-    requires picked { (L.handles ≡ 2) × (L.handles ≡ L.parts) × (L.opening ≡ world.opening) × (L.since ≡ length world.log) }
+    requires picked { (L.handles ≡ 2) × (L.handles ≡ L.parts) × (L.start ≡ world) }
 {
     let (shared, mut handles) = Shared::<L>::new(alloc, blank, world, 2).ok()?;
     let counts = counted(rt, alloc, &shared, &mut handles);

@@ -1,6 +1,6 @@
 //! One handle: rows come and go beside a snapshot, and an index enters, is filled and becomes
 //! public; then receipts of the log are altered. Each call is asked once more if memory was short.
-ghost use Rattle.std.specs.Prelude.{◌≡◌, length};
+ghost use Rattle.std.specs.Prelude.{◌≡◌};
 
 use crate::acts::{Act, Kept, acted};
 use crate::fixtures::{mark, opened};
@@ -150,7 +150,7 @@ fn shared<L: SharedLedger, R: Wait>(
 ) -> Result<Option<(World, usize)>, World>
     requires name { blank.name ≡ L.name }
     requires parts { blank.parts ≡ L.parts }
-    requires picked { (L.handles ≡ 1) × (L.handles ≡ L.parts) × (L.opening ≡ world.opening) × (L.since ≡ length world.log) }
+    requires picked { (L.handles ≡ 1) × (L.handles ≡ L.parts) × (L.start ≡ world) }
 {
     match Shared::<L>::new(alloc, blank, world, 1) {
         Ok((shared, handles)) => Ok(closed(rt, alloc, shared, handles)),
@@ -178,7 +178,7 @@ fn shared_twice<R: Wait>(rt: &R, alloc: Global, world: World) -> Option<(World, 
 fn unshared<L: SharedLedger>(alloc: Global, blank: Blank, world: World, count: u64) -> Option<World>
     requires name { blank.name ≡ L.name }
     requires parts { blank.parts ≡ L.parts }
-    requires picked { (L.handles ≡ count) × (L.handles ≡ L.parts) × (L.opening ≡ world.opening) × (L.since ≡ length world.log) }
+    requires picked { (L.handles ≡ count) × (L.handles ≡ L.parts) × (L.start ≡ world) }
 {
     match Shared::<L>::new(alloc, blank, world, count) {
         Err((ShareFault::BadCount, world)) => Some(world),

@@ -1,5 +1,5 @@
 //! Two threads over one world, which keep snapshots of it; a second world then repeats its log.
-ghost use Rattle.std.specs.Prelude.{◌≡◌, length};
+ghost use Rattle.std.specs.Prelude.{◌≡◌};
 
 use crate::fixtures::{FIRST, opened, prepared_in, whole_table};
 use crate::handle_port::{HandlePort, inserted};
@@ -155,7 +155,7 @@ fn two_at_once<L: SharedLedger + Send + Sync, R: Threads + Wait + Sync>(
 ) -> Option<(World, Found)>
     requires name { blank.name ≡ L.name }
     requires parts { blank.parts ≡ L.parts }
-    requires picked { (L.handles ≡ 2) × (L.handles ≡ L.parts) × (L.opening ≡ world.opening) × (L.since ≡ length world.log) }
+    requires picked { (L.handles ≡ 2) × (L.handles ≡ L.parts) × (L.start ≡ world) }
 {
     let (shared, mut handles) = Shared::<L>::new(alloc, blank, world, 2).ok()?;
     let found = at_once(rt, alloc, &shared, &mut handles);

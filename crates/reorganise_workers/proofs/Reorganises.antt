@@ -2,7 +2,7 @@
 use Rattle.std.proofs.Common.{◌≡◌, ℕ, ◌+◌, ◌≤◌, subst, List, [], ◌∷◌, ◌++◌, length, map, reverse, sum_by, All, Some, refl, sym, ap, ◌∙◌, arith, append_assoc}
 use Rattle.std.specs.Prelude.{Bool, Option, None, Result, Ok, Err, IfOk, IfErr}
 use Rattle.std.specs.Option.{option_map}
-use Rattle.std.proofs.lemmas.List.{reverse-reverse}
+use Rattle.std.proofs.lemmas.List.{reverse-reverse, length-map, length-reverse}
 use Rattle.std.proofs.lemmas.List.Elements.{All-push, All-pop, All-same}
 use Rattle.std.proofs.lemmas.List.Sums.{sum_by-le, sum_by_push}
 use Rattle.tasks.proofs.Handed.{map_reverse, map_map, map_push, sum_reverse, sum_map}
@@ -10,15 +10,15 @@ use Rattle.tasks.proofs.Seats.{reverse_push}
 use Rattle.tasks.specs.Outcomes.{IsRow, held_in}
 use Rattle.schema_version.specs.declared.element.Work.{Work}
 use Rattle.reorganise.specs.declared.work.Progress.{Progress}
-use Rattle.replay.specs.Replay.{Opening, progress_of}
+use Rattle.replay.specs.Replay.{progress_of}
 use Rattle.world.specs.Piece.{standing, standing_at}
 use Rattle.world.specs.State.{State, facts_of}
 use Rattle.world.specs.declared.entry.Receipt.{Receipt}
 use Rattle.locked_store.specs.Cores.{IsCore}
-use Rattle.locked_store.specs.Known.{Known, total_count, IsLeastFront, OfLast}
-use Rattle.locked_store.specs.Receipts.{IsLogged}
+use Rattle.locked_store.specs.Known.{Known, total_count, HaveRisen, IsLeastFront, OfLast}
+use Rattle.locked_store.proofs.Fronts.{back_risen, risen_on, one_risen}
 use Rattle.reorganise_workers.specs.inner.Workers.{Filling, AreIdle}
-use Rattle.reorganise_workers.specs.Ends.{IsEndOf}
+use Rattle.reorganise_workers.specs.Ends.{IsEndOf, IsPieceReceipt}
 use Rattle.reorganise_workers.specs.ReorganiseAll.{IsCount, IsRefused, Reorganises, IsWorkedOff, WasBegun, WasRefused, Stays, right, asked}
 use Rattle.reorganise_workers.specs.declared.all_pieces.ReorganiseFault.{ReorganiseFault}
 use Rattle.reorganise_workers.specs.declared.all_pieces.ReorganiseFault.TheVariants as fault
@@ -49,24 +49,34 @@ none_held : (ends : List (ℕ × PieceEnd)) → held_in (λ (e : PieceEnd). 0) e
 none_held [] = refl
 none_held (e ∷ ends) = omega (arith, none_held ends)
 
-pub reorganises : (opening : Opening) (job : Job) (handles : List Known) (ws ps : List Filling) (ends : List (ℕ × PieceEnd)) (back : List Known) (receipts : List (List Receipt))
+-- which worker it is: its handle's number, and the front with which the handle came
+abbrev which : Filling → ℕ × ℕ
+which w = (w.handle.id, w.first_front)
+
+pub reorganises : (start : State) (job : Job) (handles : List Known) (ws ps : List Filling) (ends : List (ℕ × PieceEnd)) (back : List Known) (receipts : List (List Receipt))
     → map (λ w. w.handle) ws ≡ reverse handles → AreIdle job ws → IsRow job.pieces ends
-    → ((plan : Job) → All (λ w. w.job ≡ plan) ws → All (λ e. IsEndOf opening plan e.0 e.1) ends)
-    → map (λ w. w.handle.id) ps ≡ map (λ w. w.handle.id) ws
+    → ((plan : Job) → All (λ w. w.job ≡ plan) ws → All (λ e. IsEndOf start plan e.0 e.1) ends)
+    → map which ps ≡ map which ws
     → ((plan : Job) → All (λ w. w.job ≡ plan) ws → All (λ w. w.job ≡ plan) ps)
     → sum_by (λ w. w.handle.count) ps + sum_by (λ w. length w.kept_receipts) ws ≡ sum_by (λ w. w.handle.count) ws + sum_by (λ w. length w.kept_receipts) ps + held_in (λ (e : PieceEnd). 0) ends
-    → back ≡ reverse (map (λ w. w.handle) ps) → sum_by length receipts ≡ sum_by (λ w. length w.kept_receipts) ps
-    → ((plan : Job) → All (λ w. w.job ≡ plan) ps → All (All (IsLogged opening plan.front)) receipts)
-    → Reorganises opening job handles ends back receipts
-reorganises opening job handles ws ps ends back receipts staff idle row fits ids plans counted back_is kept_receipts logged =
+    → back ≡ reverse (map (λ w. w.handle) ps) → All (λ w. w.first_front ≤ w.handle.front) ps → length receipts ≡ length ps → sum_by length receipts ≡ sum_by (λ w. length w.kept_receipts) ps
+    → ((plan : Job) → All (λ w. w.job ≡ plan) ps → All (All (IsPieceReceipt start plan)) receipts)
+    → Reorganises start job handles ends back receipts
+reorganises start job handles ws ps ends back receipts staff idle row fits same plans counted back_is risen lists kept_receipts pieces =
     let first : handles ≡ reverse (map (λ (w : Filling). w.handle) ws) = sym (given_back handles ws staff) in
+    let ids : map (λ (w : Filling). w.handle.id) ps ≡ map (λ (w : Filling). w.handle.id) ws =
+    sym (map_map (λ (p : ℕ × ℕ). p.0) which ps) ∙ ap (map (λ (p : ℕ × ℕ). p.0)) same ∙ map_map (λ (p : ℕ × ℕ). p.0) which ws in
+    let firsts : map (λ (w : Filling). w.first_front) ps ≡ map (λ (w : Filling). w.first_front) ws =
+    sym (map_map (λ (p : ℕ × ℕ). p.1) which ps) ∙ ap (map (λ (p : ℕ × ℕ). p.1)) same ∙ map_map (λ (p : ℕ × ℕ). p.1) which ws in
     let staff_back : map (λ (w : Filling). w.handle) ps ≡ reverse back = sym (ap reverse back_is ∙ reverse-reverse (map (λ (w : Filling). w.handle) ps)) in
     record {
       each = row;
       own = fits job (λ i d lt. (idle i d lt).1);
       same = numbers back ps back_is ∙ ap reverse ids ∙ sym (numbers handles ws first);
+      risen = back_risen (λ (w : Filling). w.handle) (λ (w : Filling). w.first_front) handles back ws ps staff (λ i d lt. (idle i d lt).2) firsts risen back_is;
       counted = omega (arith, counted, idle_none job ws idle, shares handles ws staff, shares back ps staff_back, kept_receipts, none_held ends);
-      logged = logged job (plans job (λ i d lt. (idle i d lt).1));
+      lists = lists ∙ sym (length-map ps which) ∙ ap (λ (l : List (ℕ × ℕ)). length l) same ∙ length-map ws which ∙ sym (length-map ws (λ (w : Filling). w.handle)) ∙ ap (λ (l : List Known). length l) staff ∙ length-reverse handles;
+      pieces = pieces job (plans job (λ i d lt. (idle i d lt).1));
     }
 
 -- one worker taken apart: its handle comes after the others'
@@ -91,46 +101,51 @@ receipts_apart all left w kept_receipts receipts new total all_is new_is own_is 
       ap (λ (l : List Receipt). length l) own_is,
     )
 
--- which are logged, as the others' are
-pub logged_apart : (opening : Opening) (job own : Job) (all left : List Filling) (w : Filling) (kept_receipts : List Receipt) (receipts new : List (List Receipt))
-    → all ≡ left ++ w ∷ [] → new ≡ receipts ++ kept_receipts ∷ [] → w.job ≡ own → All (IsLogged opening own.front) kept_receipts
-    → All (λ v. v.job ≡ job) all × All (All (IsLogged opening job.front)) receipts → All (λ v. v.job ≡ job) left × All (All (IsLogged opening job.front)) new
-logged_apart opening job own all left w kept_receipts receipts new all_is new_is own_is logged h =
+-- which are of pieces, as the others' are
+pub pieces_apart : (start : State) (job own : Job) (all left : List Filling) (w : Filling) (kept_receipts : List Receipt) (receipts new : List (List Receipt))
+    → all ≡ left ++ w ∷ [] → new ≡ receipts ++ kept_receipts ∷ [] → w.job ≡ own → All (IsPieceReceipt start own) kept_receipts
+    → All (λ v. v.job ≡ job) all × All (All (IsPieceReceipt start job)) receipts → All (λ v. v.job ≡ job) left × All (All (IsPieceReceipt start job)) new
+pieces_apart start job own all left w kept_receipts receipts new all_is new_is own_is logged h =
     let parts = All-pop (λ (v : Filling). v.job ≡ job) all left (Some w) all_is h.0 in
     let same : own ≡ job = sym own_is ∙ parts.1 in (
       parts.0,
-      All-same (All (IsLogged opening job.front)) new (receipts ++ kept_receipts ∷ []) new_is
-          (All-push (All (IsLogged opening job.front)) receipts kept_receipts h.1 (subst (λ (j : Job). All (IsLogged opening j.front) kept_receipts) same logged)),
+      All-same (All (IsPieceReceipt start job)) new (receipts ++ kept_receipts ∷ []) new_is
+          (All-push (All (IsPieceReceipt start job)) receipts kept_receipts h.1 (subst (λ (j : Job). All (IsPieceReceipt start j) kept_receipts) same logged)),
     )
 
 -- ---- the look at the progress, which moves one front
 
 pub stays_ids : (old new : List Known) → Stays old new → map (λ h. h.id) new ≡ map (λ h. h.id) old
-stays_ids old new s = sym (map_map (λ (p : ℕ × ℕ). p.0) right new) ∙ ap (map (λ (p : ℕ × ℕ). p.0)) s ∙ map_map (λ (p : ℕ × ℕ). p.0) right old
+stays_ids old new s = sym (map_map (λ (p : ℕ × ℕ). p.0) right new) ∙ ap (map (λ (p : ℕ × ℕ). p.0)) s.0 ∙ map_map (λ (p : ℕ × ℕ). p.0) right old
 
 pub stays_count : (old new : List Known) → Stays old new → total_count new ≡ total_count old
-stays_count old new s = sym (sum_map (λ (p : ℕ × ℕ). p.1) right new) ∙ ap (sum_by (λ (p : ℕ × ℕ). p.1)) s ∙ sum_map (λ (p : ℕ × ℕ). p.1) right old
+stays_count old new s = sym (sum_map (λ (p : ℕ × ℕ). p.1) right new) ∙ ap (sum_by (λ (p : ℕ × ℕ). p.1)) s.0 ∙ sum_map (λ (p : ℕ × ℕ). p.1) right old
+
+stays_length : (old new : List Known) → Stays old new → length new ≡ length old
+stays_length old new s = sym (length-map new right) ∙ ap (λ (l : List (ℕ × ℕ)). length l) s.0 ∙ length-map old right
 
 pair_same : (a b c d : ℕ) → a ≡ c → b ≡ d → (let p : ℕ × ℕ = (a, b) in p) ≡ (c, d)
 pair_same a b c d e f = cc
 
 -- the last handle looked, and is the last again
-pub looked : (old popped new : List Known) (before after : Known) → old ≡ popped ++ before ∷ [] → new ≡ popped ++ after ∷ [] → after.id ≡ before.id → after.count ≡ before.count → Stays old new
-looked old popped new before after old_is new_is id count =
-    ap (map right) new_is ∙ map_push right popped after ∙ ap (λ (p : ℕ × ℕ). map right popped ++ p ∷ []) (pair_same _ _ _ _ id count)
-    ∙ sym (map_push right popped before) ∙ sym (ap (map right) old_is)
+pub looked : (old popped new : List Known) (before after : Known) → old ≡ popped ++ before ∷ [] → new ≡ popped ++ after ∷ [] → after.id ≡ before.id → after.count ≡ before.count → before.front ≤ after.front → Stays old new
+looked old popped new before after old_is new_is id count rises = (
+  ap (map right) new_is ∙ map_push right popped after ∙ ap (λ (p : ℕ × ℕ). map right popped ++ p ∷ []) (pair_same _ _ _ _ id count)
+      ∙ sym (map_push right popped before) ∙ sym (ap (map right) old_is),
+  one_risen old new popped before after old_is new_is rises,
+)
 
 -- what is begun in a core has at most 64 pieces
 abbrev count_of : Option (Work × ℕ × Bool) → ℕ
 count_of None = 0
 count_of (Some reported) = reported.1
 
-pub few : (opening : Opening) (core : State) (element pieces : ℕ) (work : Work) (ended : Bool) → IsCore opening core → standing_at (facts_of core) element ≡ Some (work, pieces, ended) → pieces ≤ 64
-few opening core element pieces work ended c is = go (progress_of (facts_of core).progress element) refl is
+pub few : (start : State) (core : State) (element pieces : ℕ) (work : Work) (ended : Bool) → IsCore start core → standing_at (facts_of core) element ≡ Some (work, pieces, ended) → pieces ≤ 64
+few start core element pieces work ended c is = go (progress_of (facts_of core).progress element) refl is
   where
     go : (o : Option Progress) → progress_of (facts_of core).progress element ≡ o → option_map standing o ≡ Some (work, pieces, ended) → pieces ≤ 64
     go None e h = absurd (cc)
-    go (Some p) e h = let m : length p.pieces ≡ pieces = ap count_of h in omega (arith, m, (c.in_pieces element p e).few)
+    go (Some p) e h = let m : length p.pieces ≡ pieces = ap count_of h in omega (arith, m, (c.kept.in_pieces element p e).few)
 
 -- the handle that looked has seen no less than before
 pub seen_still : (front : ℕ) (old popped new : List Known) (before after : Known) → old ≡ popped ++ before ∷ [] → new ≡ popped ++ after ∷ [] → before.front ≤ after.front
@@ -143,18 +158,18 @@ pub of_last : (handles others : List Known) (last : Known) (P : Known → Type 0
 of_last handles others last P are is = record { others = others; last = last; are = are; is = is }
 
 -- what the last handle found, of all handles
-pub refused_of_last : (opening : Opening) (element limit tries : ℕ) (handles others : List Known) (last : Known) (f : ReorganiseFault) → IsCount (length handles) limit tries
-    → handles ≡ others ++ last ∷ [] → WasRefused opening element last.front f → IsRefused opening element limit tries handles f
-refused_of_last opening element limit tries handles others last fault.BadCount counts are is = absurd is
-refused_of_last opening element limit tries handles others last (fault.WentBack seen) counts are is = (counts, of_last handles others last _ are is)
-refused_of_last opening element limit tries handles others last fault.NotBegun counts are is = (counts, of_last handles others last _ are is)
-refused_of_last opening element limit tries handles others last fault.Memory counts are is = absurd is
+pub refused_of_last : (start : State) (element limit tries : ℕ) (handles others : List Known) (last : Known) (f : ReorganiseFault) → IsCount (length handles) limit tries
+    → handles ≡ others ++ last ∷ [] → WasRefused start element last.front f → IsRefused start element limit tries handles f
+refused_of_last start element limit tries handles others last fault.BadCount counts are is = absurd is
+refused_of_last start element limit tries handles others last (fault.WentBack seen) counts are is = (counts, of_last handles others last _ are is)
+refused_of_last start element limit tries handles others last fault.NotBegun counts are is = (counts, of_last handles others last _ are is)
+refused_of_last start element limit tries handles others last fault.Memory counts are is = absurd is
 
 -- all that was asked for, by handles of which one has looked
-pub worked_off : (opening : Opening) (moment element limit tries : ℕ) (job : Job) (handles mid : List Known) (ends : List (ℕ × PieceEnd)) (back : List Known) (receipts : List (List Receipt))
-    → Stays handles mid → job ≡ asked moment element job.kind job.pieces limit tries job.front → OfLast handles (λ last. WasBegun opening element job.kind job.pieces last.front)
-    → IsLeastFront handles job.front → Reorganises opening job mid ends back receipts → IsWorkedOff opening moment element limit tries handles ends back receipts
-worked_off opening moment element limit tries job handles mid ends back receipts s is begun least r =
+pub worked_off : (start : State) (moment element limit tries : ℕ) (job : Job) (handles mid : List Known) (ends : List (ℕ × PieceEnd)) (back : List Known) (receipts : List (List Receipt))
+    → Stays handles mid → job ≡ asked moment element job.kind job.pieces limit tries job.front → OfLast handles (λ last. WasBegun start element job.kind job.pieces last.front)
+    → IsLeastFront handles job.front → Reorganises start job mid ends back receipts → IsWorkedOff start moment element limit tries handles ends back receipts
+worked_off start moment element limit tries job handles mid ends back receipts s is begun least r =
     record {
       kind = job.kind;
       pieces = job.pieces;
@@ -163,15 +178,17 @@ worked_off opening moment element limit tries job handles mid ends back receipts
       least = least;
       done = record {
         each = r.each;
-        own = subst (λ (j : Job). All (λ e. IsEndOf opening j e.0 e.1) ends) is r.own;
+        own = subst (λ (j : Job). All (λ e. IsEndOf start j e.0 e.1) ends) is r.own;
         same = r.same ∙ stays_ids handles mid s;
         counted = omega (arith, r.counted, stays_count handles mid s);
-        logged = r.logged;
+        risen = risen_on handles mid back (stays_length handles mid s) s.1 r.risen;
+        lists = r.lists ∙ stays_length handles mid s;
+        pieces = subst (λ (j : Job). All (All (IsPieceReceipt start j)) receipts) is r.pieces;
       };
     }
 
 pub same_stays : (old mid new : List Known) → Stays old mid → new ≡ mid → Stays old new
-same_stays old mid new s is = ap (map right) is ∙ s
+same_stays old mid new s is = subst (Stays old) (sym is) s
 
 -- ---- what holds of a result
 

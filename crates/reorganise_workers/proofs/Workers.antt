@@ -1,14 +1,16 @@
 -- A worker at its work.
-use Rattle.std.proofs.Common.{◌≤◌, List, All, arith}
-use Rattle.replay.specs.Replay.{Opening}
+use Rattle.std.proofs.Common.{ℕ, ◌≤◌, List, All, arith}
 use Rattle.world.specs.declared.entry.Receipt.{Receipt}
+use Rattle.world.specs.State.{State}
 use Rattle.locked_store.specs.Known.{Known}
-use Rattle.locked_store.specs.Receipts.{IsLogged}
+use Rattle.reorganise_workers.specs.Ends.{IsPieceReceipt}
 use Rattle.reorganise_workers.specs.inner.Workers.{IsAtWork}
 use Rattle.reorganise_workers.specs.declared.job.Job.{Job}
 
--- one piece more: the front does not fall, and the receipts that were kept since are logged
-pub still_at_work : (opening : Opening) (job : Job) (before after : Known) (old new : List Receipt) → before.front ≤ after.front
-    → (All (IsLogged opening job.front) old → All (IsLogged opening job.front) new)
-    → IsAtWork opening (record { handle = before; kept_receipts = old; job = job }) → IsAtWork opening (record { handle = after; kept_receipts = new; job = job })
-still_at_work opening job before after old new rises logged w = record { job = w.job; seen = omega (arith, w.seen, rises); logged = logged w.logged }
+-- one piece more: the front does not fall, and the receipts that were kept since are of pieces
+pub still_at_work : (start : State) (job : Job) (before after : Known) (first : ℕ) (old new : List Receipt) → before.front ≤ after.front
+    → (All (IsPieceReceipt start job) old → All (IsPieceReceipt start job) new)
+    → IsAtWork start (record { handle = before; first_front = first; kept_receipts = old; job = job })
+    → IsAtWork start (record { handle = after; first_front = first; kept_receipts = new; job = job })
+still_at_work start job before after first old new rises pieces w =
+    record { job = w.job; seen = omega (arith, w.seen, rises); risen = omega (arith, w.risen, rises); pieces = pieces w.pieces }

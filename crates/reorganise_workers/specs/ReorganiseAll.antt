@@ -2,17 +2,15 @@
 -- What a call for all pieces answers.
 use Rattle.std.specs.Prelude.{◌≡◌, ℕ, ◌+◌, ◌<◌, ◌≤◌, List, length, All, map, sum_by, Bool, Some, None}
 use Rattle.schema_version.specs.declared.element.Work.{Work}
-use Rattle.replay.specs.Replay.{Opening}
 use Rattle.world.specs.Piece.{standing_at}
 use Rattle.world.specs.State.{State, facts_of}
 use Rattle.world.specs.declared.entry.Receipt.{Receipt}
 use Rattle.locked_store.specs.Cores.{IsCoreSince, WasLength}
-use Rattle.locked_store.specs.Known.{Known, total_count, IsLeastFront, OfLast}
-use Rattle.locked_store.specs.Receipts.{IsLogged}
+use Rattle.locked_store.specs.Known.{Known, total_count, HaveRisen, IsLeastFront, OfLast}
 use Rattle.tasks.specs.Outcomes.{IsRow}
 use Rattle.tasks.specs.declared.fault.TaskFault.{TaskFault}
 use Rattle.tasks.specs.declared.fault.TaskFault.TheVariants as task_fault
-use Rattle.reorganise_workers.specs.Ends.{IsEndOf}
+use Rattle.reorganise_workers.specs.Ends.{IsEndOf, IsPieceReceipt}
 use Rattle.reorganise_workers.specs.declared.end.PieceEnd.{PieceEnd}
 use Rattle.reorganise_workers.specs.declared.job.Job.{Job}
 use Rattle.reorganise_workers.specs.declared.all_pieces.ReorganiseFault.{ReorganiseFault}
@@ -23,58 +21,60 @@ abbrev pub IsCount : ℕ → ℕ → ℕ → Type 0
 IsCount handles limit tries = (1 ≤ handles) × (handles ≤ 64) × (1 ≤ limit) × (limit ≤ 1000) × (1 ≤ tries) × (tries ≤ 1000000)
 
 -- a reorganisation of the element, of this kind and so many pieces, had begun in a core behind the lock, which has at least so many entries
-abbrev pub WasBegun : Opening → ℕ → Work → ℕ → ℕ → Type 0
-WasBegun opening element kind pieces front =
-    (core : State) × IsCoreSince opening front core × (ended : Bool) × (standing_at (facts_of core) element ≡ Some (kind, pieces, ended))
+abbrev pub WasBegun : State → ℕ → Work → ℕ → ℕ → Type 0
+WasBegun start element kind pieces front =
+    (core : State) × IsCoreSince start front core × (ended : Bool) × (standing_at (facts_of core) element ≡ Some (kind, pieces, ended))
 
-abbrev pub WasNotBegun : Opening → ℕ → ℕ → Type 0
-WasNotBegun opening element front = (core : State) × IsCoreSince opening front core × (standing_at (facts_of core) element ≡ None)
+abbrev pub WasNotBegun : State → ℕ → ℕ → Type 0
+WasNotBegun start element front = (core : State) × IsCoreSince start front core × (standing_at (facts_of core) element ≡ None)
 
 -- why nothing is begun, by what a handle found whose front was here
-abbrev pub WasRefused : Opening → ℕ → ℕ → ReorganiseFault → Type 0
-WasRefused opening element front fault.BadCount = ⊥
-WasRefused opening element front (fault.WentBack seen) = (seen < front) × WasLength opening seen
-WasRefused opening element front fault.NotBegun = WasNotBegun opening element front
-WasRefused opening element front fault.Memory = ⊥
+abbrev pub WasRefused : State → ℕ → ℕ → ReorganiseFault → Type 0
+WasRefused start element front fault.BadCount = ⊥
+WasRefused start element front (fault.WentBack seen) = (seen < front) × WasLength start seen
+WasRefused start element front fault.NotBegun = WasNotBegun start element front
+WasRefused start element front fault.Memory = ⊥
 
 -- bad numbers are refused first, then what the last handle found, and out of memory comes after
 -- both
-abbrev pub IsRefused : Opening → ℕ → ℕ → ℕ → List Known → ReorganiseFault → Type 0
-IsRefused opening element limit tries handles fault.BadCount = ¬ (IsCount (length handles) limit tries)
-IsRefused opening element limit tries handles (fault.WentBack seen) = IsCount (length handles) limit tries × OfLast handles (λ last. (seen < last.front) × WasLength opening seen)
-IsRefused opening element limit tries handles fault.NotBegun = IsCount (length handles) limit tries × OfLast handles (λ last. WasNotBegun opening element last.front)
-IsRefused opening element limit tries handles fault.Memory =
-    IsCount (length handles) limit tries × ((kind : Work) × (pieces : ℕ) × OfLast handles (λ last. WasBegun opening element kind pieces last.front))
+abbrev pub IsRefused : State → ℕ → ℕ → ℕ → List Known → ReorganiseFault → Type 0
+IsRefused start element limit tries handles fault.BadCount = ¬ (IsCount (length handles) limit tries)
+IsRefused start element limit tries handles (fault.WentBack seen) = IsCount (length handles) limit tries × OfLast handles (λ last. (seen < last.front) × WasLength start seen)
+IsRefused start element limit tries handles fault.NotBegun = IsCount (length handles) limit tries × OfLast handles (λ last. WasNotBegun start element last.front)
+IsRefused start element limit tries handles fault.Memory =
+    IsCount (length handles) limit tries × ((kind : Work) × (pieces : ℕ) × OfLast handles (λ last. WasBegun start element kind pieces last.front))
 
 -- a handle by its number and its share
 abbrev pub right : Known → ℕ × ℕ
 right handle = (handle.id, handle.count)
 
--- the handles are the same, and so are their shares; a front may have moved
+-- the handles are the same, and so are their shares; a front may have risen
 abbrev pub Stays : List Known → List Known → Type 0
-Stays old new = map right new ≡ map right old
+Stays old new = (map right new ≡ map right old) × HaveRisen old new
 
 abbrev pub asked : ℕ → ℕ → Work → ℕ → ℕ → ℕ → ℕ → Job
 asked moment element kind pieces limit tries front =
     record { moment = moment; element = element; kind = kind; pieces = pieces; limit = limit; tries = tries; front = front }
 
--- one end for each piece, by rising number, as its calls answered; all handles are back, in their order, and their shares rose together by
--- the receipts, each of which is of an entry that came after all that the handles had seen
-pub record Reorganises (opening : Opening) (job : Job) (handles : List Known) (ends : List (ℕ × PieceEnd)) (back : List Known) (receipts : List (List Receipt)) : Type 0 where
+-- one end for each piece, by rising number, as its calls answered; all handles are back, in their order, none with a lower front, and their
+-- shares rose together by the receipts: a list for each handle, of pieces of this element alone
+pub record Reorganises (start : State) (job : Job) (handles : List Known) (ends : List (ℕ × PieceEnd)) (back : List Known) (receipts : List (List Receipt)) : Type 0 where
   pub each : IsRow job.pieces ends
-  pub own : All (λ e. IsEndOf opening job e.0 e.1) ends
+  pub own : All (λ e. IsEndOf start job e.0 e.1) ends
   pub same : map (λ h. h.id) back ≡ map (λ h. h.id) handles
+  pub risen : HaveRisen handles back
   pub counted : total_count back ≡ total_count handles + sum_by length receipts
-  pub logged : All (All (IsLogged opening job.front)) receipts
+  pub lists : length receipts ≡ length handles
+  pub pieces : All (All (IsPieceReceipt start job)) receipts
 
 -- so it is with the pieces of the reorganisation that the last handle found begun; the workers go on from what all handles had seen
-pub record IsWorkedOff (opening : Opening) (moment element limit tries : ℕ) (handles : List Known) (ends : List (ℕ × PieceEnd)) (back : List Known) (receipts : List (List Receipt)) : Type 0 where
+pub record IsWorkedOff (start : State) (moment element limit tries : ℕ) (handles : List Known) (ends : List (ℕ × PieceEnd)) (back : List Known) (receipts : List (List Receipt)) : Type 0 where
   pub kind : Work
   pub pieces : ℕ
-  pub begun : OfLast handles (λ last. WasBegun opening element kind pieces last.front)
+  pub begun : OfLast handles (λ last. WasBegun start element kind pieces last.front)
   pub front : ℕ
   pub least : IsLeastFront handles front
-  pub done : Reorganises opening (asked moment element kind pieces limit tries front) handles ends back receipts
+  pub done : Reorganises start (asked moment element kind pieces limit tries front) handles ends back receipts
 
 abbrev pub to_fault : TaskFault → ReorganiseFault
 to_fault task_fault.BadCount = fault.BadCount

@@ -1,7 +1,7 @@
 //! All pieces of a begun reorganisation, by as many workers as there are handles.
 ghost use Rattle.std.specs.Prelude.{◌≡◌, ◌≤◌, All, length, map, reverse, sum_by, vec_len, vec_capacity, [], Decides, IfOk, IfErr};
 ghost use Rattle.locked_store.specs.Known.{IsLeastFront, OfLast};
-ghost use Rattle.locked_store.specs.Receipts.{IsLogged};
+ghost use Rattle.reorganise_workers.specs.Ends.{IsPieceReceipt};
 ghost use Rattle.reorganise_workers.specs.inner.Jobs.{IsJob};
 ghost use Rattle.reorganise_workers.specs.inner.Workers.{AreIdle};
 ghost use Rattle.reorganise_workers.specs.declared.job.Job.{Job};
@@ -76,8 +76,8 @@ fn job_of<L: SharedLedger, R: Wait>(
     ensures same { (me.new.id ≡ me.old.id) × (me.new.count ≡ me.old.count) }
     ensures rises { me.old.front ≤ me.new.front }
     ensures job { IfOk result (λ job. IsJob job × (job ≡ asked moment element job.kind job.pieces limit tries front)) }
-    ensures begun { IfOk result (λ job. WasBegun L.opening element job.kind job.pieces me.old.front) }
-    ensures refused { IfErr result (λ fault. WasRefused L.opening element me.old.front fault) }
+    ensures begun { IfOk result (λ job. WasBegun L.start element job.kind job.pieces me.old.front) }
+    ensures refused { IfErr result (λ fault. WasRefused L.start element me.old.front fault) }
 {
     match shared.progress(rt, me, element) {
         Ok(Some((kind, pieces, _))) => Ok(Job {
@@ -112,10 +112,12 @@ fn make_workers<'a, L: SharedLedger, R: Wait>(
 {
     let mut workers = room;
     while let Some(handle) = handles.pop() {
+        let first_front = handle.front();
         workers.push_reserved(PieceWorker {
             rt,
             shared,
             handle,
+            first_front,
             kept_receipts: Vec::new(alloc),
             job,
         });
@@ -132,8 +134,10 @@ fn into_parts<L: SharedLedger, R: Wait>(
     requires handles { (handles.old.items ≡ []) × (vec_len workers ≤ vec_capacity handles.old) }
     requires receipts { (receipts.old.items ≡ []) × (vec_len workers ≤ vec_capacity receipts.old) }
     ensures back { handles.new.items ≡ reverse (map (λ w. w.handle) workers.entry.items) }
+    ensures risen { All (λ w. w.first_front ≤ w.handle.front) workers.entry.items }
+    ensures lists { length receipts.new.items ≡ length workers.entry.items }
     ensures kept_receipts { sum_by length receipts.new.items ≡ sum_by (λ w. length w.kept_receipts) workers.entry.items }
-    ensures logged { (job : Job) → All (λ w. w.job ≡ job) workers.entry.items → All (All (IsLogged L.opening job.front)) receipts.new.items }
+    ensures pieces { (job : Job) → All (λ w. w.job ≡ job) workers.entry.items → All (All (IsPieceReceipt L.start job)) receipts.new.items }
 {
     let mut workers = workers;
     while let Some(worker) = workers.pop() {
@@ -141,6 +145,7 @@ fn into_parts<L: SharedLedger, R: Wait>(
             rt: _,
             shared: _,
             handle,
+            first_front: _,
             kept_receipts,
             job: _,
         } = worker;
@@ -176,7 +181,7 @@ fn run<'a, L: SharedLedger + Send + Sync, G: Gate + Sync, R: Threads + Wait + Sy
     requires seen { All (λ h. job.front ≤ h.front) handles.items }
     requires room { (room.items ≡ []) × (vec_len handles ≤ vec_capacity room) }
     requires receipts { (receipts.items ≡ []) × (vec_len handles ≤ vec_capacity receipts) }
-    ensures done { IfOk result (λ s. Reorganises L.opening job handles.items s.ends.items s.handles.items s.receipts.items) }
+    ensures done { IfOk result (λ s. Reorganises L.start job handles.items s.ends.items s.handles.items s.receipts.items) }
     ensures refused { IfErr result (λ r. r.0 ≡ ReorganiseFault.Memory) }
     ensures unchanged { IfErr result (λ r. r.1.items ≡ handles.items) }
 {
@@ -228,8 +233,8 @@ fn look_again<L: SharedLedger, R: Wait>(
     ensures job { IfOk result (λ job. IsJob job × (job ≡ asked moment element job.kind job.pieces limit tries job.front)) }
     ensures least { IfOk result (λ job. IsLeastFront handles.old.items job.front) }
     ensures seen { IfOk result (λ job. All (λ h. job.front ≤ h.front) handles.new.items) }
-    ensures begun { IfOk result (λ job. OfLast handles.old.items (λ last. WasBegun L.opening element job.kind job.pieces last.front)) }
-    ensures refused { IfErr result (λ fault. IsRefused L.opening element limit tries handles.old.items fault) }
+    ensures begun { IfOk result (λ job. OfLast handles.old.items (λ last. WasBegun L.start element job.kind job.pieces last.front)) }
+    ensures refused { IfErr result (λ fault. IsRefused L.start element limit tries handles.old.items fault) }
 {
     let front = least_front(handles.as_slice());
     let Some(mut me) = handles.pop() else {
@@ -277,8 +282,8 @@ pub fn reorganise_all<L: SharedLedger + Send + Sync, G: Gate + Sync, R: Threads 
     gate: &G,
 ) -> Result<Reorganised<L>, (ReorganiseFault, Vec<Handle<L>>)>
     ensures counts { IfOk result (λ _. IsCount (vec_len handles) limit tries) }
-    ensures done { IfOk result (λ s. IsWorkedOff L.opening moment element limit tries handles.items s.ends.items s.handles.items s.receipts.items) }
-    ensures refused { IfErr result (λ r. IsRefused L.opening element limit tries handles.items r.0) }
+    ensures done { IfOk result (λ s. IsWorkedOff L.start moment element limit tries handles.items s.ends.items s.handles.items s.receipts.items) }
+    ensures refused { IfErr result (λ r. IsRefused L.start element limit tries handles.items r.0) }
     ensures unchanged { IfErr result (λ r. Stays handles.items r.1.items) }
 {
     let mut handles = handles;

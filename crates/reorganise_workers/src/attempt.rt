@@ -1,7 +1,6 @@
 //! The attempts of one piece: its next items are read, prepared and committed.
 ghost use Rattle.std.specs.Prelude.{◌≡◌, ◌+◌, ◌<◌, ◌≤◌, length, All, IfOk, IfErr};
-ghost use Rattle.locked_store.specs.Receipts.{IsLogged};
-ghost use Rattle.reorganise_workers.specs.Ends.{IsEndOf, IsAttempt, WasRead};
+ghost use Rattle.reorganise_workers.specs.Ends.{IsEndOf, IsAttempt, IsPieceReceipt, WasRead};
 ghost use Rattle.reorganise_workers.specs.inner.Jobs.{IsJob};
 ghost use Rattle.reorganise_workers.specs.inner.Attempts.{WasSpent, unread_end, attempt_of};
 
@@ -41,8 +40,8 @@ fn next_items<L: SharedLedger, R: Wait>(
     ensures rises { me.old.front ≤ me.new.front }
     ensures own { IfOk result (λ view. view.piece ≡ piece) }
     ensures kind { IfOk result (λ view. view.kind ≡ job.now.kind) }
-    ensures read { IfOk result (λ view. WasRead L.opening job.now piece view) }
-    ensures attempt { IfErr result (λ attempt. IsAttempt L.opening job.now piece attempt) }
+    ensures read { IfOk result (λ view. WasRead L.start job.now piece view) }
+    ensures attempt { IfErr result (λ attempt. IsAttempt L.start job.now piece attempt) }
 {
     match shared.read_piece(rt, alloc, me, job.element, piece, job.limit) {
         Ok(view) => {
@@ -85,10 +84,10 @@ fn look<L: SharedLedger, R: Wait>(
     piece: u32,
 ) -> Attempt
     requires seen { job.now.front ≤ me.old.front }
-    requires spent { WasSpent L.opening job.now piece }
+    requires spent { WasSpent L.start job.now piece }
     ensures same { (me.new.id ≡ me.old.id) × (me.new.count ≡ me.old.count) }
     ensures rises { me.old.front ≤ me.new.front }
-    ensures attempt { IsAttempt L.opening job.now piece result }
+    ensures attempt { IsAttempt L.start job.now piece result }
 {
     match shared.piece_progress(rt, me, job.element, piece) {
         Ok(Some((kind, ended))) => {
@@ -138,12 +137,12 @@ fn commit_items<L: SharedLedger, R: Wait>(
 ) -> Attempt
     requires seen { job.now.front ≤ me.old.front }
     requires kind { view.kind ≡ job.now.kind }
-    requires read { WasRead L.opening job.now view.piece view }
+    requires read { WasRead L.start job.now view.piece view }
     ensures same { me.new.id ≡ me.old.id }
     ensures rises { me.old.front ≤ me.new.front }
     ensures counted { me.new.count + length kept_receipts.old.items ≡ me.old.count + length kept_receipts.new.items }
-    ensures logged { All (IsLogged L.opening job.now.front) kept_receipts.old.items → All (IsLogged L.opening job.now.front) kept_receipts.new.items }
-    ensures attempt { IsAttempt L.opening job.now view.piece result }
+    ensures pieces { All (IsPieceReceipt L.start job.now) kept_receipts.old.items → All (IsPieceReceipt L.start job.now) kept_receipts.new.items }
+    ensures attempt { IsAttempt L.start job.now view.piece result }
 {
     if kept_receipts.reserve(1).is_err() {
         return Attempt::Ended(PieceEnd::Memory);
@@ -178,8 +177,8 @@ fn make_attempt<L: SharedLedger, R: Wait>(
     ensures same { me.new.id ≡ me.old.id }
     ensures rises { me.old.front ≤ me.new.front }
     ensures counted { me.new.count + length kept_receipts.old.items ≡ me.old.count + length kept_receipts.new.items }
-    ensures logged { All (IsLogged L.opening job.now.front) kept_receipts.old.items → All (IsLogged L.opening job.now.front) kept_receipts.new.items }
-    ensures attempt { IsAttempt L.opening job.now piece result }
+    ensures pieces { All (IsPieceReceipt L.start job.now) kept_receipts.old.items → All (IsPieceReceipt L.start job.now) kept_receipts.new.items }
+    ensures attempt { IsAttempt L.start job.now piece result }
 {
     match next_items(rt, alloc, shared, me, job, piece) {
         Ok(view) => commit_items(rt, alloc, shared, me, kept_receipts, job, view),
@@ -202,8 +201,8 @@ pub(crate) fn work_piece<L: SharedLedger, R: Wait>(
     ensures same { me.new.id ≡ me.old.id }
     ensures rises { me.old.front ≤ me.new.front }
     ensures counted { me.new.count + length kept_receipts.old.items ≡ me.old.count + length kept_receipts.new.items }
-    ensures logged { All (IsLogged L.opening job.now.front) kept_receipts.old.items → All (IsLogged L.opening job.now.front) kept_receipts.new.items }
-    ensures end { IsEndOf L.opening job.now piece result }
+    ensures pieces { All (IsPieceReceipt L.start job.now) kept_receipts.old.items → All (IsPieceReceipt L.start job.now) kept_receipts.new.items }
+    ensures end { IsEndOf L.start job.now piece result }
 {
     let mut failed = 0u32;
     for _i in rt.forever() {

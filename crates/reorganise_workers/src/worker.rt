@@ -16,6 +16,8 @@ pub(crate) struct PieceWorker<'a, L: SharedLedger, R: Wait> {
     pub(crate) rt: &'a R,
     pub(crate) shared: &'a Shared<L>,
     pub(crate) handle: Handle<L>,
+    /// The front with which the handle came.
+    pub(crate) first_front: u64,
     pub(crate) kept_receipts: Vec<Receipt>,
     pub(crate) job: Job,
 }
@@ -25,13 +27,13 @@ impl<'a, L: SharedLedger, R: Wait> Model for PieceWorker<'a, L, R> {
 
     ghost Value = { Filling };
 
-    ghost view = { λ w. record { handle = w.handle; kept_receipts = w.kept_receipts.items; job = w.job } };
+    ghost view = { λ w. record { handle = w.handle; first_front = w.first_front; kept_receipts = w.kept_receipts.items; job = w.job } };
 
-    ghost invariant = { λ w. IsAtWork L.opening (record { handle = w.handle; kept_receipts = w.kept_receipts.items; job = w.job }) };
+    ghost invariant = { λ w. IsAtWork L.start (record { handle = w.handle; first_front = w.first_front; kept_receipts = w.kept_receipts.items; job = w.job }) };
 }
 
 impl<'a, L: SharedLedger, R: Wait> Worker for PieceWorker<'a, L, R> {
-    ghost use Rattle.std.specs.Prelude.{length};
+    ghost use Rattle.std.specs.Prelude.{ℕ, length};
     ghost use Rattle.reorganise_workers.specs.Ends.{IsEndOf};
     ghost use Rattle.reorganise_workers.specs.declared.job.Job.{Job};
 
@@ -43,7 +45,9 @@ impl<'a, L: SharedLedger, R: Wait> Worker for PieceWorker<'a, L, R> {
 
     ghost total = { λ job. job.pieces };
 
-    ghost id = { λ w. w.handle.id };
+    ghost Id = { ℕ × ℕ };
+
+    ghost id = { λ w. (w.handle.id, w.first_front) };
 
     ghost count = { λ w. w.handle.count };
 
@@ -51,7 +55,7 @@ impl<'a, L: SharedLedger, R: Wait> Worker for PieceWorker<'a, L, R> {
 
     ghost held = { λ end. 0 };
 
-    ghost fits = { IsEndOf L.opening };
+    ghost fits = { IsEndOf L.start };
 
     fn perform(&mut self, alloc: Global, number: usize) -> PieceEnd {
         let PieceWorker {
@@ -60,6 +64,7 @@ impl<'a, L: SharedLedger, R: Wait> Worker for PieceWorker<'a, L, R> {
             handle,
             kept_receipts,
             job,
+            ..
         } = self;
         work_piece(rt, alloc, shared, handle, kept_receipts, job, number as u32)
     }

@@ -1,5 +1,5 @@
 //! The servers and the operator at once, and what the world has when both are done.
-ghost use Rattle.std.specs.Prelude.{◌≡◌, length};
+ghost use Rattle.std.specs.Prelude.{◌≡◌};
 
 use crate::operate::{operate, report_step};
 use crate::table::{inserts, world_with_changes};
@@ -69,7 +69,7 @@ where
     R: Threads + Wait + Sync,
     requires name { blank.name ≡ L.name }
     requires parts { blank.parts ≡ L.parts }
-    requires picked { (L.handles ≡ 5) × (L.handles ≡ L.parts) × (L.opening ≡ world.opening) × (L.since ≡ length world.log) }
+    requires picked { (L.handles ≡ 5) × (L.handles ≡ L.parts) × (L.start ≡ world) }
 {
     let (shared, mut servers) = Shared::<L>::new(alloc, blank, world, 5).ok()?;
     let operator = servers.pop()?;

@@ -21,8 +21,8 @@ use Rattle.server.specs.declared.request.Outcome.TheVariants as outcome
 use Rattle.server.specs.declared.tally.Tally.{Tally}
 use Rattle.server.specs.declared.tally.Last.{Last}
 use Rattle.server.specs.declared.tally.Last.TheVariants as last
-use Rattle.server.specs.Outcomes.{Said, Keys, Keeps, IsEnd, IsServed, IsTrueOf, IsFailedTry, FailedSoOften, unprepared_by, receipts_of}
-use Rattle.server.specs.inner.Tries.{HasFailed, StayLogged}
+use Rattle.server.specs.Outcomes.{Said, Keys, Keeps, IsEnd, IsLeaseReceipt, IsServed, IsTrueOf, IsFailedTry, FailedSoOften, unprepared_by, receipts_of}
+use Rattle.server.specs.inner.Tries.{HasFailed, StayLeases}
 
 -- a refusal that is not for memory has its condition
 with_condition : {F : Type 0} (number : F → ℕ) (C : F → Type 0) (memory fault : F) → ¬ (fault ≡ memory) → IsRefusal number C memory fault → IsFirst number C fault
@@ -92,7 +92,8 @@ one_more_failed may moment ops times failed one =
     (one.0 ∷ failed.0, omega (arith, failed.1), All-cons (IsFailedTry may moment ops) one.0 failed.0 one.1 failed.2)
 
 -- the receipt of a lease is kept beside the others
-pub still_logged : (may : Said → Type 0) (before after : List Receipt) (answer : Result (Lease × Version) (SharedFault GrantFault)) → Keeps may before answer after → StayLogged may before after
-still_logged may before after (Ok given) keeps all =
-    All-same (λ r. may (Said.logged r)) after (before ++ keeps.0 ∷ []) keeps.1 (All-append (λ r. may (Said.logged r)) before (keeps.0 ∷ []) all (All-cons (λ r. may (Said.logged r)) keeps.0 [] keeps.3 (All-nil (λ r. may (Said.logged r)))))
-still_logged may before after (Err fault) keeps all = All-same (λ r. may (Said.logged r)) after before keeps all
+pub still_leases : (may : Said → Type 0) (before after : List Receipt) (answer : Result (Lease × Version) (SharedFault GrantFault)) → Keeps may before answer after → StayLeases may before after
+still_leases may before after (Ok given) keeps all =
+    All-same (IsLeaseReceipt may) after (before ++ keeps.0 ∷ []) keeps.1
+    (All-append (IsLeaseReceipt may) before (keeps.0 ∷ []) all (All-cons (IsLeaseReceipt may) keeps.0 [] (keeps.3, (given.0, keeps.2)) (All-nil (IsLeaseReceipt may))))
+still_leases may before after (Err fault) keeps all = All-same (IsLeaseReceipt may) after before keeps all

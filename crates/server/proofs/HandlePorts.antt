@@ -9,7 +9,6 @@ use Rattle.row_write.specs.Made.{PreparedTxn}
 use Rattle.lease.specs.declared.lease.Lease.{Lease}
 use Rattle.lease.specs.Timeline.{max_moment}
 use Rattle.schema_version.specs.Version.{Version}
-use Rattle.replay.specs.Replay.{Opening}
 use Rattle.world.specs.Calls.{LeaseStep, CommitStep, IsReadView, GrantCondition, grant_rank, effective_moment}
 use Rattle.world.specs.State.{State}
 use Rattle.world.specs.declared.committed.Committed.{Committed}
@@ -26,7 +25,7 @@ use Rattle.locked_store.specs.Answers.{Answers, AnswersBack, BackBy, Counts, gra
 use Rattle.locked_store.specs.Cores.{IsCore, IsCoreSince}
 use Rattle.locked_store.specs.Known.{Known}
 use Rattle.locked_store.proofs.Logging.{lease_logged, commit_logged}
-use Rattle.server.specs.HandlePorts.{SaidByCore, WasUncommitted, lease_and_schema, kept_with}
+use Rattle.server.specs.HandlePorts.{SaidByCore, WasCommitted, WasUncommitted, lease_and_schema, kept_with}
 use Rattle.server.specs.Outcomes.{Said, Keys, GrantSays, Keeps, ReadSays, CommitSays, RefusalSays, FaultSays}
 
 -- a call goes through the same handle
@@ -34,62 +33,62 @@ counts_id : (v w : Known) (place : Option ℕ) → Counts v place w → w.id ≡
 counts_id v w (Some place) c = c.0
 counts_id v w None c = c.0
 
-pub same_id : {T E : Type 0} (opening : Opening) (v w : Known) (answer : Result T (SharedFault E)) (step : State → Result T E → State → Type 0) (place : T → Option ℕ) → Answers opening v answer w step place
+pub same_id : {T E : Type 0} (start : State) (v w : Known) (answer : Result T (SharedFault E)) (step : State → Result T E → State → Type 0) (place : T → Option ℕ) → Answers start v answer w step place
     → w.id ≡ v.id
-same_id opening v w (Ok x) step place a = counts_id v w (place x) a.2.5
-same_id opening v w (Err (shared.World e)) step place a = a.2.5.0
-same_id opening v w (Err (shared.WentBack seen)) step place a = ap (λ (k : Known). k.id) a.2
+same_id start v w (Ok x) step place a = counts_id v w (place x) a.2.5
+same_id start v w (Err (shared.World e)) step place a = a.2.5.0
+same_id start v w (Err (shared.WentBack seen)) step place a = ap (λ (k : Known). k.id) a.2
 
-pub same_id_back : {T E P : Type 0} (opening : Opening) (v w : Known) (prepared : P) (answer : Result T (SharedFault E × P)) (step : State → Result T (E × P) → State → Type 0) (place : T → Option ℕ)
-    → AnswersBack opening v prepared answer w step place → w.id ≡ v.id
-same_id_back {E = E} opening v w prepared (Ok x) step place a = counts_id v w (place x) a.2.5
-same_id_back {E = E} opening v w prepared (Err refusal) step place a = go refusal.0 a
+pub same_id_back : {T E P : Type 0} (start : State) (v w : Known) (prepared : P) (answer : Result T (SharedFault E × P)) (step : State → Result T (E × P) → State → Type 0) (place : T → Option ℕ)
+    → AnswersBack start v prepared answer w step place → w.id ≡ v.id
+same_id_back {E = E} start v w prepared (Ok x) step place a = counts_id v w (place x) a.2.5
+same_id_back {E = E} start v w prepared (Err refusal) step place a = go refusal.0 a
   where
-    go : (fault : SharedFault E) → BackBy opening v fault refusal.1 prepared w step place → w.id ≡ v.id
+    go : (fault : SharedFault E) → BackBy start v fault refusal.1 prepared w step place → w.id ≡ v.id
     go (shared.World e) b = b.2.5.0
     go (shared.WentBack seen) b = ap (λ (k : Known). k.id) b.0.2
 
 -- the core of a call has at least as many entries as were seen before it
-since : (opening : Opening) (front : ℕ) (v : Known) (core : State) → IsCore opening core → v.front ≤ length core.log → front ≤ v.front → IsCoreSince opening front core
-since opening front v core is seen le = record { is_core = is; since = omega (arith, le, seen) }
+since : (start : State) (front : ℕ) (v : Known) (core : State) → IsCore start core → v.front ≤ length core.log → front ≤ v.front → IsCoreSince start front core
+since start front v core is seen le = record { is_core = is; since = omega (arith, le, seen) }
 
 -- ---- a lease
 
 too_large : (now : ℕ) → IsRefusal grant_rank (GrantCondition now) grant_fault.Memory grant_fault.MomentTooLarge → max_moment < now
 too_large now refused = ⊎_elim (λ (e : grant_fault.MomentTooLarge ≡ grant_fault.Memory). absurd (cc)) (λ (c : max_moment < now). c) refused.0
 
-pub grant_says : (opening : Opening) (front : ℕ) (v w : Known) (moment : ℕ) (answer : Result Grant (SharedFault GrantFault)) → Answers opening v answer w (λ c r d. LeaseStep c moment r d) grant_place → front ≤ v.front
-    → GrantSays (SaidByCore opening front) moment (lease_and_schema answer)
-grant_says opening front v w moment (Ok given) a le = (a.0, since opening front v a.0 a.2.0 a.2.2 le, a.2.3.1, a.2.3.2)
-grant_says opening front v w moment (Err (shared.World grant_fault.MomentTooLarge)) a le = (a.0, since opening front v a.0 a.2.0 a.2.2 le, too_large (effective_moment a.0 moment) a.2.3.0)
-grant_says opening front v w moment (Err (shared.World grant_fault.Memory)) a le = tt
-grant_says opening front v w moment (Err (shared.WentBack seen)) a le = a.1
+pub grant_says : (start : State) (front : ℕ) (v w : Known) (moment : ℕ) (answer : Result Grant (SharedFault GrantFault)) → Answers start v answer w (λ c r d. LeaseStep c moment r d) grant_place → front ≤ v.front
+    → GrantSays (SaidByCore start front) moment (lease_and_schema answer)
+grant_says start front v w moment (Ok given) a le = (a.0, since start front v a.0 a.2.0 a.2.2 le, a.2.3.1, a.2.3.2)
+grant_says start front v w moment (Err (shared.World grant_fault.MomentTooLarge)) a le = (a.0, since start front v a.0 a.2.0 a.2.2 le, too_large (effective_moment a.0 moment) a.2.3.0)
+grant_says start front v w moment (Err (shared.World grant_fault.Memory)) a le = tt
+grant_says start front v w moment (Err (shared.WentBack seen)) a le = a.1
 
-pub granted : (opening : Opening) (front : ℕ) (v w : Known) (moment : ℕ) (answer : Result Grant (SharedFault GrantFault)) (reported : Result (Lease × Version) (SharedFault GrantFault)) → reported ≡ lease_and_schema answer
-    → Answers opening v answer w (λ c r d. LeaseStep c moment r d) grant_place → front ≤ v.front → GrantSays (SaidByCore opening front) moment reported
-granted opening front v w moment answer reported is a le =
-    subst (λ (x : Result (Lease × Version) (SharedFault GrantFault)). GrantSays (SaidByCore opening front) moment x) (sym is) (grant_says opening front v w moment answer a le)
+pub granted : (start : State) (front : ℕ) (v w : Known) (moment : ℕ) (answer : Result Grant (SharedFault GrantFault)) (reported : Result (Lease × Version) (SharedFault GrantFault)) → reported ≡ lease_and_schema answer
+    → Answers start v answer w (λ c r d. LeaseStep c moment r d) grant_place → front ≤ v.front → GrantSays (SaidByCore start front) moment reported
+granted start front v w moment answer reported is a le =
+    subst (λ (x : Result (Lease × Version) (SharedFault GrantFault)). GrantSays (SaidByCore start front) moment x) (sym is) (grant_says start front v w moment answer a le)
 
-keeps_lent : (opening : Opening) (front : ℕ) (v w : Known) (moment : ℕ) (before : List Receipt) (answer : Result Grant (SharedFault GrantFault)) → Answers opening v answer w (λ c r d. LeaseStep c moment r d) grant_place → front ≤ v.front
-    → Keeps (SaidByCore opening front) before (lease_and_schema answer) (kept_with before answer)
-keeps_lent opening front v w moment before (Ok given) a le = (given.receipt, refl, ap (λ e. e.what) a.2.3.3.entry, lease_logged opening v w front moment given a le)
-keeps_lent opening front v w moment before (Err fault) a le = refl
+keeps_lent : (start : State) (front : ℕ) (v w : Known) (moment : ℕ) (before : List Receipt) (answer : Result Grant (SharedFault GrantFault)) → Answers start v answer w (λ c r d. LeaseStep c moment r d) grant_place → front ≤ v.front
+    → Keeps (SaidByCore start front) before (lease_and_schema answer) (kept_with before answer)
+keeps_lent start front v w moment before (Ok given) a le = (given.receipt, refl, ap (λ e. e.what) a.2.3.3.entry, lease_logged start v w front moment given a le)
+keeps_lent start front v w moment before (Err fault) a le = refl
 
-pub keeps : (opening : Opening) (front : ℕ) (v w : Known) (moment : ℕ) (before held after : List Receipt) (answer : Result Grant (SharedFault GrantFault)) (reported : Result (Lease × Version) (SharedFault GrantFault))
-    → held ≡ before → reported ≡ lease_and_schema answer → after ≡ kept_with held answer → Answers opening v answer w (λ c r d. LeaseStep c moment r d) grant_place → front ≤ v.front
-    → Keeps (SaidByCore opening front) before reported after
-keeps opening front v w moment before held after answer reported held_is reported_is after_is a le =
-    subst (λ (x : List Receipt). Keeps (SaidByCore opening front) x reported after) held_is
-    (subst (λ (x : Result (Lease × Version) (SharedFault GrantFault)). Keeps (SaidByCore opening front) held x after) (sym reported_is)
-    (subst (λ (x : List Receipt). Keeps (SaidByCore opening front) held (lease_and_schema answer) x) (sym after_is) (keeps_lent opening front v w moment held answer a le)))
+pub keeps : (start : State) (front : ℕ) (v w : Known) (moment : ℕ) (before held after : List Receipt) (answer : Result Grant (SharedFault GrantFault)) (reported : Result (Lease × Version) (SharedFault GrantFault))
+    → held ≡ before → reported ≡ lease_and_schema answer → after ≡ kept_with held answer → Answers start v answer w (λ c r d. LeaseStep c moment r d) grant_place → front ≤ v.front
+    → Keeps (SaidByCore start front) before reported after
+keeps start front v w moment before held after answer reported held_is reported_is after_is a le =
+    subst (λ (x : List Receipt). Keeps (SaidByCore start front) x reported after) held_is
+    (subst (λ (x : Result (Lease × Version) (SharedFault GrantFault)). Keeps (SaidByCore start front) held x after) (sym reported_is)
+    (subst (λ (x : List Receipt). Keeps (SaidByCore start front) held (lease_and_schema answer) x) (sym after_is) (keeps_lent start front v w moment held answer a le)))
 
 -- ---- a read
 
-pub read_says : (opening : Opening) (front : ℕ) (v w : Known) (keys : Keys) (answer : Result View (SharedFault AllocError)) → Answers opening v answer w (λ c r d. IfOk r (λ view. IsReadView c keys view) × (d ≡ c)) no_place → front ≤ v.front
-    → ReadSays (SaidByCore opening front) keys answer
-read_says opening front v w keys (Ok view) a le = (a.0, since opening front v a.0 a.2.0 a.2.2 le, a.2.3.0)
-read_says opening front v w keys (Err (shared.World fault)) a le = tt
-read_says opening front v w keys (Err (shared.WentBack seen)) a le = a.1
+pub read_says : (start : State) (front : ℕ) (v w : Known) (keys : Keys) (answer : Result View (SharedFault AllocError)) → Answers start v answer w (λ c r d. IfOk r (λ view. IsReadView c keys view) × (d ≡ c)) no_place → front ≤ v.front
+    → ReadSays (SaidByCore start front) keys answer
+read_says start front v w keys (Ok view) a le = (a.0, since start front v a.0 a.2.0 a.2.2 le, a.2.3.0)
+read_says start front v w keys (Err (shared.World fault)) a le = tt
+read_says start front v w keys (Err (shared.WentBack seen)) a le = a.1
 
 -- ---- a commit
 
@@ -101,16 +100,19 @@ fault_of may moment ops commit_fault.WrongSchema is = is
 fault_of may moment ops (commit_fault.Conflict key) is = is
 fault_of may moment ops commit_fault.Memory is = tt
 
-refusal_says : (opening : Opening) (front : ℕ) (v w : Known) (moment : ℕ) (prepared back : PreparedTxn) (fault : SharedFault CommitFault)
-    → BackBy {T = Committed} opening v fault back prepared w (λ c r d. CommitStep c moment prepared r d) commit_place → front ≤ v.front → RefusalSays (SaidByCore opening front) moment prepared.ops fault
-refusal_says opening front v w moment prepared back (shared.World fault) b le =
-    let why : WasUncommitted opening front moment prepared.ops fault =
-    record { core = b.0; is_core = since opening front v b.0 b.2.0 b.2.2 le; prepared = prepared; own = refl; back = back; left = b.1; refused = b.2.3 } in
-    fault_of (SaidByCore opening front) moment prepared.ops fault why
-refusal_says opening front v w moment prepared back (shared.WentBack seen) b le = b.0.1
+refusal_says : (start : State) (front : ℕ) (v w : Known) (moment : ℕ) (prepared back : PreparedTxn) (fault : SharedFault CommitFault)
+    → BackBy {T = Committed} start v fault back prepared w (λ c r d. CommitStep c moment prepared r d) commit_place → front ≤ v.front → RefusalSays (SaidByCore start front) moment prepared.ops fault
+refusal_says start front v w moment prepared back (shared.World fault) b le =
+    let why : WasUncommitted start front moment prepared.ops fault =
+    record { core = b.0; is_core = since start front v b.0 b.2.0 b.2.2 le; prepared = prepared; own = refl; back = back; left = b.1; refused = b.2.3 } in
+    fault_of (SaidByCore start front) moment prepared.ops fault why
+refusal_says start front v w moment prepared back (shared.WentBack seen) b le = b.0.1
 
-pub commit_says : (opening : Opening) (front : ℕ) (v w : Known) (moment : ℕ) (prepared : PreparedTxn) (answer : Result Committed (SharedFault CommitFault × PreparedTxn))
-    → AnswersBack opening v prepared answer w (λ c r d. CommitStep c moment prepared r d) commit_place → front ≤ v.front → CommitSays (SaidByCore opening front) moment prepared.ops answer
-commit_says opening front v w moment prepared (Ok (committed.Done receipt)) a le = (commit_logged opening v w front moment prepared receipt a le, (prepared.lease, ap (λ e. e.what) a.2.3.2.entry))
-commit_says opening front v w moment prepared (Ok (committed.Refused op why)) a le = (a.0, since opening front v a.0 a.2.0 a.2.2 le, a.2.3.1)
-commit_says opening front v w moment prepared (Err refusal) a le = refusal_says opening front v w moment prepared refusal.1 refusal.0 a le
+pub commit_says : (start : State) (front : ℕ) (v w : Known) (moment : ℕ) (prepared : PreparedTxn) (answer : Result Committed (SharedFault CommitFault × PreparedTxn))
+    → AnswersBack start v prepared answer w (λ c r d. CommitStep c moment prepared r d) commit_place → front ≤ v.front → CommitSays (SaidByCore start front) moment prepared.ops answer
+commit_says start front v w moment prepared (Ok (committed.Done receipt)) a le =
+    let was : WasCommitted start front moment prepared.ops receipt =
+    record { core = a.0; is_core = since start front v a.0 a.2.0 a.2.2 le; prepared = prepared; own = refl; left = a.1; done = a.2.3; logged = commit_logged start v w front moment prepared receipt a le } in
+    (was, (prepared.lease, ap (λ e. e.what) a.2.3.2.entry))
+commit_says start front v w moment prepared (Ok (committed.Refused op why)) a le = (a.0, since start front v a.0 a.2.0 a.2.2 le, a.2.3.1)
+commit_says start front v w moment prepared (Err refusal) a le = refusal_says start front v w moment prepared refusal.1 refusal.0 a le

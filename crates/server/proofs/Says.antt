@@ -35,9 +35,9 @@ read_back may keys refusal seen is says = subst (λ (x : SharedFault AllocError)
 -- ---- of a commit
 
 pub done_says : (may : Said → Type 0) (moment : ℕ) (these ops : List RowOp) → these ≡ ops → (done : Committed) (receipt : Receipt) → done ≡ committed.Done receipt
-    → CommitSays may moment these (Ok done) → may (Said.logged receipt) × IsReceiptOf ops receipt
+    → CommitSays may moment these (Ok done) → may (Said.done moment ops receipt) × IsReceiptOf ops receipt
 done_says may moment these ops own done receipt is says =
-    subst (λ (os : List RowOp). may (Said.logged receipt) × IsReceiptOf os receipt) own (subst (λ (x : Committed). CommitSays may moment these (Ok x)) is says)
+    subst (λ (os : List RowOp). may (Said.done moment os receipt) × IsReceiptOf os receipt) own (subst (λ (x : Committed). CommitSays may moment these (Ok x)) is says)
 
 pub refused_says : (may : Said → Type 0) (moment : ℕ) (these ops : List RowOp) → these ≡ ops → (done : Committed) (op : ℕ) (why : RowFault) → done ≡ committed.Refused op why
     → CommitSays may moment these (Ok done) → may (Said.unfit ops op why)

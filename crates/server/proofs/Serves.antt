@@ -1,14 +1,15 @@
 -- What many servers answer, from what their tasks came to.
-use Rattle.std.proofs.Common.{◌≡◌, ℕ, ◌+◌, List, length, map, reverse, sum_by, All, sym, ap, ◌∙◌, arith}
-use Rattle.std.proofs.lemmas.List.{reverse-reverse}
+use Rattle.std.proofs.Common.{◌≡◌, ℕ, ◌+◌, ◌≤◌, List, length, map, reverse, sum_by, All, sym, ap, ◌∙◌, arith}
+use Rattle.std.proofs.lemmas.List.{reverse-reverse, length-map, length-reverse}
 use Rattle.std.proofs.lemmas.List.Sums.{sum_by-le}
 use Rattle.tasks.proofs.Handed.{map_reverse, map_map, sum_reverse, sum_map}
 use Rattle.tasks.specs.Outcomes.{IsRow, held_in}
-use Rattle.replay.specs.Replay.{Opening}
 use Rattle.world.specs.declared.entry.Receipt.{Receipt}
+use Rattle.world.specs.State.{State}
 use Rattle.locked_store.specs.Known.{Known, total_count, IsLeastFront}
-use Rattle.locked_store.specs.Receipts.{IsLogged}
-use Rattle.server.specs.Outcomes.{receipts_of}
+use Rattle.locked_store.proofs.Fronts.{back_risen}
+use Rattle.server.specs.HandlePorts.{SaidByCore}
+use Rattle.server.specs.Outcomes.{receipts_of, IsLeaseReceipt}
 use Rattle.server.specs.Works.{Orders, Serving, AreIdle, IsOutcomeAt}
 use Rattle.server.specs.Serve.{Serves}
 use Rattle.server.specs.declared.request.Request.{Request}
@@ -33,19 +34,27 @@ numbers : (handles : List Known) (ws : List Serving) → handles ≡ reverse (ma
 numbers handles ws is =
     ap (map (λ (h : Known). h.id)) is ∙ map_reverse (λ (h : Known). h.id) (map (λ (w : Serving). w.handle) ws) ∙ ap reverse (map_map (λ (h : Known). h.id) (λ (w : Serving). w.handle) ws)
 
-pub serves : (opening : Opening) (requests : List Request) (tries front : ℕ) (handles : List Known) (ws ps : List Serving) (outcomes : List (ℕ × Outcome)) (back : List Known) (receipts : List (List Receipt))
+-- which server it is: its handle's number, and the front with which the handle came
+abbrev which : Serving → ℕ × ℕ
+which w = (w.handle.id, w.first_front)
+
+pub serves : (start : State) (requests : List Request) (tries front : ℕ) (handles : List Known) (ws ps : List Serving) (outcomes : List (ℕ × Outcome)) (back : List Known) (receipts : List (List Receipt))
     → IsLeastFront handles front → map (λ w. w.handle) ws ≡ reverse handles → AreIdle (record { requests = requests; tries = tries; front = front }) ws → IsRow (length requests) outcomes
-    → ((orders : Orders) → All (λ w. w.orders ≡ orders) ws → All (λ o. IsOutcomeAt opening orders o.0 o.1) outcomes)
-    → map (λ w. w.handle.id) ps ≡ map (λ w. w.handle.id) ws
+    → ((orders : Orders) → All (λ w. w.orders ≡ orders) ws → All (λ o. IsOutcomeAt start orders o.0 o.1) outcomes)
+    → map which ps ≡ map which ws
     → ((orders : Orders) → All (λ w. w.orders ≡ orders) ws → All (λ w. w.orders ≡ orders) ps)
     → sum_by (λ w. w.handle.count) ps + sum_by (λ w. length w.kept_receipts) ws ≡ sum_by (λ w. w.handle.count) ws + sum_by (λ w. length w.kept_receipts) ps + held_in receipts_of outcomes
-    → back ≡ reverse (map (λ w. w.handle) ps) → sum_by length receipts ≡ sum_by (λ w. length w.kept_receipts) ps
-    → ((orders : Orders) → All (λ w. w.orders ≡ orders) ps → All (All (IsLogged opening orders.front)) receipts)
-    → Serves opening requests tries handles outcomes back receipts
-serves opening requests tries front handles ws ps outcomes back receipts least staff idle row fits ids plans counted back_is kept_receipts logged =
+    → back ≡ reverse (map (λ w. w.handle) ps) → All (λ w. w.first_front ≤ w.handle.front) ps → length receipts ≡ length ps → sum_by length receipts ≡ sum_by (λ w. length w.kept_receipts) ps
+    → ((orders : Orders) → All (λ w. w.orders ≡ orders) ps → All (All (IsLeaseReceipt (SaidByCore start orders.front))) receipts)
+    → Serves start requests tries handles outcomes back receipts
+serves start requests tries front handles ws ps outcomes back receipts least staff idle row fits same plans counted back_is risen lists kept_receipts leases =
     let orders : Orders = record { requests = requests; tries = tries; front = front } in
     let on_plan : All (λ (w : Serving). w.orders ≡ orders) ws = λ i d lt. (idle i d lt).1 in
     let first : handles ≡ reverse (map (λ (w : Serving). w.handle) ws) = sym (given_back handles ws staff) in
+    let ids : map (λ (w : Serving). w.handle.id) ps ≡ map (λ (w : Serving). w.handle.id) ws =
+    sym (map_map (λ (p : ℕ × ℕ). p.0) which ps) ∙ ap (map (λ (p : ℕ × ℕ). p.0)) same ∙ map_map (λ (p : ℕ × ℕ). p.0) which ws in
+    let firsts : map (λ (w : Serving). w.first_front) ps ≡ map (λ (w : Serving). w.first_front) ws =
+    sym (map_map (λ (p : ℕ × ℕ). p.1) which ps) ∙ ap (map (λ (p : ℕ × ℕ). p.1)) same ∙ map_map (λ (p : ℕ × ℕ). p.1) which ws in
     let staff_back : map (λ (w : Serving). w.handle) ps ≡ reverse back = sym (ap reverse back_is ∙ reverse-reverse (map (λ (w : Serving). w.handle) ps)) in
     record {
       front = front;
@@ -53,6 +62,8 @@ serves opening requests tries front handles ws ps outcomes back receipts least s
       each = row;
       own = fits orders on_plan;
       same = numbers back ps back_is ∙ ap reverse ids ∙ sym (numbers handles ws first);
+      risen = back_risen (λ (w : Serving). w.handle) (λ (w : Serving). w.first_front) handles back ws ps staff (λ i d lt. (idle i d lt).2) firsts risen back_is;
       counted = omega (arith, counted, idle_none orders ws idle, shares handles ws staff, shares back ps staff_back, kept_receipts);
-      logged = logged orders (plans orders on_plan);
+      lists = lists ∙ sym (length-map ps which) ∙ ap (λ (l : List (ℕ × ℕ)). length l) same ∙ length-map ws which ∙ sym (length-map ws (λ (w : Serving). w.handle)) ∙ ap (λ (l : List Known). length l) staff ∙ length-reverse handles;
+      leases = leases orders (plans orders on_plan);
     }

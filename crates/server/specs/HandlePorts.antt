@@ -7,9 +7,9 @@ use Rattle.row_write.specs.Plain.{outcome}
 use Rattle.lease.specs.declared.lease.Lease.{Lease}
 use Rattle.lease.specs.Timeline.{granted_at, max_moment}
 use Rattle.schema_version.specs.Version.{Version}
-use Rattle.replay.specs.Replay.{Opening}
 use Rattle.world.specs.Calls.{CommitStep, IsReadView, effective_moment}
 use Rattle.world.specs.declared.commit.CommitFault.{CommitFault}
+use Rattle.world.specs.declared.committed.Committed.TheVariants.{Done}
 use Rattle.row_write.specs.Made.{PreparedTxn}
 use Rattle.world.specs.declared.entry.Grant.{Grant}
 use Rattle.world.specs.declared.entry.Receipt.{Receipt}
@@ -18,10 +18,20 @@ use Rattle.locked_store.specs.Cores.{IsCoreSince, WasLength}
 use Rattle.locked_store.specs.Receipts.{IsLogged}
 use Rattle.server.specs.Outcomes.{Said}
 
--- a core behind the lock refused to commit a prepared transaction of these operations, for this reason
-pub record WasUncommitted (opening : Opening) (front moment : ℕ) (ops : List RowOp) (fault : CommitFault) : Type 0 where
+-- a core behind the lock committed a prepared transaction of these operations, with this receipt
+pub record WasCommitted (start : State) (front moment : ℕ) (ops : List RowOp) (receipt : Receipt) : Type 0 where
   pub core : State
-  pub is_core : IsCoreSince opening front core
+  pub is_core : IsCoreSince start front core
+  pub prepared : PreparedTxn
+  pub own : prepared.ops ≡ ops
+  pub left : State
+  pub done : CommitStep core moment prepared (Ok (Done receipt)) left
+  pub logged : IsLogged start front receipt
+
+-- a core behind the lock refused to commit a prepared transaction of these operations, for this reason
+pub record WasUncommitted (start : State) (front moment : ℕ) (ops : List RowOp) (fault : CommitFault) : Type 0 where
+  pub core : State
+  pub is_core : IsCoreSince start front core
   pub prepared : PreparedTxn
   pub own : prepared.ops ≡ ops
   pub back : PreparedTxn
@@ -29,15 +39,16 @@ pub record WasUncommitted (opening : Opening) (front moment : ℕ) (ops : List R
   pub refused : CommitStep core moment prepared (Err (fault, back)) left
 
 -- what a handle's server may say, each of a core behind the lock that has at least so many entries
-abbrev pub SaidByCore : Opening → ℕ → Said → Type 0
-SaidByCore opening front (Said.granted moment lease schema) =
-    (core : State) × IsCoreSince opening front core × (lease ≡ granted_at (facts_of core).line (effective_moment core moment)) × (schema ≡ (facts_of core).newest)
-SaidByCore opening front (Said.overdue moment) = (core : State) × IsCoreSince opening front core × (max_moment < effective_moment core moment)
-SaidByCore opening front (Said.viewed keys view) = (core : State) × IsCoreSince opening front core × IsReadView core keys view
-SaidByCore opening front (Said.logged receipt) = IsLogged opening front receipt
-SaidByCore opening front (Said.unfit ops op why) = (core : State) × IsCoreSince opening front core × (outcome (facts_of core).rows ops ≡ Refused op why)
-SaidByCore opening front (Said.uncommitted moment ops fault) = WasUncommitted opening front moment ops fault
-SaidByCore opening front (Said.went_back seen) = WasLength opening seen
+abbrev pub SaidByCore : State → ℕ → Said → Type 0
+SaidByCore start front (Said.granted moment lease schema) =
+    (core : State) × IsCoreSince start front core × (lease ≡ granted_at (facts_of core).line (effective_moment core moment)) × (schema ≡ (facts_of core).newest)
+SaidByCore start front (Said.overdue moment) = (core : State) × IsCoreSince start front core × (max_moment < effective_moment core moment)
+SaidByCore start front (Said.viewed keys view) = (core : State) × IsCoreSince start front core × IsReadView core keys view
+SaidByCore start front (Said.logged receipt) = IsLogged start front receipt
+SaidByCore start front (Said.done moment ops receipt) = WasCommitted start front moment ops receipt
+SaidByCore start front (Said.unfit ops op why) = (core : State) × IsCoreSince start front core × (outcome (facts_of core).rows ops ≡ Refused op why)
+SaidByCore start front (Said.uncommitted moment ops fault) = WasUncommitted start front moment ops fault
+SaidByCore start front (Said.went_back seen) = WasLength start seen
 
 -- a lease and its schema, without the receipt
 abbrev pub lease_and_schema : {E : Type 0} → Result Grant E → Result (Lease × Version) E

@@ -47,6 +47,8 @@ pub data Said : Type 0 where
   viewed : Keys → View → Said
   -- the receipt's entry is in the log
   logged : Receipt → Said
+  -- a transaction of these operations is committed at this moment, with this receipt, whose entry is in the log
+  done : ℕ → List RowOp → Receipt → Said
   -- the rows refuse the operations, this one first and for this reason
   unfit : List RowOp → ℕ → RowFault → Said
   -- a transaction of these operations is refused at this moment, for this reason
@@ -57,6 +59,10 @@ pub data Said : Type 0 where
 -- the entry of the receipt is a transaction of these operations
 abbrev pub IsReceiptOf : List RowOp → Receipt → Type 0
 IsReceiptOf ops receipt = (lease : Lease) × (receipt.entry.what ≡ Txn lease ops)
+
+-- the receipt is of a lease, and its entry is in the log
+abbrev pub IsLeaseReceipt : (Said → Type 0) → Receipt → Type 0
+IsLeaseReceipt may receipt = may (Said.logged receipt) × ((lease : Lease) × (receipt.entry.what ≡ Granted lease))
 
 -- of an answer to `lease`: what is said, and the receipt that is kept
 abbrev pub GrantSays : (Said → Type 0) → ℕ → Result (Lease × Version) (SharedFault GrantFault) → Type 0
@@ -89,7 +95,7 @@ RefusalSays may moment ops (shared.WentBack seen) = may (Said.went_back seen)
 RefusalSays may moment ops (shared.World fault) = FaultSays may moment ops fault
 
 abbrev pub CommitSays : (Said → Type 0) → ℕ → List RowOp → Result Committed (SharedFault CommitFault × PreparedTxn) → Type 0
-CommitSays may moment ops (Ok (committed.Done receipt)) = may (Said.logged receipt) × IsReceiptOf ops receipt
+CommitSays may moment ops (Ok (committed.Done receipt)) = may (Said.done moment ops receipt) × IsReceiptOf ops receipt
 CommitSays may moment ops (Ok (committed.Refused op why)) = may (Said.unfit ops op why)
 CommitSays may moment ops (Err refusal) = RefusalSays may moment ops refusal.0
 
@@ -147,7 +153,7 @@ FailedSoOften may moment ops times = (faults : List CommitFault) × (length faul
 
 -- what is true of the outcome of these operations at this moment, with so many tries
 abbrev pub IsTrueOf : (Said → Type 0) → ℕ → List RowOp → ℕ → Outcome → Type 0
-IsTrueOf may moment ops tries (outcome.Done receipt) = may (Said.logged receipt) × IsReceiptOf ops receipt
+IsTrueOf may moment ops tries (outcome.Done receipt) = may (Said.done moment ops receipt) × IsReceiptOf ops receipt
 IsTrueOf may moment ops tries (outcome.Row op why) = may (Said.unfit ops op why)
 IsTrueOf may moment ops tries (outcome.Unprepared fault) = IsUnprepared may moment ops fault
 IsTrueOf may moment ops tries (outcome.Rejected fault) = IsRejected may moment ops fault

@@ -4,11 +4,11 @@ use Rattle.std.specs.Prelude.{◌≡◌, ℕ, ◌+◌, ◌<◌, ◌≤◌, ◌�
 use Rattle.tasks.specs.Outcomes.{IsRow, held_in}
 use Rattle.tasks.specs.declared.fault.TaskFault.{TaskFault}
 use Rattle.tasks.specs.declared.fault.TaskFault.TheVariants as task_fault
-use Rattle.replay.specs.Replay.{Opening}
 use Rattle.world.specs.declared.entry.Receipt.{Receipt}
-use Rattle.locked_store.specs.Known.{Known, total_count, IsLeastFront}
-use Rattle.locked_store.specs.Receipts.{IsLogged}
-use Rattle.server.specs.Outcomes.{receipts_of}
+use Rattle.world.specs.State.{State}
+use Rattle.locked_store.specs.Known.{Known, total_count, HaveRisen, IsLeastFront}
+use Rattle.server.specs.HandlePorts.{SaidByCore}
+use Rattle.server.specs.Outcomes.{receipts_of, IsLeaseReceipt}
 use Rattle.server.specs.Works.{AreOutcomes}
 use Rattle.server.specs.declared.request.Request.{Request}
 use Rattle.server.specs.declared.request.Outcome.{Outcome}
@@ -23,17 +23,19 @@ abbrev pub IsRefused : ℕ → ℕ → ℕ → ServeFault → Type 0
 IsRefused handles requests tries serve_fault.BadCount = (handles ≡ 0) ⊎ ((64 < handles) ⊎ ((tries ≡ 0) ⊎ ((1000 < tries) ⊎ (1000000 < requests))))
 IsRefused handles requests tries serve_fault.Memory = IsCount handles requests tries
 
--- one outcome for each request, by rising number, and each is one that may become of its own request in a world of this opening, after all
--- that the handles had seen, with so many tries; all handles are back, in their order, and their shares rose together by the receipts, those
--- in outcomes and the others; each of the others is of an entry that came after all that the handles had seen
-pub record Serves (opening : Opening) (requests : List Request) (tries : ℕ) (handles : List Known) (outcomes : List (ℕ × Outcome)) (back : List Known) (receipts : List (List Receipt)) : Type 0 where
+-- one outcome for each request, by rising number, and each is one that may become of its own request in this shared world, after all that
+-- the handles had seen, with so many tries; all handles are back, in their order, none with a lower front, and their shares rose together by
+-- the receipts, those in outcomes and the others; the others are a list for each handle, of leases alone
+pub record Serves (start : State) (requests : List Request) (tries : ℕ) (handles : List Known) (outcomes : List (ℕ × Outcome)) (back : List Known) (receipts : List (List Receipt)) : Type 0 where
   pub front : ℕ
   pub least : IsLeastFront handles front
   pub each : IsRow (length requests) outcomes
-  pub own : AreOutcomes opening (record { requests = requests; tries = tries; front = front }) outcomes
+  pub own : AreOutcomes start (record { requests = requests; tries = tries; front = front }) outcomes
   pub same : map (λ h. h.id) back ≡ map (λ h. h.id) handles
+  pub risen : HaveRisen handles back
   pub counted : total_count back ≡ total_count handles + held_in receipts_of outcomes + sum_by length receipts
-  pub logged : All (All (IsLogged opening front)) receipts
+  pub lists : length receipts ≡ length handles
+  pub leases : All (All (IsLeaseReceipt (SaidByCore start front))) receipts
 
 abbrev pub to_fault : TaskFault → ServeFault
 to_fault task_fault.BadCount = serve_fault.BadCount

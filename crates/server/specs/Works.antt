@@ -1,14 +1,13 @@
 -- Cited by the contracts of RequestWorker.
 -- What workers do.
 use Rattle.std.specs.Prelude.{◌≡◌, ℕ, ◌<◌, ◌≤◌, List, [], length, All, slice_index_or}
-use Rattle.replay.specs.Replay.{Opening}
 use Rattle.world.specs.declared.entry.Receipt.{Receipt}
+use Rattle.world.specs.State.{State}
 use Rattle.locked_store.specs.Known.{Known}
-use Rattle.locked_store.specs.Receipts.{IsLogged}
 use Rattle.server.specs.declared.request.Request.{Request}
 use Rattle.server.specs.declared.request.Outcome.{Outcome}
 use Rattle.server.specs.HandlePorts.{SaidByCore}
-use Rattle.server.specs.Outcomes.{IsTrueOf}
+use Rattle.server.specs.Outcomes.{IsTrueOf, IsLeaseReceipt}
 
 -- what all servers share: the requests, how often each is tried at most, and how many entries all their handles had seen
 pub record Orders : Type 0 where
@@ -16,32 +15,34 @@ pub record Orders : Type 0 where
   pub tries : ℕ
   pub front : ℕ
 
--- what may become of a request, served in a world of this opening after so many entries, with so many tries
-abbrev pub IsOutcomeOf : Opening → ℕ → Request → ℕ → Outcome → Type 0
-IsOutcomeOf opening front request tries = IsTrueOf (SaidByCore opening front) request.moment request.ops tries
+-- what may become of a request, served in this shared world after so many entries, with so many tries
+abbrev pub IsOutcomeOf : State → ℕ → Request → ℕ → Outcome → Type 0
+IsOutcomeOf start front request tries = IsTrueOf (SaidByCore start front) request.moment request.ops tries
 
 -- what may become of the request of this number
-abbrev pub IsOutcomeAt : Opening → Orders → ℕ → Outcome → Type 0
-IsOutcomeAt opening orders number o = (d : Request) → number < length orders.requests → IsOutcomeOf opening orders.front (slice_index_or orders.requests number d) orders.tries o
+abbrev pub IsOutcomeAt : State → Orders → ℕ → Outcome → Type 0
+IsOutcomeAt start orders number o = (d : Request) → number < length orders.requests → IsOutcomeOf start orders.front (slice_index_or orders.requests number d) orders.tries o
 
 -- each outcome is one of the request of its number
-abbrev pub AreOutcomes : Opening → Orders → List (ℕ × Outcome) → Type 0
-AreOutcomes opening orders os = All (λ o. IsOutcomeAt opening orders o.0 o.1) os
+abbrev pub AreOutcomes : State → Orders → List (ℕ × Outcome) → Type 0
+AreOutcomes start orders os = All (λ o. IsOutcomeAt start orders o.0 o.1) os
 
--- a worker, as contracts see it: its handle, the receipts of leases that it keeps, and its orders
+-- a worker, as contracts see it: its handle, the front with which the handle came, the receipts of leases that it keeps, and its orders
 pub record Serving : Type 0 where
   pub handle : Known
+  pub first_front : ℕ
   pub kept_receipts : List Receipt
   pub orders : Orders
 
--- it has so many tries; its handle has seen at least what the orders say that all handles had seen, and each receipt is of an entry that
--- came after that
-pub record IsAtWork (opening : Opening) (w : Serving) : Type 0 where
+-- it has so many tries; its handle has seen at least what the orders say that all handles had seen, and what it had seen itself when it
+-- came; each receipt is of a lease
+pub record IsAtWork (start : State) (w : Serving) : Type 0 where
   pub some_tries : 1 ≤ w.orders.tries
   pub few_tries : w.orders.tries ≤ 1000
   pub seen : w.orders.front ≤ w.handle.front
-  pub logged : All (IsLogged opening w.orders.front) w.kept_receipts
+  pub risen : w.first_front ≤ w.handle.front
+  pub leases : All (IsLeaseReceipt (SaidByCore start w.orders.front)) w.kept_receipts
 
 -- servers with these orders that have served no request yet
 abbrev pub AreIdle : Orders → List Serving → Type 0
-AreIdle orders ws = All (λ w. (w.kept_receipts ≡ []) × (w.orders ≡ orders)) ws
+AreIdle orders ws = All (λ w. (w.kept_receipts ≡ []) × (w.orders ≡ orders) × (w.first_front ≡ w.handle.front)) ws

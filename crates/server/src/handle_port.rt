@@ -55,7 +55,7 @@ impl<'a, L: SharedLedger, R: Wait> Port for HandlePort<'a, L, R> {
 
     ghost kept_receipts = { λ d. d.kept_receipts.items };
 
-    ghost may = { SaidByCore L.opening };
+    ghost may = { SaidByCore L.start };
 
     #[tactic(auto, using(crate::proofs::HandlePorts::same_id))]
     fn lease(

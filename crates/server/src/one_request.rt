@@ -1,7 +1,7 @@
 //! One request, tried until a try ends otherwise than in a conflict or with the end of its lease.
 ghost use Rattle.std.specs.Prelude.{◌≡◌, ℕ, ◌+◌, ◌<◌, ◌≤◌, ◌^◌, length, All, IfOk, IfErr};
-ghost use Rattle.server.specs.Outcomes.{Said, IsAgain, IsEnd, IsServed, IsTrueOf, receipts_of, receipts_by, unprepared_by};
-ghost use Rattle.server.specs.inner.Tries.{HasFailed, IsHeld, IsNext, StayLogged};
+ghost use Rattle.server.specs.Outcomes.{Said, IsAgain, IsEnd, IsLeaseReceipt, IsServed, IsTrueOf, receipts_of, receipts_by, unprepared_by};
+ghost use Rattle.server.specs.inner.Tries.{HasFailed, IsHeld, IsNext, StayLeases};
 
 use crate::port::Port;
 use crate::request::{Outcome, Request};
@@ -28,7 +28,7 @@ fn held_or_new<P: Port>(
     ensures own_handle { P.id port.new ≡ P.id port.old }
     ensures rises { P.front port.old ≤ P.front port.new }
     ensures counted { P.count port.new + length (P.kept_receipts port.old) ≡ P.count port.old + length (P.kept_receipts port.new) + receipts_by result }
-    ensures kept_receipts { (f : ℕ) → f ≤ P.front port.old → StayLogged (P.may f) (P.kept_receipts port.old) (P.kept_receipts port.new) }
+    ensures kept_receipts { (f : ℕ) → f ≤ P.front port.old → StayLeases (P.may f) (P.kept_receipts port.old) (P.kept_receipts port.new) }
 {
     if let Some(held) = held {
         return Ok(held);
@@ -155,7 +155,7 @@ fn try_once<P: Port>(
     ensures own_handle { P.id port.new ≡ P.id port.old }
     ensures rises { P.front port.old ≤ P.front port.new }
     ensures counted { P.count port.new + length (P.kept_receipts port.old) ≡ P.count port.old + length (P.kept_receipts port.new) + receipts_by result }
-    ensures kept_receipts { (f : ℕ) → f ≤ P.front port.old → StayLogged (P.may f) (P.kept_receipts port.old) (P.kept_receipts port.new) }
+    ensures kept_receipts { (f : ℕ) → f ≤ P.front port.old → StayLeases (P.may f) (P.kept_receipts port.old) (P.kept_receipts port.new) }
 {
     let (lease, schema) = held_or_new(alloc, port, request, held)?;
     let prepared = prepared_by(alloc, port, request, lease, &schema)?;
@@ -178,10 +178,10 @@ fn try_once<P: Port>(
 /// memory `Memory`.
 ///
 /// What the outcome tells is what the port said after all that it had seen when the call began:
-/// `Done` has a receipt whose entry is in the log, `Row` and `Rejected` have a refusal,
-/// `Unprepared` comes of a lease that was granted and of what was read under it, `WentBack` has a
-/// length of the log, and `Busy` comes after that many tries that ended in a conflict or with the
-/// end of their lease.
+/// `Done` has the receipt of a commit of the operations at the request's moment, `Row` and
+/// `Rejected` have a refusal, `Unprepared` comes of a lease that was granted and of what was read
+/// under it, `WentBack` has a length of the log, and `Busy` comes after that many tries that ended
+/// in a conflict or with the end of their lease. The receipts that the port keeps are of leases.
 #[tactic(auto, using(crate::proofs::Ends::served))]
 pub fn serve_one<P: Port>(alloc: Global, port: &mut P, request: &Request, tries: u32) -> Outcome
     requires tries { (1 ≤ tries) × (tries ≤ 1000) }
@@ -192,7 +192,7 @@ pub fn serve_one<P: Port>(alloc: Global, port: &mut P, request: &Request, tries:
     ensures own_handle { P.id port.new ≡ P.id port.old }
     ensures rises { P.front port.old ≤ P.front port.new }
     ensures counted { P.count port.new + length (P.kept_receipts port.old) ≡ P.count port.old + length (P.kept_receipts port.new) + receipts_of result }
-    ensures kept_receipts { (f : ℕ) → f ≤ P.front port.old → All (λ r. P.may f (Said.logged r)) (P.kept_receipts port.old) → All (λ r. P.may f (Said.logged r)) (P.kept_receipts port.new) }
+    ensures kept_receipts { (f : ℕ) → f ≤ P.front port.old → All (IsLeaseReceipt (P.may f)) (P.kept_receipts port.old) → All (IsLeaseReceipt (P.may f)) (P.kept_receipts port.new) }
 {
     let mut held = None;
     for _i in 0..tries {

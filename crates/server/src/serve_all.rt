@@ -1,6 +1,7 @@
 //! Many requests, by as many servers as there are handles.
 ghost use Rattle.std.specs.Prelude.{◌≡◌, ◌≤◌, length, map, reverse, sum_by, vec_len, vec_capacity, [], All, IfOk, IfErr};
-ghost use Rattle.locked_store.specs.Receipts.{IsLogged};
+ghost use Rattle.server.specs.HandlePorts.{SaidByCore};
+ghost use Rattle.server.specs.Outcomes.{IsLeaseReceipt};
 ghost use Rattle.server.specs.Works.{Orders, AreIdle};
 ghost use Rattle.server.specs.Serve.{IsRefused, IsCount, Serves, to_fault};
 
@@ -69,6 +70,7 @@ fn make_workers<'a, L: SharedLedger, R: Wait>(
 {
     let mut workers = room;
     while let Some(handle) = handles.pop() {
+        let first_front = handle.front();
         workers.push_reserved(RequestWorker {
             port: HandlePort {
                 rt,
@@ -83,6 +85,7 @@ fn make_workers<'a, L: SharedLedger, R: Wait>(
             requests,
             tries,
             front,
+            first_front,
         });
     }
     workers
@@ -97,8 +100,10 @@ fn into_parts<L: SharedLedger, R: Wait>(
     requires handles { (handles.old.items ≡ []) × (vec_len workers ≤ vec_capacity handles.old) }
     requires receipts { (receipts.old.items ≡ []) × (vec_len workers ≤ vec_capacity receipts.old) }
     ensures back { handles.new.items ≡ reverse (map (λ w. w.handle) workers.entry.items) }
+    ensures risen { All (λ w. w.first_front ≤ w.handle.front) workers.entry.items }
+    ensures lists { length receipts.new.items ≡ length workers.entry.items }
     ensures kept_receipts { sum_by length receipts.new.items ≡ sum_by (λ w. length w.kept_receipts) workers.entry.items }
-    ensures logged { (orders : Orders) → All (λ w. w.orders ≡ orders) workers.entry.items → All (All (IsLogged L.opening orders.front)) receipts.new.items }
+    ensures leases { (orders : Orders) → All (λ w. w.orders ≡ orders) workers.entry.items → All (All (IsLeaseReceipt (SaidByCore L.start orders.front))) receipts.new.items }
 {
     let mut workers = workers;
     while let Some(worker) = workers.pop() {
@@ -131,7 +136,7 @@ fn run<'a, L: SharedLedger + Send + Sync, G: Gate + Sync, R: Threads + Wait + Sy
     requires counts { IsCount (vec_len handles) (length requests.now) tries }
     requires room { (room.items ≡ []) × (vec_len handles ≤ vec_capacity room) }
     requires receipts { (receipts.items ≡ []) × (vec_len handles ≤ vec_capacity receipts) }
-    ensures served { IfOk result (λ s. Serves L.opening requests.now tries handles.items s.outcomes.items s.handles.items s.receipts.items) }
+    ensures served { IfOk result (λ s. Serves L.start requests.now tries handles.items s.outcomes.items s.handles.items s.receipts.items) }
     ensures refused { IfErr result (λ r. IsRefused (vec_len handles) (length requests.now) tries r.0) }
     ensures unchanged { IfErr result (λ r. r.1.items ≡ handles.items) }
 {
@@ -187,8 +192,8 @@ fn to_fault(fault: TaskFault) -> ServeFault
 /// Each outcome is true of its own request, in the world that the handles call. A state is meant
 /// here that is no older than what all handles had seen when the call began:
 ///
-/// - `Done` has the receipt of an entry of its operations, which is in the log, after all that the
-///   handles had seen.
+/// - `Done` has the receipt of a commit of its operations by such a state, at the request's moment;
+///   the entry is in the log, after all that the handles had seen.
 /// - `Row` is how the rows of such a state refuse its operations.
 /// - `Unprepared` is why its operations cannot be prepared, by the schema of a lease on the newest
 ///   version of such a state and by what was read of such a state.
@@ -198,8 +203,9 @@ fn to_fault(fault: TaskFault) -> ServeFault
 /// - `WentBack` has the length of the log of some state of the world.
 /// - `Held` and `Memory` say nothing of it.
 ///
-/// The receipts that come back beside the outcomes, those of leases, are of entries in the log,
-/// after all that the handles had seen.
+/// The receipts that come back beside the outcomes, in one list for each handle, are of leases
+/// alone, whose entries are in the log, after all that the handles had seen. No handle comes back
+/// with a lower front.
 ///
 /// Refused in this order, and then nothing was served and the handles come back: `BadCount` if one
 /// of these numbers is out of its range; `Memory`. Once a request has begun, running out of memory
@@ -214,7 +220,7 @@ pub fn serve<L: SharedLedger + Send + Sync, G: Gate + Sync, R: Threads + Wait + 
     gate: &G,
 ) -> Result<Served<L>, (ServeFault, Vec<Handle<L>>)>
     ensures counts { IfOk result (λ _. IsCount (vec_len handles) (length requests.now) tries) }
-    ensures served { IfOk result (λ s. Serves L.opening requests.now tries handles.items s.outcomes.items s.handles.items s.receipts.items) }
+    ensures served { IfOk result (λ s. Serves L.start requests.now tries handles.items s.outcomes.items s.handles.items s.receipts.items) }
     ensures refused { IfErr result (λ r. IsRefused (vec_len handles) (length requests.now) tries r.0) }
     ensures unchanged { IfErr result (λ r. r.1.items ≡ handles.items) }
 {

@@ -1,7 +1,7 @@
 //! One worker: a server that commits the requests whose numbers it draws.
 ghost use Rattle.std.specs.Prelude.{◌≡◌, ℕ, ◌+◌, ◌≤◌, length, All};
-ghost use Rattle.locked_store.specs.Receipts.{IsLogged};
-ghost use Rattle.server.specs.Outcomes.{IsServed, receipts_of};
+ghost use Rattle.server.specs.HandlePorts.{SaidByCore};
+ghost use Rattle.server.specs.Outcomes.{IsLeaseReceipt, IsServed, receipts_of};
 ghost use Rattle.server.specs.Tallies.{tally};
 ghost use Rattle.server.specs.Works.{Orders, IsOutcomeOf, IsOutcomeAt};
 
@@ -23,6 +23,8 @@ pub(crate) struct RequestWorker<'a, L: SharedLedger, R: Wait> {
     pub(crate) requests: &'a [Request],
     pub(crate) tries: u32,
     pub(crate) front: u64,
+    /// The front with which its own handle came.
+    pub(crate) first_front: u64,
 }
 
 impl<'a, L: SharedLedger, R: Wait> Model for RequestWorker<'a, L, R> {
@@ -30,9 +32,9 @@ impl<'a, L: SharedLedger, R: Wait> Model for RequestWorker<'a, L, R> {
 
     ghost Value = { Serving };
 
-    ghost view = { λ w. record { handle = w.port.handle; kept_receipts = w.port.kept_receipts.items; orders = record { requests = w.requests.now; tries = w.tries; front = w.front } } };
+    ghost view = { λ w. record { handle = w.port.handle; first_front = w.first_front; kept_receipts = w.port.kept_receipts.items; orders = record { requests = w.requests.now; tries = w.tries; front = w.front } } };
 
-    ghost invariant = { λ w. IsAtWork L.opening (record { handle = w.port.handle; kept_receipts = w.port.kept_receipts.items; orders = record { requests = w.requests.now; tries = w.tries; front = w.front } }) };
+    ghost invariant = { λ w. IsAtWork L.start (record { handle = w.port.handle; first_front = w.first_front; kept_receipts = w.port.kept_receipts.items; orders = record { requests = w.requests.now; tries = w.tries; front = w.front } }) };
 }
 
 // The outcome of one request, by a tally of its own.
@@ -44,8 +46,8 @@ fn outcome_of<L: SharedLedger, R: Wait>(
 ) -> Outcome
     requires tries { (1 ≤ tries) × (tries ≤ 1000) }
     ensures served { IsServed tries (tally 0 Last.Nothing) result port.new.tally }
-    ensures own { (f : ℕ) → f ≤ port.old.handle.front → IsOutcomeOf L.opening f request.now tries result }
-    ensures logged { (f : ℕ) → f ≤ port.old.handle.front → All (IsLogged L.opening f) port.old.kept_receipts.items → All (IsLogged L.opening f) port.new.kept_receipts.items }
+    ensures own { (f : ℕ) → f ≤ port.old.handle.front → IsOutcomeOf L.start f request.now tries result }
+    ensures leases { (f : ℕ) → f ≤ port.old.handle.front → All (IsLeaseReceipt (SaidByCore L.start f)) port.old.kept_receipts.items → All (IsLeaseReceipt (SaidByCore L.start f)) port.new.kept_receipts.items }
     ensures rises { port.old.handle.front ≤ port.new.handle.front }
     ensures same { port.new.handle.id ≡ port.old.handle.id }
     ensures counted { port.new.handle.count + length port.old.kept_receipts.items ≡ port.old.handle.count + length port.new.kept_receipts.items + receipts_of result }
@@ -58,7 +60,7 @@ fn outcome_of<L: SharedLedger, R: Wait>(
 }
 
 impl<'a, L: SharedLedger, R: Wait> Worker for RequestWorker<'a, L, R> {
-    ghost use Rattle.std.specs.Prelude.{length};
+    ghost use Rattle.std.specs.Prelude.{ℕ, length};
     ghost use Rattle.server.specs.Outcomes.{receipts_of};
     ghost use Rattle.server.specs.Works.{Orders, IsOutcomeAt};
 
@@ -70,7 +72,9 @@ impl<'a, L: SharedLedger, R: Wait> Worker for RequestWorker<'a, L, R> {
 
     ghost total = { λ orders. length orders.requests };
 
-    ghost id = { λ w. w.handle.id };
+    ghost Id = { ℕ × ℕ };
+
+    ghost id = { λ w. (w.handle.id, w.first_front) };
 
     ghost count = { λ w. w.handle.count };
 
@@ -78,7 +82,7 @@ impl<'a, L: SharedLedger, R: Wait> Worker for RequestWorker<'a, L, R> {
 
     ghost held = { receipts_of };
 
-    ghost fits = { IsOutcomeAt L.opening };
+    ghost fits = { IsOutcomeAt L.start };
 
     fn perform(&mut self, alloc: Global, number: usize) -> Outcome {
         let RequestWorker {
@@ -93,7 +97,7 @@ impl<'a, L: SharedLedger, R: Wait> Worker for RequestWorker<'a, L, R> {
     fn held_back() -> Outcome
         ensures is { result ≡ Outcome.Held }
         ensures none { receipts_of result ≡ 0 }
-        ensures fits { (orders : Orders) (number : ℕ) → IsOutcomeAt L.opening orders number result }
+        ensures fits { (orders : Orders) (number : ℕ) → IsOutcomeAt L.start orders number result }
     {
         Outcome::Held
     }
@@ -101,7 +105,7 @@ impl<'a, L: SharedLedger, R: Wait> Worker for RequestWorker<'a, L, R> {
     fn undrawn() -> Outcome
         ensures is { result ≡ Outcome.Memory }
         ensures none { receipts_of result ≡ 0 }
-        ensures fits { (orders : Orders) (number : ℕ) → IsOutcomeAt L.opening orders number result }
+        ensures fits { (orders : Orders) (number : ℕ) → IsOutcomeAt L.start orders number result }
     {
         Outcome::Memory
     }

@@ -1,6 +1,6 @@
 //! A piece of a fill whose rows another handle updates meanwhile: it is given up after as many
 //! failed tries as are allowed, and not before.
-ghost use Rattle.std.specs.Prelude.{◌≡◌, length};
+ghost use Rattle.std.specs.Prelude.{◌≡◌};
 
 use crate::fills::filling;
 use crate::table::update;
@@ -117,7 +117,7 @@ fn contended<L: SharedLedger + Send + Sync, R: Threads + Wait + Sync>(
 ) -> Option<(World, Option<bool>)>
     requires name { blank.name ≡ L.name }
     requires parts { blank.parts ≡ L.parts }
-    requires picked { (L.handles ≡ 2) × (L.handles ≡ L.parts) × (L.opening ≡ world.opening) × (L.since ≡ length world.log) }
+    requires picked { (L.handles ≡ 2) × (L.handles ≡ L.parts) × (L.start ≡ world) }
 {
     let (shared, mut writer) = Shared::<L>::new(alloc, blank, world, 2).ok()?;
     let worker = vec![in alloc; writer.pop()?].ok()?;

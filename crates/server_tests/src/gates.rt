@@ -1,5 +1,5 @@
 //! Two requests by two servers, with gates that only servers on threads of their own can pass.
-ghost use Rattle.std.specs.Prelude.{◌≡◌, length};
+ghost use Rattle.std.specs.Prelude.{◌≡◌};
 
 use crate::table::{insert, opened};
 use locked_store::{Shared, SharedLedger};
@@ -100,7 +100,7 @@ fn serves<L: SharedLedger + Send + Sync, G: Gate + Sync, R: Threads + Wait + Syn
 ) -> Option<[u64; 3]>
     requires name { blank.name ≡ L.name }
     requires parts { blank.parts ≡ L.parts }
-    requires picked { (L.handles ≡ 2) × (L.handles ≡ L.parts) × (L.opening ≡ world.opening) × (L.since ≡ length world.log) }
+    requires picked { (L.handles ≡ 2) × (L.handles ≡ L.parts) × (L.start ≡ world) }
 {
     let (shared, handles) = Shared::<L>::new(alloc, blank, world, 2).ok()?;
     let Served {

@@ -1,7 +1,7 @@
 //! Two handles fill an index and then serve two requests, twice, after gates that only servers on
 //! threads of their own can pass: if memory was short, each number has its outcome all the same,
 //! the handles come back, and what is left is done by a second call.
-ghost use Rattle.std.specs.Prelude.{◌≡◌, length};
+ghost use Rattle.std.specs.Prelude.{◌≡◌};
 
 use crate::fills::filling;
 use crate::gates::{Behind, Together};
@@ -163,7 +163,7 @@ fn works<L: SharedLedger + Send + Sync, R: Threads + Wait + Sync + Print>(
 ) -> Option<World>
     requires name { blank.name ≡ L.name }
     requires parts { blank.parts ≡ L.parts }
-    requires picked { (L.handles ≡ 2) × (L.handles ≡ L.parts) × (L.opening ≡ world.opening) × (L.since ≡ length world.log) }
+    requires picked { (L.handles ≡ 2) × (L.handles ≡ L.parts) × (L.start ≡ world) }
 {
     let (shared, handles) = Shared::<L>::new(alloc, blank, world, 2).ok()?;
     let handles = fill_and_serve(rt, alloc, &shared, handles, requests)?;

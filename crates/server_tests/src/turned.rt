@@ -1,7 +1,7 @@
 //! An index is abandoned while all pieces of its fill are held: none of them is worked on, and the
 //! fill is over. So it is also if the index goes on to delete-only meanwhile and its clear has
 //! begun: no piece of the clear is worked on either, and a second call finishes it.
-ghost use Rattle.std.specs.Prelude.{◌≡◌, length};
+ghost use Rattle.std.specs.Prelude.{◌≡◌};
 
 use crate::fills::{dropping, filling, turning};
 use collections::List;
@@ -239,7 +239,7 @@ fn turned<L: SharedLedger + Send + Sync, R: Threads + Wait + Sync>(
 ) -> Option<(World, Option<(u64, u64)>)>
     requires name { blank.name ≡ L.name }
     requires parts { blank.parts ≡ L.parts }
-    requires picked { (L.handles ≡ 3) × (L.handles ≡ L.parts) × (L.opening ≡ world.opening) × (L.since ≡ length world.log) }
+    requires picked { (L.handles ≡ 3) × (L.handles ≡ L.parts) × (L.start ≡ world) }
 {
     let (shared, mut handles) = Shared::<L>::new(alloc, blank, world, 3).ok()?;
     let me = handles.pop()?;

@@ -6,7 +6,6 @@ use Rattle.lease.specs.Timeline.{max_moment}
 use Rattle.schema_version.specs.declared.step.Move.{Move}
 use Rattle.reorganise.specs.declared.fault.ViewFault.TheVariants as view_fault
 use Rattle.reorganise.specs.declared.read.Reading.{Reading}
-use Rattle.replay.specs.Replay.{Opening}
 use Rattle.world.specs.declared.begin_reorg.BeginFault.{BeginFault}
 use Rattle.world.specs.declared.begin_reorg.BeginFault.TheVariants as begin_fault
 use Rattle.world.specs.declared.entry.PieceDone.{PieceDone}
@@ -42,43 +41,43 @@ AreNumbers pieces limit tries = AreCounts pieces limit × (1 ≤ tries) × (trie
 abbrev pub asked : ℕ → ℕ → ℕ → ℕ → ℕ → Ask
 asked moment pieces limit tries front = record { moment = moment; pieces = pieces; limit = limit; tries = tries; front = front }
 
--- ---- what the lock answered. Each core is one of the opening, with at least the entries that the handle had seen
+-- ---- what the lock answered. Each core goes on from the start, and has at least the entries that the handle had seen
 
 -- a call found a core, and answered so by a step of it
-abbrev pub Answered : {R : Type 0} → Opening → ℕ → R → (State → R → State → Type 0) → Type 0
-Answered opening front answer step = (found : State) × (left : State) × IsCoreSince opening front found × step found answer left
+abbrev pub Answered : {R : Type 0} → State → ℕ → R → (State → R → State → Type 0) → Type 0
+Answered start front answer step = (found : State) × (left : State) × IsCoreSince start front found × step found answer left
 
 -- the act was due in a core
-abbrev pub WasDue : Opening → Ask → Act → Type 0
-WasDue opening ask what = (core : State) × IsCoreSince opening ask.front core × IsDue (facts_of core) (effective_moment core ask.moment) what
+abbrev pub WasDue : State → Ask → Act → Type 0
+WasDue start ask what = (core : State) × IsCoreSince start ask.front core × IsDue (facts_of core) (effective_moment core ask.moment) what
 
-abbrev pub WasBegun : Opening → Ask → ℕ → Result Receipt BeginFault → Type 0
-WasBegun opening ask number answer = Answered opening ask.front answer (λ c r d. BeginStep c ask.moment number ask.pieces r d)
+abbrev pub WasBegun : State → Ask → ℕ → Result Receipt BeginFault → Type 0
+WasBegun start ask number answer = Answered start ask.front answer (λ c r d. BeginStep c ask.moment number ask.pieces r d)
 
-abbrev pub WasPublished : Opening → Ask → List Move → Result (ℕ × Receipt) PublishFault → Type 0
-WasPublished opening ask step answer = Answered opening ask.front answer (λ c r d. PublishStep c ask.moment step r d)
+abbrev pub WasPublished : State → Ask → List Move → Result (ℕ × Receipt) PublishFault → Type 0
+WasPublished start ask step answer = Answered start ask.front answer (λ c r d. PublishStep c ask.moment step r d)
 
 -- the next items of the first piece that had not ended were read, or not
-abbrev pub WasLooked : Opening → Ask → ℕ → Result (Option Reading) ReadFault → Type 0
-WasLooked opening ask number answer = Answered opening ask.front answer (λ c r d. NextStep c number ask.limit r × (d ≡ c))
+abbrev pub WasLooked : State → Ask → ℕ → Result (Option Reading) ReadFault → Type 0
+WasLooked start ask number answer = Answered start ask.front answer (λ c r d. NextStep c number ask.limit r × (d ≡ c))
 
-abbrev pub WasRead : Opening → Ask → ℕ → Reading → Type 0
-WasRead opening ask number read = WasLooked opening ask number (Ok (Some read))
+abbrev pub WasRead : State → Ask → ℕ → Reading → Type 0
+WasRead start ask number read = WasLooked start ask number (Ok (Some read))
 
-abbrev pub WasCommitted : Opening → Ask → Reading → Result PieceDone (PieceFault × Reading) → Type 0
-WasCommitted opening ask read answer = Answered opening ask.front answer (λ c r d. PieceStep c ask.moment read r d)
+abbrev pub WasCommitted : State → Ask → Reading → Result PieceDone (PieceFault × Reading) → Type 0
+WasCommitted start ask read answer = Answered start ask.front answer (λ c r d. PieceStep c ask.moment read r d)
 
 -- ---- an act that was done
 
 -- the act was due in one core, and then it was done in another; its entry is in the log after all that the handle had seen
-abbrev pub IsAdvanced : Opening → Ask → Advanced → Type 0
-IsAdvanced opening ask (advanced.Began number receipt) = WasDue opening ask (act.Begin number) × WasBegun opening ask number (Ok receipt) × IsLogged opening ask.front receipt
-IsAdvanced opening ask (advanced.Published version receipt) =
-    (step : List Move) × WasDue opening ask (act.Publish step) × WasPublished opening ask step (Ok (version, receipt)) × IsLogged opening ask.front receipt
-IsAdvanced opening ask (advanced.Worked number done) =
-    WasDue opening ask (act.Work number) × ((read : Reading) × WasRead opening ask number read × WasCommitted opening ask read (Ok done)) × IsLogged opening ask.front done.receipt
-IsAdvanced opening ask (advanced.Waiting until) = WasDue opening ask (act.Wait until)
-IsAdvanced opening ask advanced.Finished = WasDue opening ask act.Nothing
+abbrev pub IsAdvanced : State → Ask → Advanced → Type 0
+IsAdvanced start ask (advanced.Began number receipt) = WasDue start ask (act.Begin number) × WasBegun start ask number (Ok receipt) × IsLogged start ask.front receipt
+IsAdvanced start ask (advanced.Published version receipt) =
+    (step : List Move) × WasDue start ask (act.Publish step) × WasPublished start ask step (Ok (version, receipt)) × IsLogged start ask.front receipt
+IsAdvanced start ask (advanced.Worked number done) =
+    WasDue start ask (act.Work number) × ((read : Reading) × WasRead start ask number read × WasCommitted start ask read (Ok done)) × IsLogged start ask.front done.receipt
+IsAdvanced start ask (advanced.Waiting until) = WasDue start ask (act.Wait until)
+IsAdvanced start ask advanced.Finished = WasDue start ask act.Nothing
 
 -- how many entries it added
 abbrev pub entries_of : Advanced → ℕ
@@ -101,16 +100,16 @@ receipts_of (advanced.Waiting until) = []
 receipts_of advanced.Finished = []
 
 -- the act was due in a core whose log has this length
-abbrev pub WasDueAt : Opening → ℕ → ℕ → Act → Type 0
-WasDueAt opening front moment what = (core : State) × IsCore opening core × (length core.log ≡ front) × IsDue (facts_of core) (effective_moment core moment) what
+abbrev pub WasDueAt : State → ℕ → ℕ → Act → Type 0
+WasDueAt start front moment what = (core : State) × IsCore start core × (length core.log ≡ front) × IsDue (facts_of core) (effective_moment core moment) what
 
 -- the handle has then seen the log up to the entry of the act, or, if it added none, the log in which it was due
-abbrev pub IsSeen : Opening → ℕ → Advanced → ℕ → Type 0
-IsSeen opening moment (advanced.Began number receipt) front = front ≡ receipt.place
-IsSeen opening moment (advanced.Published version receipt) front = front ≡ receipt.place
-IsSeen opening moment (advanced.Worked number done) front = front ≡ done.receipt.place
-IsSeen opening moment (advanced.Waiting until) front = WasDueAt opening front moment (act.Wait until)
-IsSeen opening moment advanced.Finished front = WasDueAt opening front moment act.Nothing
+abbrev pub IsSeen : State → ℕ → Advanced → ℕ → Type 0
+IsSeen start moment (advanced.Began number receipt) front = front ≡ receipt.place
+IsSeen start moment (advanced.Published version receipt) front = front ≡ receipt.place
+IsSeen start moment (advanced.Worked number done) front = front ≡ done.receipt.place
+IsSeen start moment (advanced.Waiting until) front = WasDueAt start front moment (act.Wait until)
+IsSeen start moment advanced.Finished front = WasDueAt start front moment act.Nothing
 
 -- ---- one act after another
 
@@ -123,20 +122,20 @@ next_of moment (advanced.Waiting until) = Some until
 next_of moment advanced.Finished = None
 
 -- from this front and moment to the last ones each act was due and done, after all that the handle had seen by then; so the places rise
-abbrev pub AreActs : Opening → ℕ → ℕ → ℕ → ℕ → ℕ → List Advanced → ℕ → ℕ → Type 0
-AreActs opening pieces limit tries front moment [] last now = (last ≡ front) × (now ≡ moment)
-AreActs opening pieces limit tries front moment (done ∷ more) last now =
-    (seen : ℕ) × (next : ℕ) × IsAdvanced opening (asked moment pieces limit tries front) done × IsSeen opening moment done seen × (next_of moment done ≡ Some next)
-    × AreActs opening pieces limit tries seen next more last now
+abbrev pub AreActs : State → ℕ → ℕ → ℕ → ℕ → ℕ → List Advanced → ℕ → ℕ → Type 0
+AreActs start pieces limit tries front moment [] last now = (last ≡ front) × (now ≡ moment)
+AreActs start pieces limit tries front moment (done ∷ more) last now =
+    (seen : ℕ) × (next : ℕ) × IsAdvanced start (asked moment pieces limit tries front) done × IsSeen start moment done seen × (next_of moment done ≡ Some next)
+    × AreActs start pieces limit tries seen next more last now
 
 -- the receipts that were kept are followed by those of such acts, and then no change was under way in the log that the handle has seen
-pub record HasCompleted (opening : Opening) (pieces limit tries front moment : ℕ) (old : List Receipt) (now seen : ℕ) (new : List Receipt) : Type 0 where
+pub record HasCompleted (start : State) (pieces limit tries front moment : ℕ) (old : List Receipt) (now seen : ℕ) (new : List Receipt) : Type 0 where
   pub acts : List Advanced
   pub last : ℕ
-  pub are : AreActs opening pieces limit tries front moment acts last now
+  pub are : AreActs start pieces limit tries front moment acts last now
   pub kept : new ≡ old ++ flat_map receipts_of acts
   pub since : last ≤ seen
-  pub nothing : WasDueAt opening seen now act.Nothing
+  pub nothing : WasDueAt start seen now act.Nothing
 
 -- ---- an act at which others were first
 
@@ -173,44 +172,44 @@ IsWorkedElse (piece_fault.Conflict key) = Unit {0}
 IsWorkedElse piece_fault.Memory = ⊥
 
 -- the next piece was not there any more, or what was read of it was not committed, since another had moved it or written there
-abbrev pub IsPieceElse : Opening → Ask → ℕ → Type 0
-IsPieceElse opening ask number =
-    WasLooked opening ask number (Ok None)
-    ⊎ (((why : ReadFault) × WasLooked opening ask number (Err why) × IsReadElse why)
-    ⊎ ((read : Reading) × (why : PieceFault) × (back : Reading) × WasRead opening ask number read × WasCommitted opening ask read (Err (why, back)) × IsWorkedElse why))
+abbrev pub IsPieceElse : State → Ask → ℕ → Type 0
+IsPieceElse start ask number =
+    WasLooked start ask number (Ok None)
+    ⊎ (((why : ReadFault) × WasLooked start ask number (Err why) × IsReadElse why)
+    ⊎ ((read : Reading) × (why : PieceFault) × (back : Reading) × WasRead start ask number read × WasCommitted start ask read (Err (why, back)) × IsWorkedElse why))
 
 -- the act was due in one core, and another refused it
-abbrev pub WasOvertaken : Opening → Ask → Act → Type 0
-WasOvertaken opening ask (act.Begin number) = WasDue opening ask (act.Begin number) × ((why : BeginFault) × WasBegun opening ask number (Err why) × IsBegunElse why)
-WasOvertaken opening ask (act.Publish step) = WasDue opening ask (act.Publish step) × ((why : PublishFault) × WasPublished opening ask step (Err why) × IsPublishedElse why)
-WasOvertaken opening ask (act.Work number) = WasDue opening ask (act.Work number) × IsPieceElse opening ask number
-WasOvertaken opening ask (act.Wait until) = ⊥
-WasOvertaken opening ask act.Nothing = ⊥
+abbrev pub WasOvertaken : State → Ask → Act → Type 0
+WasOvertaken start ask (act.Begin number) = WasDue start ask (act.Begin number) × ((why : BeginFault) × WasBegun start ask number (Err why) × IsBegunElse why)
+WasOvertaken start ask (act.Publish step) = WasDue start ask (act.Publish step) × ((why : PublishFault) × WasPublished start ask step (Err why) × IsPublishedElse why)
+WasOvertaken start ask (act.Work number) = WasDue start ask (act.Work number) × IsPieceElse start ask number
+WasOvertaken start ask (act.Wait until) = ⊥
+WasOvertaken start ask act.Nothing = ⊥
 
-abbrev pub WereOvertaken : Opening → Ask → ℕ → Type 0
-WereOvertaken opening ask times = (acts : List Act) × (length acts ≡ times) × All (WasOvertaken opening ask) acts
+abbrev pub WereOvertaken : State → Ask → ℕ → Type 0
+WereOvertaken start ask times = (acts : List Act) × (length acts ≡ times) × All (WasOvertaken start ask) acts
 
 -- ---- an act that was refused
 
 -- the moment is too large itself, or was it in a core
-abbrev pub IsTooLate : Opening → Ask → Type 0
-IsTooLate opening ask = (max_moment < ask.moment) ⊎ ((core : State) × IsCoreSince opening ask.front core × (max_moment < effective_moment core ask.moment))
+abbrev pub IsTooLate : State → Ask → Type 0
+IsTooLate start ask = (max_moment < ask.moment) ⊎ ((core : State) × IsCoreSince start ask.front core × (max_moment < effective_moment core ask.moment))
 
 -- by what the handle knows afterwards: its front
-abbrev pub IsRefused : Opening → Ask → ℕ → OperatorFault → Type 0
-IsRefused opening ask front fault.BadCount = ¬ (AreNumbers ask.pieces ask.limit ask.tries)
-IsRefused opening ask front (fault.WentBack seen) = (seen < front) × WasLength opening seen
-IsRefused opening ask front fault.MomentTooLarge = IsTooLate opening ask
-IsRefused opening ask front fault.VersionsSpent = (step : List Move) × WasDue opening ask (act.Publish step) × WasPublished opening ask step (Err publish_fault.VersionsSpent)
-IsRefused opening ask front (fault.Busy tries) = (tries ≡ ask.tries) × WereOvertaken opening ask tries
-IsRefused opening ask front fault.Memory = Unit {0}
+abbrev pub IsRefused : State → Ask → ℕ → OperatorFault → Type 0
+IsRefused start ask front fault.BadCount = ¬ (AreNumbers ask.pieces ask.limit ask.tries)
+IsRefused start ask front (fault.WentBack seen) = (seen < front) × WasLength start seen
+IsRefused start ask front fault.MomentTooLarge = IsTooLate start ask
+IsRefused start ask front fault.VersionsSpent = (step : List Move) × WasDue start ask (act.Publish step) × WasPublished start ask step (Err publish_fault.VersionsSpent)
+IsRefused start ask front (fault.Busy tries) = (tries ≡ ask.tries) × WereOvertaken start ask tries
+IsRefused start ask front fault.Memory = Unit {0}
 
 -- the receipts that were kept are followed by those of such acts, and the next act was refused so
-pub record HasStopped (opening : Opening) (pieces limit tries front moment : ℕ) (old : List Receipt) (why : OperatorFault) (seen : ℕ) (new : List Receipt) : Type 0 where
+pub record HasStopped (start : State) (pieces limit tries front moment : ℕ) (old : List Receipt) (why : OperatorFault) (seen : ℕ) (new : List Receipt) : Type 0 where
   pub acts : List Advanced
   pub last : ℕ
   pub now : ℕ
-  pub are : AreActs opening pieces limit tries front moment acts last now
+  pub are : AreActs start pieces limit tries front moment acts last now
   pub later : moment ≤ now
   pub kept : new ≡ old ++ flat_map receipts_of acts
-  pub refused : IsRefused opening (asked now pieces limit tries last) seen why
+  pub refused : IsRefused start (asked now pieces limit tries last) seen why

@@ -22,7 +22,7 @@ pub(crate) fn do_act<L: SharedLedger, R: Wait>(
     ask: &Ask,
 ) -> Result<Advanced, OperatorFault>
     requires seen { ask.now.front ≤ me.old.front }
-    ensures { Acts L.opening ask.now me.old result me.new }
+    ensures { Acts L.start ask.now me.old result me.new }
 {
     if ask.moment > MAX_MOMENT {
         return Err(OperatorFault::MomentTooLarge);
@@ -67,10 +67,10 @@ pub fn advance<L: SharedLedger, R: Wait>(
     tries: u32,
 ) -> Result<Advanced, OperatorFault>
     ensures numbers { IfOk result (λ _. AreNumbers pieces limit tries) }
-    ensures done { IfOk result (λ done. IsAdvanced L.opening (asked moment pieces limit tries me.old.front) done) }
-    ensures seen { IfOk result (λ done. IsSeen L.opening moment done me.new.front) }
+    ensures done { IfOk result (λ done. IsAdvanced L.start (asked moment pieces limit tries me.old.front) done) }
+    ensures seen { IfOk result (λ done. IsSeen L.start moment done me.new.front) }
     ensures order { IfErr result (λ fault. (fault ≡ BadCount) ↔ (¬ (AreNumbers pieces limit tries))) }
-    ensures refused { IfErr result (λ fault. IsRefused L.opening (asked moment pieces limit tries me.old.front) me.new.front fault) }
+    ensures refused { IfErr result (λ fault. IsRefused L.start (asked moment pieces limit tries me.old.front) me.new.front fault) }
     ensures counted { me.new.count ≡ me.old.count + entries_in result }
     ensures same { me.new.id ≡ me.old.id }
     ensures rises { me.old.front ≤ me.new.front }

@@ -24,8 +24,8 @@ fn begin<L: SharedLedger, R: Wait>(
     element: u32,
 ) -> Result<Option<Advanced>, OperatorFault>
     requires seen { ask.now.front ≤ me.old.front }
-    requires due { WasDue L.opening ask.now (act.Begin element) }
-    ensures { Attempts L.opening ask.now me.old result me.new }
+    requires due { WasDue L.start ask.now (act.Begin element) }
+    ensures { Attempts L.start ask.now me.old result me.new }
 {
     let answer = shared.begin_reorg(rt, alloc, me, ask.moment, element, ask.pieces);
     of_begin(element, answer)
@@ -41,8 +41,8 @@ fn publish<L: SharedLedger, R: Wait>(
     step: &Step,
 ) -> Result<Option<Advanced>, OperatorFault>
     requires seen { ask.now.front ≤ me.old.front }
-    requires due { WasDue L.opening ask.now (act.Publish step.now) }
-    ensures { Attempts L.opening ask.now me.old result me.new }
+    requires due { WasDue L.start ask.now (act.Publish step.now) }
+    ensures { Attempts L.start ask.now me.old result me.new }
 {
     let answer = shared.publish(rt, alloc, me, ask.moment, step);
     of_publish(answer)
@@ -59,9 +59,9 @@ fn commit<L: SharedLedger, R: Wait>(
     view: PieceView,
 ) -> Result<Option<Advanced>, OperatorFault>
     requires seen { ask.now.front ≤ me.old.front }
-    requires due { WasDue L.opening ask.now (act.Work element) }
-    requires read { WasRead L.opening ask.now element view }
-    ensures { Attempts L.opening ask.now me.old result me.new }
+    requires due { WasDue L.start ask.now (act.Work element) }
+    requires read { WasRead L.start ask.now element view }
+    ensures { Attempts L.start ask.now me.old result me.new }
 {
     let Ok(prepared) = prepare_piece(alloc, view) else {
         return Err(OperatorFault::Memory);
@@ -80,8 +80,8 @@ fn work<L: SharedLedger, R: Wait>(
     element: u32,
 ) -> Result<Option<Advanced>, OperatorFault>
     requires seen { ask.now.front ≤ me.old.front }
-    requires due { WasDue L.opening ask.now (act.Work element) }
-    ensures { Attempts L.opening ask.now me.old result me.new }
+    requires due { WasDue L.start ask.now (act.Work element) }
+    ensures { Attempts L.start ask.now me.old result me.new }
 {
     match shared.next_view(rt, alloc, me, element, ask.limit) {
         Ok(Some(view)) => commit(rt, alloc, shared, me, ask, element, view),
@@ -99,7 +99,7 @@ pub(crate) fn attempt_act<L: SharedLedger, R: Wait>(
     ask: &Ask,
 ) -> Result<Option<Advanced>, OperatorFault>
     requires seen { ask.now.front ≤ me.old.front }
-    ensures { Attempts L.opening ask.now me.old result me.new }
+    ensures { Attempts L.start ask.now me.old result me.new }
 {
     match shared.due(rt, alloc, me, ask.moment) {
         Ok(Act::Begin { element }) => begin(rt, alloc, shared, me, ask, element),

@@ -45,7 +45,7 @@ fn act_and_keep<L: SharedLedger, R: Wait>(
     ask: &Ask,
 ) -> Result<Option<u64>, OperatorFault>
     requires seen { ask.now.front ≤ me.old.front }
-    ensures { ActsAndKeeps L.opening ask.now me.old receipts.old.items result me.new receipts.new.items }
+    ensures { ActsAndKeeps L.start ask.now me.old receipts.old.items result me.new receipts.new.items }
 {
     if receipts.reserve(1).is_err() {
         return Err(OperatorFault::Memory);
@@ -88,11 +88,11 @@ pub fn complete<L: SharedLedger, R: Wait>(
     tries: u32,
 ) -> Result<u64, OperatorFault>
     ensures numbers { IfOk result (λ _. AreNumbers pieces limit tries) }
-    ensures done { IfOk result (λ now. (moment ≤ now) × HasCompleted L.opening pieces limit tries me.old.front moment receipts.old.items now me.new.front receipts.new.items) }
+    ensures done { IfOk result (λ now. (moment ≤ now) × HasCompleted L.start pieces limit tries me.old.front moment receipts.old.items now me.new.front receipts.new.items) }
     ensures order { IfErr result (λ fault. (fault ≡ BadCount) ↔ (¬ (AreNumbers pieces limit tries))) }
-    ensures stopped { IfErr result (λ fault. HasStopped L.opening pieces limit tries me.old.front moment receipts.old.items fault me.new.front receipts.new.items) }
+    ensures stopped { IfErr result (λ fault. HasStopped L.start pieces limit tries me.old.front moment receipts.old.items fault me.new.front receipts.new.items) }
     ensures counted { me.new.count + length receipts.old.items ≡ me.old.count + length receipts.new.items }
-    ensures logged { All (IsLogged L.opening me.old.front) receipts.old.items → All (IsLogged L.opening me.old.front) receipts.new.items }
+    ensures logged { All (IsLogged L.start me.old.front) receipts.old.items → All (IsLogged L.start me.old.front) receipts.new.items }
     ensures same { me.new.id ≡ me.old.id }
     ensures rises { me.old.front ≤ me.new.front }
 {

@@ -20,8 +20,11 @@ pub trait Worker: Drop {
     // how many tasks a plan has
     ghost total: { Self.Plan → ℕ };
 
+    // what tells which worker it is
+    ghost Id: { Type 0 };
+
     // which worker it is
-    ghost id: { Self → ℕ };
+    ghost id: { Self → Self.Id };
 
     // how many receipts its calls gave
     ghost count: { Self → ℕ };

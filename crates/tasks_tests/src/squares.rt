@@ -31,6 +31,8 @@ impl Worker for Squarer {
 
     ghost total = { λ plan. plan };
 
+    ghost Id = { ℕ };
+
     ghost id = { λ w. w.id };
 
     ghost count = { λ _. 0 };

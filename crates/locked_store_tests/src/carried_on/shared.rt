@@ -1,6 +1,6 @@
 //! Two operators carry the changes on at once, beside four servers that write: nothing is done
 //! twice.
-ghost use Rattle.std.specs.Prelude.{◌≡◌, length};
+ghost use Rattle.std.specs.Prelude.{◌≡◌};
 
 use crate::carried_on::fixtures::{is_whole, request, states, with_changes};
 use collections::List;
@@ -157,7 +157,7 @@ fn driven<L: SharedLedger + Send + Sync, R: Threads + Wait + Sync>(
 ) -> Option<(World, Vec<Receipt>)>
     requires name { blank.name ≡ L.name }
     requires parts { blank.parts ≡ L.parts }
-    requires picked { (L.handles ≡ 6) × (L.handles ≡ L.parts) × (L.opening ≡ world.opening) × (L.since ≡ length world.log) }
+    requires picked { (L.handles ≡ 6) × (L.handles ≡ L.parts) × (L.start ≡ world) }
 {
     let (shared, mut servers) = Shared::<L>::new(alloc, blank, world, 6).ok()?;
     let operators = (servers.pop()?, servers.pop()?);

@@ -1,12 +1,12 @@
 -- Cited by private functions alone: unread_end, look, refused.
 -- What an attempt at a piece comes to, by what the lock answered. Only private functions cite this.
 use Rattle.std.specs.Prelude.{ℕ, Option, Some, None}
-use Rattle.replay.specs.Replay.{Opening}
 use Rattle.reorganise.specs.declared.fault.ViewFault.TheVariants as view_fault
 use Rattle.world.specs.declared.piece.PieceFault.{PieceFault}
 use Rattle.world.specs.declared.piece.PieceFault.TheVariants.{MomentTooLarge, NotWanted, WrongElement, Moved, Conflict, Memory}
 use Rattle.world.specs.declared.piece.ReadFault.{ReadFault}
 use Rattle.world.specs.declared.piece.ReadFault.TheVariants as read_fault
+use Rattle.world.specs.State.{State}
 use Rattle.locked_store.specs.declared.fault.SharedFault.{SharedFault}
 use Rattle.locked_store.specs.declared.fault.SharedFault.TheVariants as shared
 use Rattle.reorganise_workers.specs.Ends.{WasUnread}
@@ -17,8 +17,8 @@ use Rattle.reorganise_workers.specs.declared.attempt.Attempt.{Attempt}
 use Rattle.reorganise_workers.specs.declared.attempt.Attempt.TheVariants as attempt
 
 -- a core found the piece at its end
-abbrev pub WasSpent : Opening → Job → ℕ → Type 0
-WasSpent opening job piece = WasUnread opening job piece (read_fault.View view_fault.Spent)
+abbrev pub WasSpent : State → Job → ℕ → Type 0
+WasSpent start job piece = WasUnread start job piece (read_fault.View view_fault.Spent)
 
 -- how a piece ends that is not read; None if it was found at its end
 abbrev pub unread_end : SharedFault ReadFault → Option PieceEnd

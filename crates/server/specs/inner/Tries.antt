@@ -6,7 +6,7 @@ use Rattle.lease.specs.declared.lease.Lease.{Lease}
 use Rattle.schema_version.specs.Version.{Version}
 use Rattle.world.specs.declared.entry.Receipt.{Receipt}
 use Rattle.world.specs.declared.commit.CommitFault.{CommitFault}
-use Rattle.server.specs.Outcomes.{Said, IsFailedTry, IsAgain}
+use Rattle.server.specs.Outcomes.{Said, IsFailedTry, IsAgain, IsLeaseReceipt}
 use Rattle.server.specs.declared.tally.Last.{Last}
 
 -- the lease at hand, if there is one, was granted at this moment, with this schema
@@ -18,9 +18,9 @@ IsHeld may moment (Some held) = may (Said.granted moment held.0 held.1)
 abbrev pub HasFailed : (Said → Type 0) → ℕ → List RowOp → Type 0
 HasFailed may moment ops = (fault : CommitFault) × IsFailedTry may moment ops fault
 
--- if all receipts of the port were of logged entries, they still are
-abbrev pub StayLogged : (Said → Type 0) → List Receipt → List Receipt → Type 0
-StayLogged may before after = All (λ r. may (Said.logged r)) before → All (λ r. may (Said.logged r)) after
+-- if all receipts of the port were of leases, they still are
+abbrev pub StayLeases : (Said → Type 0) → List Receipt → List Receipt → Type 0
+StayLeases may before after = All (IsLeaseReceipt may) before → All (IsLeaseReceipt may) after
 
 -- the lease with which the next try begins, by the port's last answer: after a conflict there is one, and after its end there is none
 abbrev pub IsNext : Option (Lease × Version) → Last → Type 0

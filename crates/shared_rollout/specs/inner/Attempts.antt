@@ -4,7 +4,6 @@ use Rattle.std.specs.Prelude.{◌≡◌, ℕ, ◌+◌, ◌≤◌, ◌++◌, List
 use Rattle.std.specs.declared.alloc.AllocError.{AllocError}
 use Rattle.reorganise.specs.declared.fault.ViewFault.TheVariants as view_fault
 use Rattle.reorganise.specs.declared.read.Reading.{Reading}
-use Rattle.replay.specs.Replay.{Opening}
 use Rattle.world.specs.declared.begin_reorg.BeginFault.{BeginFault}
 use Rattle.world.specs.declared.begin_reorg.BeginFault.TheVariants as begin_fault
 use Rattle.world.specs.declared.entry.PieceDone.{PieceDone}
@@ -15,6 +14,7 @@ use Rattle.world.specs.declared.piece.ReadFault.{ReadFault}
 use Rattle.world.specs.declared.piece.ReadFault.TheVariants as read_fault
 use Rattle.world.specs.declared.publish.PublishFault.{PublishFault}
 use Rattle.world.specs.declared.publish.PublishFault.TheVariants as publish_fault
+use Rattle.world.specs.State.{State}
 use Rattle.locked_store.specs.Known.{Known}
 use Rattle.locked_store.specs.declared.fault.SharedFault.{SharedFault}
 use Rattle.locked_store.specs.declared.fault.SharedFault.TheVariants as shared
@@ -77,42 +77,42 @@ of_commit element (Err refusal) = of_refusal refusal.0
 
 -- ---- what is known of an attempt, from the handle before it to the handle after it
 
-abbrev pub Says : Opening → Ask → Known → Attempt → Known → Type 0
-Says opening ask v (Ok (Some done)) w = IsAdvanced opening ask done × IsSeen opening ask.moment done w.front × (w.count ≡ v.count + entries_of done)
-Says opening ask v (Ok None) w = ((what : Act) × WasOvertaken opening ask what) × (w.count ≡ v.count)
-Says opening ask v (Err why) w = IsRefused opening ask w.front why × (w.count ≡ v.count)
+abbrev pub Says : State → Ask → Known → Attempt → Known → Type 0
+Says start ask v (Ok (Some done)) w = IsAdvanced start ask done × IsSeen start ask.moment done w.front × (w.count ≡ v.count + entries_of done)
+Says start ask v (Ok None) w = ((what : Act) × WasOvertaken start ask what) × (w.count ≡ v.count)
+Says start ask v (Err why) w = IsRefused start ask w.front why × (w.count ≡ v.count)
 
-pub record Attempts (opening : Opening) (ask : Ask) (v : Known) (attempt : Attempt) (w : Known) : Type 0 where
+pub record Attempts (start : State) (ask : Ask) (v : Known) (attempt : Attempt) (w : Known) : Type 0 where
   pub same : w.id ≡ v.id
   pub rises : v.front ≤ w.front
-  pub says : Says opening ask v attempt w
+  pub says : Says start ask v attempt w
 
 -- ---- what is known of an act
 
-abbrev pub ActSays : Opening → Ask → Known → Result Advanced OperatorFault → Known → Type 0
-ActSays opening ask v (Ok done) w = IsAdvanced opening ask done × IsSeen opening ask.moment done w.front × (w.count ≡ v.count + entries_of done)
-ActSays opening ask v (Err why) w = IsRefused opening ask w.front why × (w.count ≡ v.count)
+abbrev pub ActSays : State → Ask → Known → Result Advanced OperatorFault → Known → Type 0
+ActSays start ask v (Ok done) w = IsAdvanced start ask done × IsSeen start ask.moment done w.front × (w.count ≡ v.count + entries_of done)
+ActSays start ask v (Err why) w = IsRefused start ask w.front why × (w.count ≡ v.count)
 
-pub record Acts (opening : Opening) (ask : Ask) (v : Known) (result : Result Advanced OperatorFault) (w : Known) : Type 0 where
+pub record Acts (start : State) (ask : Ask) (v : Known) (result : Result Advanced OperatorFault) (w : Known) : Type 0 where
   pub same : w.id ≡ v.id
   pub rises : v.front ≤ w.front
-  pub says : ActSays opening ask v result w
+  pub says : ActSays start ask v result w
 
 -- ---- what is kept of an act: the moment of the next one, none if no change is under way, and its receipt
 
-pub record IsKept (opening : Opening) (ask : Ask) (old : List Receipt) (next : Option ℕ) (front : ℕ) (new : List Receipt) : Type 0 where
+pub record IsKept (start : State) (ask : Ask) (old : List Receipt) (next : Option ℕ) (front : ℕ) (new : List Receipt) : Type 0 where
   pub done : Advanced
-  pub is_advanced : IsAdvanced opening ask done
-  pub seen : IsSeen opening ask.moment done front
+  pub is_advanced : IsAdvanced start ask done
+  pub seen : IsSeen start ask.moment done front
   pub next_is : next ≡ next_of ask.moment done
   pub kept : new ≡ old ++ receipts_of done
 
-abbrev pub KeptSays : Opening → Ask → List Receipt → Result (Option ℕ) OperatorFault → ℕ → List Receipt → Type 0
-KeptSays opening ask old (Ok next) front new = IsKept opening ask old next front new
-KeptSays opening ask old (Err why) front new = IsRefused opening ask front why × (new ≡ old)
+abbrev pub KeptSays : State → Ask → List Receipt → Result (Option ℕ) OperatorFault → ℕ → List Receipt → Type 0
+KeptSays start ask old (Ok next) front new = IsKept start ask old next front new
+KeptSays start ask old (Err why) front new = IsRefused start ask front why × (new ≡ old)
 
-pub record ActsAndKeeps (opening : Opening) (ask : Ask) (v : Known) (old : List Receipt) (answer : Result (Option ℕ) OperatorFault) (w : Known) (new : List Receipt) : Type 0 where
+pub record ActsAndKeeps (start : State) (ask : Ask) (v : Known) (old : List Receipt) (answer : Result (Option ℕ) OperatorFault) (w : Known) (new : List Receipt) : Type 0 where
   pub same : w.id ≡ v.id
   pub rises : v.front ≤ w.front
   pub counted : w.count + length old ≡ v.count + length new
-  pub says : KeptSays opening ask old answer w.front new
+  pub says : KeptSays start ask old answer w.front new

@@ -13,13 +13,13 @@ returns-in_default-with_capacity-clause-refused g c = (c.in-Ok.ensures.counts, (
 pub returns-clause-done : goal.returns-clause-done
 returns-clause-done g c =
     ok_map c.run.result c.run.ensures.done
-    (λ s r. worked_off g.L.SharedLedger.opening c.args.moment c.args.element c.args.limit c.args.tries c.in-Ok.job c.args.handles.items c.look_again.new.handles.items s.ends.items s.handles.items s.receipts.items
+    (λ s r. worked_off g.L.SharedLedger.start c.args.moment c.args.element c.args.limit c.args.tries c.in-Ok.job c.args.handles.items c.look_again.new.handles.items s.ends.items s.handles.items s.receipts.items
     c.in-Ok.ensures.stays.0 c.in-Ok.ensures.job.1 c.in-Ok.ensures.begun c.in-Ok.ensures.least r)
 
 pub returns-clause-refused : goal.returns-clause-refused
 returns-clause-refused g c =
     err_map c.run.result c.run.ensures.refused
-    (λ r is. subst (λ (f : ReorganiseFault). IsRefused g.L.SharedLedger.opening c.args.element c.args.limit c.args.tries c.args.handles.items f) (sym is)
+    (λ r is. subst (λ (f : ReorganiseFault). IsRefused g.L.SharedLedger.start c.args.element c.args.limit c.args.tries c.args.handles.items f) (sym is)
     (c.in-Ok.ensures.counts, (c.in-Ok.job.kind, c.in-Ok.job.pieces, c.in-Ok.ensures.begun)))
 
 pub returns-clause-unchanged : goal.returns-clause-unchanged

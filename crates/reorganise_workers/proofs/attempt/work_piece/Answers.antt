@@ -3,34 +3,34 @@ use Rattle.reorganise_workers.proofs.Ends.{none_failed, one_more_failed, busy}
 use Rattle.reorganise_workers.proofs.attempt.work_piece.Goals as goal
 
 pub loop-i-init : goal.loop-i-init
-loop-i-init g c = (refl, refl, omega arith, λ all. all, omega (arith, c.requires.job.2), none_failed g.L.SharedLedger.opening c.args.job.now c.args.piece)
+loop-i-init g c = (refl, refl, omega arith, λ all. all, omega (arith, c.requires.job.2), none_failed g.L.SharedLedger.start c.args.job.now c.args.piece)
 
 pub loop-i-preserved-in-More : goal.loop-i-preserved-in-More
 loop-i-preserved-in-More g c = (
   c.make_attempt.ensures.same ∙ c.loop-i.invariant.0,
   omega (arith, c.make_attempt.ensures.counted, c.loop-i.invariant.1),
   omega (arith, c.make_attempt.ensures.rises, c.loop-i.invariant.2),
-  λ all. c.make_attempt.ensures.logged (c.loop-i.invariant.3 all),
+  λ all. c.make_attempt.ensures.pieces (c.loop-i.invariant.3 all),
   c.loop-i.invariant.4,
   c.loop-i.invariant.5,
 )
 
-pub returns-then-failed-job-clause-logged : goal.returns-then-failed-job-clause-logged
-returns-then-failed-job-clause-logged g c = λ all. c.make_attempt.ensures.logged (c.loop-i.invariant.3 all)
+pub returns-then-failed-job-clause-pieces : goal.returns-then-failed-job-clause-pieces
+returns-then-failed-job-clause-pieces g c = λ all. c.make_attempt.ensures.pieces (c.loop-i.invariant.3 all)
 
 pub returns-then-failed-job-clause-end : goal.returns-then-failed-job-clause-end
 returns-then-failed-job-clause-end g c =
-    busy g.L.SharedLedger.opening c.args.job.now c.args.piece c.loop-i.failed c.loop-i.invariant.4 c.if-failed-job.true (one_more_failed g.L.SharedLedger.opening c.args.job.now c.args.piece c.loop-i.failed c.loop-i.invariant.5 c.in-Again.ensures.attempt)
+    busy g.L.SharedLedger.start c.args.job.now c.args.piece c.loop-i.failed c.loop-i.invariant.4 c.if-failed-job.true (one_more_failed g.L.SharedLedger.start c.args.job.now c.args.piece c.loop-i.failed c.loop-i.invariant.5 c.in-Again.ensures.attempt)
 
 pub loop-i-preserved : goal.loop-i-preserved
 loop-i-preserved g c = (
   c.make_attempt.ensures.same ∙ c.loop-i.invariant.0,
   omega (arith, c.make_attempt.ensures.counted, c.loop-i.invariant.1),
   omega (arith, c.make_attempt.ensures.rises, c.loop-i.invariant.2),
-  λ all. c.make_attempt.ensures.logged (c.loop-i.invariant.3 all),
+  λ all. c.make_attempt.ensures.pieces (c.loop-i.invariant.3 all),
   grind (arith, c.if-failed-job.false, rules),
-  one_more_failed g.L.SharedLedger.opening c.args.job.now c.args.piece c.loop-i.failed c.loop-i.invariant.5 c.in-Again.ensures.attempt,
+  one_more_failed g.L.SharedLedger.start c.args.job.now c.args.piece c.loop-i.failed c.loop-i.invariant.5 c.in-Again.ensures.attempt,
 )
 
-pub returns-in-Ended-clause-logged : goal.returns-in-Ended-clause-logged
-returns-in-Ended-clause-logged g c = λ all. c.make_attempt.ensures.logged (c.loop-i.invariant.3 all)
+pub returns-in-Ended-clause-pieces : goal.returns-in-Ended-clause-pieces
+returns-in-Ended-clause-pieces g c = λ all. c.make_attempt.ensures.pieces (c.loop-i.invariant.3 all)

@@ -1,6 +1,5 @@
 use Rattle.std.proofs.Common.{◌≡◌, ◌+◌, ◌<◌, ◌≤◌, length, All}
-use Rattle.locked_store.specs.Receipts.{IsLogged}
-use Rattle.reorganise_workers.specs.Ends.{FailedSoOften}
+use Rattle.reorganise_workers.specs.Ends.{FailedSoOften, IsPieceReceipt}
 use Rattle.reorganise_workers.proofs.attempt.work_piece.Given as goal
 
 abbrev pub invariant-loop-i : goal.invariant-loop-i
@@ -8,6 +7,6 @@ invariant-loop-i g l =
     (l.me.id ≡ l.fn.me.id)
     × (l.me.count + length l.fn.kept_receipts.items ≡ l.fn.me.count + length l.kept_receipts.items)
     × (l.fn.me.front ≤ l.me.front)
-    × (All (IsLogged g.L.SharedLedger.opening l.job.front) l.fn.kept_receipts.items → All (IsLogged g.L.SharedLedger.opening l.job.front) l.kept_receipts.items)
+    × (All (IsPieceReceipt g.L.SharedLedger.start l.job) l.fn.kept_receipts.items → All (IsPieceReceipt g.L.SharedLedger.start l.job) l.kept_receipts.items)
     × (l.failed < l.job.tries)
-    × FailedSoOften g.L.SharedLedger.opening l.job l.piece l.failed
+    × FailedSoOften g.L.SharedLedger.start l.job l.piece l.failed

@@ -22,3 +22,7 @@ pub returns-clause-own : goal.returns-clause-own
 returns-clause-own g c f le =
     let all : c.loop-i._i ≡ c.args.tries = omega arith in
     (refl, subst (λ (n : ℕ). FailedSoOften (g.P.Port.may f) c.args.request.now.moment c.args.request.now.ops n) all (c.loop-i.invariant.failed f le))
+
+pub returns-in-Err-clause-kept_receipts : goal.returns-in-Err-clause-kept_receipts
+returns-in-Err-clause-kept_receipts g c f le all =
+    c.in-Err.ensures.kept_receipts f (omega (arith, le, c.loop-i.invariant.rises)) (c.loop-i.invariant.kept_receipts f le all)

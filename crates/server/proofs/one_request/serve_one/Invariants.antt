@@ -1,6 +1,6 @@
 use Rattle.std.proofs.Common.{◌≡◌, ℕ, ◌+◌, ◌≤◌, length}
 use Rattle.server.specs.Outcomes.{FailedSoOften}
-use Rattle.server.specs.inner.Tries.{IsHeld, StayLogged}
+use Rattle.server.specs.inner.Tries.{IsHeld, StayLeases}
 use Rattle.server.proofs.one_request.serve_one.Given as goal
 
 abbrev pub invariant-loop-i : goal.invariant-loop-i
@@ -12,5 +12,5 @@ invariant-loop-i g l =
       rises : g.P.Port.front l.fn.port ≤ g.P.Port.front l.port;
       counted : g.P.Port.count l.port + length (g.P.Port.kept_receipts l.fn.port) ≡ g.P.Port.count l.fn.port + length (g.P.Port.kept_receipts l.port);
       own_handle : g.P.Port.id l.port ≡ g.P.Port.id l.fn.port;
-      kept_receipts : (f : ℕ) → f ≤ g.P.Port.front l.fn.port → StayLogged (g.P.Port.may f) (g.P.Port.kept_receipts l.fn.port) (g.P.Port.kept_receipts l.port);
+      kept_receipts : (f : ℕ) → f ≤ g.P.Port.front l.fn.port → StayLeases (g.P.Port.may f) (g.P.Port.kept_receipts l.fn.port) (g.P.Port.kept_receipts l.port);
     }

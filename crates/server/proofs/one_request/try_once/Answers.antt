@@ -1,4 +1,6 @@
-use Rattle.std.proofs.Common.{rules, arith}
+use Rattle.std.proofs.Common.{rules, arith, ◌∙◌}
+use Rattle.std.proofs.lemmas.List.Elements.{All-same}
+use Rattle.server.specs.Outcomes.{IsLeaseReceipt}
 use Rattle.server.proofs.one_request.try_once.Goals as goal
 
 pub returns-in_err-lease-clause-own : goal.returns-in_err-lease-clause-own
@@ -11,3 +13,19 @@ returns-in_err-prepared-clause-own g c f n le held =
 pub returns-in_err-committed_by-clause-own : goal.returns-in_err-committed_by-clause-own
 returns-in_err-committed_by-clause-own g c f n le held =
     let h = c.in_err-committed_by.ensures.own f n (omega (arith, le, c.in_ok-lease.ensures.rises, c.in_ok-prepared.ensures.rises)) in search rules
+
+pub returns-in_err-prepared-clause-kept_receipts : goal.returns-in_err-prepared-clause-kept_receipts
+returns-in_err-prepared-clause-kept_receipts g c f le all =
+    All-same (IsLeaseReceipt (g.P.Port.may f)) _ _ c.in_err-prepared.ensures.kept_receipts (c.in_ok-lease.ensures.kept_receipts f le all)
+
+pub returns-in_err-committed_by-clause-kept_receipts : goal.returns-in_err-committed_by-clause-kept_receipts
+returns-in_err-committed_by-clause-kept_receipts g c f le all =
+    All-same (IsLeaseReceipt (g.P.Port.may f)) _ _ (c.in_err-committed_by.ensures.kept_receipts ∙ c.in_ok-prepared.ensures.kept_receipts) (c.in_ok-lease.ensures.kept_receipts f le all)
+
+pub returns-then-branch-clause-kept_receipts : goal.returns-then-branch-clause-kept_receipts
+returns-then-branch-clause-kept_receipts g c f le all =
+    All-same (IsLeaseReceipt (g.P.Port.may f)) _ _ (c.in_ok-committed_by.ensures.kept_receipts ∙ c.in_ok-prepared.ensures.kept_receipts) (c.in_ok-lease.ensures.kept_receipts f le all)
+
+pub returns-else-branch-clause-kept_receipts : goal.returns-else-branch-clause-kept_receipts
+returns-else-branch-clause-kept_receipts g c f le all =
+    All-same (IsLeaseReceipt (g.P.Port.may f)) _ _ (c.in_ok-committed_by.ensures.kept_receipts ∙ c.in_ok-prepared.ensures.kept_receipts) (c.in_ok-lease.ensures.kept_receipts f le all)

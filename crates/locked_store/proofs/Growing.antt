@@ -1,0 +1,57 @@
+-- A call leaves the log as it was, or with one entry more.
+use Rattle.std.proofs.Common.{◌≡◌, ℕ, List, [], ◌∷◌, ◌++◌, sym, ap, ◌∙◌, subst, append_assoc, append-nil, Result, Ok, Err}
+use Rattle.row_write.specs.Made.{PreparedTxn}
+use Rattle.reorganise.specs.declared.read.Reading.{Reading}
+use Rattle.schema_version.specs.declared.step.Move.{Move}
+use Rattle.replay.specs.declared.entry.What.{What}
+use Rattle.world.specs.declared.begin_reorg.BeginFault.{BeginFault}
+use Rattle.world.specs.declared.commit.CommitFault.{CommitFault}
+use Rattle.world.specs.declared.committed.Committed.{Committed}
+use Rattle.world.specs.declared.committed.Committed.TheVariants as committed
+use Rattle.world.specs.declared.entry.Grant.{Grant}
+use Rattle.world.specs.declared.entry.PieceDone.{PieceDone}
+use Rattle.world.specs.declared.entry.Receipt.{Receipt}
+use Rattle.world.specs.declared.grant.GrantFault.{GrantFault}
+use Rattle.world.specs.declared.piece.PieceFault.{PieceFault}
+use Rattle.world.specs.declared.publish.PublishFault.{PublishFault}
+use Rattle.world.specs.BeginReorg.{BeginStep}
+use Rattle.world.specs.Calls.{Appends, LeaseStep, CommitStep}
+use Rattle.world.specs.Piece.{PieceStep}
+use Rattle.world.specs.Publish.{PublishStep}
+use Rattle.world.specs.State.{State}
+use Rattle.locked_store.specs.Cores.{GrewFrom}
+
+pub at_start : (start world : State) → start ≡ world → GrewFrom start world
+at_start start world same = record { opened = ap (λ (s : State). s.opening) (sym same); more = []; log = ap (λ (s : State). s.log) (sym same) ∙ sym (append-nil start.log) }
+
+appended : (start found left : State) (now : ℕ) (what : What) (receipt : Receipt) → GrewFrom start found → Appends found now what receipt left → GrewFrom start left
+appended start found left now what receipt grew appends =
+    record {
+      opened = ap (λ (s : State). s.opening) appends.state ∙ grew.opened;
+      more = grew.more ++ receipt.entry ∷ [];
+      log = ap (λ (s : State). s.log) appends.state ∙ ap (λ log. log ++ receipt.entry ∷ []) grew.log ∙ append_assoc start.log grew.more (receipt.entry ∷ []);
+    }
+
+unchanged : (start found left : State) → GrewFrom start found → left ≡ found → GrewFrom start left
+unchanged start found left grew same = subst (GrewFrom start) (sym same) grew
+
+pub lease : (start found left : State) (moment : ℕ) (answer : Result Grant GrantFault) → GrewFrom start found → LeaseStep found moment answer left → GrewFrom start left
+lease start found left moment (Ok given) grew step = appended start found left _ _ given.receipt grew step.3
+lease start found left moment (Err why) grew step = unchanged start found left grew step.1
+
+pub commit : (start found left : State) (moment : ℕ) (prepared : PreparedTxn) (answer : Result Committed (CommitFault × PreparedTxn)) → GrewFrom start found → CommitStep found moment prepared answer left → GrewFrom start left
+commit start found left moment prepared (Ok (committed.Done receipt)) grew step = appended start found left _ _ receipt grew step.2
+commit start found left moment prepared (Ok (committed.Refused op why)) grew step = unchanged start found left grew step.2
+commit start found left moment prepared (Err refusal) grew step = unchanged start found left grew step.0.1
+
+pub publish : (start found left : State) (moment : ℕ) (move : List Move) (answer : Result (ℕ × Receipt) PublishFault) → GrewFrom start found → PublishStep found moment move answer left → GrewFrom start left
+publish start found left moment move (Ok done) grew step = appended start found left _ _ done.1 grew step.2
+publish start found left moment move (Err why) grew step = unchanged start found left grew step.1
+
+pub begin : (start found left : State) (moment element pieces : ℕ) (answer : Result Receipt BeginFault) → GrewFrom start found → BeginStep found moment element pieces answer left → GrewFrom start left
+begin start found left moment element pieces (Ok receipt) grew step = appended start found left _ _ receipt grew step.1
+begin start found left moment element pieces (Err why) grew step = unchanged start found left grew step.1
+
+pub piece : (start found left : State) (moment : ℕ) (read : Reading) (answer : Result PieceDone (PieceFault × Reading)) → GrewFrom start found → PieceStep found moment read answer left → GrewFrom start left
+piece start found left moment read (Ok done) grew step = appended start found left _ _ done.receipt grew step.2
+piece start found left moment read (Err refusal) grew step = unchanged start found left grew step.0.1
