@@ -15,7 +15,7 @@ use Rattle.world.specs.Piece.{standing, standing_at}
 use Rattle.world.specs.State.{State, facts_of}
 use Rattle.world.specs.declared.entry.Receipt.{Receipt}
 use Rattle.locked_store.specs.Cores.{IsCore}
-use Rattle.locked_store.specs.Known.{Known, total_count, HaveRisen, IsLeastFront, OfLast}
+use Rattle.locked_store.specs.Known.{Known, total_count, IsLeastFront, OfLast}
 use Rattle.locked_store.proofs.Fronts.{back_risen, risen_on, one_risen}
 use Rattle.reorganise_workers.specs.inner.Workers.{Filling, AreIdle}
 use Rattle.reorganise_workers.specs.Ends.{IsEndOf, IsPieceReceipt}

@@ -1,10 +1,9 @@
 -- What the lock answered, as what an attempt comes to.
-use Rattle.std.proofs.Common.{◌≡◌, ℕ, ◌+◌, ◌<◌, ◌≤◌, ◌⊎◌, ◌∷◌, [], ◌++◌, List, length, All, Option, Some, None, refl, sym, ap, ◌∙◌, subst, inl, inr, arith}
+use Rattle.std.proofs.Common.{◌≡◌, ℕ, ◌+◌, ◌≤◌, ◌⊎◌, ◌∷◌, [], ◌++◌, List, length, Option, Some, None, refl, sym, ap, ◌∙◌, subst, inl, inr, arith}
 use Rattle.std.specs.Prelude.{Result, Ok, Err, IfOk}
 use Rattle.std.proofs.lemmas.List.{length_push}
 use Rattle.std.proofs.lemmas.List.Elements.{All-push, All-nil}
 use Rattle.std.specs.declared.alloc.AllocError.{AllocError}
-use Rattle.lease.specs.Timeline.{max_moment}
 use Rattle.schema_version.specs.declared.step.Move.{Move}
 use Rattle.reorganise.specs.declared.fault.ViewFault.TheVariants as view_fault
 use Rattle.reorganise.specs.declared.read.Reading.{Reading}
@@ -19,14 +18,13 @@ use Rattle.world.specs.declared.piece.ReadFault.TheVariants as read_fault
 use Rattle.world.specs.declared.publish.PublishFault.{PublishFault}
 use Rattle.world.specs.declared.publish.PublishFault.TheVariants as publish_fault
 use Rattle.world.specs.BeginReorg.{BeginStep}
-use Rattle.world.specs.Calls.{Appends, effective_moment}
+use Rattle.world.specs.Calls.{effective_moment}
 use Rattle.world.specs.Piece.{PieceStep}
 use Rattle.world.specs.Publish.{PublishStep}
 use Rattle.world.specs.State.{State, facts_of}
 use Rattle.locked_store.specs.Answers.{Answers, AnswersBack, BackBy, WentBackTo, no_place, receipt_place, publish_place, piece_place}
 use Rattle.locked_store.specs.Cores.{IsCore, IsCoreSince}
 use Rattle.locked_store.specs.Known.{Known}
-use Rattle.locked_store.specs.Receipts.{IsLogged}
 use Rattle.locked_store.specs.declared.fault.SharedFault.{SharedFault}
 use Rattle.locked_store.specs.declared.fault.SharedFault.TheVariants as shared
 use Rattle.locked_store.proofs.Logging.{logged_after, same_front, stays}
@@ -38,7 +36,6 @@ use Rattle.rollout.specs.Due.{IsDue}
 use Rattle.shared_rollout.specs.Operator.{IsAdvanced, IsSeen, IsWorkedElse, WasBegun, WasCommitted, WasDue, WasDueAt, WasLooked, WasPublished, WasRead, WasOvertaken, WereOvertaken, entries_of}
 use Rattle.shared_rollout.specs.inner.Attempts.{Attempt, Attempts, Says, of_begin, of_commit, of_look, of_publish, of_read, of_refusal}
 use Rattle.shared_rollout.specs.declared.ask.Ask.{Ask}
-use Rattle.shared_rollout.specs.declared.fault.OperatorFault.{OperatorFault}
 use Rattle.shared_rollout.specs.declared.fault.OperatorFault.TheVariants as fault
 
 -- ---- what is known after a call

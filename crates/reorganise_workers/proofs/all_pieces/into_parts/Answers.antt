@@ -1,4 +1,4 @@
-use Rattle.std.proofs.Common.{rules, ap, sym, subst, ◌∙◌, ◌≤◌, All, List, [], ◌∷◌, ◌++◌}
+use Rattle.std.proofs.Common.{rules, ap, sym, subst, ◌∙◌, ◌≤◌, All, List, []}
 use Rattle.std.proofs.lemmas.List.Elements.{All-push, All-same, All-nil}
 use Rattle.world.specs.declared.entry.Receipt.{Receipt}
 use Rattle.reorganise_workers.specs.Ends.{IsPieceReceipt}

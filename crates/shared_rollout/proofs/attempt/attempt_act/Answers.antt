@@ -1,6 +1,4 @@
 use Rattle.std.proofs.Common.{Ok, subst, refl, arith}
-use Rattle.rollout.specs.declared.act.Act.{Act}
-use Rattle.rollout.specs.declared.act.Act.TheVariants as act
 use Rattle.rollout.specs.declared.advanced.Advanced.TheVariants as advanced
 use Rattle.shared_rollout.specs.Operator.{WasDue, WasDueAt}
 use Rattle.shared_rollout.proofs.Attempts.{due_quiet, later, looked, unseen, was_due, was_due_at}

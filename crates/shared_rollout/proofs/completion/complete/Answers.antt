@@ -1,4 +1,4 @@
-use Rattle.std.proofs.Common.{◌≡◌, ◌∙◌, false, true, sym, refl, arith}
+use Rattle.std.proofs.Common.{◌≡◌, ◌∙◌, false, true, sym, refl}
 use Rattle.shared_rollout.specs.Operator.{AreNumbers, asked}
 use Rattle.shared_rollout.proofs.Acts.{bad_count, finished_at, is_no_bad_count, no_act, one_act_more, refused_at}
 use Rattle.shared_rollout.proofs.completion.complete.Goals as goal
