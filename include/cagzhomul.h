@@ -205,8 +205,9 @@ cagzhomul_outcome cagzhomul_reply_from(cagzhomul_handle *handle, size_t from, ui
  * after it stay. `place` counts from 1, as in the reply `ok done PLACE`, so the last one is the
  * number that the line `log` reports. A place keeps its entry, and an entry has one code.
  * CAGZHOMUL_OK, with the length of the whole code. Refusals: CAGZHOMUL_CLOSED;
- * CAGZHOMUL_WRONG_KIND; CAGZHOMUL_NOT_OPENED; CAGZHOMUL_NO_ENTRY; CAGZHOMUL_OUT_OF_MEMORY. The
- * session and its last reply are as before after each of them, and after CAGZHOMUL_OK. */
+ * CAGZHOMUL_WRONG_KIND; CAGZHOMUL_NOT_OPENED; CAGZHOMUL_NO_ENTRY, also of an entry that
+ * cagzhomul_cut gave back; CAGZHOMUL_OUT_OF_MEMORY. The session and its last reply are as before
+ * after each of them, and after CAGZHOMUL_OK. */
 cagzhomul_outcome cagzhomul_entry(cagzhomul_handle *handle, size_t place, uint8_t *out,
                                   size_t out_length);
 
@@ -335,7 +336,7 @@ cagzhomul_queried cagzhomul_query(cagzhomul_handle *session, uint64_t moment,
 cagzhomul_queried cagzhomul_snapshot_query(cagzhomul_handle *snapshot, const uint8_t *query,
                                            size_t query_length, cagzhomul_handle *rows);
 
-/* Writes the code of the rows that the handle holds, from its byte `from` on (the first is 0), as
+/* Writes the code of the rows, or of the checkpoint, that the handle holds, from its byte `from` on (the first is 0), as
  * far as it fits in `out`; the bytes of `out` after it stay. Nothing is written if `from` is the
  * code's length or more. The handle holds the rows until it is closed.
  * CAGZHOMUL_OK, with the length of the whole code. Refusals: CAGZHOMUL_CLOSED;
@@ -349,9 +350,45 @@ cagzhomul_outcome cagzhomul_rows_from(cagzhomul_handle *rows, size_t from, uint8
  * CAGZHOMUL_OUT_OF_MEMORY. Nothing changes. */
 cagzhomul_checked cagzhomul_check(cagzhomul_handle *handle);
 
-/* How many entries the log of the session's world has, as `length`.
+/* How many entries the log of the session's world had ever, as `length`: also those that
+ * cagzhomul_cut gave back.
  * CAGZHOMUL_OK. Refusals: CAGZHOMUL_CLOSED; CAGZHOMUL_WRONG_KIND; CAGZHOMUL_NOT_OPENED. */
 cagzhomul_outcome cagzhomul_log_length(cagzhomul_handle *session);
+
+/* How many entries of that log come before those that are in memory, as `length`: 0 until it is
+ * cut. cagzhomul_entry has those of the places above it.
+ * CAGZHOMUL_OK. Refusals: CAGZHOMUL_CLOSED; CAGZHOMUL_WRONG_KIND; CAGZHOMUL_NOT_OPENED. */
+cagzhomul_outcome cagzhomul_log_start(cagzhomul_handle *session);
+
+/* Gives the memory of all entries of the log back, so that a session that lives for long takes no
+ * more memory than its data. No answer changes but those of cagzhomul_entry, which then has none of
+ * these entries, and of cagzhomul_log_start; a receipt's place goes on counting from the first
+ * entry ever. It takes no memory, and time with the entries since the last cut.
+ * CAGZHOMUL_OK. Refusals: CAGZHOMUL_CLOSED; CAGZHOMUL_WRONG_KIND; CAGZHOMUL_NOT_OPENED. */
+int32_t cagzhomul_cut(cagzhomul_handle *session);
+
+/* Takes the checkpoint of the session's world into the closed handle `checkpoint`: all that a world
+ * needs to go on from here. The session goes on. Pairs are shared, so its time does not grow with
+ * them.
+ * CAGZHOMUL_OK. Refusals: CAGZHOMUL_ALREADY_OPEN, of `checkpoint`; CAGZHOMUL_CLOSED;
+ * CAGZHOMUL_WRONG_KIND; CAGZHOMUL_NOT_OPENED; CAGZHOMUL_OUT_OF_MEMORY. A refusal leaves
+ * `checkpoint` as it was. */
+int32_t cagzhomul_checkpoint(cagzhomul_handle *session, cagzhomul_handle *checkpoint);
+
+/* Writes the bytes of a checkpoint into the closed handle `bytes`, from which cagzhomul_rows_from
+ * gives them. It takes no session, so it needs no lock of one, and time and memory with the pairs.
+ * The checkpoint stays.
+ * CAGZHOMUL_OK. Refusals: CAGZHOMUL_ALREADY_OPEN, of `bytes`; CAGZHOMUL_CLOSED;
+ * CAGZHOMUL_WRONG_KIND; CAGZHOMUL_OUT_OF_MEMORY. A refusal leaves `bytes` as it was. */
+int32_t cagzhomul_save(cagzhomul_handle *checkpoint, cagzhomul_handle *bytes);
+
+/* Opens a session in the closed handle, whose world goes on from the checkpoint that these bytes
+ * are: places go on counting, and each call answers what it would answer in the world of which it is
+ * the checkpoint. The session has no leases by name, nothing prepared and no plan. Bytes may come
+ * from anyone: they are tested, for which all pairs are read.
+ * CAGZHOMUL_OK. Refusals: CAGZHOMUL_ALREADY_OPEN; CAGZHOMUL_BAD_CODE if no world may open from these
+ * bytes, as they are damaged or forged; CAGZHOMUL_OUT_OF_MEMORY, which may come in its place. */
+int32_t cagzhomul_open_at(cagzhomul_handle *handle, const uint8_t *bytes, size_t length);
 
 /* Publishes the version that a step gives, by its code, in the session's world. `moment` is as for
  * cagzhomul_lease. The rest of the session and its last reply stay. What the step needs next is

@@ -80,6 +80,8 @@ _FUNCTIONS: Dict[str, Tuple[Any, List[Any]]] = {
     "query": (_Queried, [_HANDLE, _NUMBER, _HANDLE, _BYTES, _SIZE, _HANDLE]), "rows_from": (_Outcome, [_HANDLE, _SIZE, _BYTES, _SIZE]),
     "snapshot_query": (_Queried, [_HANDLE, _BYTES, _SIZE, _HANDLE]),
     "snapshot": (_STATUS, [_HANDLE, _NUMBER, _HANDLE, _HANDLE]), "check": (_Checked, [_HANDLE]), "log_length": (_Outcome, [_HANDLE]),
+    "log_start": (_Outcome, [_HANDLE]), "cut": (_STATUS, [_HANDLE]),
+    "checkpoint": (_STATUS, [_HANDLE, _HANDLE]), "save": (_STATUS, [_HANDLE, _HANDLE]), "open_at": (_STATUS, [_HANDLE, _BYTES, _SIZE]),
     "publish": (_Changed, [_HANDLE, _NUMBER, _BYTES, _SIZE]), "begin_reorg": (_Changed, [_HANDLE, _NUMBER, _SMALL, _SMALL]),
     "write": (_Written, [_HANDLE, _NUMBER, _HANDLE, _BYTES, _SIZE]), "plan": (_Outcome, [_HANDLE, _BYTES, _SIZE, _BYTES, _SIZE]),
     "read_piece": (_STATUS, [_HANDLE, _SMALL, _SMALL, _SMALL, _HANDLE]), "prepare_piece": (_STATUS, [_HANDLE]),
@@ -672,10 +674,16 @@ class Snapshot(_Audited):
 class Session(_Audited):
     """A session, from its start to `close`. Any thread may call it: a lock has one call at a time."""
 
-    def __init__(self, _opening_code: bytes = b"") -> None:
+    def __init__(self, _opening_code: bytes = b"", _checkpoint: Optional[bytes] = None) -> None:
         super().__init__()
+        self._keep: Optional[int] = None
+        self._start = 0
         self._out = ctypes.create_string_buffer(_ROOM)
         code = _opening_code
+        if _checkpoint is not None:
+            _check(_library.cagzhomul_open_at(self._handle, _checkpoint, len(_checkpoint)))
+            self._start = self.log_start()
+            return
         _check(_library.cagzhomul_open_tables(self._handle, code, len(code)) if code else _library.cagzhomul_open(self._handle))
 
     def reply_to(self, line: Union[str, bytes]) -> str:
@@ -766,17 +774,52 @@ class Session(_Audited):
     def entry(self, place: int) -> bytes:
         """The code of the log's entry of this place; places count from 1, as in `ok done PLACE`.
 
-        Raises Closed, NotOpened, NoEntry or OutOfMemory, and the session is as it was.
+        Raises Closed, NotOpened, NoEntry, also of an entry that was cut off, or OutOfMemory, and the
+        session is as it was.
         """
         at = place if 0 < place < 2**63 else 0  # place 0 has no entry
         return self._told(lambda out, room: _library.cagzhomul_entry(self._handle, at, out, room))
 
     def log_length(self) -> int:
-        """How many entries the log has. Raises Closed or NotOpened."""
+        """How many entries the log had ever, those that were cut off among them. Raises Closed or
+        NotOpened."""
         with self._lock:
             outcome = _library.cagzhomul_log_length(self._handle)
         _check(outcome.status)
         return int(outcome.length)
+
+    def log_start(self) -> int:
+        """How many entries of the log come before those that are in memory, which `entry` gives: 0
+        until it is cut. Raises Closed or NotOpened."""
+        with self._lock:
+            outcome = _library.cagzhomul_log_start(self._handle)
+        _check(outcome.status)
+        return int(outcome.length)
+
+    def cut(self) -> None:
+        """Gives the memory of all entries of the log back; no answer changes but those of `entry` and
+        `log_start`. Raises Closed or NotOpened."""
+        with self._lock:
+            _check(_library.cagzhomul_cut(self._handle))
+
+    def checkpoint(self) -> bytes:
+        """The checkpoint of the world as it is now, as bytes, from which `open(..., at=...)` goes on. It
+        has the lock only while it is taken, which does not take longer where there are more rows.
+
+        Raises Closed, NotOpened or OutOfMemory.
+        """
+        with _Owner() as taken, _Owner() as written:
+            with self._lock:
+                _check(_library.cagzhomul_checkpoint(self._handle, taken._handle))
+            _check(_library.cagzhomul_save(taken._handle, written._handle))
+            return _code_of(written._handle)
+
+    def _grown(self, place: int) -> None:
+        """The log has an entry of this place: it is cut if it has grown long enough, for a caller who
+        has the lock."""
+        if self._keep is not None and place - self._start > self._keep:
+            _check(_library.cagzhomul_cut(self._handle))
+            self._start = place
 
     def repeat(self, entry: bytes) -> bool:
         """Repeats an entry of another session's log, given by its code, in this session's world.
@@ -802,6 +845,8 @@ class Session(_Audited):
             raise OverflowError("moment, pieces and limit have 64, 32 and 32 bits")
         with self._lock:
             done = _library.cagzhomul_advance(self._handle, moment, pieces, limit)
+            if self._keep is not None and done.status == _OK:
+                self._grown(int(_library.cagzhomul_log_length(self._handle).length))
         if done.status in (_WAITING, _FINISHED):
             return done.until if done.status == _WAITING else False
         _check(done.status)
@@ -814,12 +859,17 @@ class Db(Session):
 
     A moment (`now`) is a number of the caller's clock, or a function that gives it; one that is
     below that of the log's last entry counts as that.
+
+    It cuts its log by itself, so that it may live for ever: once more than `keep` entries are in
+    memory it gives them back. With `keep=None` it never does, as for a caller who takes each `entry`
+    and then calls `cut`.
     """
 
-    def __init__(self, tables: Tables, lease_length: int = 10) -> None:
+    def __init__(self, tables: Tables, lease_length: int = 10, keep: Optional[int] = 10_000, at: Optional[bytes] = None) -> None:
         """Opens it, as `open` does."""
         declared = [_table(*it) for it in tables.items()] if isinstance(tables, Mapping) else list(tables)
-        super().__init__(_opening(lease_length, declared))
+        super().__init__(_opening(lease_length, declared), at)
+        self._keep = keep
         self._declared = declared
         self._names = _Names(self._reply_to("status"), declared)
 
@@ -913,6 +963,7 @@ class Lease(_Owner):
         with db._lock:
             granted = _library.cagzhomul_lease(db._handle, moment, self._handle)
             _check(granted.status)
+            db._grown(int(granted.place))
             if db._names.version != granted.version:
                 db._names = _Names(db._reply_to("status"), db._declared)
             self._names = db._names
@@ -1061,6 +1112,8 @@ class Txn(_Owner):
             code = b"\1" + _list(self._operations)
             with lease._lock, db._lock:
                 done = _library.cagzhomul_write(db._handle, moment, lease._handle, code, len(code))
+                if done.status == _OK:
+                    db._grown(int(done.place))
             # only a text over 1,024 bytes makes a bad code of what this module writes
             self._accept(_WRONG_TYPE if done.status == _BAD_CODE else _OK if done.status in (_DUPLICATE, _NO_ROW) else done.status, done.column)
             return self._received(done.status, done.place, done.operation)
@@ -1078,6 +1131,8 @@ class Txn(_Owner):
         with self._lock:
             with db._lock:
                 done = _library.cagzhomul_commit(db._handle, moment, self._handle)
+                if done.status == _OK:
+                    db._grown(int(done.place))
             if self.is_open:
                 _library.cagzhomul_close(self._handle)
             return self._received(done.status, done.place, done.operation)
@@ -1115,6 +1170,8 @@ class Piece(_Owner):
         moment, session = _at(now), self._session
         with self._lock, session._lock:
             done = _library.cagzhomul_commit_piece(session._handle, moment, self._handle)
+            if done.status == _OK:
+                session._grown(int(done.place))
         _check(done.status)
         return Worked(int(done.place), bool(done.ended))
 
@@ -1130,14 +1187,20 @@ def retry(attempts: int, attempt: Callable[[], _Result]) -> _Result:
 
 
 @overload
-def open() -> Session: ...
+def open(*, at: Optional[bytes] = None) -> Session: ...
 @overload
-def open(tables: Tables, lease_length: int = 10) -> Db: ...
-def open(tables: Optional[Tables] = None, lease_length: int = 10) -> Session:
+def open(tables: Tables, lease_length: int = 10, keep: Optional[int] = 10_000, at: Optional[bytes] = None) -> Db: ...
+def open(tables: Optional[Tables] = None, lease_length: int = 10, keep: Optional[int] = 10_000, at: Optional[bytes] = None) -> Session:
     """A new session, before its line `open`, or a store with these tables.
 
     The tables are `Table`s, or columns by the names of tables: `{"people": {"id": "int key", "town":
     "text"}}`. A lease lasts `lease_length` moments, from 1 to 2^32, and each version stays the newest
-    for as long. Raises BadTable, BadLength or OutOfMemory, and ValueError for another type.
+    for as long. A store gives the entries of its log back once more than `keep` are in memory, or
+    never if that is None.
+
+    With `at`, the bytes of a `checkpoint`, it goes on from there: the tables are those that were opened
+    then, and the lease length is the checkpoint's. Raises BadCode if no world may open from the bytes.
+
+    Raises BadTable, BadLength or OutOfMemory, and ValueError for another type.
     """
-    return Session() if tables is None else Db(tables, lease_length)
+    return Session(_checkpoint=at) if tables is None else Db(tables, lease_length, keep, at)

@@ -1,6 +1,7 @@
 """Typed transactions, queries and changes: run by `python3 -m unittest` in this folder, with CAGZHOMUL_LIBRARY set."""
 
 import random
+import struct
 import threading
 import unittest
 from typing import Callable, Dict, List, Tuple, Type
@@ -85,6 +86,49 @@ class Stores(unittest.TestCase):
                 with lease.txn() as txn:
                     txn.insert("people", 1).delete("people", 2)
             self.assertEqual((txn.receipt, txn.is_open, db.log_length()), (None, False, 1))
+
+    def test_a_log_is_cut(self) -> None:
+        with cagzhomul.open(PEOPLE, keep=3) as db, db.lease(5) as lease:
+            for key in range(1, 8):
+                lease.insert("people", key)
+            # cut at the places 4 and 8, each once more than three entries are there
+            self.assertEqual((db.log_length(), db.log_start(), db.check()), (8, 8, Audit(7, 0, 0)))
+            self.assertEqual(lease.insert("people", 8), Receipt(9))
+            self.refused(cagzhomul.NoEntry, lambda: db.entry(8))
+            self.assertTrue(db.entry(9))
+            db.cut()
+            self.assertEqual((db.log_length(), db.log_start()), (9, 9))
+        for call in (db.cut, db.log_start):
+            self.refused(cagzhomul.Closed, call)
+        with cagzhomul.open(PEOPLE, keep=None) as db, db.lease(5):
+            self.assertEqual((db.log_length(), db.log_start()), (1, 0))
+        with cagzhomul.open() as session:
+            self.refused(cagzhomul.NotOpened, session.cut)
+
+    def test_a_store_opens_at_a_checkpoint(self) -> None:
+        clock = Clock(5)
+        with cagzhomul.open(PEOPLE) as db, db.lease(5) as lease:
+            lease.txn().insert("people", 1, town="Ulm").insert("people", 2, town="Bonn").commit()
+            self.assertEqual(clock.drive(db, "add index by_town on people (town)")[-1], Acted())
+            saved, pairs, place = db.checkpoint(), db.reply_to("pairs"), db.log_length()
+            # the head comes first, after its length: the version 1, the place, the moment and the lease length; an empty part is the end
+            self.assertEqual(saved[8:33], b"\1" + struct.pack(">QQQ", place, db.status()["moment"], 10))
+            self.assertEqual(saved[-8:], bytes(8))
+            with cagzhomul.open(PEOPLE, at=saved) as later, cagzhomul.open(at=saved) as session:
+                self.assertEqual((later.log_length(), later.log_start(), later.reply_to("pairs")), (place, place, pairs))
+                # what is written in the one is not seen in the other
+                moment = clock()
+                with later.lease(moment) as new:
+                    self.assertEqual((new.version, new.place, new.delete("people", 2)), (4, place + 1, Receipt(place + 2)))
+                    self.assertEqual(new.query(moment, "select town from people where town = 'Ulm'"), [{"id": 1, "town": "Ulm"}])
+                self.assertEqual((later.check(), db.check(), session.check()), (Audit(1, 0, 0), Audit(2, 0, 0), Audit(2, 0, 0)))
+                self.assertTrue(session.repeat(later.entry(place + 1)) and session.repeat(later.entry(place + 2)))
+                self.assertEqual((session.reply_to("pairs"), session.checkpoint()), (later.reply_to("pairs"), later.checkpoint()))
+            self.assertEqual((db.reply_to("pairs"), db.checkpoint()), (pairs, saved))
+            for bad in (b"", saved[:-1], saved + b"\0", saved[:8] + b"\7" + saved[9:]):
+                self.refused(cagzhomul.BadCode, lambda: cagzhomul.open(at=bad))
+        with cagzhomul.open() as session:
+            self.refused(cagzhomul.NotOpened, session.checkpoint)
 
     def test_rows_are_read_with_every_kind_of_value(self) -> None:
         with cagzhomul.open(EVERY_TYPE) as db, db.lease(0) as lease:

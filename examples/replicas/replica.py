@@ -1,4 +1,4 @@
-"""A process with a world of its own: it repeats the slots, and proposes what it wants to do."""
+"""A process with a world of its own: it joins by the newest checkpoint, repeats the slots since, and proposes what it wants to do."""
 
 from __future__ import annotations
 
@@ -23,6 +23,7 @@ PEOPLE, TOWN, NUMBER = 1, 1, 2  # the table and its columns, by number
 TOWNS = ["Ulm", "Bonn", "Kiel", "Trier", "Jena", "Hof", "Celle"]
 CHANGES = "publish at {now}: add index by_town on people (town); add column age int default 7 on people"
 PIECES, LIMIT, ACTS = 8, 500, 16  # of a fill; items of a piece at a time; acts a slot
+SLOTS = 20  # the writer of each such slot puts a checkpoint beside the slots, and cuts its log
 
 
 class Replica:
@@ -30,10 +31,33 @@ class Replica:
 
     def __init__(self, slots: Slots, began: float) -> None:
         self.slots, self._began = slots, began
+        self.join()
+
+    def join(self) -> None:
+        """Opens the world at the newest checkpoint, or at its beginning if there is none yet."""
+        found = self.slots.checkpoint()
+        if found is not None:
+            about, saved = found
+            self.slot, self.passed_over, self.moment = about["slot"], about["passed_over"], about["moment"]
+            self.session = cagzhomul.open(at=saved)
+            return
         self.slot, self.passed_over, self.moment = 0, 0, 0
         self.session = cagzhomul.open()
         for line in OPENING:
             self.session.reply_to(line)
+
+    def trial(self) -> Replica:
+        """A world like this one, to be thrown away."""
+        trial = Replica.__new__(Replica)
+        trial.slots, trial._began = self.slots, self._began
+        trial.slot, trial.passed_over, trial.moment = self.slot, self.passed_over, self.moment
+        trial.session = cagzhomul.open(at=self.session.checkpoint())
+        return trial
+
+    def put_checkpoint(self) -> None:
+        """Puts the checkpoint of this world beside the slots, and gives the log's entries back."""
+        self.slots.put_checkpoint(self.slot, {"passed_over": self.passed_over, "moment": self.moment}, self.session.checkpoint())
+        self.session.cut()
 
     def now(self) -> int:
         """The present moment; no entry has a later one."""
@@ -70,7 +94,12 @@ class Replica:
     def catch_up(self, batch: str = "") -> Optional[dict]:
         """Repeats all slots that are written, and answers the one of this batch, if it is among them."""
         own = None
-        for data in self.slots.read(self.slot):
+        for number, data in self.slots.read(self.slot):
+            if number != self.slot:
+                # what comes next was deleted: there is a newer checkpoint
+                self.session.close()
+                self.join()
+                return self.catch_up(batch)
             taken = self.take(data)
             if batch and taken["batch"] == batch:
                 own = taken
@@ -81,8 +110,12 @@ class Replica:
         batch = uuid.uuid4().hex
         data = {"by": name, "batch": batch, "ids": list(ids), "entries": [base64.b64encode(it).decode() for it in coded]}
         # a first try whose answer was lost may have written it, so the slots decide
-        self.slots.write(self.slot, json.dumps(data).encode())
-        return self.catch_up(batch)
+        slot = self.slot
+        self.slots.write(slot, json.dumps(data).encode())
+        own = self.catch_up(batch)
+        if own is not None and slot % SLOTS == 0:
+            self.put_checkpoint()
+        return own
 
     def length(self) -> int:
         return int(self.ask("log").split()[-1])
@@ -123,8 +156,9 @@ class Process:
 
     def run(self) -> None:
         threading.Thread(target=self.listen, daemon=True).start()
+        joined = self.replica.slot
         self.replica.catch_up()
-        self.say(f"has repeated {self.replica.slot} slots")
+        self.say(f"joined at slot {joined} and has repeated {self.replica.slot - joined} more")
         self.operate() if self.options.operates else self.serve()
         self.say(f"stops; {self.acknowledged} transactions acknowledged")
         # what others still write after this process stopped
@@ -181,16 +215,16 @@ class Process:
 
     def begin(self, line: str) -> List[bytes]:
         """What a line of the language adds to the log, found out in a world that is thrown away."""
-        trial = Replica(self.slots, self.options.began)
-        trial.catch_up()
+        self.replica.catch_up()
+        trial = self.replica.trial()
         before = trial.length()
         trial.ask(line.format(now=trial.now()))
         return trial.entries_after(before)
 
     def carry_on(self) -> Union[List[bytes], int, None]:
         """The next acts of the changes under way, found out so; or the moment to wait for; or None if no change is left."""
-        trial = Replica(self.slots, self.options.began)
-        trial.catch_up()
+        self.replica.catch_up()
+        trial = self.replica.trial()
         before, done = trial.length(), True
         for _ in range(ACTS):
             done = trial.session.advance(trial.now(), PIECES, LIMIT)

@@ -3,7 +3,8 @@
 The log lies in an etcd cluster of three nodes on this machine, which the program starts and ends, with its data in a temporary
 folder. Each process keeps a world of its own; one adds an index and a column while all others insert, update and delete rows. One
 process is killed in the middle and another takes its place, one etcd node is killed and comes back, and slots are written that hold no
-entry, an entry of another opening and a repeated entry. At the end all worlds have to be equal, with each acknowledged transaction in
+entry, an entry of another opening and a repeated entry. Now and then a process puts a checkpoint beside the slots, and the slots before
+it are deleted; the process that comes later joins by it. At the end all worlds have to be equal, with each acknowledged transaction in
 the log once, those of the killed process too; the last line is then `replicas equal`, and the exit status 0.
 
 The library is found as bindings/python says (the variable CAGZHOMUL_LIBRARY).
@@ -137,9 +138,47 @@ class Servers:
         return False
 
 
+class Archive:
+    """What was in slots that are deleted: how often each transaction was. It deletes those before the newest checkpoint."""
+
+    def __init__(self, endpoints: List[str]) -> None:
+        self.slots = Slots(endpoints, lambda text: None)
+        self.logged: collections.Counter = collections.Counter()
+        self.next, self.is_stopped = 0, threading.Event()
+        self.thread = threading.Thread(target=self.run, daemon=True)
+        self.thread.start()
+
+    def count(self, before: int) -> None:
+        """Counts the transactions of the slots before this one."""
+        for number, data in self.slots.read(self.next):
+            if number >= before:
+                break
+            self.next = number + 1
+            try:
+                self.logged.update(it for it in json.loads(data)["ids"] if it)
+            except (ValueError, KeyError, TypeError):
+                pass
+
+    def run(self) -> None:
+        while not self.is_stopped.wait(0.5):
+            found = self.slots.checkpoint()
+            if found is not None and found[0]["slot"] > self.next:
+                self.count(found[0]["slot"])
+                self.slots.forget_before(found[0]["slot"])
+
+    def end(self) -> None:
+        self.is_stopped.set()
+        self.thread.join()
+
+
+def next_slot(slots: Slots) -> int:
+    """The first slot that is not written."""
+    return max((number + 1 for number, _ in slots.read(0)), default=0)
+
+
 def write_next(slots: Slots, data: bytes) -> int:
     """Writes what is no batch to the next free slot."""
-    slot = sum(1 for _ in slots.read(0))
+    slot = next_slot(slots)
     while not slots.write(slot, data):
         slot += 1
     return slot
@@ -148,7 +187,7 @@ def write_next(slots: Slots, data: bytes) -> int:
 def first_batch(slots: Slots) -> List[str]:
     """The entries of the first slot that has some, once there is one."""
     while True:
-        for data in slots.read(0):
+        for _, data in slots.read(0):
             try:
                 return json.loads(data)["entries"]
             except (ValueError, KeyError, TypeError):
@@ -168,7 +207,7 @@ def disturb(slots: Slots, some: random.Random) -> None:
         print(f"intruder: {what} in slot {write_next(slots, json.dumps(data).encode())}", flush=True)
 
 
-def judge(slots: Slots, results: List[dict], acknowledged: List[str], count: int) -> Optional[str]:
+def judge(archive: Archive, results: List[dict], acknowledged: List[str], count: int) -> Optional[str]:
     """Why the replicas are not equal, or None."""
     if len(results) != count:
         return f"{count - len(results)} processes gave no result"
@@ -181,15 +220,12 @@ def judge(slots: Slots, results: List[dict], acknowledged: List[str], count: int
         return "an element is not public"
     if results[0]["passed_over"] == 0:
         return "what the intruder wrote was not passed over"
-    logged: collections.Counter = collections.Counter()
-    for data in slots.read(0):
-        try:
-            logged.update(it for it in json.loads(data)["ids"] if it)
-        except (ValueError, KeyError, TypeError):
-            pass
+    if min(number for number, _ in archive.slots.read(0)) == 0:
+        return "no slot was deleted"
+    archive.count(results[0]["slots"])
     for it in acknowledged:
-        if logged[it] != 1:
-            return f"the acknowledged transaction {it} is in the log {logged[it]} times"
+        if archive.logged[it] != 1:
+            return f"the acknowledged transaction {it} is in the log {archive.logged[it]} times"
     return None
 
 
@@ -198,7 +234,7 @@ def run(options: argparse.Namespace, cluster: Cluster) -> Optional[str]:
     slots = Slots(cluster.endpoints, lambda text: print(f"example: {text}", flush=True))
     list(slots.read(0))
     print(cluster.leader(), flush=True)
-    servers = Servers(cluster.endpoints, options)
+    servers, archive = Servers(cluster.endpoints, options), Archive(cluster.endpoints)
     began = time.monotonic()
     names = [f"server {it + 1}" for it in range(options.servers)]
     for name in names:
@@ -223,13 +259,14 @@ def run(options: argparse.Namespace, cluster: Cluster) -> Optional[str]:
     for _ in servers.running:
         servers.wait_for("stops;", 30)
     spent = time.monotonic() - began
-    written = sum(1 for _ in slots.read(0))
+    archive.end()
+    written = next_slot(slots)
     servers.tell(str(written))
     for process in servers.running.values():
         process.stdin.close()
         process.wait(60)
     time.sleep(0.2)
-    fault = judge(slots, servers.results, servers.acknowledged, len(servers.running))
+    fault = judge(archive, servers.results, servers.acknowledged, len(servers.running))
     done = len(servers.acknowledged)
     if servers.results:
         print(f"{written} slots, {servers.results[0]['passed_over']} entries or slots passed over, {servers.results[0]['check']}")

@@ -1,4 +1,5 @@
-"""A log of slots in an etcd cluster, over its JSON interface: each slot is written once."""
+"""A log of slots in an etcd cluster, over its JSON interface: each slot is written once. Beside it stands the newest checkpoint, and the
+slots before that may be deleted."""
 
 from __future__ import annotations
 
@@ -6,9 +7,10 @@ import base64
 import http.client
 import json
 import time
-from typing import Callable, Iterator, Optional, Sequence
+from typing import Callable, Iterator, Optional, Sequence, Tuple
 
 PAGE = 200
+PART = 500_000  # bytes of a checkpoint in one value; etcd takes a megabyte and a half in one request
 
 
 def _coded(data: bytes) -> str:
@@ -55,13 +57,44 @@ class Slots:
         put = [{"requestPut": {"key": key, "value": _coded(data)}}]
         return bool(self._ask("/v3/kv/txn", {"compare": compare, "success": put}).get("succeeded"))
 
-    def read(self, slot: int) -> Iterator[bytes]:
-        """The slots from this one on, as far as they are written."""
+    def read(self, slot: int) -> Iterator[Tuple[int, bytes]]:
+        """The slots from this one on that are not deleted, as far as they are written, each with its number."""
         while True:
             body = {"key": _coded(_key(slot)), "range_end": _coded(b"slot0"), "limit": str(PAGE)}
             found = self._ask("/v3/kv/range", body).get("kvs", [])
             for it in found:
-                yield base64.b64decode(it.get("value", ""))
-            slot += len(found)
+                slot = int(base64.b64decode(it["key"])[len(b"slot/") :])
+                yield slot, base64.b64decode(it.get("value", ""))
+            slot += 1
             if len(found) < PAGE:
                 return
+
+    def _get(self, key: bytes) -> Optional[bytes]:
+        found = self._ask("/v3/kv/range", {"key": _coded(key)}).get("kvs", [])
+        return base64.b64decode(found[0].get("value", "")) if found else None
+
+    def _put(self, key: bytes, data: bytes) -> None:
+        self._ask("/v3/kv/put", {"key": _coded(key), "value": _coded(data)})
+
+    def put_checkpoint(self, slot: int, about: dict, checkpoint: bytes) -> None:
+        """Puts a checkpoint beside the slots: that of a world that has repeated all before this one. Its parts first, and then what names it,
+        so that whoever finds it finds all of it."""
+        parts = [checkpoint[at : at + PART] for at in range(0, len(checkpoint), PART)]
+        for number, part in enumerate(parts):
+            self._put(b"part/%012d/%06d" % (slot, number), part)
+        self._put(b"checkpoint", json.dumps({**about, "slot": slot, "parts": len(parts)}).encode())
+
+    def checkpoint(self) -> Optional[Tuple[dict, bytes]]:
+        """The newest checkpoint, if there is one: what its writer said about it, its slot among that, and its bytes."""
+        while (named := self._get(b"checkpoint")) is not None:
+            about = json.loads(named)
+            parts = [self._get(b"part/%012d/%06d" % (about["slot"], number)) for number in range(about["parts"])]
+            if None not in parts:
+                return about, b"".join(it for it in parts if it is not None)
+            # a newer one has come meanwhile, and this one was deleted
+        return None
+
+    def forget_before(self, slot: int) -> None:
+        """Deletes the slots before this one, and the parts of older checkpoints."""
+        for first, last in ((_key(0), _key(slot)), (b"part/", b"part/%012d/" % slot)):
+            self._ask("/v3/kv/deleterange", {"key": _coded(first), "range_end": _coded(last)})

@@ -157,6 +157,52 @@ static int is_log(cagzhomul_handle *session, size_t length) {
     return it.status == CAGZHOMUL_OK && it.length == length;
 }
 
+/* The log is cut: its length stays, and of its entries only those are there that come after it. */
+static void cut_log(cagzhomul_handle *session, size_t length, uint64_t moment) {
+    cagzhomul_handle lease = {0};
+    uint8_t out[ROOM];
+    cagzhomul_outcome it = cagzhomul_log_start(session);
+    check(it.status == CAGZHOMUL_OK && it.length == 0, "all entries are in memory");
+    check(cagzhomul_cut(session) == CAGZHOMUL_OK, "the log is cut");
+    it = cagzhomul_log_start(session);
+    check(it.status == CAGZHOMUL_OK && it.length == length && is_log(session, length), "none is any more");
+    check(cagzhomul_entry(session, length, out, ROOM).status == CAGZHOMUL_NO_ENTRY, "nor handed out");
+    check(take_lease(session, moment, &lease).place == length + 1 && is_log(session, length + 1), "places go on");
+    do it = cagzhomul_entry(session, length + 1, out, ROOM);
+    while (is_short(it.status));
+    check(it.status == CAGZHOMUL_OK && cagzhomul_close(&lease) == CAGZHOMUL_OK, "the next entry is there");
+}
+
+/* A session that opens at the checkpoint goes on from its place, and has its rows; no part of the bytes is a checkpoint. */
+static void go_on(cagzhomul_handle *session, size_t length, uint64_t moment) {
+    static uint8_t bytes[8 * ROOM];
+    cagzhomul_handle taken = {0}, written = {0}, later = {0}, lease = {0};
+    int32_t status;
+    do status = cagzhomul_checkpoint(session, &taken);
+    while (is_short(status));
+    check(status == CAGZHOMUL_OK && cagzhomul_checkpoint(session, &taken) == CAGZHOMUL_ALREADY_OPEN, "a checkpoint is taken");
+    do status = cagzhomul_save(&taken, &written);
+    while (is_short(status));
+    check(status == CAGZHOMUL_OK && cagzhomul_save(&taken, &written) == CAGZHOMUL_ALREADY_OPEN, "it is written");
+    cagzhomul_outcome it = cagzhomul_rows_from(&written, 0, bytes, sizeof bytes);
+    check(it.status == CAGZHOMUL_OK && it.length <= sizeof bytes, "its bytes are read");
+    for (size_t part = 0; part < it.length; part += 1 + it.length / 20) {
+        do status = cagzhomul_open_at(&later, bytes, part);
+        while (is_short(status));
+        check(status == CAGZHOMUL_BAD_CODE && !later.is_open, "a part is none");
+    }
+    do status = cagzhomul_open_at(&later, bytes, it.length);
+    while (is_short(status));
+    check(status == CAGZHOMUL_OK && cagzhomul_open_at(&later, bytes, it.length) == CAGZHOMUL_ALREADY_OPEN, "a session opens there");
+    check(is_log(&later, length) && is_check(&later, 2, 0, 0), "it has the rows");
+    check(take_lease(&later, moment, &lease).place == length + 1 && is_log(session, length), "and goes on by itself");
+    check(cagzhomul_save(session, &lease) == CAGZHOMUL_ALREADY_OPEN && cagzhomul_checkpoint(&taken, &lease) == CAGZHOMUL_ALREADY_OPEN, "the lease is there");
+    check(cagzhomul_close(&lease) == CAGZHOMUL_OK && cagzhomul_save(session, &lease) == CAGZHOMUL_WRONG_KIND, "a session is no checkpoint");
+    check(cagzhomul_checkpoint(&taken, &lease) == CAGZHOMUL_WRONG_KIND && cagzhomul_close(&later) == CAGZHOMUL_OK, "nor the other way round");
+    check(cagzhomul_close(&taken) == CAGZHOMUL_OK && cagzhomul_close(&written) == CAGZHOMUL_OK, "both are closed");
+    check(cagzhomul_save(&taken, &written) == CAGZHOMUL_CLOSED && cagzhomul_checkpoint(&later, &taken) == CAGZHOMUL_CLOSED, "and stay so");
+}
+
 /* The index by_town, which is element 2, enters until its fill has begun; a snapshot from before it stays. */
 static void add_index(cagzhomul_handle *session, cagzhomul_handle *lease) {
     cagzhomul_handle snapshot = {0};
@@ -281,6 +327,9 @@ static void play(void) {
     query_rows(&session, &lease);
     add_index(&session, &lease);
     query_by_index(&session);
+    cut_log(&session, cagzhomul_log_length(&session).length, 33);
+    check(is_check(&session, 2, 0, 0), "the rows stay");
+    go_on(&session, cagzhomul_log_length(&session).length, 33);
     check(cagzhomul_close(&lease) == CAGZHOMUL_OK && cagzhomul_close(&session) == CAGZHOMUL_OK, "both are closed");
 }
 
@@ -302,6 +351,7 @@ static void look_at_worlds(cagzhomul_handle *session, cagzhomul_handle *lease, i
     cagzhomul_handle snapshot = {0};
     code step = enter_code();
     check(cagzhomul_check(session).status == status && cagzhomul_log_length(session).status == status, "no audit, no log");
+    check(cagzhomul_log_start(session).status == status && cagzhomul_cut(session) == status, "no cut");
     check(cagzhomul_publish(session, 5, step.bytes, step.length).status == status, "no step");
     check(cagzhomul_begin_reorg(session, 5, 1, 1).status == status, "no reorganisation");
     if (lease) check(cagzhomul_snapshot(session, 5, lease, &snapshot) == status && !snapshot.is_open, "no snapshot");

@@ -15,6 +15,9 @@ use std::sync::{Arc, Mutex, PoisonError};
 /// How many moments a lease lasts if nothing else is said.
 pub const DEFAULT_LEASE_LENGTH: u64 = 10;
 
+/// How many entries of its log a store keeps in memory at most, if nothing else is said.
+pub const DEFAULT_KEEP: u64 = 10_000;
+
 /// A store of tables, in memory, whose indexes and columns come and go while transactions run.
 ///
 /// Any number of threads may share it: a lock has one call at a time, and transactions are made and
@@ -75,10 +78,60 @@ impl Db {
         let mut handle = Handle::closed();
         done(handle.open_tables(code::opening(lease_length, &tables).as_bytes()))?;
         let names = Names::new(&tables).at(&status_of(&mut handle)?)?;
+        let session = Session::over(handle);
+        session.keep(DEFAULT_KEEP);
         Ok(Db {
-            session: Session::over(handle),
+            session,
             names: Mutex::new(Arc::new(names)),
         })
+    }
+
+    /// Opens a store that goes on from a checkpoint, as [`Session::checkpoint`] gives its bytes: the
+    /// tables are those that were opened then.
+    ///
+    /// Refusals: [`Error::BadCheckpoint`] if no world may open from these bytes, [`Error::OutOfMemory`].
+    ///
+    /// ```
+    /// # use cagzhomul::{Db, Table, Type};
+    /// let tables = || [Table::new("t").key("id", Type::Int)];
+    /// let db = Db::open(tables())?;
+    /// db.lease(5)?.txn().insert("t", 1, [] as [(&str, i64); 0]).commit(5)?;
+    /// let later = Db::open_at(&db.session().checkpoint()?, tables())?;
+    /// assert_eq!(later.query(6, "select * from t")?.len(), 1);
+    /// assert_eq!(later.session().log_length()?, 3);
+    /// # Ok::<(), cagzhomul::Error>(())
+    /// ```
+    pub fn open_at(
+        checkpoint: &[u8],
+        tables: impl IntoIterator<Item = Table>,
+    ) -> Result<Db, Error> {
+        let tables: Vec<Table> = tables.into_iter().collect();
+        let session = Session::open_at(checkpoint)?;
+        session.keep(DEFAULT_KEEP);
+        let names = Names::new(&tables).at(&status_of(&mut session.lock())?)?;
+        Ok(Db {
+            session,
+            names: Mutex::new(Arc::new(names)),
+        })
+    }
+
+    /// The store gives the entries of its log back once more than so many are in memory; with `None`
+    /// it never does, as for a caller who takes each [`Session::entry`] and then calls
+    /// [`Session::cut`]. Without this call it is [`DEFAULT_KEEP`].
+    ///
+    /// ```
+    /// # use cagzhomul::{Db, Table, Type};
+    /// let db = Db::open([Table::new("t").key("id", Type::Int)])?.keep(Some(2));
+    /// for now in 0..7 {
+    ///     db.lease(now)?;
+    /// }
+    /// assert_eq!((db.session().log_length()?, db.session().log_start()?), (7, 6));
+    /// # Ok::<(), cagzhomul::Error>(())
+    /// ```
+    #[must_use]
+    pub fn keep(self, entries: Option<u64>) -> Db {
+        self.session.keep(entries.unwrap_or(u64::MAX));
+        self
     }
 
     /// Grants a lease on the newest version: transactions and queries under it see that version's
@@ -106,6 +159,7 @@ impl Db {
         let mut session = self.session.lock();
         let granted = session.lease(now, lease);
         done(granted.status)?;
+        self.session.grown(&mut session, granted.place);
         let mut names = self.names.lock().unwrap_or_else(PoisonError::into_inner);
         if names.version() != granted.version {
             *names = Arc::new(names.at(&status_of(&mut session)?)?);

@@ -21,6 +21,8 @@ pub enum Error {
     NoEntry,
     /// The bytes are the code of no entry.
     BadEntry,
+    /// The bytes are those of no checkpoint from which a world may open.
+    BadCheckpoint,
     /// No accepted call of this world would add the entry.
     NotNext,
     /// The pieces are not 1 to 64, or the limit is not 1 to 1,000.
@@ -176,6 +178,7 @@ impl Error {
             Error::NotOpened => "no world is open yet",
             Error::NoEntry => "the log has no such place",
             Error::BadEntry => "the bytes are the code of no entry",
+            Error::BadCheckpoint => "no world may open from these bytes",
             Error::NotNext => "no call of this world would add the entry",
             Error::BadCount => "the pieces are not 1 to 64, or the limit is not 1 to 1,000",
             Error::MomentTooLarge => "the moment is above 2^62",

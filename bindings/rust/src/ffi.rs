@@ -88,6 +88,11 @@ unsafe extern "C" {
     ) -> i32;
     fn cagzhomul_check(handle: *mut RawHandle) -> Checked;
     fn cagzhomul_log_length(session: *mut RawHandle) -> Outcome;
+    fn cagzhomul_log_start(session: *mut RawHandle) -> Outcome;
+    fn cagzhomul_cut(session: *mut RawHandle) -> i32;
+    fn cagzhomul_checkpoint(session: *mut RawHandle, checkpoint: *mut RawHandle) -> i32;
+    fn cagzhomul_save(checkpoint: *mut RawHandle, bytes: *mut RawHandle) -> i32;
+    fn cagzhomul_open_at(handle: *mut RawHandle, bytes: *const u8, length: usize) -> i32;
     fn cagzhomul_publish(
         session: *mut RawHandle,
         moment: u64,
@@ -267,10 +272,40 @@ impl Handle {
         unsafe { cagzhomul_check(self.raw()) }
     }
 
-    /// How many entries the log of this session's world has.
+    /// How many entries the log of this session's world had ever.
     pub(crate) fn log_length(&mut self) -> Outcome {
         // SAFETY: the handle, as at the top of this file.
         unsafe { cagzhomul_log_length(self.raw()) }
+    }
+
+    /// How many of them come before those in memory.
+    pub(crate) fn log_start(&mut self) -> Outcome {
+        // SAFETY: the handle, as at the top of this file.
+        unsafe { cagzhomul_log_start(self.raw()) }
+    }
+
+    /// Takes the checkpoint of this session's world, into a closed handle.
+    pub(crate) fn checkpoint(&mut self, checkpoint: &mut Handle) -> i32 {
+        // SAFETY: both handles, as at the top of this file.
+        unsafe { cagzhomul_checkpoint(self.raw(), checkpoint.raw()) }
+    }
+
+    /// Writes the bytes of this checkpoint, into a closed handle.
+    pub(crate) fn save(&mut self, bytes: &mut Handle) -> i32 {
+        // SAFETY: both handles, as at the top of this file.
+        unsafe { cagzhomul_save(self.raw(), bytes.raw()) }
+    }
+
+    /// Opens a session at the checkpoint whose bytes these are.
+    pub(crate) fn open_at(&mut self, bytes: &[u8]) -> i32 {
+        // SAFETY: the handle and the slice, as at the top of this file.
+        unsafe { cagzhomul_open_at(self.raw(), bytes.as_ptr(), bytes.len()) }
+    }
+
+    /// Gives the memory of the log's entries back.
+    pub(crate) fn cut(&mut self) -> i32 {
+        // SAFETY: the handle, as at the top of this file.
+        unsafe { cagzhomul_cut(self.raw()) }
     }
 
     /// Publishes the version that a step gives, by its code, in this session's world.

@@ -57,7 +57,7 @@ mod txn;
 mod value;
 
 pub use change::Change;
-pub use db::{Db, DEFAULT_LEASE_LENGTH};
+pub use db::{Db, DEFAULT_KEEP, DEFAULT_LEASE_LENGTH};
 pub use error::Error;
 pub use lease::Lease;
 pub use piece::{Piece, PreparedPiece, Progress, Worked};

@@ -67,6 +67,7 @@ impl PreparedPiece<'_> {
         let mut session = self.db.session().lock();
         let pieced = session.commit_piece(now, &mut self.handle);
         done(pieced.status)?;
+        self.db.session().grown(&mut session, pieced.place);
         Ok(Worked {
             place: pieced.place,
             ended: pieced.ended,

@@ -3,6 +3,7 @@
 use crate::error::Error;
 use crate::ffi::{self, Handle, Outcome};
 use std::fmt;
+use std::sync::atomic::{AtomicU64, Ordering};
 use std::sync::{Mutex, MutexGuard, PoisonError};
 
 /// How many bytes of a reply or a code are fetched at once.
@@ -35,7 +36,13 @@ pub enum Step {
 /// # Ok(())
 /// # }
 /// ```
-pub struct Session(Mutex<Handle>);
+pub struct Session {
+    handle: Mutex<Handle>,
+    /// More entries than this are not kept in memory.
+    keep: AtomicU64,
+    /// How many entries come before those that are in memory, as far as this crate cut them off.
+    start: AtomicU64,
+}
 
 impl Session {
     /// Opens a session at its start: before its line `open`.
@@ -47,14 +54,48 @@ impl Session {
         Ok(Session::over(handle))
     }
 
+    /// Opens a session whose world goes on from a checkpoint, as [`Session::checkpoint`] gives its
+    /// bytes: with no leases by name, nothing prepared and no plan. The bytes are tested, whoever
+    /// wrote them.
+    ///
+    /// Refusals: [`Error::BadCheckpoint`] if no world may open from these bytes, [`Error::OutOfMemory`].
+    pub fn open_at(checkpoint: &[u8]) -> Result<Session, Error> {
+        let mut handle = Handle::closed();
+        match handle.open_at(checkpoint) {
+            ffi::BAD_CODE => return Err(Error::BadCheckpoint),
+            status => done(status)?,
+        }
+        let start = handle.log_start().length as u64;
+        let session = Session::over(handle);
+        session.start.store(start, Ordering::Relaxed);
+        Ok(session)
+    }
+
     pub(crate) fn over(handle: Handle) -> Session {
-        Session(Mutex::new(handle))
+        Session {
+            handle: Mutex::new(handle),
+            keep: AtomicU64::new(u64::MAX),
+            start: AtomicU64::new(0),
+        }
     }
 
     /// The handle, for as long as the guard lives. A thread that panicked under the lock was in no
     /// call of the library, so the handle is whole.
     pub(crate) fn lock(&self) -> MutexGuard<'_, Handle> {
-        self.0.lock().unwrap_or_else(PoisonError::into_inner)
+        self.handle.lock().unwrap_or_else(PoisonError::into_inner)
+    }
+
+    /// From now on the log is cut once more than so many entries are in memory.
+    pub(crate) fn keep(&self, entries: u64) {
+        self.keep.store(entries, Ordering::Relaxed);
+    }
+
+    /// The log has an entry of this place: it is cut if it has grown long enough.
+    pub(crate) fn grown(&self, handle: &mut Handle, place: u64) {
+        let kept = place.saturating_sub(self.start.load(Ordering::Relaxed));
+        if kept > self.keep.load(Ordering::Relaxed) && handle.cut() == ffi::OK {
+            self.start.store(place, Ordering::Relaxed);
+        }
     }
 
     /// The reply to a line, which is given without its ending: lines with their endings, or none.
@@ -91,12 +132,70 @@ impl Session {
         fetch(|_, out| handle.entry(place, out))
     }
 
-    /// How many entries the log has: the last one's place.
+    /// How many entries the log had ever, those that were cut off among them: the last one's place.
     ///
     /// Refusals: [`Error::Closed`], [`Error::NotOpened`].
     pub fn log_length(&self) -> Result<u64, Error> {
         let outcome = self.lock().log_length();
         done(outcome.status).map(|()| outcome.length as u64)
+    }
+
+    /// How many entries of the log come before those that are in memory, which [`Session::entry`]
+    /// gives: 0 until it is cut.
+    ///
+    /// Refusals: [`Error::Closed`], [`Error::NotOpened`].
+    pub fn log_start(&self) -> Result<u64, Error> {
+        let outcome = self.lock().log_start();
+        done(outcome.status).map(|()| outcome.length as u64)
+    }
+
+    /// The checkpoint of the world as it is now, as bytes: all that a world needs to go on from here.
+    /// The session is locked only while it is taken, which does not take longer where there are more
+    /// rows.
+    ///
+    /// Refusals: [`Error::Closed`], [`Error::NotOpened`], [`Error::OutOfMemory`].
+    ///
+    /// ```
+    /// # fn main() -> Result<(), cagzhomul::Error> {
+    /// # use cagzhomul::Session;
+    /// let first = Session::open()?;
+    /// for line in ["table t (id int key)", "open", "lease a at 0", "txn a at 0: insert t (1)"] {
+    ///     first.line(line)?;
+    /// }
+    /// let later = Session::open_at(&first.checkpoint()?)?;
+    /// assert_eq!((later.log_length()?, later.log_start()?), (2, 2));
+    /// assert_eq!(later.line("check")?, "ok rows 1 missing 0 extra 0\n");
+    /// assert_eq!(later.checkpoint()?, first.checkpoint()?);
+    /// assert_eq!(Session::open_at(b"").err(), Some(cagzhomul::Error::BadCheckpoint));
+    /// # Ok(())
+    /// # }
+    /// ```
+    pub fn checkpoint(&self) -> Result<Vec<u8>, Error> {
+        let (mut taken, mut written) = (Handle::closed(), Handle::closed());
+        done(self.lock().checkpoint(&mut taken))?;
+        done(taken.save(&mut written))?;
+        fetch(|_, out| written.rows_from(0, out))
+    }
+
+    /// Gives the memory of all entries of the log back; no answer changes but those of
+    /// [`Session::entry`] and [`Session::log_start`].
+    ///
+    /// Refusals: [`Error::Closed`], [`Error::NotOpened`].
+    ///
+    /// ```
+    /// # fn main() -> Result<(), cagzhomul::Error> {
+    /// # let session = cagzhomul::Session::open()?;
+    /// for line in ["table t (id int key)", "open", "lease a at 0"] {
+    ///     session.line(line)?;
+    /// }
+    /// session.cut()?;
+    /// assert_eq!((session.log_start()?, session.log_length()?), (1, 1));
+    /// assert_eq!(session.entry(1), Err(cagzhomul::Error::NoEntry));
+    /// # Ok(())
+    /// # }
+    /// ```
+    pub fn cut(&self) -> Result<(), Error> {
+        done(self.lock().cut())
     }
 
     /// Repeats an entry of another session's log, given by its code, in this session's world: the
@@ -131,7 +230,12 @@ impl Session {
     /// # }
     /// ```
     pub fn advance(&self, now: u64, pieces: u32, limit: u32) -> Result<Option<Step>, Error> {
-        let advanced = self.lock().advance(now, pieces, limit);
+        let mut handle = self.lock();
+        let advanced = handle.advance(now, pieces, limit);
+        if advanced.status == ffi::OK {
+            let length = handle.log_length().length as u64;
+            self.grown(&mut handle, length);
+        }
         match advanced.status {
             ffi::OK => Ok(Some(Step::Acted)),
             ffi::WAITING => Ok(Some(Step::Waiting {

@@ -151,7 +151,11 @@ impl<'a> Txn<'a> {
         let written = {
             // The session before the lease, as for a query.
             let mut session = lease.db().session().lock();
-            session.write(now, &mut lease.lock(), code.as_bytes())
+            let written = session.write(now, &mut lease.lock(), code.as_bytes());
+            if written.status == ffi::OK {
+                lease.db().session().grown(&mut session, written.place);
+            }
+            written
         };
         let operation = written.operation;
         match written.status {
@@ -216,7 +220,14 @@ impl Prepared<'_> {
     /// which may come in place of the one before it, [`Error::Duplicate`] and [`Error::NoRow`].
     pub fn commit(mut self, now: u64) -> Result<Receipt, Error> {
         let session = self.lease.db().session();
-        let committed = session.lock().commit(now, &mut self.handle);
+        let committed = {
+            let mut locked = session.lock();
+            let committed = locked.commit(now, &mut self.handle);
+            if committed.status == ffi::OK {
+                session.grown(&mut locked, committed.place);
+            }
+            committed
+        };
         let operation = committed.operation;
         match committed.status {
             ffi::DUPLICATE => Err(Error::Duplicate { operation }),

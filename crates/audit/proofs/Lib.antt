@@ -10,3 +10,4 @@ pub mod Elements
 pub mod Sums
 pub mod Hits
 pub mod Counting
+pub mod OwnPairs

@@ -1,3 +1,4 @@
 pub mod Met
 pub mod Made
 pub mod RowCounts
+pub mod OwnPairs

@@ -1,7 +1,8 @@
 //! The rows that a store's pairs encode.
-ghost use Rattle.std.specs.Prelude.{◌≡◌, ◌<◌, ◌^◌, ℕ, IfOk, IfSome, option_map, filter_map};
+ghost use Rattle.std.specs.Prelude.{◌≡◌, false, ◌<◌, ◌^◌, ℕ, IfOk, IfSome, option_map, filter_map};
 ghost use Rattle.keycode.specs.Valid.{AreShort, AreValues};
 ghost use Rattle.row_map.specs.Keys.{IsKey, key_code, row_code};
+ghost use Rattle.audit.specs.inner.OwnPairs.{IsOfNoRow};
 ghost use Rattle.audit.specs.Encoded.{key_read, encoded as encoded_of, public_type as public_type_of, stored_cell as stored_cell_of, row_at as row_at_of, is_row as is_row_of};
 
 use collections::List;
@@ -24,6 +25,16 @@ pub fn key_of(alloc: Global, key: &[u8]) -> Result<Option<KeyOf>, AllocError>
         Err(KeyFault::Memory) => Err(AllocError),
         Err(_) => Ok(None),
     }
+}
+
+// Whether bytes begin as the key of a row's own pair does. Those of others need not be read.
+pub(crate) fn may_be_of_row(key: &[u8]) -> bool
+    ensures { result ≡ false → IsOfNoRow (key_read key.now) }
+{
+    if key.is_empty() {
+        return false;
+    }
+    key[0] == b'R'
 }
 
 // Whether the store has the `exists` pair of a row, where `at` encodes its key. No value or more

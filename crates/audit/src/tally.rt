@@ -9,7 +9,7 @@ ghost use Rattle.audit.specs.inner.Met.{IsThere};
 ghost use Rattle.std.specs.FinMap as map;
 
 use crate::counts::Counts;
-use crate::encoded_rows::{key_of, row_at};
+use crate::encoded_rows::{key_of, may_be_of_row, row_at};
 use crate::met::{MetRow, remember};
 use crate::reason::has_plain_reason;
 use crate::report::CheckReport;
@@ -77,6 +77,14 @@ fn judge_pair<V: PairView>(
     ensures counts { IfOk result (λ counts. counts ≡ judged_of schema.now (V.pairs view.now) (pair.entry.0.now, pair.entry.1.now)) }
     ensures there { IsThere (V.pairs view.now) last.new }
 {
+    if !may_be_of_row(pair.0) {
+        return Ok(Counts {
+            rows: 0,
+            missing: 0,
+            other: 1,
+            given: 0,
+        });
+    }
     let read = key_of(alloc, pair.0)?;
     let wanted = count_row(alloc, schema, view, near, elements, &read)?;
     let plain = has_plain_reason(alloc, schema, view, near, elements, &read, last)?;

@@ -16,13 +16,13 @@ is_named [] name = false
 -- a load with each number of its size in its range
 abbrev pub IsLoad : Chosen → Type 0
 IsLoad (Run file stops) = ⊥
-IsLoad (Prompt file) = ⊥
+IsLoad (Prompt file at) = ⊥
 IsLoad (Load size timed) = IsLoadSize size
 IsLoad Rollout = ⊥
 
 -- Each is chosen only by its word, and each number of a load's size is in its range.
 abbrev pub IsChoiceOf : List (String Global) → Chosen → Type 0
 IsChoiceOf words (Run file stops) = IsTrue (is_named words (codes "run"))
-IsChoiceOf words (Prompt file) = IsTrue (is_named words (codes "prompt"))
+IsChoiceOf words (Prompt file at) = IsTrue (is_named words (codes "prompt"))
 IsChoiceOf words (Load size timed) = IsTrue (is_named words (codes "load")) × IsLoadSize size
 IsChoiceOf words Rollout = IsTrue (is_named words (codes "rollout"))

@@ -26,6 +26,8 @@ pub enum Chosen<'a> {
     Prompt {
         /// The file of the lines.
         file: Option<&'a str>,
+        /// The file of the checkpoint at which the session opens.
+        at: Option<&'a str>,
     },
     /// Let threads write rows while an index is added.
     Load {
@@ -51,6 +53,14 @@ fn flag<'a>(alloc: Global, name: &'a str, short: char, about: &'a str) -> Arg<'a
         .help(about)
 }
 
+// The option of a file.
+fn file_option<'a>(alloc: Global, name: &'a str, about: &'a str) -> Arg<'a> {
+    Arg::new(alloc, name)
+        .long(name)
+        .value_name("FILE")
+        .help(about)
+}
+
 fn run_command<'a>(alloc: Global) -> Result<Command<'a>, AllocError> {
     Command::new(alloc, "run")
         .about(help::ABOUT_RUN)
@@ -63,6 +73,7 @@ fn prompt_command<'a>(alloc: Global) -> Result<Command<'a>, AllocError> {
     Command::new(alloc, "prompt")
         .about(help::ABOUT_PROMPT)
         .after_help(help::PROMPTS)
+        .arg(file_option(alloc, "at", help::AT))?
         .arg(file_arg(alloc))
 }
 
@@ -187,11 +198,12 @@ fn command_of<'a>(alloc: Global) -> Result<Command<'a>, AllocError> {
     Ok(command)
 }
 
-// The file of a subcommand, if it names one.
-fn file_of<'a>(matches: &ArgMatches<'a>, name: &str) -> Option<&'a str> {
-    matches
-        .subcommand_matches(name)
-        .and_then(|matches| matches.get_str("FILE"))
+// The file that a subcommand names by this word, if it does.
+fn file_of<'a>(matches: &ArgMatches<'a>, name: &str, word: &str) -> Option<&'a str> {
+    match matches.subcommand_matches(name) {
+        Some(matches) => matches.get_str(word),
+        None => None,
+    }
 }
 
 // Whether an option of a subcommand that has no value is there.
@@ -227,12 +239,13 @@ fn choice_of<'a>(
 {
     if names(words, "run") {
         let stops = has_flag(matches, "run", "stop");
-        let file = file_of(matches, "run");
+        let file = file_of(matches, "run", "FILE");
         return Ok(Chosen::Run { file, stops });
     }
     if names(words, "prompt") {
-        let file = file_of(matches, "prompt");
-        return Ok(Chosen::Prompt { file });
+        let file = file_of(matches, "prompt", "FILE");
+        let at = file_of(matches, "prompt", "at");
+        return Ok(Chosen::Prompt { file, at });
     }
     if names(words, "rollout") {
         return Ok(Chosen::Rollout);

@@ -12,6 +12,9 @@ pub(crate) const ABOUT_PROMPT: &str =
 
 pub(crate) const FILE: &str = "The file of the lines; standard input if it is left out";
 
+pub(crate) const AT: &str =
+    "Open the session at the checkpoint in this file, which `save FILE` has written";
+
 pub(crate) const STOP: &str = "End at the first line that is bad (status 1) or refused (status 7)";
 
 pub(crate) const TIME: &str = "Write the time and the rows a second to standard error";
@@ -40,18 +43,19 @@ Its own lines:
   help [COMMAND]      describe [TABLE]      leases      progress
   explain query S: select ..                plan        timeline
   explain plan: ..    check TABLE.NAME      advance     finish
-  quit
+  undo                cut                   save FILE   quit
 
 For example
   shell prompt                 on a terminal the prompt is the newest version and the moment: v3 @20>
   rlwrap shell prompt          the same with a history of lines
+  shell prompt --at FILE       goes on where `save FILE` was answered
   shell prompt < script        another program may drive it over a pipe: each reply is written at once
 
 Exit status:
   0  every line was good (refusals are replies too)
   1  a line was bad
   2  a wrong command line
-  3  a line could not be read
+  3  a line, or the checkpoint of --at, could not be read
   4  a reply could not be written
   5  out of memory";
 

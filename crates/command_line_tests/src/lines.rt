@@ -47,9 +47,35 @@ const RUNS: [(&str, Option<&str>, bool); 5] = [
 ];
 
 // Lines that choose a prompt or a rollout.
-const OTHERS: [(&str, Chosen<'static>); 3] = [
-    ("prompt", Chosen::Prompt { file: None }),
-    ("prompt x", Chosen::Prompt { file: Some("x") }),
+const OTHERS: [(&str, Chosen<'static>); 5] = [
+    (
+        "prompt",
+        Chosen::Prompt {
+            file: None,
+            at: None,
+        },
+    ),
+    (
+        "prompt x",
+        Chosen::Prompt {
+            file: Some("x"),
+            at: None,
+        },
+    ),
+    (
+        "prompt --at y",
+        Chosen::Prompt {
+            file: None,
+            at: Some("y"),
+        },
+    ),
+    (
+        "prompt --at=y x",
+        Chosen::Prompt {
+            file: Some("x"),
+            at: Some("y"),
+        },
+    ),
     ("rollout", Chosen::Rollout),
 ];
 

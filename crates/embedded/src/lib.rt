@@ -9,6 +9,8 @@ ghost use Rattle.handles.specs.Leases.{OpensTables, Leases};
 ghost use Rattle.handles.specs.Txns.{Transacts, Reads, Prepares};
 ghost use Rattle.handles.specs.Commits.{Commits};
 ghost use Rattle.handles.specs.Snapshots.{Snapshots, Checks, LogLengths};
+ghost use Rattle.handles.specs.Cuts.{Cuts, LogStarts};
+ghost use Rattle.handles.specs.Checkpoints.{OpensHere, SavesTo, Takes};
 ghost use Rattle.handles.specs.Queries.{Queries, SnapshotQueries, RowsFrom};
 ghost use Rattle.handles.specs.Writes.{Writes};
 ghost use Rattle.operator_calls.specs.Changes.{Publishes, Begins};
@@ -252,6 +254,53 @@ pub extern "C" fn cagzhomul_log_length(alloc: Global, session: &mut Handle) -> O
     ensures same { session.new.place.value ≡ session.old.place.value }
 {
     session.log_length(alloc)
+}
+
+/// `Handle::log_start`.
+#[unsafe(no_mangle)]
+pub extern "C" fn cagzhomul_log_start(alloc: Global, session: &mut Handle) -> Outcome
+    ensures start { LogStarts session.old.place.value result }
+    ensures same { session.new.place.value ≡ session.old.place.value }
+{
+    session.log_start(alloc)
+}
+
+/// `Handle::cut`.
+#[unsafe(no_mangle)]
+pub extern "C" fn cagzhomul_cut(alloc: Global, session: &mut Handle) -> i32
+    ensures { Cuts session.old.place.value result session.new.place.value }
+{
+    session.cut(alloc)
+}
+
+/// `Handle::checkpoint`.
+#[unsafe(no_mangle)]
+pub extern "C" fn cagzhomul_checkpoint(
+    alloc: Global,
+    session: &mut Handle,
+    checkpoint: &mut Handle,
+) -> i32
+    ensures takes { Takes session.old.place.value checkpoint.old.place.value result checkpoint.new.place.value }
+    ensures same { session.new.place.value ≡ session.old.place.value }
+{
+    session.checkpoint(alloc, checkpoint)
+}
+
+/// `Handle::save`.
+#[unsafe(no_mangle)]
+pub extern "C" fn cagzhomul_save(alloc: Global, checkpoint: &mut Handle, bytes: &mut Handle) -> i32
+    ensures saves { SavesTo checkpoint.old.place.value bytes.old.place.value result bytes.new.place.value }
+    ensures same { checkpoint.new.place.value ≡ checkpoint.old.place.value }
+{
+    checkpoint.save(alloc, bytes)
+}
+
+/// `Handle::open_at`.
+#[unsafe(no_mangle)]
+pub extern "C" fn cagzhomul_open_at(alloc: Global, handle: &mut Handle, bytes: &[u8]) -> i32
+    ensures { OpensHere handle.old.place.value bytes.now result handle.new.place.value }
+{
+    handle.open_at(alloc, bytes)
 }
 
 /// `operator_calls::publish`.

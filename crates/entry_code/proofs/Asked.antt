@@ -34,7 +34,7 @@ module _ {X : Type 0} (P : X → Type 0) (code : X → List ℕ) (at : At X) (re
   option_again None rest known = refl
   option_again (Some x) rest known = variant_again Some reader x rest known
 
-option_reader : {X : Type 0} {P : X → Type 0} {code : X → List ℕ} {at : At X} → IsReader P code at → IsReader (IsOption P) (option_code code) (option_at at)
+pub option_reader : {X : Type 0} {P : X → Type 0} {code : X → List ℕ} {at : At X} → IsReader P code at → IsReader (IsOption P) (option_code code) (option_at at)
 option_reader {X} {P} {code} {at} reader = record { takes = option_takes P code at reader; again = option_again P code at reader }
 
 -- ---- queries and rows are read

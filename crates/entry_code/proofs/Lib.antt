@@ -5,3 +5,4 @@ pub mod Planned
 pub mod Readers
 pub mod Reports
 pub mod Types
+pub mod PartReaders

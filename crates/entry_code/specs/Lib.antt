@@ -3,3 +3,4 @@ pub mod Known
 pub mod Read
 pub mod Worked
 pub mod inner
+pub mod Parts

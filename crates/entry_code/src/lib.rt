@@ -4,6 +4,8 @@
 
 mod calls;
 mod changes;
+mod checkpoints;
+mod elements;
 mod encoded;
 mod entries;
 mod fault;
@@ -11,6 +13,7 @@ mod laws;
 mod lists;
 mod numbers;
 mod ops;
+mod parts;
 mod queries;
 mod steps;
 mod tables;
@@ -22,5 +25,7 @@ pub use calls::{
     changes_bytes, changes_of, entry_bytes, entry_of, opening_bytes, opening_of, ops_bytes, ops_of,
     plan_bytes, plan_of, query_bytes, query_of, rows_bytes, rows_of, step_bytes, step_of,
 };
+pub use checkpoints::{head_parts_bytes, head_parts_of, pairs_bytes, pairs_of};
 pub use fault::CodeFault;
 pub use laws::{codes_say, one_code};
+pub use parts::{HeadParts, SchemaParts};

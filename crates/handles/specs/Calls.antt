@@ -1,9 +1,9 @@
 -- Cited by the contracts of the exported functions, and of what they call.
 -- What each call does, by what the handle holds before and after it.
-use Rattle.std.specs.Prelude.{◌≡◌, ℕ, zero, suc, ◌⊎◌, List, [], ◌++◌, take, drop, length, min, slice_get, Bool, Option, Some, None, Result, ℤ, string_bytes, IsUtf8}
+use Rattle.std.specs.Prelude.{◌≡◌, ℕ, ◌-◌, zero, suc, ◌⊎◌, List, [], ◌++◌, take, drop, length, min, slice_get, Bool, Option, Some, None, Result, ℤ, string_bytes, IsUtf8}
 use Rattle.keycode.specs.Valid.{IsStorable}
 use Rattle.replay.specs.declared.entry.Entry.{Entry}
-use Rattle.world.specs.State.{State}
+use Rattle.world.specs.State.{State, entries_before, entries_kept}
 use Rattle.world.specs.declared.entry.Receipt.{Receipt}
 use Rattle.entry_code.specs.Code.{entry_code}
 use Rattle.entry_code.specs.Known.{IsEntry}
@@ -66,7 +66,7 @@ RepliesFrom (Some other) from out outcome out' = Refuses wrong_kind out outcome 
 
 -- ---- replicas
 
--- the entry of a place in a log, of which the first is 1
+-- the entry of a place in a list, of which the first is 1
 abbrev pub entry_at : List Entry → ℕ → Option Entry
 entry_at log zero = None
 entry_at log (suc before) = slice_get log before
@@ -77,10 +77,10 @@ ShowsCode None out outcome out' = Refuses no_entry out outcome out'
 ShowsCode (Some entry) out outcome out' =
     ((outcome ≡ record { status = ok; length = length (entry_code entry) }) × (out' ≡ laid out (entry_code entry))) ⊎ Refuses out_of_memory out outcome out'
 
--- before its line `open` a session has no world
+-- before its line `open` a session has no world; places count from the first entry ever, and only those in memory are there
 abbrev pub ShowsEntryIn : Session → ℕ → List ℕ → Outcome → List ℕ → Type 0
 ShowsEntryIn (Declaring declared) place out outcome out' = Refuses not_opened out outcome out'
-ShowsEntryIn (Running opened) place out outcome out' = ShowsCode (entry_at opened.world.log place) out outcome out'
+ShowsEntryIn (Running opened) place out outcome out' = ShowsCode (entry_at (entries_kept opened.world) (place - entries_before opened.world)) out outcome out'
 
 abbrev pub ShowsEntry : Option Engine → ℕ → List ℕ → Outcome → List ℕ → Type 0
 ShowsEntry None place out outcome out' = Refuses closed out outcome out'

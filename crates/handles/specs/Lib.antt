@@ -6,5 +6,7 @@ pub mod Leases
 pub mod Txns
 pub mod Commits
 pub mod Snapshots
+pub mod Cuts
+pub mod Checkpoints
 pub mod Queries
 pub mod Writes

@@ -9,7 +9,7 @@ use script_session::{ServerLease, Session};
 use std::alloc::Global;
 use typed_calls::status::{BAD_LINE, NOT_UTF8, OK, OUT_OF_MEMORY};
 use typed_calls::{PieceWork, Txn};
-use world::Snapshot;
+use world::{Checkpoint, Snapshot};
 
 /// A session, and the last reply that it gave.
 pub struct Conversation {
@@ -40,10 +40,12 @@ pub enum Engine {
     Txn(Txn),
     /// What a session's world held at a moment.
     Snapshot(Snapshot),
-    /// The code of the rows that a query answered.
+    /// The code of the rows that a query answered, or the bytes of a checkpoint.
     Rows(List<u8>),
     /// A piece of a reorganisation of a session's world.
     Piece(PieceWork),
+    /// The checkpoint of a session's world.
+    Checkpoint(Checkpoint),
 }
 
 impl Conversation {

@@ -59,13 +59,17 @@ fn repeat_bytes(alloc: Global, world: &mut World, bytes: &[u8]) -> i32
 }
 
 impl Conversation {
-    /// Writes as much of the code of the entry of this place as fits.
+    /// Writes as much of the code of the entry of this place as fits. `NO_ENTRY` also answers a place
+    /// whose entry is no longer in memory.
     pub(crate) fn entry(&self, alloc: Global, place: usize, out: &mut [u8]) -> Outcome
         ensures { ShowsEntryIn self.now.session place out.old result out.new }
     {
         match &self.session {
             Session::Declaring(_) => Outcome::refusal(NOT_OPENED),
-            Session::Running(opened) => show_entry(alloc, opened.world.log(), place, out),
+            Session::Running(opened) => {
+                let place = place.saturating_sub(opened.world.log_start() as usize);
+                show_entry(alloc, opened.world.log(), place, out)
+            }
         }
     }
 

@@ -3,7 +3,9 @@
 #![tactic(auto)]
 
 mod boxes;
+mod checkpoint_calls;
 mod commit_calls;
+mod cut_calls;
 mod engine;
 mod entries;
 mod handle;

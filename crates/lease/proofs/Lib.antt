@@ -1,2 +1,3 @@
 pub mod Stood
 pub mod Uses
+pub mod Restored

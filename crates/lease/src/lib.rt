@@ -4,6 +4,7 @@
 mod fault;
 mod laws;
 mod lease;
+mod restore;
 mod timeline;
 
 pub use fault::{LeaseFault, TimelineFault, TooEarly};

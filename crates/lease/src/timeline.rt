@@ -1,12 +1,14 @@
 //! When each version was published, and which leases that allows.
-ghost use Rattle.std.specs.Prelude.{◌≡◌, ◌+◌, ◌≤◌, ◌<◌, ◌↔◌, IsTrue, IsOk, IfOk, IfErr, OnOk, OnErr, Ok, Err};
+ghost use Rattle.std.specs.Prelude.{◌≡◌, ◌+◌, ◌≤◌, ◌<◌, ◌↔◌, IsTrue, IsOk, IsSome, IfSome, IfOk, IfErr, OnOk, OnErr, Ok, Err};
 ghost use Rattle.collections.specs.Refusal.{IsFirst};
 ghost use Rattle.lease.specs.Timeline.{IsValid, IsLength, IsHonest, IsUsable, WasNewest, opened, after_publication, newest, last_publication, earliest, granted_at, max_moment};
+ghost use Rattle.lease.specs.Restored.{line_of};
 ghost use Rattle.lease.specs.Refusals.{rank, Condition, Serves};
 ghost use Rattle.lease.specs.declared.fault.LeaseFault.TheVariants.{MomentTooLarge};
 
 use crate::fault::{LeaseFault, TimelineFault, TooEarly};
 use crate::lease::Lease;
+use crate::restore::is_timeline;
 use std::alloc::{AllocError, Global};
 use std::marker::Model;
 
@@ -39,6 +41,17 @@ impl Model for Timeline {
     ghost invariant = { λ t. IsValid (record { length = t.lease_length; published = reverse t.published.items }) };
 }
 
+impl Clone for Timeline {
+    ghost is_clone = { λ line copy. copy ≡ line };
+
+    fn clone(&self) -> Result<Timeline, AllocError> {
+        Ok(Timeline {
+            lease_length: self.lease_length,
+            published: self.published.clone()?,
+        })
+    }
+}
+
 impl Timeline {
     /// A timeline on which version 1 was published at moment 0.
     ///
@@ -54,6 +67,21 @@ impl Timeline {
         let mut published = Vec::new(alloc);
         published.push(0)?;
         Ok(Timeline {
+            lease_length: length,
+            published,
+        })
+    }
+
+    /// The timeline of a lease length and the moments at which its versions were published, that of
+    /// version 1 first. `None` if and only if there is no such timeline. It takes no memory.
+    pub fn restored(length: u64, published: Vec<u64>) -> Option<Timeline>
+        ensures value { IfSome result (λ line. line ≡ line_of length published.items) }
+        ensures exact { IsSome result ↔ IsValid (line_of length published.items) }
+    {
+        if !is_timeline(length, published.as_slice()) {
+            return None;
+        }
+        Some(Timeline {
             lease_length: length,
             published,
         })
@@ -80,6 +108,13 @@ impl Timeline {
         ensures { result ≡ last_publication self.now }
     {
         self.published[self.published.len() - 1]
+    }
+
+    /// The moment of each version's publication, that of version 1 first.
+    pub fn published(&self) -> &[u64]
+        ensures { line_of self.now.length result.now ≡ self.now }
+    {
+        self.published.as_slice()
     }
 
     /// The first moment at which a version may be published.

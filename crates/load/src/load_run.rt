@@ -2,6 +2,7 @@
 ghost use Rattle.std.specs.Prelude.{◌≡◌, IfOk, None, true};
 ghost use Rattle.command_line.specs.LoadSize.{IsLoadSize};
 ghost use Rattle.locked_store.specs.Receipts.{AreTheLog};
+ghost use Rattle.world.specs.State.{entries_before, entries_kept};
 
 use crate::add_index::{Added, add_index};
 use crate::bar::Bar;
@@ -182,10 +183,10 @@ fn compare_counts(
     world: &World,
     receipts: &[Receipt],
 ) -> Result<(bool, Option<ReceiptFault>), LoadFault>
-    ensures { IfOk result (λ r. r.0 ≡ true → r.1 ≡ None → AreTheLog world.now.log 0 receipts.now) }
+    ensures { IfOk result (λ r. r.0 ≡ true → r.1 ≡ None → AreTheLog (entries_before world.now) (entries_kept world.now) 0 receipts.now) }
 {
     lemma_receipts_are_the_log();
-    let is_counted = receipts.len() == world.log().len();
+    let is_counted = receipts.len() as u64 == world.log_len();
     match reconcile(alloc, world, receipts) {
         Ok(()) => Ok((is_counted, None)),
         Err(ReceiptFault::Memory) => Err(LoadFault::Memory),
@@ -200,7 +201,7 @@ fn check_receipts(
     receipts: &[Receipt],
     outcome: Result<(), LoadFault>,
 ) -> Result<Report, LoadFault>
-    ensures { IfOk result (λ r. r.is_counted ≡ true → r.receipts ≡ None → AreTheLog world.now.log 0 receipts.now) }
+    ensures { IfOk result (λ r. r.is_counted ≡ true → r.receipts ≡ None → AreTheLog (entries_before world.now) (entries_kept world.now) 0 receipts.now) }
 {
     if outcome == Err(LoadFault::Memory) {
         return Err(LoadFault::Memory);

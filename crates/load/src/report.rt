@@ -50,6 +50,7 @@ fn name_of(fault: &Option<ReceiptFault>) -> &'static str {
         Some(ReceiptFault::NoPlace { .. }) => "NoPlace",
         Some(ReceiptFault::OtherEntry { .. }) => "OtherEntry",
         Some(ReceiptFault::Twice { .. }) => "Twice",
+        Some(ReceiptFault::CutOff { .. }) => "CutOff",
         Some(ReceiptFault::Memory) => "Memory",
     }
 }

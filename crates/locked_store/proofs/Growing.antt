@@ -18,7 +18,7 @@ use Rattle.world.specs.BeginReorg.{BeginStep}
 use Rattle.world.specs.Calls.{Appends, LeaseStep, CommitStep}
 use Rattle.world.specs.Piece.{PieceStep}
 use Rattle.world.specs.Publish.{PublishStep}
-use Rattle.world.specs.State.{State}
+use Rattle.world.specs.State.{State, cut_here}
 use Rattle.locked_store.specs.Cores.{GrewFrom}
 
 pub at_start : (start world : State) → start ≡ world → GrewFrom start world
@@ -34,6 +34,10 @@ appended start found left now what receipt grew appends =
 
 unchanged : (start found left : State) → GrewFrom start found → left ≡ found → GrewFrom start left
 unchanged start found left grew same = subst (GrewFrom start) (sym same) grew
+
+pub taken : (start found left : State) → GrewFrom start found → left ≡ cut_here found → GrewFrom start left
+taken start found left grew same =
+    record { opened = ap (λ (s : State). s.opening) same ∙ grew.opened; more = grew.more; log = ap (λ (s : State). s.log) same ∙ grew.log }
 
 pub lease : (start found left : State) (moment : ℕ) (answer : Result Grant GrantFault) → GrewFrom start found → LeaseStep found moment answer left → GrewFrom start left
 lease start found left moment (Ok given) grew step = appended start found left _ _ given.receipt grew step.3

@@ -4,3 +4,4 @@ pub mod WholeLog
 pub mod Logging
 pub mod Growing
 pub mod Fronts
+pub mod Fresh

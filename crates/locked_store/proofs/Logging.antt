@@ -14,7 +14,7 @@ use Rattle.world.specs.declared.grant.GrantFault.{GrantFault}
 use Rattle.world.specs.declared.piece.PieceFault.{PieceFault}
 use Rattle.world.specs.Calls.{Appends, LeaseStep, CommitStep}
 use Rattle.world.specs.Piece.{PieceStep}
-use Rattle.world.specs.State.{State}
+use Rattle.world.specs.State.{State, entry_count}
 use Rattle.locked_store.specs.declared.fault.SharedFault.{SharedFault}
 use Rattle.locked_store.specs.declared.fault.SharedFault.TheVariants as shared
 use Rattle.locked_store.specs.declared.fault.WentBack.{WentBack}
@@ -27,20 +27,20 @@ last_of : {A : Type 0} (xs : List A) (x : A) → slice_get (xs ++ x ∷ []) (len
 last_of [] x = refl
 last_of (y ∷ xs) x = last_of xs x
 
-one_less : (n m : ℕ) → n ≡ m + 1 → n - 1 ≡ m
-one_less n m e = omega arith
+one_less : (n before m : ℕ) → n ≡ before + m + 1 → n - (before + 1) ≡ m
+one_less n before m e = omega arith
 
 -- ---- receipts
 
-pub logged_after : (start : State) (front : ℕ) (found left : State) (now : ℕ) (what : What) (receipt : Receipt) → IsCore start left → front ≤ length found.log → Appends found now what receipt left → IsLogged start front receipt
+pub logged_after : (start : State) (front : ℕ) (found left : State) (now : ℕ) (what : What) (receipt : Receipt) → IsCore start left → front ≤ entry_count found → Appends found now what receipt left → IsLogged start front receipt
 logged_after start front found left now what receipt core seen appends =
     record {
       core = left;
       is_core = core;
       stands = (
-        omega (arith, appends.place),
-        ap (λ (s : State). slice_get s.log (receipt.place - 1)) appends.state
-            ∙ ap (slice_get (found.log ++ receipt.entry ∷ [])) (one_less receipt.place (length found.log) appends.place)
+        omega (arith, appends.place, ap (λ (s : State). s.opening.place) appends.state),
+        ap (λ (s : State). slice_get s.log (receipt.place - (s.opening.place + 1))) appends.state
+            ∙ ap (slice_get (found.log ++ receipt.entry ∷ [])) (one_less receipt.place found.opening.place (length found.log) appends.place)
             ∙ last_of found.log receipt.entry,
       );
       new = omega (arith, appends.place, seen);
@@ -63,8 +63,8 @@ piece_logged start v w front moment read done a seen = logged_after start front 
 
 -- ---- fronts
 
-pub stays : (v w : Known) (found left : State) → v.front ≤ length found.log → w.front ≡ length left.log → left ≡ found → v.front ≤ w.front
-stays v w found left seen is same = omega (arith, seen, is, ap (λ (s : State). length s.log) same)
+pub stays : (v w : Known) (found left : State) → v.front ≤ entry_count found → w.front ≡ entry_count left → left ≡ found → v.front ≤ w.front
+stays v w found left seen is same = omega (arith, seen, is, ap entry_count same)
 
 pub same_front : (v w : Known) → w ≡ v → v.front ≤ w.front
 same_front v w same = omega (arith, ap (λ (k : Known). k.front) same)

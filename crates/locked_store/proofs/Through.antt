@@ -1,9 +1,10 @@
 -- The world's answer is the lock's.
-use Rattle.std.proofs.Common.{◌≡◌, ℕ, Option, Result, Ok, Err, subst, sym}
+use Rattle.std.proofs.Common.{◌≡◌, ℕ, Option, Result, Ok, Err, refl, subst, sym}
 use Rattle.world.specs.State.{State}
 use Rattle.locked_store.specs.Answers.{Answers, AnswersBack, Finds, Found, Takes, reported, to_fault}
 use Rattle.locked_store.specs.Known.{Known}
 use Rattle.locked_store.specs.declared.fault.SharedFault.{SharedFault}
+use Rattle.locked_store.specs.declared.fault.WentBack.{WentBack}
 
 pub answers : {T E : Type 0} (start : State) (v : Known) (answer : Result T E) (w : Known) (step : State → Result T E → State → Type 0) (place : T → Option ℕ) (found left : State)
     → Takes start v found answer left w step place → Answers start v (reported answer) w step place
@@ -17,6 +18,10 @@ answers_back start v prepared (Err e) w step place found left takes = (found, le
 
 pub finds : {T : Type 0} (start : State) (v : Known) (answer : T) (w : Known) (says : State → T → Type 0) (found : State) → Found start v found answer w says → Finds start v (Ok answer) w says
 finds start v answer w says found is = (found, is)
+
+-- that it was found, and nothing of what
+pub only_found : {T : Type 0} (start : State) (v : Known) (x : T) (w : Known) (says : State → T → Type 0) → Finds start v (let r : Result T WentBack = Ok x in r) w says → Finds start v (let r : Result (Unit {0}) WentBack = Ok tt in r) w (λ c y. y ≡ tt)
+only_found start v x w says a = (a.0, (a.1.0, a.1.1, refl, a.1.3, a.1.4))
 
 pub answers_so : {T E : Type 0} (start : State) (v : Known) (answer : Result T E) (told : Result T (SharedFault E)) (w : Known) (step : State → Result T E → State → Type 0) (place : T → Option ℕ) (found left : State)
     → told ≡ reported answer → Takes start v found answer left w step place → Answers start v told w step place

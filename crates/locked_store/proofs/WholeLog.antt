@@ -95,8 +95,8 @@ few (r ∷ rs) once p =
     (λ e. omega (arith, one_same r.place p e, none_past rs p (λ f. once (suc f.0) 0 f.1 r (omega arith) f.2 refl (e ∙ sym f.3))))
     (λ ne. omega (arith, one_other r.place p ne, few rs (once_tail r rs once) p))
 
-same_place : (log : List Entry) (rs : List Receipt) (p i j : ℕ) → EachOnce rs → IsReceiptAt log rs p i → IsReceiptAt log rs p j → j ≡ i
-same_place log rs p i j once here there =
+same_place : (before : ℕ) (log : List Entry) (rs : List Receipt) (p i j : ℕ) → EachOnce rs → IsReceiptAt before log rs p i → IsReceiptAt before log rs p j → j ≡ i
+same_place before log rs p i j once here there =
     dite (ℕ_discrete j i)
     (λ e. e)
     (λ ne. absurd (apart (below i j ne)))
@@ -109,10 +109,10 @@ same_place log rs p i j once here there =
     apart (inr lt) = once j i there.0 here.0 lt there.1 here.1 (here.2 ∙ sym there.2)
 
 pub are_the_log : ReceiptsAreTheLog
-are_the_log log since rs agree after counted p lt le =
+are_the_log before log since rs agree after counted p lt le =
     let n = length rs in
-    let within : AreWithin since n rs = λ i r at. let inside = slice_get_within log (r.place - 1) r.entry (agree.stands i r at).1 in let some = (agree.stands i r at).0 in (after i r at, omega (arith, inside, some, counted)) in
+    let within : AreWithin since n rs = λ i r at. let inside = slice_get_within log (r.place - (before + 1)) r.entry (agree.stands i r at).1 in let some = (agree.stands i r at).0 in (after i r at, omega (arith, inside, some, counted)) in
     let one_each = each_one (hits rs) since n p (few rs agree.once) (sum_hits rs since n within) lt (omega (arith, le, counted)) in
     let f = found rs p (omega (arith, one_each)) in
-    let here : IsReceiptAt log rs p f.0 = (f.1, f.2, f.3, agree.stands f.0 f.1 f.2) in
-    (f.0, here, λ j there. same_place log rs p f.0 j agree.once here there)
+    let here : IsReceiptAt before log rs p f.0 = (f.1, f.2, f.3, agree.stands f.0 f.1 f.2) in
+    (f.0, here, λ j there. same_place before log rs p f.0 j agree.once here there)

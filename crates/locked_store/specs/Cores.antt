@@ -1,9 +1,9 @@
 -- Cited by the contracts of Locked, Shared::close.
 -- The states that a world behind the lock may have.
-use Rattle.std.specs.Prelude.{◌≡◌, ℕ, ◌≤◌, List, ◌++◌, length}
+use Rattle.std.specs.Prelude.{◌≡◌, ℕ, ◌≤◌, List, ◌++◌}
 use Rattle.replay.specs.Kept.{IsKept}
 use Rattle.replay.specs.declared.entry.Entry.{Entry}
-use Rattle.world.specs.State.{State, facts_of, IsReplayed, Agrees}
+use Rattle.world.specs.State.{State, entry_count, facts_of, IsReplayed, Agrees}
 
 -- the state that the world had when it was shared, with more entries or none
 pub record GrewFrom (start core : State) : Type 0 where
@@ -22,8 +22,8 @@ pub record IsCore (start core : State) : Type 0 where
 -- a core that has at least as many entries as a handle of this front has seen
 pub record IsCoreSince (start : State) (front : ℕ) (core : State) : Type 0 where
   pub is_core : IsCore start core
-  pub since : front ≤ length core.log
+  pub since : front ≤ entry_count core
 
--- the log of some core had this length
+-- some core had this many entries
 abbrev pub WasLength : State → ℕ → Type 0
-WasLength start seen = (core : State) × IsCore start core × (length core.log ≡ seen)
+WasLength start seen = (core : State) × IsCore start core × (entry_count core ≡ seen)

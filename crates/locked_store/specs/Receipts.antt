@@ -6,20 +6,20 @@ use Rattle.world.specs.declared.entry.Receipt.{Receipt}
 use Rattle.world.specs.State.{State}
 use Rattle.locked_store.specs.Cores.{IsCore}
 
--- the entry of the receipt stands at its place, counted from 1
-abbrev pub Stands : List Entry → Receipt → Type 0
-Stands log r = (0 < r.place) × (slice_get log (r.place - 1) ≡ Some r.entry)
+-- the entry of the receipt is at its place in the log, counted from 1, if so many entries came before those of the log
+abbrev pub Stands : ℕ → List Entry → Receipt → Type 0
+Stands before log r = (before < r.place) × (slice_get log (r.place - (before + 1)) ≡ Some r.entry)
 
-abbrev pub EachStands : List Entry → List Receipt → Type 0
-EachStands log rs = (i : ℕ) (r : Receipt) → slice_get rs i ≡ Some r → Stands log r
+abbrev pub EachStands : ℕ → List Entry → List Receipt → Type 0
+EachStands before log rs = (i : ℕ) (r : Receipt) → slice_get rs i ≡ Some r → Stands before log r
 
 -- no two of them have one place
 abbrev pub EachOnce : List Receipt → Type 0
 EachOnce rs = (i j : ℕ) (r q : Receipt) → j < i → slice_get rs i ≡ Some r → slice_get rs j ≡ Some q → q.place ≢ r.place
 
 -- each receipt is in the log, and no place comes twice
-pub record Agree (log : List Entry) (rs : List Receipt) : Type 0 where
-  pub stands : EachStands log rs
+pub record Agree (before : ℕ) (log : List Entry) (rs : List Receipt) : Type 0 where
+  pub stands : EachStands before log rs
   pub once : EachOnce rs
 
 -- ---- receipts that are as many as the entries
@@ -28,17 +28,17 @@ abbrev pub AreAfter : ℕ → List Receipt → Type 0
 AreAfter since rs = (i : ℕ) (r : Receipt) → slice_get rs i ≡ Some r → since < r.place
 
 -- the receipt at i is that of the entry at this place
-abbrev pub IsReceiptAt : List Entry → List Receipt → ℕ → ℕ → Type 0
-IsReceiptAt log rs place i = (r : Receipt) × (slice_get rs i ≡ Some r) × (r.place ≡ place) × Stands log r
+abbrev pub IsReceiptAt : ℕ → List Entry → List Receipt → ℕ → ℕ → Type 0
+IsReceiptAt before log rs place i = (r : Receipt) × (slice_get rs i ≡ Some r) × (r.place ≡ place) × Stands before log r
 
 -- each entry after so many has its receipt, and no other
-abbrev pub AreTheLog : List Entry → ℕ → List Receipt → Type 0
-AreTheLog log since rs =
-    (place : ℕ) → since < place → place ≤ length log → (i : ℕ) × IsReceiptAt log rs place i × ((j : ℕ) → IsReceiptAt log rs place j → j ≡ i)
+abbrev pub AreTheLog : ℕ → List Entry → ℕ → List Receipt → Type 0
+AreTheLog before log since rs =
+    (place : ℕ) → since < place → place ≤ before + length log → (i : ℕ) × IsReceiptAt before log rs place i × ((j : ℕ) → IsReceiptAt before log rs place j → j ≡ i)
 
 -- receipts that agree with the log, come after so many entries, and are as many as the entries from there on are that part of the log
 abbrev pub ReceiptsAreTheLog : Type 0
-ReceiptsAreTheLog = (log : List Entry) (since : ℕ) (rs : List Receipt) → Agree log rs → AreAfter since rs → length log ≡ since + length rs → AreTheLog log since rs
+ReceiptsAreTheLog = (before : ℕ) (log : List Entry) (since : ℕ) (rs : List Receipt) → Agree before log rs → AreAfter since rs → before + length log ≡ since + length rs → AreTheLog before log since rs
 
 -- ---- receipts that a call gives
 
@@ -46,5 +46,5 @@ ReceiptsAreTheLog = (log : List Entry) (since : ℕ) (rs : List Receipt) → Agr
 pub record IsLogged (start : State) (front : ℕ) (receipt : Receipt) : Type 0 where
   pub core : State
   pub is_core : IsCore start core
-  pub stands : Stands core.log receipt
+  pub stands : Stands core.opening.place core.log receipt
   pub new : front < receipt.place

@@ -11,7 +11,8 @@ ghost use Rattle.world.specs.Piece.{PieceStep, ReadStep, standing_at, piece_stan
 ghost use Rattle.world.specs.Publish.{PublishStep};
 ghost use Rattle.world.specs.Query.{QueryStep};
 ghost use Rattle.world.specs.Snapshot.{SnapshotStep};
-ghost use Rattle.world.specs.State.{facts_of, recent};
+ghost use Rattle.checkpoint.specs.Checkpoint.{checkpoint_of};
+ghost use Rattle.world.specs.State.{entries_before, entries_kept, entry_count, facts_of, recent};
 
 use crate::fault::{SharedFault, WentBack};
 use crate::handle::Handle;
@@ -28,8 +29,8 @@ use schema_version::{Schema, Step};
 use std::alloc::{AllocError, Global};
 use std::sync::Wait;
 use world::{
-    BeginFault, CheckReport, CommitFault, Committed, Grant, GrantFault, PieceDone, PieceFault,
-    PublishFault, QueryRefusal, ReadFault, Receipt, Snapshot, SnapshotFault,
+    BeginFault, CheckReport, Checkpoint, CommitFault, Committed, Entry, Grant, GrantFault,
+    PieceDone, PieceFault, PublishFault, QueryRefusal, ReadFault, Receipt, Snapshot, SnapshotFault,
 };
 
 // What the world answered.
@@ -232,6 +233,54 @@ impl<L: SharedLedger> Shared<L> {
         let locked = self.locked.lock(rt);
         locked.check_front(me)?;
         through(locked.due(alloc, me, moment))
+    }
+
+    /// The checkpoint of the world, as `World::checkpoint` makes it. The pairs are shared, and none is
+    /// copied.
+    ///
+    /// Refused in this order: `WentBack` if the log is shorter than the handle's front; `World`
+    /// when out of memory.
+    #[tactic(auto, using(crate::proofs::Through::answers))]
+    pub fn checkpoint(
+        &self,
+        rt: &impl Wait,
+        me: &mut Handle<L>,
+    ) -> Result<Checkpoint, SharedFault<AllocError>>
+        ensures { Answers L.start me.old result me.new (λ c r d. IfOk r (λ cp. cp ≡ checkpoint_of (entry_count c) (facts_of c)) × (d ≡ c)) no_place }
+    {
+        let locked = self.locked.lock(rt);
+        locked.check_front(me)?;
+        through(locked.checkpoint(me))
+    }
+
+    /// Hands out the entries that are in memory, as `World::take_log` does, with how many there were
+    /// before them, in one critical section whose time does not grow with them: they may then be
+    /// stored, and are freed outside of it. Refused with `WentBack` alone, if the log is shorter than
+    /// the handle's front.
+    #[tactic(auto, using(crate::proofs::Through::finds))]
+    pub fn take_log(
+        &self,
+        rt: &impl Wait,
+        me: &mut Handle<L>,
+    ) -> Result<(u64, Vec<Entry>), WentBack>
+        ensures { Finds L.start me.old result me.new (λ c x. (x.0 ≡ entries_before c) × (x.1.items ≡ entries_kept c)) }
+    {
+        let mut locked = self.locked.lock(rt);
+        locked.check_front(me)?;
+        Ok(locked.take_log(me))
+    }
+
+    /// Gives the memory of all entries back, as `World::cut` does: they are taken in one critical
+    /// section and freed outside of it. Refused with `WentBack` alone, if the log is shorter than the
+    /// handle's front.
+    #[tactic(auto, using(crate::proofs::Through::only_found))]
+    pub fn cut(&self, rt: &impl Wait, me: &mut Handle<L>) -> Result<(), WentBack>
+        ensures { Finds L.start me.old result me.new (λ c x. x ≡ tt) }
+    {
+        match self.take_log(rt, me) {
+            Ok(_taken) => Ok(()),
+            Err(back) => Err(back),
+        }
     }
 
     /// How the begun reorganisation of an element stands, as `World::progress` tells it. Refused

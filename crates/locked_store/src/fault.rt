@@ -75,6 +75,12 @@ pub enum ReceiptFault {
         /// The receipt's place.
         place: u64,
     },
+    /// The entry of the place is no longer in memory, so that nothing can be said of the receipt.
+    #[error("the entry of the place {place} was cut off")]
+    CutOff {
+        /// The receipt's place.
+        place: u64,
+    },
     /// Out of memory.
     #[error("out of memory")]
     Memory,

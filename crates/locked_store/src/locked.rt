@@ -10,7 +10,8 @@ ghost use Rattle.world.specs.Piece.{PieceStep, ReadStep, standing_at, piece_stan
 ghost use Rattle.world.specs.Publish.{PublishStep};
 ghost use Rattle.world.specs.Query.{QueryStep};
 ghost use Rattle.world.specs.Snapshot.{SnapshotStep};
-ghost use Rattle.world.specs.State.{facts_of, recent};
+ghost use Rattle.checkpoint.specs.Checkpoint.{checkpoint_of};
+ghost use Rattle.world.specs.State.{cut_here, entries_before, entries_kept, entry_count, facts_of, recent};
 
 use crate::fault::WentBack;
 use crate::handle::Handle;
@@ -28,8 +29,9 @@ use std::alloc::{AllocError, Global};
 use std::marker::Model;
 use std::sync::ledger::Book;
 use world::{
-    BeginFault, CheckReport, CommitFault, Committed, Grant, GrantFault, PieceDone, PieceFault,
-    PublishFault, QueryRefusal, ReadFault, Receipt, Snapshot, SnapshotFault, World,
+    BeginFault, CheckReport, Checkpoint, CommitFault, Committed, Entry, Grant, GrantFault,
+    PieceDone, PieceFault, PublishFault, QueryRefusal, ReadFault, Receipt, Snapshot, SnapshotFault,
+    World,
 };
 
 /// The world, and how many entries its calls added since it was shared. Contracts see it as the
@@ -46,8 +48,8 @@ pub(crate) struct Locked<L: SharedLedger> {
 }
 
 impl<L: SharedLedger> Model for Locked<L> {
-    ghost use Rattle.std.specs.Prelude.{◌≡◌, ◌+◌, length};
-    ghost use Rattle.world.specs.State.{State};
+    ghost use Rattle.std.specs.Prelude.{◌≡◌, ◌+◌};
+    ghost use Rattle.world.specs.State.{State, entry_count};
     ghost use Rattle.world.specs.Code.{state_code};
     ghost use Rattle.locked_store.specs.Cores.{IsCore};
 
@@ -57,14 +59,14 @@ impl<L: SharedLedger> Model for Locked<L> {
 
     ghost view = { λ l. l.world };
 
-    ghost invariant = { λ l. IsCore L.start l.world × (length l.world.log ≡ length L.start.log + l.added) × (l.book.total ≡ l.added) × (L.handles ≡ L.parts) };
+    ghost invariant = { λ l. IsCore L.start l.world × (entry_count l.world ≡ entry_count L.start + l.added) × (l.book.total ≡ l.added) × (L.handles ≡ L.parts) };
 }
 
-/// The length of the log.
+/// How many entries there were ever.
 pub(crate) fn log_len(world: &World) -> u64
-    ensures { result ≡ length world.now.log }
+    ensures { result ≡ entry_count world.now }
 {
-    world.log().len() as u64
+    world.log_len()
 }
 
 // An owner more of a schema.
@@ -87,12 +89,12 @@ fn commit_counted<L: SharedLedger>(
     moment: u64,
     prepared: Prepared,
 ) -> Result<Committed, (CommitFault, Prepared)>
-    requires seen { me.old.front ≤ length world.old.log }
-    requires few { added.old ≤ length world.old.log }
+    requires seen { me.old.front ≤ entry_count world.old }
+    requires few { added.old ≤ entry_count world.old }
     ensures step { CommitStep world.old moment prepared result world.new }
-    ensures added { length world.new.log + added.old ≡ length world.old.log + added.new }
+    ensures added { entry_count world.new + added.old ≡ entry_count world.old + added.new }
     ensures total { book.new.total + added.old ≡ book.old.total + added.new }
-    ensures front { me.new.front ≡ length world.new.log }
+    ensures front { me.new.front ≡ entry_count world.new }
     ensures counts { Counts me.old (place_of commit_place result) me.new }
 {
     let result = world.commit(alloc, moment, prepared);
@@ -105,10 +107,38 @@ fn commit_counted<L: SharedLedger>(
     result
 }
 
+// The same of a piece, which always has an entry if it is accepted.
+fn piece_counted<L: SharedLedger>(
+    alloc: Global,
+    world: &mut World,
+    added: &mut u64,
+    book: &mut Book<L>,
+    me: &mut Handle<L>,
+    moment: u64,
+    prepared: PreparedPiece,
+) -> Result<PieceDone, (PieceFault, PreparedPiece)>
+    requires seen { me.old.front ≤ entry_count world.old }
+    requires few { added.old ≤ entry_count world.old }
+    ensures step { PieceStep world.old moment prepared result world.new }
+    ensures added { entry_count world.new + added.old ≡ entry_count world.old + added.new }
+    ensures total { book.new.total + added.old ≡ book.old.total + added.new }
+    ensures front { me.new.front ≡ entry_count world.new }
+    ensures counts { Counts me.old (place_of piece_place result) me.new }
+{
+    let result = world.commit_piece(alloc, moment, prepared);
+    let len = log_len(world);
+    if result.is_ok() {
+        book.add(&mut me.share, 1);
+        *added += 1;
+    }
+    me.front = len;
+    result
+}
+
 impl<L: SharedLedger> Locked<L> {
     // Refuses if the log is shorter than the handle's front.
     pub(crate) fn check_front(&self, me: &Handle<L>) -> Result<(), WentBack>
-        ensures ok { OnOk result (me.now.front ≤ length self.now.log) }
+        ensures ok { OnOk result (me.now.front ≤ entry_count self.now) }
         ensures back { IfErr result (λ back. (back.seen < me.now.front) × WasLength L.start back.seen) }
     {
         let seen = log_len(&self.world);
@@ -128,7 +158,7 @@ impl<L: SharedLedger> Locked<L> {
     // Moves the front to the length of the log.
     fn look(&self, me: &mut Handle<L>)
         ensures core { IsCore L.start self.now }
-        ensures front { me.new.front ≡ length self.now.log }
+        ensures front { me.new.front ≡ entry_count self.now }
         ensures same { (me.new.id ≡ me.old.id) × (me.new.count ≡ me.old.count) }
     {
         me.front = log_len(&self.world);
@@ -142,7 +172,7 @@ impl<L: SharedLedger> Locked<L> {
         me: &mut Handle<L>,
         moment: u64,
     ) -> Result<Grant, GrantFault>
-        requires { me.old.front ≤ length self.old.log }
+        requires { me.old.front ≤ entry_count self.old }
         ensures { Takes L.start me.old self.old result self.new me.new (λ c r d. LeaseStep c moment r d) grant_place }
     {
         self.lemma_is_core();
@@ -163,7 +193,7 @@ impl<L: SharedLedger> Locked<L> {
         me: &mut Handle<L>,
         version: u64,
     ) -> Result<Option<ArcValue<Schema>>, AllocError>
-        requires { me.old.front ≤ length self.now.log }
+        requires { me.old.front ≤ entry_count self.now }
         ensures { Takes L.start me.old self.now result self.now me.new (λ c r d. IfOk r (λ s. s ≡ recent (facts_of c) version) × (d ≡ c)) no_place }
     {
         self.look(me);
@@ -176,7 +206,7 @@ impl<L: SharedLedger> Locked<L> {
         me: &mut Handle<L>,
         keys: &ReadSet,
     ) -> Result<ReadView, AllocError>
-        requires { me.old.front ≤ length self.now.log }
+        requires { me.old.front ≤ entry_count self.now }
         ensures { Takes L.start me.old self.now result self.now me.new (λ c r d. IfOk r (λ view. IsReadView c keys.now view) × (d ≡ c)) no_place }
     {
         self.look(me);
@@ -190,7 +220,7 @@ impl<L: SharedLedger> Locked<L> {
         moment: u64,
         prepared: Prepared,
     ) -> Result<Committed, (CommitFault, Prepared)>
-        requires { me.old.front ≤ length self.old.log }
+        requires { me.old.front ≤ entry_count self.old }
         ensures { Takes L.start me.old self.old result self.new me.new (λ c r d. CommitStep c moment prepared r d) commit_place }
     {
         self.lemma_is_core();
@@ -208,7 +238,7 @@ impl<L: SharedLedger> Locked<L> {
         lease: &Lease,
         query: &Query,
     ) -> Result<List<Row>, QueryRefusal>
-        requires { me.old.front ≤ length self.now.log }
+        requires { me.old.front ≤ entry_count self.now }
         ensures { Takes L.start me.old self.now result self.now me.new (λ c r d. QueryStep c moment lease.now query.now r × (d ≡ c)) no_place }
     {
         self.look(me);
@@ -221,7 +251,7 @@ impl<L: SharedLedger> Locked<L> {
         moment: u64,
         lease: &Lease,
     ) -> Result<Snapshot, SnapshotFault>
-        requires { me.old.front ≤ length self.now.log }
+        requires { me.old.front ≤ entry_count self.now }
         ensures { Takes L.start me.old self.now result self.now me.new (λ c r d. SnapshotStep c moment lease.now r × (d ≡ c)) no_place }
     {
         self.look(me);
@@ -236,7 +266,7 @@ impl<L: SharedLedger> Locked<L> {
         moment: u64,
         step: &Step,
     ) -> Result<(u64, Receipt), PublishFault>
-        requires { me.old.front ≤ length self.old.log }
+        requires { me.old.front ≤ entry_count self.old }
         ensures { Takes L.start me.old self.old result self.new me.new (λ c r d. PublishStep c moment step.now r d) publish_place }
     {
         self.lemma_is_core();
@@ -261,7 +291,7 @@ impl<L: SharedLedger> Locked<L> {
         element: u32,
         pieces: u32,
     ) -> Result<Receipt, BeginFault>
-        requires { me.old.front ≤ length self.old.log }
+        requires { me.old.front ≤ entry_count self.old }
         ensures { Takes L.start me.old self.old result self.new me.new (λ c r d. BeginStep c moment element pieces r d) receipt_place }
     {
         self.lemma_is_core();
@@ -283,15 +313,41 @@ impl<L: SharedLedger> Locked<L> {
         me: &mut Handle<L>,
         moment: u64,
     ) -> Result<Act, AllocError>
-        requires { me.old.front ≤ length self.now.log }
+        requires { me.old.front ≤ entry_count self.now }
         ensures { Takes L.start me.old self.now result self.now me.new (λ c r d. IfOk r (λ act. IsDue (facts_of c) (effective_moment c moment) act) × (d ≡ c)) no_place }
     {
         self.look(me);
         due(alloc, &self.world, moment)
     }
 
+    pub(crate) fn checkpoint(&self, me: &mut Handle<L>) -> Result<Checkpoint, AllocError>
+        requires { me.old.front ≤ entry_count self.now }
+        ensures { Takes L.start me.old self.now result self.now me.new (λ c r d. IfOk r (λ cp. cp ≡ checkpoint_of (entry_count c) (facts_of c)) × (d ≡ c)) no_place }
+    {
+        self.look(me);
+        self.world.checkpoint()
+    }
+
+    #[tactic(auto, using(crate::proofs::Growing::taken))]
+    pub(crate) fn take_log(&mut self, me: &mut Handle<L>) -> (u64, Vec<Entry>)
+        requires { me.old.front ≤ entry_count self.old }
+        ensures found { Found L.start me.old self.old result me.new (λ c x. (x.0 ≡ entries_before c) × (x.1.items ≡ entries_kept c)) }
+        ensures state { self.new ≡ cut_here self.old }
+    {
+        self.look(me);
+        let Locked {
+            world,
+            added: _,
+            book: _,
+        } = self;
+        let start = world.log_start();
+        let entries = world.take_log();
+        world.lemma_agrees();
+        (start, entries)
+    }
+
     pub(crate) fn progress(&self, me: &mut Handle<L>, element: u32) -> Option<(Work, usize, bool)>
-        requires { me.old.front ≤ length self.now.log }
+        requires { me.old.front ≤ entry_count self.now }
         ensures { Found L.start me.old self.now result me.new (λ c x. x ≡ standing_at (facts_of c) element) }
     {
         self.look(me);
@@ -304,7 +360,7 @@ impl<L: SharedLedger> Locked<L> {
         element: u32,
         piece: u32,
     ) -> Option<(Work, bool)>
-        requires { me.old.front ≤ length self.now.log }
+        requires { me.old.front ≤ entry_count self.now }
         ensures { Found L.start me.old self.now result me.new (λ c x. x ≡ piece_standing_at (facts_of c) element piece) }
     {
         self.look(me);
@@ -318,7 +374,7 @@ impl<L: SharedLedger> Locked<L> {
         element: u32,
         limit: u32,
     ) -> Result<Option<PieceView>, ReadFault>
-        requires { me.old.front ≤ length self.now.log }
+        requires { me.old.front ≤ entry_count self.now }
         ensures { Takes L.start me.old self.now result self.now me.new (λ c r d. NextStep c element limit r × (d ≡ c)) no_place }
     {
         self.look(me);
@@ -333,14 +389,13 @@ impl<L: SharedLedger> Locked<L> {
         piece: u32,
         limit: u32,
     ) -> Result<PieceView, ReadFault>
-        requires { me.old.front ≤ length self.now.log }
+        requires { me.old.front ≤ entry_count self.now }
         ensures { Takes L.start me.old self.now result self.now me.new (λ c r d. ReadStep c element piece limit r × (d ≡ c)) no_place }
     {
         self.look(me);
         self.world.read_piece(alloc, element, piece, limit)
     }
 
-    #[tactic(auto, using(crate::proofs::Growing::piece))]
     pub(crate) fn commit_piece(
         &mut self,
         alloc: Global,
@@ -348,24 +403,18 @@ impl<L: SharedLedger> Locked<L> {
         moment: u64,
         prepared: PreparedPiece,
     ) -> Result<PieceDone, (PieceFault, PreparedPiece)>
-        requires { me.old.front ≤ length self.old.log }
+        requires { me.old.front ≤ entry_count self.old }
         ensures { Takes L.start me.old self.old result self.new me.new (λ c r d. PieceStep c moment prepared r d) piece_place }
     {
         self.lemma_is_core();
         let Locked { world, added, book } = self;
-        let result = world.commit_piece(alloc, moment, prepared);
-        let len = log_len(world);
-        if result.is_ok() {
-            book.add(&mut me.share, 1);
-            *added += 1;
-        }
-        me.front = len;
+        let result = piece_counted(alloc, world, added, book, me, moment, prepared);
         world.lemma_agrees();
         result
     }
 
     pub(crate) fn check(&self, alloc: Global, me: &mut Handle<L>) -> Result<CheckReport, AllocError>
-        requires { me.old.front ≤ length self.now.log }
+        requires { me.old.front ≤ entry_count self.now }
         ensures { Takes L.start me.old self.now result self.now me.new (λ c r d. IfOk r (λ report. IsCheck c report) × (d ≡ c)) no_place }
     {
         self.look(me);

@@ -3,6 +3,7 @@ ghost use Rattle.std.specs.Prelude.{◌≡◌, ◌+◌, ◌<◌, ◌≤◌, leng
 ghost use Rattle.locked_store.specs.Cores.{IsCore};
 ghost use Rattle.locked_store.specs.Known.{total_count, AreFresh};
 ghost use Rattle.locked_store.specs.Sharing.{IsCount, IsRefused};
+ghost use Rattle.world.specs.State.{entry_count};
 
 use crate::fault::{Missing, ShareFault};
 use crate::handle::Handle;
@@ -41,7 +42,7 @@ impl<L: SharedLedger> Shared<L> {
         requires name { blank.name ≡ L.name }
         requires parts { blank.parts ≡ L.parts }
         requires picked { (L.handles ≡ count) × (L.handles ≡ L.parts) × (L.start ≡ world) }
-        ensures fresh { IfOk result (λ r. IsCount count × AreFresh count (length world.log) r.1.items) }
+        ensures fresh { IfOk result (λ r. IsCount count × AreFresh count (entry_count world) r.1.items) }
         ensures refused { IfErr result (λ r. IsRefused count r.0) }
         ensures back { IfErr result (λ r. r.1 ≡ world) }
     {
@@ -84,7 +85,7 @@ impl<L: SharedLedger> Shared<L> {
         handles: Vec<Handle<L>>,
     ) -> Result<World, (Missing, Shared<L>, Vec<Handle<L>>)>
         ensures core { IfOk result (λ w. IsCore L.start w) }
-        ensures counted { IfOk result (λ w. length w.log ≡ length L.start.log + total_count handles.items) }
+        ensures counted { IfOk result (λ w. entry_count w ≡ entry_count L.start + total_count handles.items) }
         ensures all { IfOk result (λ _. L.handles ≤ vec_len handles) }
         ensures short { IfErr result (λ r. (r.0.held ≡ vec_len handles) × (r.0.want ≡ L.handles) × (r.0.held < r.0.want)) }
         ensures back { IfErr result (λ r. r.2.items ≡ handles.items) }

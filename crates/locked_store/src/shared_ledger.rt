@@ -18,9 +18,10 @@ pub trait SharedLedger: Ledger {
 impl SharedLedger for Brand {
     ghost use Rattle.std.specs.Prelude.{[]};
     ghost use Rattle.schema_version.specs.Declare.{declared};
+    ghost use Rattle.checkpoint.specs.Checkpoint.{opening_checkpoint};
     ghost use Rattle.world.specs.State.{opened};
 
     ghost handles = { 0 };
 
-    ghost start = { opened (record { length = 0; schema = declared [] }) };
+    ghost start = { opened (opening_checkpoint (record { length = 0; schema = declared [] })) };
 }

@@ -4,7 +4,7 @@ use crate::fixtures::{FIRST, are, delete, entering, going, insert, whole_table};
 use crate::handle_port::{HandlePort, Reported, judged, prepared};
 use crate::pieces::{begun, works};
 use collections::{ArcValue, List};
-use locked_store::{SharedFault, SharedLedger};
+use locked_store::{SharedFault, SharedLedger, WentBack};
 use reorganise::{PreparedPiece, Work};
 use row_map::Row;
 use row_query::QueryFault;
@@ -14,8 +14,8 @@ use std::alloc::{AllocError, Global};
 use std::mem;
 use std::sync::Wait;
 use world::{
-    CommitFault, Committed, Grant, GrantFault, PublishFault, QueryRefusal, Receipt, Snapshot,
-    SnapshotFault,
+    Checkpoint, CommitFault, Committed, Entry, Grant, GrantFault, PublishFault, QueryRefusal,
+    Receipt, Snapshot, SnapshotFault,
 };
 
 /// Rows by their keys and their values of a.
@@ -47,6 +47,12 @@ pub(crate) enum Act {
     Stand(Option<(Work, usize, bool)>),
     /// The state of the index in a version, none if the version is not known.
     State(u64, Option<ElementState>),
+    /// The entries in memory are handed out: how many there were before them, and how many they are.
+    Take(u64, usize),
+    /// The memory of all entries is given back.
+    Cut,
+    /// A checkpoint, before which there were so many entries.
+    Save(u64),
 }
 
 fn granted(answer: Result<Grant, SharedFault<GrantFault>>) -> Reported {
@@ -179,6 +185,21 @@ fn stated(
     }
 }
 
+fn takes(answer: Result<(u64, Vec<Entry>), WentBack>, wanted: (u64, usize)) -> Reported {
+    match answer {
+        Ok((start, entries)) => judged((start, entries.len()) == wanted),
+        Err(_) => Reported::Wrong,
+    }
+}
+
+fn saves(answer: Result<Checkpoint, SharedFault<AllocError>>, place: u64) -> Reported {
+    match answer {
+        Ok(checkpoint) => judged(checkpoint.place() == place),
+        Err(SharedFault::World(AllocError)) => Reported::Short,
+        Err(_) => Reported::Wrong,
+    }
+}
+
 /// What acts keep for later ones: the last snapshot, and what came back.
 #[derive(Drop)]
 pub(crate) struct Kept {
@@ -210,5 +231,8 @@ pub(crate) fn acted<L: SharedLedger, R: Wait>(
         Act::Piece => works(port, &mut kept.piece),
         Act::Stand(progress) => judged(port.shared.progress(rt, port.me, 2) == Ok(*progress)),
         Act::State(version, state) => stated(port.shared.schema(rt, port.me, *version), *state),
+        Act::Take(start, count) => takes(port.shared.take_log(rt, port.me), (*start, *count)),
+        Act::Cut => judged(port.shared.cut(rt, port.me) == Ok(())),
+        Act::Save(place) => saves(port.shared.checkpoint(rt, port.me), *place),
     }
 }

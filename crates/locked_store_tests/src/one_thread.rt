@@ -5,7 +5,9 @@ ghost use Rattle.std.specs.Prelude.{◌≡◌};
 use crate::acts::{Act, Kept, acted};
 use crate::fixtures::{mark, opened};
 use crate::handle_port::{HandlePort, Reported};
-use Act::{Begin, Delete, Enter, Find, Go, Insert, Keep, Lease, Look, Piece, Stand, State};
+use Act::{
+    Begin, Cut, Delete, Enter, Find, Go, Insert, Keep, Lease, Look, Piece, Save, Stand, State, Take,
+};
 use audit::CheckReport;
 use locked_store::{
     Handle, ReceiptFault, ShareFault, Shared, SharedFault, SharedLedger, reconcile,
@@ -93,15 +95,19 @@ fn is_right<L: SharedLedger, R: Wait>(
 }
 
 // How many of the acts are answered as they have to be, up to the first that is not.
-fn walked<L: SharedLedger, R: Wait>(port: &mut HandlePort<L, R>, kept: &mut Kept) -> usize {
+fn walked<L: SharedLedger, R: Wait>(
+    port: &mut HandlePort<L, R>,
+    kept: &mut Kept,
+    rows: &[(Act, Seen)],
+) -> usize {
     let mut before = (0, 0);
-    for (place, (act, after)) in ACTS.iter().enumerate() {
+    for (place, (act, after)) in rows.iter().enumerate() {
         if !is_right(port, kept, act, before, *after) {
             return place;
         }
         before = *after;
     }
-    ACTS.len()
+    rows.len()
 }
 
 // The same through the one handle.
@@ -110,6 +116,7 @@ fn handled<'a, L: SharedLedger, R: Wait>(
     alloc: Global,
     shared: &'a Shared<L>,
     me: &'a mut Handle<L>,
+    rows: &[(Act, Seen)],
 ) -> usize {
     let mut port = HandlePort {
         rt,
@@ -122,7 +129,7 @@ fn handled<'a, L: SharedLedger, R: Wait>(
         work: None,
         piece: None,
     };
-    let right = walked(&mut port, &mut kept);
+    let right = walked(&mut port, &mut kept, rows);
     // it goes here by `drop`, which is proved apart, and not at the end, which is dear to prove
     drop(kept);
     right
@@ -134,9 +141,10 @@ fn closed<L: SharedLedger, R: Wait>(
     alloc: Global,
     shared: Shared<L>,
     mut handles: Vec<Handle<L>>,
+    rows: &[(Act, Seen)],
 ) -> Option<(World, usize)> {
     let mut me = handles.pop()?;
-    let right = handled(rt, alloc, &shared, &mut me);
+    let right = handled(rt, alloc, &shared, &mut me, rows);
     handles.push(me).ok()?;
     Some((shared.close(handles).ok()?, right))
 }
@@ -147,13 +155,14 @@ fn shared<L: SharedLedger, R: Wait>(
     alloc: Global,
     blank: Blank,
     world: World,
+    rows: &[(Act, Seen)],
 ) -> Result<Option<(World, usize)>, World>
     requires name { blank.name ≡ L.name }
     requires parts { blank.parts ≡ L.parts }
     requires picked { (L.handles ≡ 1) × (L.handles ≡ L.parts) × (L.start ≡ world) }
 {
     match Shared::<L>::new(alloc, blank, world, 1) {
-        Ok((shared, handles)) => Ok(closed(rt, alloc, shared, handles)),
+        Ok((shared, handles)) => Ok(closed(rt, alloc, shared, handles, rows)),
         Err((ShareFault::Memory, world)) => Err(world),
         Err(_) => Ok(None),
     }
@@ -163,14 +172,20 @@ fn shared_once<R: Wait>(
     rt: &R,
     alloc: Global,
     world: World,
+    rows: &[(Act, Seen)],
 ) -> Result<Option<(World, usize)>, World> {
-    shared::<Brand, R>(rt, alloc, Blank::new(1), world)
+    shared::<Brand, R>(rt, alloc, Blank::new(1), world, rows)
 }
 
-fn shared_twice<R: Wait>(rt: &R, alloc: Global, world: World) -> Option<(World, usize)> {
-    match shared_once(rt, alloc, world) {
+fn shared_twice<R: Wait>(
+    rt: &R,
+    alloc: Global,
+    world: World,
+    rows: &[(Act, Seen)],
+) -> Option<(World, usize)> {
+    match shared_once(rt, alloc, world, rows) {
         Ok(reported) => reported,
-        Err(world) => shared_once(rt, alloc, world).ok()?,
+        Err(world) => shared_once(rt, alloc, world, rows).ok()?,
     }
 }
 
@@ -267,9 +282,55 @@ fn under_refusal_calls_through_the_lock(rt: HostRuntime) {
     let Some(world) = neither_shared(alloc, world) else {
         panic!(rt; "no handles, or 65");
     };
-    let Some((world, right)) = shared_twice(&rt, alloc, world) else {
+    let Some((world, right)) = shared_twice(&rt, alloc, world, &ACTS) else {
         panic!(rt; "it was not shared");
     };
     assert!(rt; right == ACTS.len(), "act {right}");
     assert!(rt; is_each_reported(alloc, &world));
+}
+
+// Entries are handed out and given back, and places go on. A reader of the checkpoint finds as many
+// entries before it as there are.
+static CUTS: [(Act, Seen); 10] = [
+    (Lease, (1, 0)),
+    (Insert(1, 5), (2, 1)),
+    (Take(0, 2), (2, 1)),
+    (Take(2, 0), (2, 1)),
+    (Find(&[(1, 5)]), (2, 1)),
+    (Delete(1), (3, 0)),
+    (Cut, (3, 0)),
+    (Find(&[]), (3, 0)),
+    (Save(3), (3, 0)),
+    (Insert(5, 7), (4, 1)),
+];
+
+// What is reported of a receipt of the fourth entry, moved to this place.
+fn reported_at(alloc: Global, world: &World, place: u64) -> Option<Result<(), ReceiptFault>> {
+    reported(alloc, world, [(4, 0, 0), (place, 0, 0)])
+}
+
+// Of the four entries the last is in memory: of the others nothing can be said.
+fn are_cut_off(alloc: Global, world: &World) -> bool {
+    for place in 1..4u64 {
+        if reported_at(alloc, world, place) != Some(Err(ReceiptFault::CutOff { place })) {
+            return false;
+        }
+    }
+    reported_at(alloc, world, 5) == Some(Err(ReceiptFault::NoPlace { place: 5 }))
+        && reported_at(alloc, world, 4) == Some(Err(ReceiptFault::Twice { place: 4 }))
+        && (world.log().len(), world.log_start(), world.log_len()) == (1, 3, 4)
+}
+
+#[test]
+fn under_refusal_cuts_through_the_lock(rt: HostRuntime) {
+    let alloc = rt.alloc();
+    let Ok(world) = opened(alloc, &["a"]) else {
+        panic!(rt; "no world");
+    };
+    assert!(rt; mark(&rt));
+    let Some((world, right)) = shared_twice(&rt, alloc, world, &CUTS) else {
+        panic!(rt; "it was not shared");
+    };
+    assert!(rt; right == CUTS.len(), "act {right}");
+    assert!(rt; are_cut_off(alloc, &world));
 }

@@ -4,7 +4,7 @@ use Rattle.std.specs.List.{slice_range}
 use Rattle.std.proofs.lemmas.List.{map-append, take-map, drop-map, length-drop, take-append-le, drop-append-le}
 use Rattle.byte_map.specs.Sorted.{IsAt, IsGap, changed}
 use Rattle.byte_map.proofs.Search.{changed_set, changed_insert, changed_remove}
-use Rattle.page_map.specs.declared.flat_pairs.Slot.{Slot}
+use Rattle.page_map.specs.declared.slots.Slot.{Slot}
 use Rattle.page_map.specs.inner.FlatPairs.{marked, encoded, IsWithin, AllWithin}
 use Rattle.page_map.specs.Pages.{Stands}
 

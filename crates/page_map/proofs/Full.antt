@@ -7,7 +7,7 @@ use Rattle.byte_map.specs.Order.{bytes_cmp}
 use Rattle.byte_map.specs.Sorted.{Entries, IsFirstFrom, none_below}
 use Rattle.byte_map.proofs.Order.{to_less, first}
 use Rattle.byte_map.proofs.Ranges.{not_less, none_below_all}
-use Rattle.page_map.specs.inner.Prefix.{prefix_of, HasPrefix}
+use Rattle.page_map.specs.inner.Prefix.{IsPrefix, HasPrefix}
 use Rattle.page_map.specs.Pages.{joined, AllFull, Stands, IsRestFrom, IsCountUpTo}
 use Rattle.page_map.proofs.Cuts.{begins_at, around, joined_append, cut_joined, from_last, all_below_append, none_below_append}
 
@@ -112,9 +112,9 @@ module _ {X : Type 0} where
   none_joined (p ∷ ps) is = absurd (omega (arith, is))
 
   -- parts begin as their first one does
-  pub has_prefix : (ps : List (Entries X)) (page : Entries X) (prefix : List ℕ) → page ≡ get_or ps 0 page → 0 < length page → HasPrefix page prefix → HasPrefix (joined ps) prefix
+  pub has_prefix : (ps : List (Entries X)) (page : Entries X) (prefix : ℕ × ℕ × ℕ) → page ≡ get_or ps 0 page → 0 < length page → HasPrefix page prefix → HasPrefix (joined ps) prefix
   has_prefix [] page prefix is some h = λ first stands. absurd (omega (arith, ap length stands))
   has_prefix (p ∷ ps) page prefix is some h = λ first stands.
       let e = first_of_full page some in
       let same : e.0 ≡ first = ap (λ (l : Entries X). get_or l 0 first) (ap (λ (q : Entries X). q ++ joined ps) (sym e.1 ∙ is) ∙ stands) in
-      h e.0 e.1 ∙ ap (λ (p : List ℕ × X). prefix_of p.0) same
+      subst (λ (p : List ℕ × X). IsPrefix prefix p.0) same (h e.0 e.1)

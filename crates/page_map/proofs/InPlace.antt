@@ -9,7 +9,9 @@ use Rattle.byte_map.proofs.Order.{bytes_cmp_total}
 use Rattle.byte_map.proofs.Entries.{sorted_changed}
 use Rattle.page_map.specs.inner.FlatPairs.{Flat, HasRoom, size, wanted}
 use Rattle.page_map.specs.Pages.{joined, Stands}
+use Rattle.page_map.specs.Empties.{empties}
 use Rattle.page_map.proofs.Cuts.{joined_append, around}
+use Rattle.page_map.proofs.Empties.{empties-append, count_page, parts_fit}
 use Rattle.page_map.proofs.Placing.{step}
 
 abbrev Pages : Type 0
@@ -80,6 +82,21 @@ module _ (ps : Pages) (at : ℕ) (page : Entries (List ℕ)) (lt : at < length p
 
   pub set_length : (new : Entries (List ℕ)) (behind : Pages) → length (joined (set (take (at + 1) ps) at new ++ behind)) ≡ (length (joined (take at ps)) + length new) + length (joined behind)
   set_length new behind = ap length (joined_set new behind) ∙ length-append (joined (take at ps) ++ new) (joined behind) ∙ ap (λ (n : ℕ). n + length (joined behind)) (length-append (joined (take at ps)) new)
+
+  pub all_empties : length (empties (joined ps)) ≡ (length (empties (joined (take at ps))) + length (empties page)) + length (empties (joined (drop (at + 1) ps)))
+  all_empties = omega (arith, parts_fit ps (at + 1), count_page ps at page lt is)
+
+  pub set_empties : (new : Entries (List ℕ)) (behind : Pages)
+      → length (empties (joined (set (take (at + 1) ps) at new ++ behind))) ≡ (length (empties (joined (take at ps))) + length (empties new)) + length (empties (joined behind))
+  set_empties new behind =
+      omega (
+        arith,
+        ap (λ (l : Entries (List ℕ)). length (empties l)) (joined_set new behind),
+        ap length (empties-append (joined (take at ps) ++ new) (joined behind)),
+        length-append (empties (joined (take at ps) ++ new)) (empties (joined behind)),
+        ap length (empties-append (joined (take at ps)) new),
+        length-append (empties (joined (take at ps))) (empties new),
+      )
 
   pub all_written : (ws : Writes) (n : ℕ) (w : List ℕ × Option (List ℕ)) → IsSorted (joined ps) → IsSorted ws → Stands ws 0 w
       → T (all_below (joined (take at ps)) w.0)

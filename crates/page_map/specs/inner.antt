@@ -1,3 +1,4 @@
 pub mod FlatPairs
 pub mod Prefix
 pub mod Plan
+pub mod Counts

@@ -3,13 +3,13 @@ ghost use Rattle.std.specs.Prelude.{◌≡◌, ◌<◌, ◌^◌, ◌++◌, [], t
 ghost use Rattle.std.specs.Ordering.{is_gt};
 ghost use Rattle.byte_map.specs.Order.{bytes_cmp};
 ghost use Rattle.page_map.specs.Empties.{empties};
-ghost use Rattle.page_map.specs.inner.Prefix.{prefix_of};
+ghost use Rattle.page_map.specs.inner.Prefix.{IsPrefix};
 ghost use Rattle.page_map.specs.Pages.{joined, Stands};
 
-use crate::page::{Mark, Page, Prefix, mark_of};
+use crate::page::{Page, Prefix, below};
 use crate::rest::count_pages;
+use byte_map::words;
 use std::alloc::{AllocError, Global};
-use std::cmp::Ordering;
 use std::marker::Model;
 use std::sync::Arc;
 
@@ -65,16 +65,11 @@ impl Chunk {
     }
 
     /// Its pages.
+    #[inline(always)]
     pub(crate) fn pages(&self) -> &[Page]
         ensures { joined result.now ≡ self.now }
     {
         self.shared.as_slice()
-    }
-
-    /// The prefix of its first key as numbers: a search may begin by them. It shows in the speed
-    /// alone.
-    pub(crate) fn mark(&self) -> Mark {
-        mark_of(&self.prefix)
     }
 
     /// Its first key.
@@ -86,16 +81,19 @@ impl Chunk {
     }
 
     /// Whether its first key is above a key, whose prefix this is.
+    #[inline(always)]
     pub(crate) fn begins_above(&self, key: &[u8], prefix: &Prefix) -> bool
         requires full { 0 < length self.now }
-        requires prefix { prefix.now ≡ prefix_of key.now }
+        requires prefix { IsPrefix prefix.now key.now }
         ensures { (first : List ℕ × List ℕ) → Stands self.now 0 first → result ≡ is_gt (bytes_cmp first.0 key.now) }
     {
-        match self.prefix.as_slice().cmp(prefix.as_slice()) {
-            Ordering::Less => false,
-            Ordering::Greater => true,
-            Ordering::Equal => self.first_key().cmp(key).is_gt(),
+        if below(self.prefix, *prefix) {
+            return false;
         }
+        if below(*prefix, self.prefix) {
+            return true;
+        }
+        words::compare(self.first_key(), key).is_gt()
     }
 
     /// Whether it has no pair.

@@ -3,79 +3,38 @@ ghost use Rattle.std.specs.Prelude.{◌≡◌, ◌+◌, ◌≤◌, ◌<◌, ◌+
 ghost use Rattle.std.specs.FinMap.Entries.{below_all};
 ghost use Rattle.byte_map.specs.Order.{bytes_cmp};
 ghost use Rattle.byte_map.specs.Sorted.{IsSorted, all_below, changed_all};
+ghost use Rattle.page_map.specs.inner.Prefix.{IsPrefix};
 ghost use Rattle.page_map.specs.Pages.{joined, AllFull, IsCountUpTo, Stands};
 
 use crate::chunk::Chunk;
-use crate::page::{Mark, mark_of, prefix_of};
-use crate::rest::goes_before;
+use crate::page::{Prefix, prefix_of};
 use crate::search::chosen;
 use byte_map::{Bytes, sorted};
 
-/// How many of the chunks begin at or below `key`. The search begins with the guess `near`.
-pub(crate) fn count_up_to(chunks: &[Chunk], key: &[u8], near: usize) -> usize
+/// How many of the chunks begin at or below `key`, whose prefix this is. The search begins with the
+/// guess `near`.
+pub(crate) fn count_up_to(chunks: &[Chunk], key: &[u8], prefix: &Prefix, near: usize) -> usize
     requires sorted { IsSorted (joined chunks.now) }
     requires full { AllFull chunks.now }
+    requires prefix { IsPrefix prefix.now key.now }
     ensures { IsCountUpTo chunks.now key.now result }
 {
-    let prefix = prefix_of(key);
-    let (from, to) = guess(chunks, mark_of(&prefix), near);
     let mut low = 0;
     let mut high = chunks.len();
     while low < high {
-        let middle = chosen(low, high, from, to);
-        if chunks[middle].begins_above(key, &prefix) {
+        let middle = chosen(low, high, near, near);
+        if chunks[middle].begins_above(key, prefix) {
             high = middle;
         } else {
             low = middle + 1;
-        }
-    }
-    low
-}
-
-/// How many chunks have a mark below this one, and how many one up to it. A search by keys begins
-/// there. It only affects speed.
-fn guess(chunks: &[Chunk], mark: Mark, near: usize) -> (usize, usize) {
-    if is_between(chunks, mark, near) {
-        return (near, near);
-    }
-    let from = count_marks(chunks, 0, mark, false);
-    let to = count_marks(chunks, from, mark, true);
-    (from, to)
-}
-
-/// Whether exactly so many chunks have a mark up to this one.
-fn is_between(chunks: &[Chunk], mark: Mark, count: usize) -> bool {
-    if count == 0 || count > chunks.len() || !goes_before(chunks[count - 1].mark(), mark, true) {
-        return false;
-    }
-    count == chunks.len() || !goes_before(chunks[count].mark(), mark, true)
-}
-
-/// How many chunks have a mark below this one, or with ties one up to it, if all before a place
-/// have.
-fn count_marks(chunks: &[Chunk], from: usize, mark: Mark, ties: bool) -> usize
-    requires { from ≤ length chunks.now }
-    ensures { result ≤ length chunks.now }
-{
-    let mut low = from;
-    let mut high = chunks.len();
-    if low < high && !goes_before(chunks[low].mark(), mark, ties) {
-        return low;
-    }
-    while low < high {
-        let middle = low + (high - low) / 2;
-        if goes_before(chunks[middle].mark(), mark, ties) {
-            low = middle + 1;
-        } else {
-            high = middle;
         }
     }
     low
 }
 
 /// The chunk that `key` belongs to, of those from a place on: the last one that begins at or below
-/// it, or the first.
-pub(crate) fn place_of(chunks: &[Chunk], from: usize, key: &[u8]) -> usize
+/// it, or the first. The search begins with the guess `near`.
+pub(crate) fn place_of(chunks: &[Chunk], from: usize, key: &[u8], near: usize) -> usize
     requires sorted { IsSorted (joined chunks.now) }
     requires full { AllFull chunks.now }
     requires in_range { from ≤ length chunks.now }
@@ -85,7 +44,7 @@ pub(crate) fn place_of(chunks: &[Chunk], from: usize, key: &[u8]) -> usize
     ensures after { T (below_all bytes_cmp key.now (joined (drop (result + 1) chunks.now))) }
 {
     let rest = chunks.split_at(from).1;
-    let count = count_up_to(rest, key, usize::MAX);
+    let count = count_up_to(rest, key, &prefix_of(key), near);
     if count == 0 { from } else { from + (count - 1) }
 }
 

@@ -1,6 +1,7 @@
 //! Changes of chunks and pages that no snapshot shares, made in place.
 ghost use Rattle.std.specs.Prelude.{◌≡◌, ◌+◌, ◌≤◌, ◌<◌, ◌^◌, true, IfSome, IfNone, length};
 ghost use Rattle.byte_map.specs.Sorted.{IsSorted, changed_all};
+ghost use Rattle.page_map.specs.Empties.{empties};
 ghost use Rattle.page_map.specs.inner.FlatPairs.{HasRoom, wanted};
 ghost use Rattle.page_map.specs.Pages.{joined, AllFull};
 
@@ -8,18 +9,20 @@ use crate::chunk::Chunk;
 use crate::chunks;
 use crate::flat_pairs::FlatPairs;
 use crate::page::{PAGE_LIMIT, Page, prefix_of};
-use crate::rest::count_pages;
+use crate::rest::Near;
 use crate::rewrite::{count_before, place_of};
 use byte_map::Bytes;
 use std::sync::Arc;
 
 /// Makes all of `writes` in place, and returns how many pairs there are then of `len`. Changes no
 /// chunk if a chunk or a page is shared, a page may have to be cut or be emptied, or memory is out.
+/// The search for the first key begins at `near`.
 #[cycle(writing)]
 pub(crate) fn write_chunks(
     chunks: &mut [Chunk],
     len: usize,
     writes: &[(Bytes, Option<Bytes>)],
+    near: Near,
 ) -> Option<usize>
     requires sorted { IsSorted (joined chunks.old) }
     requires full { AllFull chunks.old }
@@ -35,7 +38,7 @@ pub(crate) fn write_chunks(
     let [(key, _), ..] = writes else {
         return Some(len);
     };
-    let at = chunks::place_of(chunks, 0, key.as_slice());
+    let at = chunks::place_of(chunks, 0, key.as_slice(), near.chunk);
     if at >= chunks.len() {
         return None;
     }
@@ -43,29 +46,33 @@ pub(crate) fn write_chunks(
     let (here, later) = writes.split_at(count);
     let (prefix, behind) = chunks.split_at_mut(at + 1);
     let chunk = &mut prefix[at];
+    let before = chunk.empties();
     let Some(held) = Arc::get_mut(&mut chunk.shared) else {
         return None;
     };
     let pages = held.as_mut_slice();
-    let Some(total) = write_pages(pages, behind, len, here, later) else {
+    let Some((total, count)) = write_pages(pages, behind, len, before, here, later, near) else {
         return None;
     };
     let first = &*pages;
     chunk.prefix = *first[0].first_prefix();
-    chunk.empty_count = count_pages(first);
+    chunk.empty_count = count;
     Some(total)
 }
 
 /// Makes the writes `here` in these pages, and those that come `later` in the chunks after them:
-/// all of them or none. A page is changed on the way back, when nothing can fail any more.
+/// all of them or none. A page is changed on the way back, when nothing can fail any more. Returns
+/// how many pairs there are then of `len`, and of `empty_count` how many that have an empty value.
 #[cycle(writing)]
 fn write_pages(
     pages: &mut [Page],
     behind: &mut [Chunk],
     len: usize,
+    empty_count: usize,
     here: &[(Bytes, Option<Bytes>)],
     later: &[(Bytes, Option<Bytes>)],
-) -> Option<usize>
+    near: Near,
+) -> Option<(usize, usize)>
     requires sorted { IsSorted (joined pages.old) }
     requires behind { IsSorted (joined behind.old) }
     requires full { AllFull behind.old }
@@ -73,9 +80,13 @@ fn write_pages(
     requires later { IsSorted later.now }
     requires counted { length (joined pages.old) + length (joined behind.old) ≤ len }
     requires few { len + (length here.now + length later.now) < 2 ^ 64 }
+    requires empties { length (empties (joined pages.old)) ≤ empty_count }
+    requires few_empties { empty_count + length here.now < 2 ^ 64 }
     ensures written { IfSome result (λ n. joined pages.new ≡ changed_all (joined pages.old) here.now) }
     ensures behind { IfSome result (λ n. joined behind.new ≡ changed_all (joined behind.old) later.now) }
-    ensures counted { IfSome result (λ n. n + (length (joined pages.old) + length (joined behind.old)) ≡ len + (length (joined pages.new) + length (joined behind.new))) }
+    ensures empties { IfSome result (λ n. n.1 + length (empties (joined pages.old)) ≡ empty_count + length (empties (joined pages.new))) }
+    ensures few_empties { IfSome result (λ n. n.1 ≤ empty_count + length here.now) }
+    ensures counted { IfSome result (λ n. n.0 + (length (joined pages.old) + length (joined behind.old)) ≡ len + (length (joined pages.new) + length (joined behind.new))) }
     ensures full { AllFull behind.new }
     ensures kept { IfNone result (pages.new ≡ pages.old) }
     ensures kept_behind { IfNone result (behind.new ≡ behind.old) }
@@ -83,9 +94,10 @@ fn write_pages(
     ensures len_behind { length behind.new ≡ length behind.old }
 {
     let [(key, _), ..] = here else {
-        return write_chunks(behind, len, later);
+        let total = write_chunks(behind, len, later, Near::new())?;
+        return Some((total, empty_count));
     };
-    let at = place_of(pages, 0, key.as_slice());
+    let at = place_of(pages, 0, key.as_slice(), near.page);
     if at >= pages.len() {
         return None;
     }
@@ -93,6 +105,7 @@ fn write_pages(
     let (mine, rest) = here.split_at(count);
     let (prefix, back) = pages.split_at_mut(at + 1);
     let page = &mut prefix[at];
+    let old_count = page.empties();
     let Some(pairs) = Arc::get_mut(&mut page.shared) else {
         return None;
     };
@@ -100,13 +113,14 @@ fn write_pages(
     if !is_ready(pairs, mine) {
         return None;
     }
-    let Some(total) = write_pages(back, behind, len, rest, later) else {
+    let none = Near::new();
+    let Some((total, left)) = write_pages(back, behind, len, empty_count, rest, later, none) else {
         return None;
     };
-    pairs.write_all_reserved(mine);
+    let new_count = pairs.write_all_reserved(mine, old_count, near.at);
     page.prefix = prefix_of(pairs.pair(0).0);
-    page.empty_count = pairs.count_empty(pairs.len());
-    Some(total - before + pairs.len())
+    page.empty_count = new_count;
+    Some((total - before + pairs.len(), left - old_count + new_count))
 }
 
 /// Makes room for these writes, if they neither cut nor empty the page.

@@ -49,7 +49,7 @@ pub(crate) fn write_planned(
             grown: usize::MAX,
         });
     };
-    let at = chunks::place_of(chunks, 0, key.as_slice());
+    let at = chunks::place_of(chunks, 0, key.as_slice(), usize::MAX);
     if at >= chunks.len() {
         return Err(AllocError);
     }

@@ -9,9 +9,9 @@ ghost use Rattle.page_map.specs.inner.Plan.{made, placed, IsPlan};
 
 use crate::cut::cut;
 use crate::flat_pairs::FlatPairs;
-use crate::page::Page;
+use crate::page::{Page, prefix_of};
 use crate::rest::count_up_to;
-use byte_map::{Bytes, sorted};
+use byte_map::{Bytes, sorted, words};
 use std::alloc::{AllocError, Global};
 
 /// So often the pages after a place are moved at once, by the block, before one pass over them,
@@ -76,7 +76,7 @@ impl Plan {
         };
         let mut done = 0;
         while done < writes.len() {
-            let at = place_of(pages, plan.reach, writes[done].0.as_slice());
+            let at = place_of(pages, plan.reach, writes[done].0.as_slice(), usize::MAX);
             let left = writes.split_at(done).1;
             let count = count_before(left, pages, at + 1);
             plan.add(alloc, pages, at, left.split_at(count).0)?;
@@ -177,8 +177,8 @@ impl Plan {
 }
 
 /// The page that `key` belongs to, of those from a place on: the last one that begins at or below
-/// it, or the first.
-pub(crate) fn place_of(pages: &[Page], from: usize, key: &[u8]) -> usize
+/// it, or the first. The search begins with the guess `near`.
+pub(crate) fn place_of(pages: &[Page], from: usize, key: &[u8], near: usize) -> usize
     requires sorted { IsSorted (joined pages.now) }
     requires in_range { from ≤ length pages.now }
     ensures ahead { from ≤ result }
@@ -187,7 +187,7 @@ pub(crate) fn place_of(pages: &[Page], from: usize, key: &[u8]) -> usize
     ensures after { T (below_all bytes_cmp key.now (joined (drop (result + 1) pages.now))) }
 {
     let rest = pages.split_at(from).1;
-    let count = count_up_to(rest, key, usize::MAX);
+    let count = count_up_to(rest, key, &prefix_of(key), near);
     if count == 0 { from } else { from + (count - 1) }
 }
 
@@ -336,7 +336,7 @@ fn is_behind(pages: &[Page], at: usize, writes: &[(Bytes, Option<Bytes>)]) -> bo
     let pairs = pages[at].pairs();
     let last = pairs.pair(pairs.len() - 1).0;
     match writes.first() {
-        Some((key, _)) => last.cmp(key.as_slice()).is_lt(),
+        Some((key, _)) => words::compare(last, key.as_slice()).is_lt(),
         None => false,
     }
 }

@@ -6,6 +6,7 @@ ghost use Rattle.page_map.specs.Pages.{joined, AllFull, BeginsWith, IsRestFrom};
 
 use crate::chunk::Chunk;
 use crate::chunks::count_up_to;
+use crate::page::prefix_of;
 use crate::rest::{Near, Rest, nth_in_pages};
 use std::marker::Model;
 
@@ -61,7 +62,7 @@ impl<'a> Walk<'a> {
         requires full { AllFull chunks.now }
         ensures { IsRestFrom (joined chunks.now) key.now result }
     {
-        let count = count_up_to(chunks, key, near.chunk);
+        let count = count_up_to(chunks, key, &prefix_of(key), near.chunk);
         near.chunk = count;
         if count == 0 {
             return Walk::all(chunks);

@@ -1,3 +1,4 @@
 pub mod AnswerKinds
 pub mod Cuts
+pub mod Replays
 pub mod Transcripts

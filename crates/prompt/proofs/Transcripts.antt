@@ -1,23 +1,24 @@
 -- One more line.
-use Rattle.std.proofs.Common.{◌≡◌, ◌++◌, ◌∷◌, ◌+◌, ◌≤◌, ℕ, List, [], Option, Some, None, Result, Ok, Err, IfErr, IsErrAnd, OnErr, Bool, cond, length-append, ap, sym, subst, ◌∙◌, refl, arith, true, false, append_assoc}
+use Rattle.std.proofs.Common.{◌≡◌, ◌++◌, ◌∷◌, ◌+◌, ◌≤◌, ℕ, List, [], Option, Some, None, Result, Ok, Err, IfErr, IsErrAnd, OnErr, Bool, cond, length-append, ap, sym, subst, ◌∙◌, refl, arith, true, false, append_assoc, inl, inr}
 use mathlib.Core.List.{map}
 use mir.Val.{bool_byte}
 use Rattle.std.specs.List.{concat}
 use Rattle.std.specs.Io.KnownBytes.{Consumes, Appends, Keeps}
-use Rattle.std.proofs.KnownBytes.{Consumes-nil, Consumes-trans, Appends-nil, Appends-kept, Appends-trans}
+use Rattle.std.proofs.KnownBytes.{Consumes-trans, Appends-kept, Appends-trans}
 use Rattle.std.proofs.lemmas.List.{append-nil, map-append}
 use Rattle.std.proofs.lemmas.List.Folds.{concat-append}
-use Rattle.script_session.specs.Session.{Session, empty}
 use Rattle.prompt.specs.Lines.{HasRead, IsRaw, AreRaw, stripped}
 use Rattle.prompt.specs.Conversation.{IsAnswered, AreAnswered, AppendsPrefix, Conversed, IsAwaited, IsCut, IsSoFar, IsUnanswered, IsWritten, is_quit, prompt_text}
 use Rattle.prompt.specs.declared.fault.PromptFault.{PromptFault}
-use Rattle.prompt.specs.declared.fault.PromptFault.TheVariants.{Write}
+use Rattle.prompt.specs.declared.conversation.Summary.{Summary}
+use Rattle.prompt.specs.declared.fault.PromptFault.TheVariants.{Read, Write, Memory}
+use Rattle.prompt.specs.declared.state.PromptState.{PromptState}
 
 -- the text of one more answer
-abbrev pub longer : Bool → List ℕ → Session → List ℕ → List ℕ
-longer shown text t answer = text ++ (prompt_text shown t ++ answer)
+abbrev pub longer : Bool → List ℕ → PromptState → List ℕ → List ℕ
+longer shown text t answer = text ++ (prompt_text shown t.session ++ answer)
 
-pub one_more : (shown : Bool) (s : Session) (ls : List (List ℕ)) (text : List ℕ) (bad : ℕ) (t : Session) (l answer : List ℕ) (b : Bool) (u : Session)
+pub one_more : (shown : Bool) (s : PromptState) (ls : List (List ℕ)) (text : List ℕ) (bad : ℕ) (t : PromptState) (l answer : List ℕ) (b : Bool) (u : PromptState)
     → AreAnswered shown s ls text bad t → IsAnswered t l answer b u → is_quit l ≡ false
     → AreAnswered shown s (ls ++ l ∷ []) (longer shown text t answer) (bad + cond b 1 0) u
 one_more shown s [] text bad t l answer b u h r q = (
@@ -29,7 +30,7 @@ one_more shown s [] text bad t l answer b u h r q = (
   subst (λ v. IsAnswered v l answer b u) h.2 r,
   (refl, refl, refl),
   q,
-  ap (λ x. x ++ (prompt_text shown t ++ answer)) h.0 ∙ ap (λ v. prompt_text shown v ++ answer) h.2 ∙ ap (λ x. prompt_text shown s ++ x) (sym (append-nil answer)),
+  ap (λ x. x ++ (prompt_text shown t.session ++ answer)) h.0 ∙ ap (λ v. prompt_text shown v.session ++ answer) h.2 ∙ ap (λ x. prompt_text shown s.session ++ x) (sym (append-nil answer)),
   ap (λ n. n + cond b 1 0) h.1 ∙ omega arith,
 )
 one_more shown s (x ∷ ls) text bad t l answer b u h r q = (
@@ -41,7 +42,7 @@ one_more shown s (x ∷ ls) text bad t l answer b u h r q = (
   h.5,
   one_more shown h.2 ls h.3 h.4 t l answer b u h.6 r q,
   h.7,
-  ap (λ y. longer shown y t answer) h.8 ∙ append_assoc {A = ℕ} (prompt_text shown s) (h.0 ++ h.3) (prompt_text shown t ++ answer) ∙ ap (λ y. prompt_text shown s ++ y) (append_assoc {A = ℕ} h.0 h.3 (prompt_text shown t ++ answer)),
+  ap (λ y. longer shown y t answer) h.8 ∙ append_assoc {A = ℕ} (prompt_text shown s.session) (h.0 ++ h.3) (prompt_text shown t.session ++ answer) ∙ ap (λ y. prompt_text shown s.session ++ y) (append_assoc {A = ℕ} h.0 h.3 (prompt_text shown t.session ++ answer)),
   ap (λ n. n + cond b 1 0) h.9 ∙ omega arith,
 )
 
@@ -53,7 +54,7 @@ pub byte_few : (b : Bool) (n : ℕ) → n ≡ bool_byte b → n ≤ 1
 byte_few true n e = omega arith
 byte_few false n e = omega arith
 
-pub one_more_counted : (shown : Bool) (s : Session) (ls : List (List ℕ)) (text : List ℕ) (bad : ℕ) (t : Session) (l answer : List ℕ) (b : Bool) (u : Session) (n : ℕ) → n ≡ bool_byte b
+pub one_more_counted : (shown : Bool) (s : PromptState) (ls : List (List ℕ)) (text : List ℕ) (bad : ℕ) (t : PromptState) (l answer : List ℕ) (b : Bool) (u : PromptState) (n : ℕ) → n ≡ bool_byte b
     → AreAnswered shown s ls text bad t → IsAnswered t l answer b u → is_quit l ≡ false
     → AreAnswered shown s (ls ++ l ∷ []) (longer shown text t answer) (bad + n) u
 one_more_counted shown s ls text bad t l answer b u n e h r q =
@@ -79,33 +80,39 @@ read_more input mid rest ls raw l h c r e =
       ),
     )
 
-pub so_far-empty : (shown : Bool) (input old : Option (List ℕ)) (s : Session) → s ≡ empty → IsSoFar shown input input old old 0 0 s
-so_far-empty shown input old s e = record {
-  read = [];
-  text = [];
-  taken = ([], Consumes-nil input, ([], refl, tt, refl));
-  written = Appends-nil old;
-  answered = (refl, refl, e);
-  count = refl;
-}
-
 -- One more line was asked for and answered.
-pub so_far-more : {shown : Bool} {input inner rest old mid at new : Option (List ℕ)} {n bad : ℕ} {s u : Session} {l : List ℕ} {b : Bool} (k : ℕ)
-    → IsSoFar shown input inner old mid n bad s → Appends mid at (prompt_text shown s) → IsAwaited inner rest (Some l) → IsWritten s l b u at new → k ≡ bool_byte b
-    → IsSoFar shown input rest old new (n + 1) (bad + k) u
-so_far-more {shown} {input} {inner} {rest} {old} {mid} {at} {new} {n} {bad} {s} {u} {l} {b} k h p w t e = record {
+pub so_far-more : {start : PromptState} {shown : Bool} {input inner rest old mid at new : Option (List ℕ)} {n bad : ℕ} {s u : PromptState} {l : List ℕ} {b : Bool} (k : ℕ)
+    → IsSoFar start shown input inner old mid n bad s → Appends mid at (prompt_text shown s.session) → IsAwaited inner rest (Some l) → IsWritten s l b u at new → k ≡ bool_byte b
+    → IsSoFar start shown input rest old new (n + 1) (bad + k) u
+so_far-more {start} {shown} {input} {inner} {rest} {old} {mid} {at} {new} {n} {bad} {s} {u} {l} {b} k h p w t e = record {
   read = h.read ++ l ∷ [];
   text = longer shown h.text s t.text;
   taken = read_more input inner rest h.read w.0.0 l h.taken w.0.1 w.0.2 w.0.3;
-  written = Appends-trans old mid new h.text (prompt_text shown s ++ t.text) h.written (Appends-trans mid at new (prompt_text shown s) t.text p t.written);
-  answered = one_more_counted shown empty h.read h.text bad s l t.text b u k e h.answered t.answered w.1;
+  written = Appends-trans old mid new h.text (prompt_text shown s.session ++ t.text) h.written (Appends-trans mid at new (prompt_text shown s.session) t.text p t.written);
+  answered = one_more_counted shown start h.read h.text bad s l t.text b u k e h.answered t.answered w.1;
   count = let c = h.count in omega (arith, c, length-append h.read (l ∷ []));
 }
 
-pub at_end : {shown : Bool} {input inner old mid : Option (List ℕ)} {n bad : ℕ} {s : Session} (rest new handed : Option (List ℕ))
-    → IsSoFar shown input inner old mid n bad s → Appends mid new (prompt_text shown s) → IsAwaited inner rest None → handed ≡ new → Conversed shown input rest old new handed (Ok (record { lines = n; bad = bad }))
-at_end {shown} {inner = inner} {old = old} {mid = mid} {s = s} rest new handed h p w e =
-    (h.read, inner, h.text ++ prompt_text shown s, h.taken, w, (h.text, s, h.answered, refl), Appends-trans old mid new h.text (prompt_text shown s) h.written p, h.count, e)
+pub at_end : {start : PromptState} {shown : Bool} {input inner old mid : Option (List ℕ)} {n bad : ℕ} {s : PromptState} (rest new handed : Option (List ℕ))
+    → IsSoFar start shown input inner old mid n bad s → Appends mid new (prompt_text shown s.session) → IsAwaited inner rest None → handed ≡ new → Conversed start shown input rest old new handed (Ok (record { lines = n; bad = bad }))
+at_end {start} {shown} {inner = inner} {old = old} {mid = mid} {s = s} rest new handed h p w e =
+    (h.read, inner, h.text ++ prompt_text shown s.session, h.taken, w, (h.text, s, h.answered, refl), Appends-trans old mid new h.text (prompt_text shown s.session) h.written p, h.count, e)
+
+broken : {start : PromptState} {shown : Bool} {input inner old mid : Option (List ℕ)} {n bad : ℕ} {s : PromptState} (rest at new handed : Option (List ℕ)) (l : List ℕ) (kept : Type 0) (fault : PromptFault)
+    → IsSoFar start shown input inner old mid n bad s → Appends mid at (prompt_text shown s.session) → IsAwaited inner rest (Some l) → IsUnanswered kept s l at new fault → (kept → (at ≡ new) × (handed ≡ new))
+    → Conversed start shown input rest old new handed (Err fault)
+broken rest at new handed l kept Read h p w u k = absurd u
+broken {inner = inner} {mid = mid} {n = n} {bad = bad} {s = s} rest at new handed l kept Write h p w u k = (n, bad, s, inner, mid, h, inl (inr (refl, record { line = l; at = at; prompt = p; awaited = w; cut = u })))
+broken {start} {shown} {inner = inner} {mid = mid} {n = n} {bad = bad} {s = s} rest at new handed l kept Memory h p w u k =
+    (n, bad, s, inner, mid, h, inl (inl (inr (record { shown = subst (λ x. Appends mid x (prompt_text shown s.session)) (k u).0 p; handed_on = (k u).1; part = (w.0.0, w.0.1, w.0.2.0) }))))
+
+-- The next line was read, and its answer failed.
+pub broken_in_answer : {start : PromptState} {shown : Bool} {input inner old mid : Option (List ℕ)} {n bad : ℕ} {s : PromptState} (rest at new handed : Option (List ℕ)) (l : List ℕ) (kept : Type 0) (r : Result Summary PromptFault) (Q : PromptFault → Type 0) (fault : PromptFault)
+    → IsErrAnd r Q → ((e : PromptFault) → Q e → e ≡ fault) → IsSoFar start shown input inner old mid n bad s → Appends mid at (prompt_text shown s.session) → IsAwaited inner rest (Some l) → IsUnanswered kept s l at new fault
+    → (kept → (at ≡ new) × (handed ≡ new)) → Conversed start shown input rest old new handed r
+broken_in_answer rest at new handed l kept (Ok v) Q fault f is h p w u k = absurd f
+broken_in_answer {start} {shown} {input} {old = old} rest at new handed l kept (Err e) Q fault f is h p w u k =
+    subst (λ (x : PromptFault). Conversed start shown input rest old new handed (Err x)) (sym (is e f)) (broken rest at new handed l kept fault h p w u k)
 
 -- ---- what one call wrote
 
@@ -114,7 +121,7 @@ on_err (Ok x) p = tt
 on_err (Err e) p = p
 
 -- The writer failed in an answer.
-pub cut_by_writer : {T : Type 0} {old : Session} {line : List ℕ} {before after : Option (List ℕ)} (kept : Type 0) (r : Result T PromptFault) (Q : PromptFault → Type 0) → IsErrAnd r Q → ((e : PromptFault) → Q e → e ≡ Write)
+pub cut_by_writer : {T : Type 0} {old : PromptState} {line : List ℕ} {before after : Option (List ℕ)} (kept : Type 0) (r : Result T PromptFault) (Q : PromptFault → Type 0) → IsErrAnd r Q → ((e : PromptFault) → Q e → e ≡ Write)
     → IsCut old line before after → IfErr r (λ e. IsUnanswered kept old line before after e)
 cut_by_writer kept (Ok v) Q f is cut = absurd f
 cut_by_writer {old = old} {line = line} {before = before} {after = after} kept (Err e) Q f is cut = subst (λ (x : PromptFault). IsUnanswered kept old line before after x) (sym (is e f)) cut

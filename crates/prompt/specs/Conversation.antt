@@ -8,7 +8,7 @@ use Rattle.std.specs.Str.{IsUtf8, bytes_eq, trim}
 use Rattle.lease.specs.Timeline.{newest}
 use Rattle.script_replies.specs.Texts.{bad_line}
 use Rattle.script_session.specs.Replies.{Reply}
-use Rattle.script_session.specs.Session.{Session, empty}
+use Rattle.script_session.specs.Session.{Session}
 use Rattle.script_session.specs.declared.session.Session.TheVariants.{Declaring, Running}
 use Rattle.script_tokens.specs.declared.token.Mark.TheVariants.{Dot}
 use Rattle.script_tokens.specs.declared.token.Token.{Token}
@@ -18,10 +18,14 @@ use Rattle.world.specs.State.{facts_of}
 use Rattle.prompt.specs.Carry.{CarriesOn, carry_in}
 use Rattle.prompt.specs.declared.carry.CarryLine.{CarryLine}
 use Rattle.prompt.specs.Lines.{HasRead, IsNext, IsReadInPart}
+use Rattle.prompt.specs.LogCut.{CutIn, is_cut}
 use Rattle.prompt.specs.Moment.{IsForeign, IsGiven, first_word}
 use Rattle.prompt.specs.declared.conversation.Summary.{Summary}
 use Rattle.prompt.specs.declared.fault.PromptFault.{PromptFault}
 use Rattle.prompt.specs.declared.fault.PromptFault.TheVariants.{Read, Write, Memory}
+use Rattle.prompt.specs.declared.state.PromptState.{PromptState}
+use Rattle.prompt.specs.Save.{is_save}
+use Rattle.prompt.specs.Undo.{TakesBack, declared_after, is_undo}
 
 -- the word `quit` or `exit` alone, or `.quit`
 abbrev pub quits : Option (List Token) → Bool
@@ -40,18 +44,15 @@ abbrev pub carry_asked : Session → List ℕ → Option CarryLine
 carry_asked (Declaring d) line = None
 carry_asked (Running r) line = carry_in (tokens_of line)
 
--- the line does not ask to carry changes on
+-- the line asks neither to carry changes on, nor to take a declaration back, nor to cut the log, nor to save
 abbrev pub IsCalm : Session → List ℕ → Type 0
-IsCalm session line = IsForeign line → carry_asked session line ≡ None
+IsCalm session line = IsForeign line → (carry_asked session line ≡ None) × (is_undo line ≡ false) × (is_cut line ≡ false) × (is_save line ≡ false)
 
--- how many steps of the kept plan are left
-abbrev pub steps_left : Session → ℕ
-steps_left (Declaring d) = 0
-steps_left (Running r) = length r.plan
-
--- the session's reply to what it is given
-abbrev pub Replied : Session → List ℕ → List ℕ → Bool → Session → Type 0
-Replied old line reply bad new = IsCalm old line × ((given : List ℕ) × IsGiven old line given × Reply old given reply bad new)
+-- the session's reply to what it is given, which is kept if it is a declaration
+abbrev pub Replied : PromptState → List ℕ → List ℕ → Bool → PromptState → Type 0
+Replied old line reply bad new =
+    IsCalm old.session line
+    × ((given : List ℕ) × IsGiven old.session line given × Reply old.session given reply bad new.session × (new.declared ≡ declared_after new.session old.declared given bad))
 
 -- the first words of the lines that show a view of the session
 abbrev pub is_view_word : List ℕ → Bool
@@ -64,9 +65,9 @@ abbrev pub is_view : List ℕ → Bool
 is_view line = is_view_word (first_word (trim line))
 
 -- A line that has no reply, since it shows a view, or that is no UTF-8, and so bad. The session is not given it.
-abbrev pub Passed : Session → List ℕ → List ℕ → Bool → Session → Type 0
+abbrev pub Passed : PromptState → List ℕ → List ℕ → Bool → PromptState → Type 0
 Passed old line reply bad new =
-    (new ≡ old) × ((IsForeign line × IsCalm old line × (is_view line ≡ true) × (reply ≡ []) × (bad ≡ false)) ⊎ ((IsUtf8 line → ⊥) × (reply ≡ bad_line) × (bad ≡ true)))
+    (new ≡ old) × ((IsForeign line × IsCalm old.session line × (is_view line ≡ true) × (reply ≡ []) × (bad ≡ false)) ⊎ ((IsUtf8 line → ⊥) × (reply ≡ bad_line) × (bad ≡ true)))
 
 abbrev pub CarriedBy : Session → Option CarryLine → List ℕ → Session → Type 0
 CarriedBy old None reply new = ⊥
@@ -75,8 +76,23 @@ CarriedBy (Running old) (Some carry) reply (Declaring d) = ⊥
 CarriedBy (Running old) (Some carry) reply (Running new) = CarriesOn old carry reply new
 
 -- a line that asks an opened session to carry changes on: it does so, by the call and at the moment of the line
-abbrev pub Carried : Session → List ℕ → List ℕ → Bool → Session → Type 0
-Carried old line reply bad new = IsForeign line × CarriedBy old (carry_asked old line) reply new × (bad ≡ false)
+abbrev pub Carried : PromptState → List ℕ → List ℕ → Bool → PromptState → Type 0
+Carried old line reply bad new =
+    IsForeign line × CarriedBy old.session (carry_asked old.session line) reply new.session × (new.declared ≡ old.declared) × (bad ≡ false)
+
+-- the line `undo`, which is answered by a remark alone: the last declaration is taken back
+abbrev pub Undone : PromptState → List ℕ → List ℕ → Bool → PromptState → Type 0
+Undone old line reply bad new =
+    IsForeign line × (is_undo line ≡ true) × ((taken : Option (List ℕ)) × TakesBack old taken new) × (reply ≡ []) × (bad ≡ false)
+
+-- the line `cut`, which is answered by a remark alone: the memory of the log's entries is given back
+abbrev pub LogCut : PromptState → List ℕ → List ℕ → Bool → PromptState → Type 0
+LogCut old line reply bad new =
+    IsForeign line × (is_cut line ≡ true) × CutIn old.session new.session × (new.declared ≡ old.declared) × (reply ≡ []) × (bad ≡ false)
+
+-- a line `save FILE`, which is answered by a remark alone, and changes nothing here
+abbrev pub Saved : PromptState → List ℕ → List ℕ → Bool → PromptState → Type 0
+Saved old line reply bad new = IsForeign line × (is_save line ≡ true) × (new ≡ old) × (reply ≡ []) × (bad ≡ false)
 
 -- a byte of a remark, each of whose lines begins with `# `
 abbrev pub remark_byte : ℕ → List ℕ
@@ -87,11 +103,11 @@ remark_text [] = []
 remark_text (b ∷ bs) = codes "# " ++ flat_map remark_byte (b ∷ bs) ++ codes "\n"
 
 -- What is written for a line, which leaves new: the reply, and remarks.
-pub record IsAnswered (old : Session) (line text : List ℕ) (bad : Bool) (new : Session) : Type 0 where
+pub record IsAnswered (old : PromptState) (line text : List ℕ) (bad : Bool) (new : PromptState) : Type 0 where
   pub reply : List ℕ
   pub remark : List ℕ
   pub written : text ≡ reply ++ remark_text remark
-  pub kind : Replied old line reply bad new ⊎ Passed old line reply bad new ⊎ Carried old line reply bad new
+  pub kind : Replied old line reply bad new ⊎ Passed old line reply bad new ⊎ Carried old line reply bad new ⊎ Undone old line reply bad new ⊎ LogCut old line reply bad new ⊎ Saved old line reply bad new
 
 -- the newest version and the moment, where they are shown
 abbrev pub prompt_text : Bool → Session → List ℕ
@@ -100,17 +116,17 @@ prompt_text true (Declaring d) = codes "> "
 prompt_text true (Running r) = codes "v" ++ decimal (newest (facts_of r.world).line) ++ codes " @" ++ decimal (facts_of r.world).moment ++ codes "> "
 
 -- From old, the lines in answer may be given this text, each after a prompt, with so many bad lines, and leave new. None of them ends the conversation.
-abbrev pub AreAnswered : Bool → Session → List (List ℕ) → List ℕ → ℕ → Session → Type 0
+abbrev pub AreAnswered : Bool → PromptState → List (List ℕ) → List ℕ → ℕ → PromptState → Type 0
 AreAnswered shown old [] text bad new = (text ≡ []) × (bad ≡ 0) × (new ≡ old)
 AreAnswered shown old (l ∷ ls) text bad new =
-    (answer : List ℕ) × (is_bad : Bool) × (mid : Session) × (more : List ℕ) × (others : ℕ)
+    (answer : List ℕ) × (is_bad : Bool) × (mid : PromptState) × (more : List ℕ) × (others : ℕ)
     × IsAnswered old l answer is_bad mid × AreAnswered shown mid ls more others new
-    × (is_quit l ≡ false) × (text ≡ prompt_text shown old ++ (answer ++ more)) × (bad ≡ cond is_bad 1 0 + others)
+    × (is_quit l ≡ false) × (text ≡ prompt_text shown old.session ++ (answer ++ more)) × (bad ≡ cond is_bad 1 0 + others)
 
--- All that is written until a line is waited for: the answers, and the next prompt.
-abbrev pub IsTranscript : Bool → List (List ℕ) → List ℕ → ℕ → Type 0
-IsTranscript shown lines out bad =
-    (text : List ℕ) × (new : Session) × AreAnswered shown empty lines text bad new × (out ≡ text ++ prompt_text shown new)
+-- All that is written from this state until a line is waited for: the answers, and the next prompt.
+abbrev pub IsTranscript : PromptState → Bool → List (List ℕ) → List ℕ → ℕ → Type 0
+IsTranscript start shown lines out bad =
+    (text : List ℕ) × (new : PromptState) × AreAnswered shown start lines text bad new × (out ≡ text ++ prompt_text shown new.session)
 
 -- what is read at the end: nothing more, or a line that ends the conversation
 abbrev pub Ends : Option (List ℕ) → Option (List ℕ) → Type 0
@@ -126,26 +142,26 @@ IsAwaited input rest None = Ends input rest
 IsAwaited input rest (Some line) = IsNext input rest (Some line) × (is_quit line ≡ false)
 
 -- The line was answered, which leaves new, and all of the answer was written.
-pub record IsWritten (old : Session) (line : List ℕ) (bad : Bool) (new : Session) (before after : Option (List ℕ)) : Type 0 where
+pub record IsWritten (old : PromptState) (line : List ℕ) (bad : Bool) (new : PromptState) (before after : Option (List ℕ)) : Type 0 where
   pub text : List ℕ
   pub answered : IsAnswered old line text bad new
   pub written : Appends before after text
 
 -- What an answer that was cut leaves: a start of it was written.
-pub record IsCut (old : Session) (line : List ℕ) (before after : Option (List ℕ)) : Type 0 where
+pub record IsCut (old : PromptState) (line : List ℕ) (before after : Option (List ℕ)) : Type 0 where
   pub text : List ℕ
   pub bad : Bool
-  pub new : Session
+  pub new : PromptState
   pub answered : IsAnswered old line text bad new
   pub written : AppendsPrefix before after text
 
--- Lines that were read and answered in turn, each after a prompt: all of that was written, and they leave the session.
-pub record IsSoFar (shown : Bool) (input rest old new : Option (List ℕ)) (lines bad : ℕ) (session : Session) : Type 0 where
+-- Lines that were read and answered in turn from the start, each after a prompt: all of that was written, and they leave the state.
+pub record IsSoFar (start : PromptState) (shown : Bool) (input rest old new : Option (List ℕ)) (lines bad : ℕ) (state : PromptState) : Type 0 where
   pub read : List (List ℕ)
   pub text : List ℕ
   pub taken : HasRead input read rest
   pub written : Appends old new text
-  pub answered : AreAnswered shown empty read text bad session
+  pub answered : AreAnswered shown start read text bad state
   pub count : lines ≡ length read
 
 -- a fault that is not the writer's
@@ -167,36 +183,36 @@ IsUnasked prompt input rest old new handed Write = AppendsPrefix old new prompt 
 IsUnasked prompt input rest old new handed Memory = (Appends old new [] × (rest ≡ input)) ⊎ IsAsked prompt input rest old new handed
 
 -- Why a line was not answered: the writer failed in the answer; or memory ran out, and the writer was kept.
-abbrev pub IsUnanswered : Type 0 → Session → List ℕ → Option (List ℕ) → Option (List ℕ) → PromptFault → Type 0
+abbrev pub IsUnanswered : Type 0 → PromptState → List ℕ → Option (List ℕ) → Option (List ℕ) → PromptFault → Type 0
 IsUnanswered kept old line before after Read = ⊥
 IsUnanswered kept old line before after Write = IsCut old line before after
 IsUnanswered kept old line before after Memory = kept
 
 -- The prompt was written, the next line was read, and a start of its answer was written.
-pub record IsCutAfter (shown : Bool) (session : Session) (input rest old new : Option (List ℕ)) : Type 0 where
+pub record IsCutAfter (shown : Bool) (state : PromptState) (input rest old new : Option (List ℕ)) : Type 0 where
   pub line : List ℕ
   pub at : Option (List ℕ)
-  pub prompt : Appends old at (prompt_text shown session)
+  pub prompt : Appends old at (prompt_text shown state.session)
   pub awaited : IsAwaited input rest (Some line)
-  pub cut : IsCut session line at new
+  pub cut : IsCut state line at new
 
 -- How it ends early, after lines that were answered: the next line was not read; or the writer failed in its answer.
-abbrev pub IsBroken : Bool → Session → Option (List ℕ) → Option (List ℕ) → Option (List ℕ) → Option (List ℕ) → Option (List ℕ) → PromptFault → Type 0
-IsBroken shown session input rest old new handed fault =
-    IsUnasked (prompt_text shown session) input rest old new handed fault ⊎ ((fault ≡ Write) × IsCutAfter shown session input rest old new)
+abbrev pub IsBroken : Bool → PromptState → Option (List ℕ) → Option (List ℕ) → Option (List ℕ) → Option (List ℕ) → Option (List ℕ) → PromptFault → Type 0
+IsBroken shown state input rest old new handed fault =
+    IsUnasked (prompt_text shown state.session) input rest old new handed fault ⊎ ((fault ≡ Write) × IsCutAfter shown state input rest old new)
 
 -- as many lines were answered as can be counted
 abbrev pub IsSpent : ℕ → Option (List ℕ) → Option (List ℕ) → Option (List ℕ) → Option (List ℕ) → PromptFault → Type 0
 IsSpent lines input rest old new fault = (lines ≡ 2 ^ 64 - 1) × (rest ≡ input) × Appends old new [] × (fault ≡ Read)
 
--- What was read and written, and how the call ends. What was handed on is known where nothing was written since the writer was asked to.
-abbrev pub Conversed : Bool → Option (List ℕ) → Option (List ℕ) → Option (List ℕ) → Option (List ℕ) → Option (List ℕ) → Result Summary PromptFault → Type 0
-Conversed shown input rest old new handed (Ok s) =
+-- What was read and written from the start, and how the call ends. What was handed on is known where nothing was written since the writer was asked to.
+abbrev pub Conversed : PromptState → Bool → Option (List ℕ) → Option (List ℕ) → Option (List ℕ) → Option (List ℕ) → Option (List ℕ) → Result Summary PromptFault → Type 0
+Conversed start shown input rest old new handed (Ok s) =
     (lines : List (List ℕ)) × (mid : Option (List ℕ)) × (out : List ℕ)
-    × HasRead input lines mid × Ends mid rest × IsTranscript shown lines out s.bad × Appends old new out × (s.lines ≡ length lines) × (handed ≡ new)
-Conversed shown input rest old new handed (Err fault) =
-    (lines : ℕ) × (bad : ℕ) × (session : Session) × (mid : Option (List ℕ)) × (at : Option (List ℕ))
-    × IsSoFar shown input mid old at lines bad session × (IsBroken shown session mid rest at new handed fault ⊎ IsSpent lines mid rest at new fault)
+    × HasRead input lines mid × Ends mid rest × IsTranscript start shown lines out s.bad × Appends old new out × (s.lines ≡ length lines) × (handed ≡ new)
+Conversed start shown input rest old new handed (Err fault) =
+    (lines : ℕ) × (bad : ℕ) × (state : PromptState) × (mid : Option (List ℕ)) × (at : Option (List ℕ))
+    × IsSoFar start shown input mid old at lines bad state × (IsBroken shown state mid rest at new handed fault ⊎ IsSpent lines mid rest at new fault)
 
 abbrev pub with_bad : ℕ → ℕ
 with_bad zero = 0

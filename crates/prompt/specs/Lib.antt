@@ -1,4 +1,9 @@
+pub mod Alone
 pub mod Carry
 pub mod Lines
+pub mod LogCut
 pub mod Moment
+pub mod Save
+pub mod Start
+pub mod Undo
 pub mod Conversation

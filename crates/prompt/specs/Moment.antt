@@ -1,6 +1,6 @@
 -- Cited by the contracts of is_foreign, given_line and the functions below it, and by the definitions of Conversation.
 -- Lines whose moment was left out.
-use Rattle.std.specs.Prelude.{◌≡◌, ◌⊎◌, ◌++◌, ◌∷◌, ◌==◌, ◌||◌, ℕ, List, [], Option, Some, None, Err, Bool, true, false, codes, is_ok, if◌then◌else◌}
+use Rattle.std.specs.Prelude.{◌≡◌, ◌⊎◌, ◌++◌, ◌∷◌, ◌==◌, ◌||◌, ℕ, List, [], Option, Some, None, Err, Bool, false, codes, is_ok, if◌then◌else◌}
 use Rattle.std.specs.Fmt.{decimal}
 use Rattle.std.specs.List.{before_first}
 use Rattle.std.specs.Str.{bytes_eq}

@@ -2,19 +2,22 @@
 ghost use Rattle.std.specs.Prelude.{◌≡◌, true, IfOk, IfErr, OnOk, OnErr};
 ghost use Rattle.std.specs.Option.{option_map};
 ghost use Rattle.std.specs.Io.KnownBytes.{Appends};
-ghost use Rattle.script_session.specs.Session.{empty};
 ghost use Rattle.prompt.specs.Lines.{IsReadInPart};
 ghost use Rattle.prompt.specs.declared.fault.PromptFault.TheVariants as fault;
+ghost use Rattle.prompt.specs.Start.{start_at};
 ghost use Rattle.prompt.specs.Conversation.{AppendsPrefix, Conversed, IsAwaited, IsReaders, IsUnanswered, IsUnasked, IsWritten, prompt_text};
 
 use crate::fault::PromptFault;
 use crate::handover::Handover;
 use crate::line_answer::{answer_line, prompt_text};
 use crate::moment::is_quit;
+use crate::save::Files;
+use crate::state::PromptState;
 use crate::streams::Streams;
 use script_session::Session;
 use std::alloc::Global;
 use std::io::BufRead;
+use world::Checkpoint;
 
 /// What came of a conversation that was led to its end.
 #[derive(Clone, Copy, PartialEq, Eq)]
@@ -79,38 +82,39 @@ fn ask<R: BufRead + Drop, W: Handover + Drop>(
 }
 
 // Answers a line, writes the answer, and gives whether the line is bad.
-fn write_answer<R: BufRead + Drop, W: Handover + Drop>(
+fn write_answer<R: BufRead + Drop, W: Handover + Drop, F: Files>(
     alloc: Global,
     streams: &mut Streams<R, W>,
-    session: &mut Session,
+    state: &mut PromptState,
+    files: &mut F,
     line: &[u8],
     is_shown: bool,
 ) -> Result<bool, PromptFault>
-    ensures whole { IfOk result (λ bad. IsWritten session.old line.now bad session.new (W.contents streams.old.writer) (W.contents streams.new.writer)) }
-    ensures cut { IfErr result (λ fault. IsUnanswered (streams.new.writer ≡ streams.old.writer) session.old line.now (W.contents streams.old.writer) (W.contents streams.new.writer) fault) }
+    ensures whole { IfOk result (λ bad. IsWritten state.old line.now bad state.new (W.contents streams.old.writer) (W.contents streams.new.writer)) }
+    ensures cut { IfErr result (λ fault. IsUnanswered (streams.new.writer ≡ streams.old.writer) state.old line.now (W.contents streams.old.writer) (W.contents streams.new.writer) fault) }
     ensures reader { streams.new.reader ≡ streams.old.reader }
 {
-    let answer = answer_line(alloc, session, line, is_shown)?;
+    let answer = answer_line(alloc, state, files, line, is_shown)?;
     streams.write(answer.bytes())?;
     Ok(answer.is_bad)
 }
 
-// Answers each line, from the session at the start of a script.
-fn answer_all<R: BufRead + Drop, W: Handover + Drop>(
+// Answers each line, from this state on.
+fn answer_all<R: BufRead + Drop, W: Handover + Drop, F: Files>(
     alloc: Global,
     streams: &mut Streams<R, W>,
-    session: &mut Session,
+    state: &mut PromptState,
+    files: &mut F,
     is_shown: bool,
 ) -> Result<Summary, PromptFault>
-    requires start { session.old ≡ empty }
-    ensures { Conversed is_shown (R.remaining streams.old.reader) (R.remaining streams.new.reader) (W.contents streams.old.writer) (W.contents streams.new.writer) (W.handed streams.new.writer) result }
+    ensures { Conversed state.old is_shown (R.remaining streams.old.reader) (R.remaining streams.new.reader) (W.contents streams.old.writer) (W.contents streams.new.writer) (W.handed streams.new.writer) result }
 {
     let mut bad = 0u64;
     for lines in 0..u64::MAX {
-        let Some(line) = ask(alloc, streams, session, is_shown)? else {
+        let Some(line) = ask(alloc, streams, &state.session, is_shown)? else {
             return Ok(Summary { lines, bad });
         };
-        let is_bad = write_answer(alloc, streams, session, line.as_slice(), is_shown)?;
+        let is_bad = write_answer(alloc, streams, state, files, line.as_slice(), is_shown)?;
         bad += u64::from(is_bad);
     }
     Err(PromptFault::Read)
@@ -121,18 +125,23 @@ fn answer_all<R: BufRead + Drop, W: Handover + Drop>(
 /// `.quit` or `\q`, and at the end of the input.
 ///
 /// - `streams`: where lines come from and replies go.
+/// - `files`: where `save` keeps a checkpoint.
+/// - `checkpoint`: where the session opens, if not before the declarations; then no server has a
+///   lease, nothing is prepared, and no plan is kept.
 /// - `is_shown`: whether a prompt is written before each line is read.
 ///
 /// Refused if the reader fails, or after 2^64 - 1 lines (`Read`), if the writer fails or takes
 /// nothing (`Write`), and if memory runs out (`Memory`): what was written is what is due for the
 /// lines that were read, in turn. Only at `Write` is the last prompt or answer cut short.
-pub fn converse<R: BufRead + Drop, W: Handover + Drop>(
+pub fn converse<R: BufRead + Drop, W: Handover + Drop, F: Files>(
     alloc: Global,
     streams: &mut Streams<R, W>,
+    files: &mut F,
+    checkpoint: Option<Checkpoint>,
     is_shown: bool,
 ) -> Result<Summary, PromptFault>
-    ensures { Conversed is_shown (R.remaining streams.old.reader) (R.remaining streams.new.reader) (W.contents streams.old.writer) (W.contents streams.new.writer) (W.handed streams.new.writer) result }
+    ensures { Conversed (start_at checkpoint) is_shown (R.remaining streams.old.reader) (R.remaining streams.new.reader) (W.contents streams.old.writer) (W.contents streams.new.writer) (W.handed streams.new.writer) result }
 {
-    let mut session = Session::new(alloc);
-    answer_all(alloc, streams, &mut session, is_shown)
+    let mut state = PromptState::new(alloc, checkpoint);
+    answer_all(alloc, streams, &mut state, files, is_shown)
 }

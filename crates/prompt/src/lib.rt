@@ -1,15 +1,21 @@
 //! Lines that are answered as they come, each before the next is read.
 #![tactic(auto)]
 
+mod alone;
 mod carry;
 mod conversation;
 mod fault;
 mod handover;
 mod line_answer;
+mod log_cut;
 mod moment;
+mod save;
+mod state;
 mod streams;
+mod undo;
 
 pub use conversation::{Summary, converse};
 pub use fault::{PromptFault, prompt_status};
 pub use handover::Handover;
+pub use save::Files;
 pub use streams::Streams;

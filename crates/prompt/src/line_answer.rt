@@ -1,12 +1,19 @@
 //! What one line is answered.
-ghost use Rattle.std.specs.Prelude.{◌≡◌, ◌++◌, IfOk, IfSome, OnOk, Some, None, string_bytes, true};
+ghost use Rattle.std.specs.Prelude.{◌≡◌, ◌++◌, IfOk, IfSome, OnOk, Some, None, string_bytes, true, false};
 ghost use Rattle.std.specs.List.{flat_map};
-ghost use Rattle.prompt.specs.Conversation.{IsCalm, IsAnswered, carry_asked, is_view, remark_text, remark_byte, prompt_text, steps_left};
+ghost use Rattle.prompt.specs.Conversation.{IsCalm, IsAnswered, carry_asked, is_view, remark_text, remark_byte, prompt_text};
+ghost use Rattle.prompt.specs.LogCut.{is_cut};
 ghost use Rattle.prompt.specs.Moment.{IsForeign};
+ghost use Rattle.prompt.specs.Save.{is_save};
+ghost use Rattle.prompt.specs.Undo.{is_undo};
 
 use crate::carry::{CarryLine, carry_of, carry_on};
+use crate::log_cut::{cut_log, cut_text, is_cut};
 use crate::moment::{given_line, is_foreign, is_view};
-use script_hints::{hint_of, opening_faults, view_of};
+use crate::save::{Files, is_save, saved_text};
+use crate::state::PromptState;
+use crate::undo::{is_undo, keep_declared, take_back, taken_text};
+use script_hints::{Before, view_of};
 use script_session::Session;
 use std::alloc::{AllocError, Global};
 
@@ -69,43 +76,17 @@ fn answer_of(
     Ok(LineAnswer { text, is_bad })
 }
 
-// How many steps of the kept plan are left.
-fn steps_left(session: &Session) -> usize
-    ensures { result ≡ steps_left session.now }
-{
-    match session {
-        Session::Declaring(_) => 0,
-        Session::Running(opened) => opened.plan.len(),
-    }
-}
-
-// The faults of the declarations, or else the hint that goes with the reply.
-fn hint_or(
-    alloc: Global,
-    faults: String,
-    session: &Session,
-    line: &str,
-    reply: &str,
-    steps: usize,
-) -> Result<String, AllocError> {
-    if faults.is_empty() {
-        hint_of(alloc, session, line, reply, true, steps)
-    } else {
-        Ok(faults)
-    }
-}
-
 // The session's own reply to a line, and the hint that goes with it.
-fn reply_line(alloc: Global, session: &mut Session, line: &str) -> Result<LineAnswer, AllocError>
-    requires calm { IsCalm session.old line.now }
-    ensures { IfOk result (λ answer. IsAnswered session.old line.now answer.text.items answer.is_bad session.new) }
+fn reply_line(alloc: Global, state: &mut PromptState, line: &str) -> Result<LineAnswer, AllocError>
+    requires calm { IsCalm state.old.session line.now }
+    ensures { IfOk result (λ answer. IsAnswered state.old line.now answer.text.items answer.is_bad state.new) }
 {
-    let given = given_line(alloc, session, line)?;
-    let steps = steps_left(session);
-    let faults = opening_faults(alloc, session, given.as_str())?;
-    let answer = session.reply_to(alloc, given.as_str())?;
+    let given = given_line(alloc, &state.session, line)?;
+    let before = Before::new(alloc, &state.session, given.as_str())?;
+    let answer = state.session.reply_to(alloc, given.as_str())?;
     let reply = answer.text.as_str();
-    let hint = hint_or(alloc, faults, session, given.as_str(), reply, steps)?;
+    let hint = before.hint(alloc, &state.session, given.as_str(), reply)?;
+    keep_declared(alloc, state, given, answer.is_bad)?;
     let answer = answer_of(alloc, reply, answer.is_bad, hint.as_str())?;
     Ok(answer)
 }
@@ -129,19 +110,22 @@ fn view_shown(
 // A view of the session, which stays as it was, or else its reply.
 fn view_line(
     alloc: Global,
-    session: &mut Session,
+    state: &mut PromptState,
     line: &str,
     is_shown: bool,
 ) -> Result<LineAnswer, AllocError>
     requires foreign { IsForeign line.now }
-    requires calm { carry_asked session.old line.now ≡ None }
-    ensures { IfOk result (λ answer. IsAnswered session.old line.now answer.text.items answer.is_bad session.new) }
+    requires calm { carry_asked state.old.session line.now ≡ None }
+    requires no_undo { is_undo line.now ≡ false }
+    requires no_cut { is_cut line.now ≡ false }
+    requires no_save { is_save line.now ≡ false }
+    ensures { IfOk result (λ answer. IsAnswered state.old line.now answer.text.items answer.is_bad state.new) }
 {
-    if let Some(view) = view_shown(alloc, session, line, is_shown)? {
+    if let Some(view) = view_shown(alloc, &state.session, line, is_shown)? {
         let answer = answer_of(alloc, "", false, view.as_str())?;
         return Ok(answer);
     }
-    reply_line(alloc, session, line)
+    reply_line(alloc, state, line)
 }
 
 // What a line asks an opened session for: to carry changes on.
@@ -161,15 +145,15 @@ fn carry_asked(
 // Carries changes on as the line asks.
 fn carry_line(
     alloc: Global,
-    session: &mut Session,
+    state: &mut PromptState,
     line: &str,
     carry: CarryLine,
 ) -> Result<LineAnswer, AllocError>
     requires foreign { IsForeign line.now }
-    requires asked { carry_asked session.old line.now ≡ Some carry }
-    ensures { IfOk result (λ answer. IsAnswered session.old line.now answer.text.items answer.is_bad session.new) }
+    requires asked { carry_asked state.old.session line.now ≡ Some carry }
+    ensures { IfOk result (λ answer. IsAnswered state.old line.now answer.text.items answer.is_bad state.new) }
 {
-    let Session::Running(opened) = session else {
+    let Session::Running(opened) = &mut state.session else {
         return Err(AllocError);
     };
     let text = carry_on(alloc, opened, carry)?;
@@ -177,48 +161,114 @@ fn carry_line(
     Ok(answer)
 }
 
-// What a line is answered that no script has: it carries changes on, or shows a view of the
-// session, or gets its reply.
-fn own_line(
+// Takes the last declaration back, and says which.
+fn undo_line(alloc: Global, state: &mut PromptState, line: &str) -> Result<LineAnswer, AllocError>
+    requires foreign { IsForeign line.now }
+    requires asked { is_undo line.now ≡ true }
+    ensures { IfOk result (λ answer. IsAnswered state.old line.now answer.text.items answer.is_bad state.new) }
+{
+    let taken = take_back(alloc, state)?;
+    let remark = taken_text(alloc, &state.session, taken.as_ref())?;
+    let answer = answer_of(alloc, "", false, remark.as_str())?;
+    Ok(answer)
+}
+
+// Gives the memory of the log's entries back, and says of how many.
+fn cut_line(alloc: Global, state: &mut PromptState, line: &str) -> Result<LineAnswer, AllocError>
+    requires foreign { IsForeign line.now }
+    requires asked { is_cut line.now ≡ true }
+    ensures { IfOk result (λ answer. IsAnswered state.old line.now answer.text.items answer.is_bad state.new) }
+{
+    let remark = cut_text(alloc, &state.session)?;
+    cut_log(&mut state.session);
+    let answer = answer_of(alloc, "", false, remark.as_str())?;
+    Ok(answer)
+}
+
+// Has a checkpoint of the world kept in a file, and says what came of it.
+fn save_line<F: Files>(
     alloc: Global,
-    session: &mut Session,
+    state: &mut PromptState,
+    files: &mut F,
+    line: &str,
+) -> Result<LineAnswer, AllocError>
+    requires foreign { IsForeign line.now }
+    requires asked { is_save line.now ≡ true }
+    ensures { IfOk result (λ answer. IsAnswered state.old line.now answer.text.items answer.is_bad state.new) }
+{
+    let remark = saved_text(alloc, &state.session, files, line)?;
+    let answer = answer_of(alloc, "", false, remark.as_str())?;
+    Ok(answer)
+}
+
+// What a line is answered that does not carry changes on: it takes a declaration back, or cuts the
+// log, or saves, or shows a view of the session, or gets its reply.
+fn calm_line<F: Files>(
+    alloc: Global,
+    state: &mut PromptState,
+    files: &mut F,
     line: &str,
     is_shown: bool,
 ) -> Result<LineAnswer, AllocError>
     requires foreign { IsForeign line.now }
-    ensures { IfOk result (λ answer. IsAnswered session.old line.now answer.text.items answer.is_bad session.new) }
+    requires calm { carry_asked state.old.session line.now ≡ None }
+    ensures { IfOk result (λ answer. IsAnswered state.old line.now answer.text.items answer.is_bad state.new) }
 {
-    match carry_asked(alloc, session, line.as_bytes())? {
-        Some(carry) => carry_line(alloc, session, line, carry),
-        None => view_line(alloc, session, line, is_shown),
+    if is_undo(alloc, line.as_bytes())? {
+        undo_line(alloc, state, line)
+    } else if is_cut(alloc, line.as_bytes())? {
+        cut_line(alloc, state, line)
+    } else if is_save(line) {
+        save_line(alloc, state, files, line)
+    } else {
+        view_line(alloc, state, line, is_shown)
+    }
+}
+
+// What a line is answered that no script has.
+fn own_line<F: Files>(
+    alloc: Global,
+    state: &mut PromptState,
+    files: &mut F,
+    line: &str,
+    is_shown: bool,
+) -> Result<LineAnswer, AllocError>
+    requires foreign { IsForeign line.now }
+    ensures { IfOk result (λ answer. IsAnswered state.old line.now answer.text.items answer.is_bad state.new) }
+{
+    match carry_asked(alloc, &state.session, line.as_bytes())? {
+        Some(carry) => carry_line(alloc, state, line, carry),
+        None => calm_line(alloc, state, files, line, is_shown),
     }
 }
 
 /// What a line is answered, and what it leaves: the reply of the session, or, if the line is one of
-/// the prompt's own, a view of the session, which stays as it was, or what `advance` and `finish`
-/// did.
+/// the prompt's own, a view of the session, which stays as it was, what `advance` and `finish` did,
+/// what `undo` took back, what `cut` gave back, or what came of `save`.
 ///
-/// - `session`: the session.
+/// - `state`: the session, and its declarations.
+/// - `files`: where `save` keeps a checkpoint.
 /// - `line`: the line without its ending.
 /// - `is_shown`: whether someone sees the answer on a terminal.
 ///
-/// Refused only when out of memory; discard the session then.
-pub(crate) fn answer_line(
+/// Refused only when out of memory; discard the state then.
+pub(crate) fn answer_line<F: Files>(
     alloc: Global,
-    session: &mut Session,
+    state: &mut PromptState,
+    files: &mut F,
     line: &[u8],
     is_shown: bool,
 ) -> Result<LineAnswer, AllocError>
-    ensures { IfOk result (λ answer. IsAnswered session.old line.now answer.text.items answer.is_bad session.new) }
+    ensures { IfOk result (λ answer. IsAnswered state.old line.now answer.text.items answer.is_bad state.new) }
 {
     let Ok(line) = std::str::from_utf8(line) else {
         let answer = answer_of(alloc, "bad line\n", true, "the line is not UTF-8")?;
         return Ok(answer);
     };
     if is_foreign(alloc, line.as_bytes())? {
-        return own_line(alloc, session, line, is_shown);
+        return own_line(alloc, state, files, line, is_shown);
     }
-    reply_line(alloc, session, line)
+    reply_line(alloc, state, line)
 }
 
 /// The prompt: the newest version and the moment, as `v3 @20> `, or `> ` before `open`. Nothing if

@@ -68,7 +68,7 @@ fn last_moment(session: &Session) -> u64
 }
 
 // What a line has before its first space.
-fn first_word(line: &str) -> &str
+pub(crate) fn first_word(line: &str) -> &str
     ensures { result.now ≡ first_word line.entry.now }
 {
     match line.split_once(' ') {

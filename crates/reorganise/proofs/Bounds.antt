@@ -36,7 +36,7 @@ use Rattle.reorganise.specs.ScanRanges.{scan_range_of, cleared, prefix, prefix_e
 use Rattle.reorganise.specs.Pieces.{bound, span_at, spans, is_ended, are_ended}
 use Rattle.element_state.specs.Whole.{fresh_spans}
 use mathlib.Core.List.{map as each}
-use Rattle.reorganise.specs.Laws.{pieces_of, passed_by, PiecesJoin, PiecesEnd, BeginsFresh, CursorStands, CursorMoves, JoinStays, bounds_of, FillRange, ClearRangeIs, HasBounds, ClearIsOfKind, BeginsAtBounds, BoundsStay, ComesToBound}
+use Rattle.reorganise.specs.Laws.{pieces_of, passed_by, PiecesJoin, PiecesEnd, BeginsFresh, CursorStands, CursorMoves, JoinStays, bounds_of, FillRange, ClearRangeIs, IsPieceBound, HasBounds, ClearIsOfKind, BeginsAtBounds, BoundsStay, ComesToBound, BoundsServe}
 use Rattle.reorganise.proofs.Items.{Pair, item_keys-cons}
 use Rattle.reorganise.proofs.Order.{and_true, some_in}
 
@@ -108,9 +108,9 @@ join_stays low high (s ∷ ss) zero to j = j
 join_stays low high (s ∷ ss) (suc place) to j = (j.0, j.1, join_stays s.high high ss place to j.2)
 
 pub bounds_stay : BoundsStay
-bounds_stay bounds [] place to b all = tt
-bounds_stay bounds (s ∷ ss) zero to b all = (record { low = all.0.low; high = all.0.high; cursor = b }, all.1)
-bounds_stay bounds (s ∷ ss) (suc place) to b all = (all.0, bounds_stay bounds ss place to b all.1)
+bounds_stay range [] place to b all = tt
+bounds_stay range (s ∷ ss) zero to b all = (record { low = all.0.low; high = all.0.high; cursor = b }, all.1)
+bounds_stay range (s ∷ ss) (suc place) to b all = (all.0, bounds_stay range ss place to b all.1)
 
 -- ---- ranges
 
@@ -156,10 +156,39 @@ item_bound : (scan_range : ScanRange) (x : Bytes) → IsItemKey scan_range x →
 item_bound (Rows table) x i = At i.0 i.1.1.values i.2
 item_bound (Entries number) x i = tt
 
+front_bound : (scan_range : ScanRange) → IsBound (bounds_in scan_range) (start scan_range)
+front_bound (Rows table) = Low refl
+front_bound (Entries number) = tt
+
+abbrev FitsRows : ScanRange → Type 0
+FitsRows (Rows table) = table + 1 < 2 ^ 32
+FitsRows (Entries number) = Unit {0}
+
+back_bound : (scan_range : ScanRange) → FitsRows scan_range → IsBound (bounds_in scan_range) (end scan_range)
+back_bound (Rows table) fits = High (end_is 82 table fits)
+back_bound (Entries number) fits = tt
+
+bound_in : (scan_range : ScanRange) (key : Bytes) → FitsRows scan_range → IsPieceBound scan_range key → IsBound (bounds_in scan_range) key
+bound_in range key fits (inl low) = subst (IsBound (bounds_in range)) (sym low) (front_bound range)
+bound_in range key fits (inr (inl high)) = subst (IsBound (bounds_in range)) (sym high) (back_bound range fits)
+bound_in range key fits (inr (inr item)) = item_bound range key item
+
+fits_rows : (element : ElementDef) (kind : Work) → element.table + 1 < 2 ^ 32 → FitsRows (scan_range_of element kind)
+fits_rows element Fill fits = fits
+fits_rows element Clear fits = by_kind element.kind
+  where
+    by_kind : (k : Kind) → FitsRows (cleared k element)
+    by_kind (Index columns) = tt
+    by_kind (Optional type) = fits
+    by_kind (Required type fallback) = fits
+
+pub bounds_serve : BoundsServe
+bounds_serve element kind key fits b = subst (λ bounds. IsBound bounds key) (bounds_are element kind) (bound_in (scan_range_of element kind) key (fits_rows element kind fits) b)
+
 pub comes_to_bound : ComesToBound
 comes_to_bound read r high = elim r.comes.ends [
-  | inl e ↦ subst (IsBound (bounds_of read.element read.kind)) (sym e) high
-  | inr i ↦ subst (λ b. IsBound b read.key_range.high) (bounds_are read.element read.kind) (item_bound (scan_range_of read.element read.kind) read.key_range.high i)
+  | inl e ↦ subst (IsPieceBound (scan_range_of read.element read.kind)) (sym e) high
+  | inr i ↦ inr (inr i)
 ]
 
 same_number : (m n : ℕ) → (m == n) ≡ true → m ≡ n
@@ -179,12 +208,12 @@ item_formed scan_range x f e =
     subst (IsItemKey scan_range) (sym f.encoded) (form_item scan_range f.key f.form (ap (is_item_read scan_range) (sym (key_again f.key f.form)) ∙ ap (is_item scan_range) (sym f.encoded) ∙ e))
 
 -- the items' keys are bounds
-keys_bound : (scan_range : ScanRange) (es : List Pair) → AllByRecursion (λ (e : Pair). HasForm e.0) es → AllByRecursion (IsBound (bounds_in scan_range)) (item_keys scan_range es)
+keys_bound : (scan_range : ScanRange) (es : List Pair) → AllByRecursion (λ (e : Pair). HasForm e.0) es → AllByRecursion (IsPieceBound scan_range) (item_keys scan_range es)
 keys_bound scan_range [] h = tt
 keys_bound scan_range (e ∷ es) h =
-    elim (is_item scan_range e.0) as (λ b. is_item scan_range e.0 ≡ b → AllByRecursion (IsBound (bounds_in scan_range)) (item_keys scan_range (e ∷ es))) [
-      | true ↦ λ item. subst (AllByRecursion (IsBound (bounds_in scan_range))) (sym (item_keys-cons scan_range e es true item)) (item_bound scan_range e.0 (item_formed scan_range e.0 h.0 item), keys_bound scan_range es h.1)
-      | false ↦ λ item. subst (AllByRecursion (IsBound (bounds_in scan_range))) (sym (item_keys-cons scan_range e es false item)) (keys_bound scan_range es h.1)
+    elim (is_item scan_range e.0) as (λ b. is_item scan_range e.0 ≡ b → AllByRecursion (IsPieceBound scan_range) (item_keys scan_range (e ∷ es))) [
+      | true ↦ λ item. subst (AllByRecursion (IsPieceBound scan_range)) (sym (item_keys-cons scan_range e es true item)) (inr (inr (item_formed scan_range e.0 h.0 item)), keys_bound scan_range es h.1)
+      | false ↦ λ item. subst (AllByRecursion (IsPieceBound scan_range)) (sym (item_keys-cons scan_range e es false item)) (keys_bound scan_range es h.1)
     ] refl
 
 key_range_formed : (pairs : Pairs) (low high : Bytes) → AreFormed pairs → AllByRecursion (λ (e : Pair). HasForm e.0) (key_range pairs low high)
@@ -192,47 +221,25 @@ key_range_formed pairs low high formed =
     each_found bytes_cmp bytes_cmp_total bytes_cmp-IsAntisymmetric (λ x v. HasForm x) (key_range pairs low high) (key_range_sorted pairs low high)
     (λ q x at. formed q x (some_in _ (map.get pairs q) x (sym (find_key_range pairs low high q) ∙ at)).1)
 
-front_bound : (scan_range : ScanRange) → IsBound (bounds_in scan_range) (start scan_range)
-front_bound (Rows table) = Low refl
-front_bound (Entries number) = tt
+at_bound : (scan_range : ScanRange) (high : Bytes) (keys : List Bytes) (i : ℕ) → IsPieceBound scan_range high → AllByRecursion (IsPieceBound scan_range) keys → IsPieceBound scan_range (unwrap_or (slice_get keys i) high)
+at_bound scan_range high [] i h all = h
+at_bound scan_range high (k ∷ ks) zero h all = all.0
+at_bound scan_range high (k ∷ ks) (suc i) h all = at_bound scan_range high ks i h all.1
 
-abbrev FitsRows : ScanRange → Type 0
-FitsRows (Rows table) = table + 1 < 2 ^ 32
-FitsRows (Entries number) = Unit {0}
-
-back_bound : (scan_range : ScanRange) → FitsRows scan_range → IsBound (bounds_in scan_range) (end scan_range)
-back_bound (Rows table) fits = High (end_is 82 table fits)
-back_bound (Entries number) fits = tt
-
-at_bound : (bounds : Bounds) (high : Bytes) (keys : List Bytes) (i : ℕ) → IsBound bounds high → AllByRecursion (IsBound bounds) keys → IsBound bounds (unwrap_or (slice_get keys i) high)
-at_bound bounds high [] i h all = h
-at_bound bounds high (k ∷ ks) zero h all = all.0
-at_bound bounds high (k ∷ ks) (suc i) h all = at_bound bounds high ks i h all.1
-
-module _ (scan_range : ScanRange) (fits : FitsRows scan_range) (keys : List Bytes) (all : AllByRecursion (IsBound (bounds_in scan_range)) keys) (pieces : ℕ) where
-  bound_bound : (k : ℕ) → IsBound (bounds_in scan_range) (bound scan_range keys pieces k)
-  bound_bound k = elim (k == 0) as (λ b. IsBound (bounds_in scan_range) (if b then start scan_range else unwrap_or (slice_get keys ((k * length keys) / pieces)) (end scan_range))) [
-    | true ↦ front_bound scan_range
-    | false ↦ at_bound (bounds_in scan_range) (end scan_range) keys ((k * length keys) / pieces) (back_bound scan_range fits) all
+module _ (scan_range : ScanRange) (keys : List Bytes) (all : AllByRecursion (IsPieceBound scan_range) keys) (pieces : ℕ) where
+  bound_bound : (k : ℕ) → IsPieceBound scan_range (bound scan_range keys pieces k)
+  bound_bound k = elim (k == 0) as (λ b. IsPieceBound scan_range (if b then start scan_range else unwrap_or (slice_get keys ((k * length keys) / pieces)) (end scan_range))) [
+    | true ↦ inl refl
+    | false ↦ at_bound scan_range (end scan_range) keys ((k * length keys) / pieces) (inr (inl refl)) all
   ]
 
-  spans_bound : (k : ℕ) → AllByRecursion (HasBounds (bounds_in scan_range)) (spans scan_range keys pieces k)
+  spans_bound : (k : ℕ) → AllByRecursion (HasBounds scan_range) (spans scan_range keys pieces k)
   spans_bound zero = tt
   spans_bound (suc k) =
-      AllByRecursion-append (HasBounds (bounds_in scan_range)) (spans scan_range keys pieces k) (span_at scan_range keys pieces k ∷ []) (spans_bound k)
+      AllByRecursion-append (HasBounds scan_range) (spans scan_range keys pieces k) (span_at scan_range keys pieces k ∷ []) (spans_bound k)
       (record { low = bound_bound k; high = bound_bound (k + 1); cursor = bound_bound k }, tt)
 
-fits_rows : (element : ElementDef) (kind : Work) → element.table + 1 < 2 ^ 32 → FitsRows (scan_range_of element kind)
-fits_rows element Fill fits = fits
-fits_rows element Clear fits = by_kind element.kind
-  where
-    by_kind : (k : Kind) → FitsRows (cleared k element)
-    by_kind (Index columns) = tt
-    by_kind (Optional type) = fits
-    by_kind (Required type fallback) = fits
-
 pub begins_at_bounds : BeginsAtBounds
-begins_at_bounds element kind pairs pieces fits formed =
+begins_at_bounds element kind pairs pieces formed =
     let scan_range = scan_range_of element kind in
-    subst (λ b. AllByRecursion (HasBounds b) (spans scan_range (items scan_range pairs) pieces pieces)) (bounds_are element kind)
-    (spans_bound scan_range (fits_rows element kind fits) (items scan_range pairs) (keys_bound scan_range (key_range pairs (start scan_range) (end scan_range)) (key_range_formed pairs (start scan_range) (end scan_range) formed)) pieces pieces)
+    spans_bound scan_range (items scan_range pairs) (keys_bound scan_range (key_range pairs (start scan_range) (end scan_range)) (key_range_formed pairs (start scan_range) (end scan_range) formed)) pieces pieces

@@ -1,6 +1,6 @@
 -- Cited by the contracts of pieces_share, cursors_pass, ranges_are, bounds_hold and 3 more.
 -- What pieces come to, in the words in which elements keep their laws.
-use Rattle.std.specs.Prelude.{◌≡◌, ℕ, ◌≤◌, zero, suc, true, ◌+◌, ◌<◌, ◌^◌, ◌↔◌, List, [], ◌∷◌, length, Some, slice_get}
+use Rattle.std.specs.Prelude.{◌≡◌, ◌⊎◌, ℕ, ◌≤◌, zero, suc, true, ◌+◌, ◌<◌, ◌^◌, ◌↔◌, List, [], ◌∷◌, length, Some, slice_get}
 use Rattle.std.specs.List.{AllByRecursion}
 use mathlib.Core.List.{map as each}
 use Rattle.keycode.specs.declared.value.Value.{Value}
@@ -32,7 +32,8 @@ use Rattle.schema_version.specs.declared.element.Work.{Work}
 use Rattle.schema_version.specs.declared.element.Work.TheVariants.{Fill, Clear}
 use Rattle.reorganise.specs.declared.work.Span.{Span}
 use Rattle.reorganise.specs.declared.read.Reading.{Reading}
-use Rattle.reorganise.specs.ScanRanges.{scan_range_of, start, end, items, ItemsAreEmpty}
+use Rattle.reorganise.specs.declared.scan_range.ScanRange.{ScanRange}
+use Rattle.reorganise.specs.ScanRanges.{scan_range_of, start, end, items, IsItemKey, ItemsAreEmpty}
 use Rattle.reorganise.specs.Pieces.{begun, are_ended, IsReading}
 use Rattle.reorganise.specs.Partition.{AreJoined}
 use Rattle.reorganise.specs.Left.{items_left}
@@ -91,7 +92,7 @@ clear_of element = kind_clear element.table element.number (source_alone element
 abbrev pub ClearIsOfKind : Type 0
 ClearIsOfKind = (version : Version) (element : ElementDef) → clear_of element ≡ kind_clear element.table element.number (source_in version element.kind)
 
--- where the pieces may begin and end
+-- where a fill or a clear of `element_state` may begin and end
 abbrev pub bounds_of : ElementDef → Work → Bounds
 bounds_of element Fill = RowsOf element.table
 bounds_of element Clear = (clear_of element).bounds
@@ -108,25 +109,33 @@ ClearRangeIs =
     (element : ElementDef) → HasRange element.table element.number
     → (start (scan_range_of element Clear) ≡ (clear_of element).low) × (end (scan_range_of element Clear) ≡ (clear_of element).high)
 
-pub record HasBounds (bounds : Bounds) (span : Span) : Type 0 where
-  pub low : IsBound bounds span.low
-  pub high : IsBound bounds span.high
-  pub cursor : IsBound bounds span.cursor
+-- where a piece may begin or end, and where its cursor may stand: at an end of the range, or at the key of an item
+abbrev pub IsPieceBound : ScanRange → Bytes → Type 0
+IsPieceBound scan_range key = (key ≡ start scan_range) ⊎ (key ≡ end scan_range) ⊎ IsItemKey scan_range key
+
+pub record HasBounds (scan_range : ScanRange) (span : Span) : Type 0 where
+  pub low : IsPieceBound scan_range span.low
+  pub high : IsPieceBound scan_range span.high
+  pub cursor : IsPieceBound scan_range span.cursor
 
 -- pieces that begin over keys of pairs begin and end where they may
 abbrev pub BeginsAtBounds : Type 0
 BeginsAtBounds =
-    (element : ElementDef) (kind : Work) (pairs : Pairs) (pieces : ℕ) → element.table + 1 < 2 ^ 32 → AreFormed pairs
-    → AllByRecursion (HasBounds (bounds_of element kind)) (begun element kind pairs pieces).pieces
+    (element : ElementDef) (kind : Work) (pairs : Pairs) (pieces : ℕ) → AreFormed pairs
+    → AllByRecursion (HasBounds (scan_range_of element kind)) (begun element kind pairs pieces).pieces
 
 -- and they stay where they may, where a cursor is moved to such a place
 abbrev pub BoundsStay : Type 0
 BoundsStay =
-    (bounds : Bounds) (pieces : List Span) (place : ℕ) (to : Bytes) → IsBound bounds to → AllByRecursion (HasBounds bounds) pieces → AllByRecursion (HasBounds bounds) (with_cursor place to pieces)
+    (scan_range : ScanRange) (pieces : List Span) (place : ℕ) (to : Bytes) → IsPieceBound scan_range to → AllByRecursion (HasBounds scan_range) pieces → AllByRecursion (HasBounds scan_range) (with_cursor place to pieces)
 
 -- a piece comes to where it may end, whatever pairs it was read from
 abbrev pub ComesToBound : Type 0
-ComesToBound = (read : Reading) → IsReading read → IsBound (bounds_of read.element read.kind) read.high → IsBound (bounds_of read.element read.kind) read.key_range.high
+ComesToBound = (read : Reading) → IsReading read → IsPieceBound (scan_range_of read.element read.kind) read.high → IsPieceBound (scan_range_of read.element read.kind) read.key_range.high
+
+-- where a piece may end, a fill or a clear of `element_state` may
+abbrev pub BoundsServe : Type 0
+BoundsServe = (element : ElementDef) (kind : Work) (key : Bytes) → element.table + 1 < 2 ^ 32 → IsPieceBound (scan_range_of element kind) key → IsBound (bounds_of element kind) key
 
 -- in a store that agrees with a version, the items of a fill or a clear are the pairs of its range whose value is empty: a column's
 -- value is never empty

@@ -1,7 +1,7 @@
 //! What pieces come to, in the words in which elements keep their laws: each is a call without a
 //! body, so that a contract names it. Whoever keeps a store consistent has from these that a piece
 //! is one of the fills and clears that `element_state` speaks of.
-ghost use Rattle.reorganise.specs.Laws.{PiecesJoin, PiecesEnd, BeginsFresh, CursorStands, CursorMoves, JoinStays, FillRange, ClearRangeIs, ClearIsOfKind, BeginsAtBounds, BoundsStay, ComesToBound, ColumnsAgree, FillLays, ClearLays, ItemsEmpty, AllLeft};
+ghost use Rattle.reorganise.specs.Laws.{PiecesJoin, PiecesEnd, BeginsFresh, CursorStands, CursorMoves, JoinStays, FillRange, ClearRangeIs, ClearIsOfKind, BeginsAtBounds, BoundsStay, ComesToBound, BoundsServe, ColumnsAgree, FillLays, ClearLays, ItemsEmpty, AllLeft};
 
 /// Pieces that join one another are such in the words of `element_state`, and have all ended
 /// exactly when `finished` says so.
@@ -27,11 +27,13 @@ pub fn ranges_are()
     ensures kind { ClearIsOfKind }
 {}
 
-/// Pieces begin and end where they may, and a cursor comes to such a place again.
+/// Pieces begin and end where they may, at an end of the range or at the key of an item, and a
+/// cursor comes to such a place again. It is one where a fill or a clear of `element_state` may end.
 pub fn bounds_hold()
     ensures begin { BeginsAtBounds }
     ensures stay { BoundsStay }
     ensures comes { ComesToBound }
+    ensures serve { BoundsServe }
 {}
 
 /// In a store that agrees with a version, the items of a fill or a clear are the pairs of its range

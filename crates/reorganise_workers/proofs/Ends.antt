@@ -1,5 +1,5 @@
 -- What the lock answered, as what an attempt comes to.
-use Rattle.std.proofs.Common.{◌≡◌, ◌≢◌, ℕ, ◌+◌, ◌<◌, ◌≤◌, ◌∷◌, [], ◌++◌, List, length, All, Bool, true, false, Option, Some, None, refl, sym, ap, ◌∙◌, subst, inl, inr, arith, cond, eqb-true}
+use Rattle.std.proofs.Common.{◌≡◌, ◌≢◌, ℕ, ◌+◌, ◌<◌, ◌≤◌, ◌∷◌, [], ◌++◌, List, All, Bool, true, false, Option, Some, None, refl, sym, ap, ◌∙◌, subst, inl, inr, arith, cond, eqb-true}
 use Rattle.std.specs.Prelude.{Result, Ok, Err}
 use Rattle.std.proofs.lemmas.List.{length_push}
 use Rattle.std.proofs.lemmas.List.Elements.{All-push, All-same, All-nil}
@@ -11,7 +11,7 @@ use Rattle.replay.specs.declared.entry.Entry.{Entry}
 use Rattle.replay.specs.declared.entry.What.TheVariants.{Piece}
 use Rattle.replay.specs.Replay.{is_of, progress_of}
 use Rattle.world.specs.Piece.{PieceStep, ReadStep, piece_standing_at}
-use Rattle.world.specs.State.{State, facts_of}
+use Rattle.world.specs.State.{State, entry_count, facts_of}
 use Rattle.world.specs.declared.entry.PieceDone.{PieceDone}
 use Rattle.world.specs.declared.entry.Receipt.{Receipt}
 use Rattle.world.specs.declared.piece.PieceFault.{PieceFault}
@@ -21,20 +21,46 @@ use Rattle.world.specs.declared.piece.ReadFault.TheVariants as read_fault
 use Rattle.locked_store.specs.declared.fault.SharedFault.{SharedFault}
 use Rattle.locked_store.specs.declared.fault.SharedFault.TheVariants as shared
 use Rattle.locked_store.specs.declared.fault.WentBack.{WentBack}
-use Rattle.locked_store.specs.Answers.{Answers, AnswersBack, BackBy, Finds, no_place, piece_place}
+use Rattle.locked_store.specs.Answers.{Answers, AnswersBack, BackBy, Finds, WentBackTo, no_place, piece_place}
 use Rattle.locked_store.specs.Cores.{IsCore, IsCoreSince}
 use Rattle.locked_store.specs.Known.{Known}
 use Rattle.locked_store.proofs.Logging.{piece_logged}
-use Rattle.reorganise_workers.specs.Ends.{IsEndOf, IsAttempt, IsPieceReceipt, IsFailedTry, FailedSoOften, Stood, WasRead, WasCommitted, WasUncommitted}
-use Rattle.reorganise_workers.specs.inner.Attempts.{WasSpent, unread_end, attempt_of}
+use Rattle.reorganise_workers.specs.Ends.{HasSeen, WasShorter, IsEndOf, IsEndOfOne, IsAttempt, IsPieceReceipt, IsFailedTry, FailedSoOften, Stood, WasRead, WasCommitted, WasUncommitted}
+use Rattle.reorganise_workers.specs.inner.Attempts.{WasSpent, unread_end, attempt_of, IsCounted}
 use Rattle.reorganise_workers.specs.declared.end.PieceEnd.{PieceEnd}
 use Rattle.reorganise_workers.specs.declared.end.PieceEnd.TheVariants as piece_end
 use Rattle.reorganise_workers.specs.declared.job.Job.{Job}
 use Rattle.reorganise_workers.specs.declared.attempt.Attempt.TheVariants as attempt
 
 -- what has seen as much as a handle has seen as much as the job says
-pub since : (start : State) (front : ℕ) (v : Known) (core : State) → front ≤ v.front → IsCore start core → v.front ≤ length core.log → IsCoreSince start front core
+pub since : (start : State) (front : ℕ) (v : Known) (core : State) → front ≤ v.front → IsCore start core → v.front ≤ entry_count core → IsCoreSince start front core
 since start front v core seen is_core more = record { is_core = is_core; since = omega (arith, seen, more) }
+
+-- ---- the front of the handle
+
+-- the log is shorter than a front that the handle had
+pub was_shorter : (start : State) (most : ℕ) (v w : Known) (seen : ℕ) → HasSeen start most v.front → WentBackTo start v seen w → WasShorter start most seen
+was_shorter start most v w seen has back = (back.1, (v.front, has, back.0))
+
+-- the front after a call is the one before it, or a length that the log had
+pub stays : {T E : Type 0} (start : State) (most : ℕ) (v w : Known) (answer : Result T (SharedFault E)) (step : State → Result T E → State → Type 0) (place : T → Option ℕ)
+    → Answers start v answer w step place → HasSeen start most v.front → HasSeen start most w.front
+stays start most v w (Ok x) step place a has = inr (a.1, a.2.1, sym a.2.4)
+stays start most v w (Err (shared.World e)) step place a has = inr (a.1, a.2.1, sym a.2.4)
+stays start most v w (Err (shared.WentBack seen)) step place a has = subst (λ (k : Known). HasSeen start most k.front) (sym a.2) has
+
+pub stays_found : {T : Type 0} (start : State) (most : ℕ) (v w : Known) (answer : Result T WentBack) (says : State → T → Type 0) → Finds start v answer w says → HasSeen start most v.front → HasSeen start most w.front
+stays_found start most v w (Ok x) says a has = inr (a.0, a.1.0, sym a.1.3)
+stays_found start most v w (Err back) says a has = subst (λ (k : Known). HasSeen start most k.front) (sym a.2) has
+
+pub stays_back : {T E P : Type 0} (start : State) (most : ℕ) (v w : Known) (prepared : P) (answer : Result T (SharedFault E × P)) (step : State → Result T (E × P) → State → Type 0) (place : T → Option ℕ)
+    → AnswersBack start v prepared answer w step place → HasSeen start most v.front → HasSeen start most w.front
+stays_back {E = E} start most v w prepared (Ok x) step place a has = inr (a.1, a.2.1, sym a.2.4)
+stays_back {E = E} start most v w prepared (Err refusal) step place a has = go refusal.0 a
+  where
+    go : (fault : SharedFault E) → BackBy start v fault refusal.1 prepared w step place → HasSeen start most w.front
+    go (shared.World e) b = inr (b.1, b.2.1, sym b.2.4)
+    go (shared.WentBack seen) b = subst (λ (k : Known). HasSeen start most k.front) (sym b.0.2) has
 
 -- ---- reading
 
@@ -50,19 +76,19 @@ of_another_kind start job piece read was ne = inr (inl (refl, inl (read, was, ne
 -- how a piece ends that is not read, or that it was at its end
 abbrev pub IsUnread : State → Job → ℕ → Option PieceEnd → Type 0
 IsUnread start job piece None = WasSpent start job piece
-IsUnread start job piece (Some end) = IsEndOf start job piece end
+IsUnread start job piece (Some end) = IsEndOfOne start job piece end
 
-pub unread : (start : State) (v w : Known) (job : Job) (piece : ℕ) (fault : SharedFault ReadFault) → job.front ≤ v.front
+pub unread : (start : State) (v w : Known) (job : Job) (piece : ℕ) (fault : SharedFault ReadFault) → job.front ≤ v.front → HasSeen start job.most v.front
     → Answers start v (let r : Result Reading (SharedFault ReadFault) = Err fault in r) w (λ c r d. ReadStep c job.element piece job.limit r × (d ≡ c)) no_place
     → IsUnread start job piece (unread_end fault)
-unread start v w job piece (shared.WentBack seen) s a = a.1
-unread start v w job piece (shared.World read_fault.NotWanted) s a =
+unread start v w job piece (shared.WentBack seen) s has a = was_shorter start job.most v w seen has a
+unread start v w job piece (shared.World read_fault.NotWanted) s has a =
     inl (refl, inl (record { core = a.0; is_core = since start job.front v a.0 s a.2.0 a.2.2; unread = a.2.3.0 }))
-unread start v w job piece (shared.World (read_fault.View view_fault.BadPiece)) s a =
+unread start v w job piece (shared.World (read_fault.View view_fault.BadPiece)) s has a =
     inl (refl, inr (inl (record { core = a.0; is_core = since start job.front v a.0 s a.2.0 a.2.2; unread = a.2.3.0 })))
-unread start v w job piece (shared.World (read_fault.View view_fault.Spent)) s a = record { core = a.0; is_core = since start job.front v a.0 s a.2.0 a.2.2; unread = a.2.3.0 }
-unread start v w job piece (shared.World (read_fault.View view_fault.BadLimit)) s a = tt
-unread start v w job piece (shared.World (read_fault.View view_fault.Memory)) s a = tt
+unread start v w job piece (shared.World (read_fault.View view_fault.Spent)) s has a = record { core = a.0; is_core = since start job.front v a.0 s a.2.0 a.2.2; unread = a.2.3.0 }
+unread start v w job piece (shared.World (read_fault.View view_fault.BadLimit)) s has a = tt
+unread start v w job piece (shared.World (read_fault.View view_fault.Memory)) s has a = tt
 
 -- ---- looking
 
@@ -125,15 +151,15 @@ was_uncommitted start v w job piece read prepared back fault seen is was own a =
     }
 
 pub refused_by : (start : State) (v w : Known) (job : Job) (piece : ℕ) (read prepared back : Reading) (fault : SharedFault PieceFault)
-    → job.front ≤ v.front → prepared ≡ read → WasRead start job piece read → read.kind ≡ job.kind
+    → job.front ≤ v.front → HasSeen start job.most v.front → prepared ≡ read → WasRead start job piece read → read.kind ≡ job.kind
     → BackBy {T = PieceDone} start v fault back prepared w (λ c r d. PieceStep c job.moment prepared r d) piece_place → IsAttempt start job piece (attempt_of fault)
-refused_by start v w job piece read prepared back (shared.WentBack seen) s is was own a = a.0.1
-refused_by start v w job piece read prepared back (shared.World MomentTooLarge) s is was own a = inr (inr (tt, was_uncommitted start v w job piece read prepared back MomentTooLarge s is was own a))
-refused_by start v w job piece read prepared back (shared.World NotWanted) s is was own a = inr (inr (tt, was_uncommitted start v w job piece read prepared back NotWanted s is was own a))
-refused_by start v w job piece read prepared back (shared.World WrongElement) s is was own a = inr (inr (tt, was_uncommitted start v w job piece read prepared back WrongElement s is was own a))
-refused_by start v w job piece read prepared back (shared.World (Moved cursor)) s is was own a = (Moved cursor, (tt, was_uncommitted start v w job piece read prepared back (Moved cursor) s is was own a))
-refused_by start v w job piece read prepared back (shared.World (Conflict key)) s is was own a = (Conflict key, (tt, was_uncommitted start v w job piece read prepared back (Conflict key) s is was own a))
-refused_by start v w job piece read prepared back (shared.World Memory) s is was own a = tt
+refused_by start v w job piece read prepared back (shared.WentBack seen) s has is was own a = was_shorter start job.most v w seen has a.0
+refused_by start v w job piece read prepared back (shared.World MomentTooLarge) s has is was own a = inr (inr (tt, was_uncommitted start v w job piece read prepared back MomentTooLarge s is was own a))
+refused_by start v w job piece read prepared back (shared.World NotWanted) s has is was own a = inr (inr (tt, was_uncommitted start v w job piece read prepared back NotWanted s is was own a))
+refused_by start v w job piece read prepared back (shared.World WrongElement) s has is was own a = inr (inr (tt, was_uncommitted start v w job piece read prepared back WrongElement s is was own a))
+refused_by start v w job piece read prepared back (shared.World (Moved cursor)) s has is was own a = (Moved cursor, (tt, was_uncommitted start v w job piece read prepared back (Moved cursor) s is was own a))
+refused_by start v w job piece read prepared back (shared.World (Conflict key)) s has is was own a = (Conflict key, (tt, was_uncommitted start v w job piece read prepared back (Conflict key) s is was own a))
+refused_by start v w job piece read prepared back (shared.World Memory) s has is was own a = tt
 
 -- ---- failed tries
 
@@ -179,7 +205,24 @@ pub one_piece_more : (start : State) (job : Job) (old mid new : List Receipt) (r
 one_piece_more start job old mid new receipt same is own all =
     All-same (IsPieceReceipt start job) new (mid ++ receipt ∷ []) is (All-push (IsPieceReceipt start job) mid receipt (still_pieces start job old mid same all) own)
 
--- ---- the last try
+-- ---- the end of a piece
+
+pub end_of_one : (start : State) (job : Job) (piece : ℕ) (end : PieceEnd) → IsEndOfOne start job piece end → IsEndOf start job piece end
+end_of_one start job piece piece_end.Finished is = is
+end_of_one start job piece (piece_end.Busy tries) is = absurd is
+end_of_one start job piece (piece_end.Refused fault) is = is
+end_of_one start job piece piece_end.Held is = is
+end_of_one start job piece (piece_end.WentBack seen) is = is
+end_of_one start job piece piece_end.Memory is = is
+
+-- a single attempt does not end a piece as Busy, so any count will do
+pub any_count : (start : State) (job : Job) (piece before : ℕ) (end : PieceEnd) (after : ℕ) → IsEndOfOne start job piece end → IsCounted before end after
+any_count start job piece before piece_end.Finished after is = tt
+any_count start job piece before (piece_end.Busy tries) after is = absurd is
+any_count start job piece before (piece_end.Refused fault) after is = tt
+any_count start job piece before piece_end.Held after is = tt
+any_count start job piece before (piece_end.WentBack seen) after is = tt
+any_count start job piece before piece_end.Memory after is = tt
 
 -- so many failed tries as were allowed
 pub busy : (start : State) (job : Job) (piece failed : ℕ) → failed < job.tries → job.tries ≤ failed + 1 → FailedSoOften start job piece (failed + 1) → IsEndOf start job piece (piece_end.Busy job.tries)

@@ -1,5 +1,5 @@
 -- What a call for all pieces answers, from what its tasks came to.
-use Rattle.std.proofs.Common.{◌≡◌, ℕ, ◌+◌, ◌≤◌, subst, List, [], ◌∷◌, ◌++◌, length, map, reverse, sum_by, All, Some, refl, sym, ap, ◌∙◌, arith, append_assoc}
+use Rattle.std.proofs.Common.{◌≡◌, ℕ, ◌+◌, ◌≤◌, subst, List, [], ◌∷◌, ◌++◌, length, map, reverse, sum_by, All, Some, inl, refl, sym, ap, ◌∙◌, arith, append_assoc}
 use Rattle.std.specs.Prelude.{Bool, Option, None, Result, Ok, Err, IfOk, IfErr}
 use Rattle.std.specs.Option.{option_map}
 use Rattle.std.proofs.lemmas.List.{reverse-reverse, length-map, length-reverse}
@@ -18,8 +18,8 @@ use Rattle.locked_store.specs.Cores.{IsCore}
 use Rattle.locked_store.specs.Known.{Known, total_count, IsLeastFront, OfLast}
 use Rattle.locked_store.proofs.Fronts.{back_risen, risen_on, one_risen}
 use Rattle.reorganise_workers.specs.inner.Workers.{Filling, AreIdle}
-use Rattle.reorganise_workers.specs.Ends.{IsEndOf, IsPieceReceipt}
-use Rattle.reorganise_workers.specs.ReorganiseAll.{IsCount, IsRefused, Reorganises, IsWorkedOff, WasBegun, WasRefused, Stays, right, asked}
+use Rattle.reorganise_workers.specs.Ends.{HasSeen, IsEndOf, IsPieceReceipt}
+use Rattle.reorganise_workers.specs.ReorganiseAll.{IsCount, IsMostFront, IsRefused, Reorganises, IsWorkedOff, WasBegun, WasRefused, Stays, right, asked}
 use Rattle.reorganise_workers.specs.declared.all_pieces.ReorganiseFault.{ReorganiseFault}
 use Rattle.reorganise_workers.specs.declared.all_pieces.ReorganiseFault.TheVariants as fault
 use Rattle.reorganise_workers.specs.declared.end.PieceEnd.{PieceEnd}
@@ -154,6 +154,14 @@ seen_still front old popped new before after old_is new_is rises all =
     let parts = All-pop (λ (h : Known). front ≤ h.front) old popped (Some before) old_is all in
     All-same (λ (h : Known). front ≤ h.front) new (popped ++ after ∷ []) new_is (All-push (λ (h : Known). front ≤ h.front) popped after parts.0 (omega (arith, parts.1, rises)))
 
+-- so is its front one that a handle may have
+pub had_still : (start : State) (most : ℕ) (old popped new : List Known) (before after : Known) → old ≡ popped ++ before ∷ [] → new ≡ popped ++ after ∷ [] → (HasSeen start most before.front → HasSeen start most after.front)
+    → All (λ h. h.front ≤ most) old → All (λ h. HasSeen start most h.front) new
+had_still start most old popped new before after old_is new_is stays all =
+    let parts = All-pop (λ (h : Known). h.front ≤ most) old popped (Some before) old_is all in
+    All-same (λ (h : Known). HasSeen start most h.front) new (popped ++ after ∷ []) new_is
+    (All-push (λ (h : Known). HasSeen start most h.front) popped after (λ i d lt. inl (parts.0 i d lt)) (stays (inl parts.1)))
+
 pub of_last : (handles others : List Known) (last : Known) (P : Known → Type 0) → handles ≡ others ++ last ∷ [] → P last → OfLast handles P
 of_last handles others last P are is = record { others = others; last = last; are = are; is = is }
 
@@ -167,15 +175,17 @@ refused_of_last start element limit tries handles others last fault.Memory count
 
 -- all that was asked for, by handles of which one has looked
 pub worked_off : (start : State) (moment element limit tries : ℕ) (job : Job) (handles mid : List Known) (ends : List (ℕ × PieceEnd)) (back : List Known) (receipts : List (List Receipt))
-    → Stays handles mid → job ≡ asked moment element job.kind job.pieces limit tries job.front → OfLast handles (λ last. WasBegun start element job.kind job.pieces last.front)
-    → IsLeastFront handles job.front → Reorganises start job mid ends back receipts → IsWorkedOff start moment element limit tries handles ends back receipts
-worked_off start moment element limit tries job handles mid ends back receipts s is begun least r =
+    → Stays handles mid → job ≡ asked moment element job.kind job.pieces limit tries job.front job.most → OfLast handles (λ last. WasBegun start element job.kind job.pieces last.front)
+    → IsLeastFront handles job.front → IsMostFront handles job.most → Reorganises start job mid ends back receipts → IsWorkedOff start moment element limit tries handles ends back receipts
+worked_off start moment element limit tries job handles mid ends back receipts s is begun least greatest r =
     record {
       kind = job.kind;
       pieces = job.pieces;
       begun = begun;
       front = job.front;
       least = least;
+      most = job.most;
+      greatest = greatest;
       done = record {
         each = r.each;
         own = subst (λ (j : Job). All (λ e. IsEndOf start j e.0 e.1) ends) is r.own;

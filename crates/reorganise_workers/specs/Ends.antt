@@ -1,6 +1,6 @@
 -- Cited by the contracts of PieceWorker.
 -- How a piece ends.
-use Rattle.std.specs.Prelude.{◌≡◌, ◌≢◌, ℕ, ◌⊎◌, List, length, All, Option, Some, None, Ok, Err, Bool, true, false}
+use Rattle.std.specs.Prelude.{◌≡◌, ◌≢◌, ℕ, ◌<◌, ◌≤◌, ◌⊎◌, List, length, All, Option, Some, None, Ok, Err, Bool, true, false}
 use Rattle.row_map.specs.Rows.{Bytes}
 use Rattle.schema_version.specs.declared.element.Work.{Work}
 use Rattle.reorganise.specs.declared.read.Reading.{Reading}
@@ -63,6 +63,14 @@ pub record WasUncommitted (start : State) (job : Job) (piece : ℕ) (fault : Pie
   pub left : State
   pub refused : PieceStep core job.moment read (Err (fault, back)) left
 
+-- a front that a handle had: one that a handle came with is at most `most`; any later one is a length that the log had
+abbrev pub HasSeen : State → ℕ → ℕ → Type 0
+HasSeen start most front = (front ≤ most) ⊎ WasLength start front
+
+-- the log had this length, and a handle had seen more
+abbrev pub WasShorter : State → ℕ → ℕ → Type 0
+WasShorter start most seen = WasLength start seen × ((front : ℕ) × HasSeen start most front × (seen < front))
+
 -- ---- receipts
 
 -- the receipt is of a piece of the job's element; its entry came after all that the handles had seen
@@ -116,7 +124,7 @@ WasOfAnotherKind start job piece =
     ⊎ ((kind : Work) × (ended : Bool) × Stood start job piece (Some (kind, ended)) × (kind ≢ job.kind))
 
 -- Finished: the piece was found at its end, or was brought there, by the work that the call began with. Busy: as many tries failed as were
--- allowed. A refusal is that of a read, of a look or of a commit
+-- allowed. A refusal is that of a read, of a look or of a commit. WentBack: a handle had seen more
 abbrev pub IsEndOf : State → Job → ℕ → PieceEnd → Type 0
 IsEndOf start job piece piece_end.Finished = Stood start job piece (Some (job.kind, true)) ⊎ WasBroughtToItsEnd start job piece
 IsEndOf start job piece (piece_end.Busy tries) = (tries ≡ job.tries) × FailedSoOften start job piece tries
@@ -125,12 +133,21 @@ IsEndOf start job piece (piece_end.Refused fault) =
     ⊎ (((fault ≡ WrongElement) × WasOfAnotherKind start job piece)
     ⊎ (IsFinal fault × WasUncommitted start job piece fault))
 IsEndOf start job piece piece_end.Held = Unit {0}
-IsEndOf start job piece (piece_end.WentBack seen) = WasLength start seen
+IsEndOf start job piece (piece_end.WentBack seen) = WasShorter start job.most seen
 IsEndOf start job piece piece_end.Memory = Unit {0}
+
+-- how a single attempt may end a piece: Busy takes all tries
+abbrev pub IsEndOfOne : State → Job → ℕ → PieceEnd → Type 0
+IsEndOfOne start job piece piece_end.Finished = IsEndOf start job piece piece_end.Finished
+IsEndOfOne start job piece (piece_end.Busy tries) = ⊥
+IsEndOfOne start job piece (piece_end.Refused fault) = IsEndOf start job piece (piece_end.Refused fault)
+IsEndOfOne start job piece piece_end.Held = IsEndOf start job piece piece_end.Held
+IsEndOfOne start job piece (piece_end.WentBack seen) = IsEndOf start job piece (piece_end.WentBack seen)
+IsEndOfOne start job piece piece_end.Memory = IsEndOf start job piece piece_end.Memory
 
 -- an attempt committed some items and left more; or failed; or found the piece at its end and then no longer there; or ended the piece
 abbrev pub IsAttempt : State → Job → ℕ → Attempt → Type 0
 IsAttempt start job piece attempt.More = (done : PieceDone) × WasCommitted start job piece done × (done.ended ≡ false)
 IsAttempt start job piece attempt.Again = (fault : PieceFault) × IsFailedTry start job piece fault
 IsAttempt start job piece attempt.Reread = WasUnread start job piece (read_fault.View view_fault.Spent)
-IsAttempt start job piece (attempt.Ended end) = IsEndOf start job piece end
+IsAttempt start job piece (attempt.Ended end) = IsEndOfOne start job piece end

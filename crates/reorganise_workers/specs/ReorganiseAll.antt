@@ -52,9 +52,9 @@ right handle = (handle.id, handle.count)
 abbrev pub Stays : List Known → List Known → Type 0
 Stays old new = (map right new ≡ map right old) × HaveRisen old new
 
-abbrev pub asked : ℕ → ℕ → Work → ℕ → ℕ → ℕ → ℕ → Job
-asked moment element kind pieces limit tries front =
-    record { moment = moment; element = element; kind = kind; pieces = pieces; limit = limit; tries = tries; front = front }
+abbrev pub asked : ℕ → ℕ → Work → ℕ → ℕ → ℕ → ℕ → ℕ → Job
+asked moment element kind pieces limit tries front most =
+    record { moment = moment; element = element; kind = kind; pieces = pieces; limit = limit; tries = tries; front = front; most = most }
 
 -- one end for each piece, by rising number, as its calls answered; all handles are back, in their order, none with a lower front, and their
 -- shares rose together by the receipts: a list for each handle, of pieces of this element alone
@@ -67,6 +67,11 @@ pub record Reorganises (start : State) (job : Job) (handles : List Known) (ends 
   pub lists : length receipts ≡ length handles
   pub pieces : All (All (IsPieceReceipt start job)) receipts
 
+-- the greatest log length that any of these handles has seen
+pub record IsMostFront (handles : List Known) (front : ℕ) : Type 0 where
+  pub seen : All (λ h. h.front ≤ front) handles
+  pub least : (other : ℕ) → All (λ h. h.front ≤ other) handles → front ≤ other
+
 -- so it is with the pieces of the reorganisation that the last handle found begun; the workers go on from what all handles had seen
 pub record IsWorkedOff (start : State) (moment element limit tries : ℕ) (handles : List Known) (ends : List (ℕ × PieceEnd)) (back : List Known) (receipts : List (List Receipt)) : Type 0 where
   pub kind : Work
@@ -74,7 +79,9 @@ pub record IsWorkedOff (start : State) (moment element limit tries : ℕ) (handl
   pub begun : OfLast handles (λ last. WasBegun start element kind pieces last.front)
   pub front : ℕ
   pub least : IsLeastFront handles front
-  pub done : Reorganises start (asked moment element kind pieces limit tries front) handles ends back receipts
+  pub most : ℕ
+  pub greatest : IsMostFront handles most
+  pub done : Reorganises start (asked moment element kind pieces limit tries front most) handles ends back receipts
 
 abbrev pub to_fault : TaskFault → ReorganiseFault
 to_fault task_fault.BadCount = fault.BadCount

@@ -1,12 +1,13 @@
 //! All pieces of a begun reorganisation, by as many workers as there are handles.
-ghost use Rattle.std.specs.Prelude.{◌≡◌, ◌≤◌, All, length, map, reverse, sum_by, vec_len, vec_capacity, [], Decides, IfOk, IfErr};
+ghost use Rattle.std.specs.Prelude.{◌≡◌, ℕ, ◌≤◌, All, length, map, reverse, sum_by, vec_len, vec_capacity, [], Decides, IfOk, IfErr};
 ghost use Rattle.locked_store.specs.Known.{IsLeastFront, OfLast};
-ghost use Rattle.reorganise_workers.specs.Ends.{IsPieceReceipt};
+ghost use Rattle.reorganise_workers.specs.Ends.{HasSeen, IsPieceReceipt};
 ghost use Rattle.reorganise_workers.specs.inner.Jobs.{IsJob};
 ghost use Rattle.reorganise_workers.specs.inner.Workers.{AreIdle};
 ghost use Rattle.reorganise_workers.specs.declared.job.Job.{Job};
-ghost use Rattle.reorganise_workers.specs.ReorganiseAll.{asked, IsCount, IsRefused, Reorganises, IsWorkedOff, WasBegun, WasRefused, to_fault, Stays};
+ghost use Rattle.reorganise_workers.specs.ReorganiseAll.{asked, IsCount, IsMostFront, IsRefused, Reorganises, IsWorkedOff, WasBegun, WasRefused, to_fault, Stays};
 
+use crate::attempt::FailedTries;
 use crate::end::PieceEnd;
 use crate::job::Job;
 use crate::worker::PieceWorker;
@@ -60,6 +61,17 @@ pub enum ReorganiseFault {
     Memory,
 }
 
+// The greatest front of these handles: no handle has seen the log longer.
+fn most_front<L: SharedLedger>(handles: &[Handle<L>]) -> u64
+    ensures { IsMostFront handles.now result }
+{
+    let mut most = 0;
+    for handle in handles {
+        most = most.max(handle.front());
+    }
+    most
+}
+
 // What the workers are to do, by how the reorganisation stands.
 #[tactic(auto, using(crate::proofs::Reorganises::few))]
 fn job_of<L: SharedLedger, R: Wait>(
@@ -71,11 +83,13 @@ fn job_of<L: SharedLedger, R: Wait>(
     limit: u32,
     tries: u32,
     front: u64,
+    most: u64,
 ) -> Result<Job, ReorganiseFault>
     requires counts { (1 ≤ limit) × (limit ≤ 1000) × (1 ≤ tries) × (tries ≤ 1000000) }
     ensures same { (me.new.id ≡ me.old.id) × (me.new.count ≡ me.old.count) }
     ensures rises { me.old.front ≤ me.new.front }
-    ensures job { IfOk result (λ job. IsJob job × (job ≡ asked moment element job.kind job.pieces limit tries front)) }
+    ensures stays { (m : ℕ) → HasSeen L.start m me.old.front → HasSeen L.start m me.new.front }
+    ensures job { IfOk result (λ job. IsJob job × (job ≡ asked moment element job.kind job.pieces limit tries front most)) }
     ensures begun { IfOk result (λ job. WasBegun L.start element job.kind job.pieces me.old.front) }
     ensures refused { IfErr result (λ fault. WasRefused L.start element me.old.front fault) }
 {
@@ -88,6 +102,7 @@ fn job_of<L: SharedLedger, R: Wait>(
             limit,
             tries,
             front,
+            most,
         }),
         Ok(None) => Err(ReorganiseFault::NotBegun),
         Err(WentBack { seen }) => Err(ReorganiseFault::WentBack { seen }),
@@ -105,6 +120,7 @@ fn make_workers<'a, L: SharedLedger, R: Wait>(
 ) -> Vec<PieceWorker<'a, L, R>>
     requires job { IsJob job }
     requires seen { All (λ h. job.front ≤ h.front) handles.old.items }
+    requires had { All (λ h. HasSeen L.start job.most h.front) handles.old.items }
     requires room { (room.items ≡ []) × (vec_len handles.old ≤ vec_capacity room) }
     ensures taken { (handles.new.items ≡ []) × (vec_capacity handles.new ≡ vec_capacity handles.old) }
     ensures staff { map (λ w. w.handle) result.items ≡ reverse handles.old.items }
@@ -119,6 +135,7 @@ fn make_workers<'a, L: SharedLedger, R: Wait>(
             handle,
             first_front,
             kept_receipts: Vec::new(alloc),
+            failed_tries: FailedTries::none(),
             job,
         });
     }
@@ -147,6 +164,7 @@ fn into_parts<L: SharedLedger, R: Wait>(
             handle,
             first_front: _,
             kept_receipts,
+            failed_tries: _,
             job: _,
         } = worker;
         handles.push_reserved(handle);
@@ -179,6 +197,7 @@ fn run<'a, L: SharedLedger + Send + Sync, G: Gate + Sync, R: Threads + Wait + Sy
     requires counts { IsCount (vec_len handles) job.limit job.tries }
     requires job { IsJob job }
     requires seen { All (λ h. job.front ≤ h.front) handles.items }
+    requires had { All (λ h. HasSeen L.start job.most h.front) handles.items }
     requires room { (room.items ≡ []) × (vec_len handles ≤ vec_capacity room) }
     requires receipts { (receipts.items ≡ []) × (vec_len handles ≤ vec_capacity receipts) }
     ensures done { IfOk result (λ s. Reorganises L.start job handles.items s.ends.items s.handles.items s.receipts.items) }
@@ -230,17 +249,22 @@ fn look_again<L: SharedLedger, R: Wait>(
     requires counts { IsCount (vec_len handles.old) limit tries }
     ensures counts { IfOk result (λ _. IsCount (length handles.old.items) limit tries) }
     ensures stays { Stays handles.old.items handles.new.items × (vec_len handles.new ≡ vec_len handles.old) }
-    ensures job { IfOk result (λ job. IsJob job × (job ≡ asked moment element job.kind job.pieces limit tries job.front)) }
+    ensures job { IfOk result (λ job. IsJob job × (job ≡ asked moment element job.kind job.pieces limit tries job.front job.most)) }
     ensures least { IfOk result (λ job. IsLeastFront handles.old.items job.front) }
+    ensures greatest { IfOk result (λ job. IsMostFront handles.old.items job.most) }
     ensures seen { IfOk result (λ job. All (λ h. job.front ≤ h.front) handles.new.items) }
+    ensures had { IfOk result (λ job. All (λ h. HasSeen L.start job.most h.front) handles.new.items) }
     ensures begun { IfOk result (λ job. OfLast handles.old.items (λ last. WasBegun L.start element job.kind job.pieces last.front)) }
     ensures refused { IfErr result (λ fault. IsRefused L.start element limit tries handles.old.items fault) }
 {
     let front = least_front(handles.as_slice());
+    let most = most_front(handles.as_slice());
     let Some(mut me) = handles.pop() else {
         unreachable!()
     };
-    let found = job_of(rt, shared, &mut me, moment, element, limit, tries, front);
+    let found = job_of(
+        rt, shared, &mut me, moment, element, limit, tries, front, most,
+    );
     handles.push_reserved(me);
     found
 }
@@ -254,7 +278,8 @@ fn look_again<L: SharedLedger, R: Wait>(
 /// `Finished` by work of that kind alone. If the reorganisation is over by the time that a piece is
 /// read, looked at or committed, or has no such piece, the piece ends `Refused(NotWanted)`; if the
 /// element's reorganisation is of another kind by then, as when a fill was abandoned and a clear
-/// begun, it ends `Refused(WrongElement)`.
+/// begun, it ends `Refused(WrongElement)`. A piece that ends `WentBack` has a length that the log
+/// had; a handle came with a greater front, or the log also had a greater length.
 ///
 /// - `handles`: all of the same shared world, from 1 to 64.
 /// - `moment`: the moment of each commit; the greater of it and the moment of the last entry

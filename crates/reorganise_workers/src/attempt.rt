@@ -1,8 +1,7 @@
 //! The attempts of one piece: its next items are read, prepared and committed.
-ghost use Rattle.std.specs.Prelude.{◌≡◌, ◌+◌, ◌<◌, ◌≤◌, length, All, IfOk, IfErr};
-ghost use Rattle.reorganise_workers.specs.Ends.{IsEndOf, IsAttempt, IsPieceReceipt, WasRead};
-ghost use Rattle.reorganise_workers.specs.inner.Jobs.{IsJob};
-ghost use Rattle.reorganise_workers.specs.inner.Attempts.{WasSpent, unread_end, attempt_of};
+ghost use Rattle.std.specs.Prelude.{◌≡◌, ◌+◌, ◌<◌, ◌≤◌, ◌^◌, length, All, IfOk, IfErr};
+ghost use Rattle.reorganise_workers.specs.Ends.{HasSeen, IsAttempt, IsPieceReceipt, WasRead};
+ghost use Rattle.reorganise_workers.specs.inner.Attempts.{WasSpent, failed_by, unread_end, attempt_of};
 
 use crate::end::PieceEnd;
 use crate::job::Job;
@@ -25,6 +24,21 @@ pub(crate) enum Attempt {
     Ended(PieceEnd),
 }
 
+/// How many tries failed. Only an attempt counts one more.
+#[derive(Drop)]
+pub(crate) struct FailedTries {
+    count: u64,
+}
+
+impl FailedTries {
+    /// None yet.
+    pub(crate) fn none() -> FailedTries
+        ensures { result.count ≡ 0 }
+    {
+        FailedTries { count: 0 }
+    }
+}
+
 // The next items of a piece, if the work is of the kind with which the call began; an `Err` is what
 // the attempt came to without them.
 fn next_items<L: SharedLedger, R: Wait>(
@@ -36,8 +50,10 @@ fn next_items<L: SharedLedger, R: Wait>(
     piece: u32,
 ) -> Result<PieceView, Attempt>
     requires seen { job.now.front ≤ me.old.front }
+    requires had { HasSeen L.start job.now.most me.old.front }
     ensures same { (me.new.id ≡ me.old.id) × (me.new.count ≡ me.old.count) }
     ensures rises { me.old.front ≤ me.new.front }
+    ensures had { HasSeen L.start job.now.most me.new.front }
     ensures own { IfOk result (λ view. view.piece ≡ piece) }
     ensures kind { IfOk result (λ view. view.kind ≡ job.now.kind) }
     ensures read { IfOk result (λ view. WasRead L.start job.now piece view) }
@@ -84,9 +100,11 @@ fn look<L: SharedLedger, R: Wait>(
     piece: u32,
 ) -> Attempt
     requires seen { job.now.front ≤ me.old.front }
+    requires had { HasSeen L.start job.now.most me.old.front }
     requires spent { WasSpent L.start job.now piece }
     ensures same { (me.new.id ≡ me.old.id) × (me.new.count ≡ me.old.count) }
     ensures rises { me.old.front ≤ me.new.front }
+    ensures had { HasSeen L.start job.now.most me.new.front }
     ensures attempt { IsAttempt L.start job.now piece result }
 {
     match shared.piece_progress(rt, me, job.element, piece) {
@@ -136,10 +154,12 @@ fn commit_items<L: SharedLedger, R: Wait>(
     view: PieceView,
 ) -> Attempt
     requires seen { job.now.front ≤ me.old.front }
+    requires had { HasSeen L.start job.now.most me.old.front }
     requires kind { view.kind ≡ job.now.kind }
     requires read { WasRead L.start job.now view.piece view }
     ensures same { me.new.id ≡ me.old.id }
     ensures rises { me.old.front ≤ me.new.front }
+    ensures had { HasSeen L.start job.now.most me.new.front }
     ensures counted { me.new.count + length kept_receipts.old.items ≡ me.old.count + length kept_receipts.new.items }
     ensures pieces { All (IsPieceReceipt L.start job.now) kept_receipts.old.items → All (IsPieceReceipt L.start job.now) kept_receipts.new.items }
     ensures attempt { IsAttempt L.start job.now view.piece result }
@@ -163,8 +183,8 @@ fn commit_items<L: SharedLedger, R: Wait>(
     }
 }
 
-// One attempt.
-fn make_attempt<L: SharedLedger, R: Wait>(
+// Reads a piece's next items, and commits them.
+fn read_and_commit<L: SharedLedger, R: Wait>(
     rt: &R,
     alloc: Global,
     shared: &Shared<L>,
@@ -174,8 +194,10 @@ fn make_attempt<L: SharedLedger, R: Wait>(
     piece: u32,
 ) -> Attempt
     requires seen { job.now.front ≤ me.old.front }
+    requires had { HasSeen L.start job.now.most me.old.front }
     ensures same { me.new.id ≡ me.old.id }
     ensures rises { me.old.front ≤ me.new.front }
+    ensures had { HasSeen L.start job.now.most me.new.front }
     ensures counted { me.new.count + length kept_receipts.old.items ≡ me.old.count + length kept_receipts.new.items }
     ensures pieces { All (IsPieceReceipt L.start job.now) kept_receipts.old.items → All (IsPieceReceipt L.start job.now) kept_receipts.new.items }
     ensures attempt { IsAttempt L.start job.now piece result }
@@ -186,36 +208,40 @@ fn make_attempt<L: SharedLedger, R: Wait>(
     }
 }
 
-/// Works on one piece, attempt by attempt, until it has ended or is given up.
-pub(crate) fn work_piece<L: SharedLedger, R: Wait>(
+// How many failed tries an attempt is.
+fn failed_by(attempt: &Attempt) -> u64
+    ensures is { result ≡ failed_by attempt.now }
+    ensures one { result ≤ 1 }
+{
+    match attempt {
+        Attempt::Again => 1,
+        Attempt::More | Attempt::Reread | Attempt::Ended(_) => 0,
+    }
+}
+
+/// One attempt; a failed try is counted.
+pub(crate) fn make_attempt<L: SharedLedger, R: Wait>(
     rt: &R,
     alloc: Global,
     shared: &Shared<L>,
     me: &mut Handle<L>,
     kept_receipts: &mut Vec<Receipt>,
+    failed: &mut FailedTries,
     job: &Job,
     piece: u32,
-) -> PieceEnd
-    requires job { IsJob job.now }
+) -> Attempt
     requires seen { job.now.front ≤ me.old.front }
+    requires had { HasSeen L.start job.now.most me.old.front }
+    requires room { failed.old.count < 2 ^ 63 }
     ensures same { me.new.id ≡ me.old.id }
     ensures rises { me.old.front ≤ me.new.front }
+    ensures had { HasSeen L.start job.now.most me.new.front }
     ensures counted { me.new.count + length kept_receipts.old.items ≡ me.old.count + length kept_receipts.new.items }
     ensures pieces { All (IsPieceReceipt L.start job.now) kept_receipts.old.items → All (IsPieceReceipt L.start job.now) kept_receipts.new.items }
-    ensures end { IsEndOf L.start job.now piece result }
+    ensures attempt { IsAttempt L.start job.now piece result }
+    ensures tried { failed.new.count ≡ failed.old.count + failed_by result }
 {
-    let mut failed = 0u32;
-    for _i in rt.forever() {
-        match make_attempt(rt, alloc, shared, me, kept_receipts, job, piece) {
-            Attempt::More | Attempt::Reread => {}
-            Attempt::Again => {
-                failed += 1;
-                if failed >= job.tries {
-                    return PieceEnd::Busy { tries: job.tries };
-                }
-            }
-            Attempt::Ended(end) => return end,
-        }
-    }
-    unreachable!()
+    let attempt = read_and_commit(rt, alloc, shared, me, kept_receipts, job, piece);
+    failed.count += failed_by(&attempt);
+    attempt
 }

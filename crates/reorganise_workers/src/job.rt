@@ -18,4 +18,6 @@ pub(crate) struct Job {
     pub(crate) tries: u32,
     /// The least front of the handles at entry: the entries that all of them had seen.
     pub(crate) front: u64,
+    /// The greatest one: no handle had seen more.
+    pub(crate) most: u64,
 }

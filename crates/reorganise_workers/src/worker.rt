@@ -1,6 +1,10 @@
 //! One worker: a handle that works on pieces.
+ghost use Rattle.std.specs.Prelude.{◌≡◌, ◌+◌, ◌≤◌, ◌^◌, length, All};
+ghost use Rattle.reorganise_workers.specs.Ends.{HasSeen, IsEndOf, IsPieceReceipt};
+ghost use Rattle.reorganise_workers.specs.inner.Attempts.{IsCounted};
+ghost use Rattle.reorganise_workers.specs.inner.Jobs.{IsJob};
 
-use crate::attempt::work_piece;
+use crate::attempt::{Attempt, FailedTries, make_attempt};
 use crate::end::PieceEnd;
 use crate::job::Job;
 use locked_store::{Handle, Shared, SharedLedger};
@@ -19,6 +23,8 @@ pub(crate) struct PieceWorker<'a, L: SharedLedger, R: Wait> {
     /// The front with which the handle came.
     pub(crate) first_front: u64,
     pub(crate) kept_receipts: Vec<Receipt>,
+    /// Of the piece at hand.
+    pub(crate) failed_tries: FailedTries,
     pub(crate) job: Job,
 }
 
@@ -30,6 +36,55 @@ impl<'a, L: SharedLedger, R: Wait> Model for PieceWorker<'a, L, R> {
     ghost view = { λ w. record { handle = w.handle; first_front = w.first_front; kept_receipts = w.kept_receipts.items; job = w.job } };
 
     ghost invariant = { λ w. IsAtWork L.start (record { handle = w.handle; first_front = w.first_front; kept_receipts = w.kept_receipts.items; job = w.job }) };
+}
+
+// Works on one piece, attempt by attempt, until it has ended or is given up.
+fn work_piece<L: SharedLedger, R: Wait>(
+    rt: &R,
+    alloc: Global,
+    shared: &Shared<L>,
+    me: &mut Handle<L>,
+    kept_receipts: &mut Vec<Receipt>,
+    failed_tries: &mut FailedTries,
+    job: &Job,
+    piece: u32,
+) -> PieceEnd
+    requires job { IsJob job.now }
+    requires seen { job.now.front ≤ me.old.front }
+    requires had { HasSeen L.start job.now.most me.old.front }
+    requires room { failed_tries.old.count ≤ 2 ^ 62 }
+    ensures same { me.new.id ≡ me.old.id }
+    ensures rises { me.old.front ≤ me.new.front }
+    ensures had { HasSeen L.start job.now.most me.new.front }
+    ensures counted { me.new.count + length kept_receipts.old.items ≡ me.old.count + length kept_receipts.new.items }
+    ensures pieces { All (IsPieceReceipt L.start job.now) kept_receipts.old.items → All (IsPieceReceipt L.start job.now) kept_receipts.new.items }
+    ensures end { IsEndOf L.start job.now piece result }
+    ensures tried { IsCounted failed_tries.old.count result failed_tries.new.count }
+{
+    let mut failed = 0u32;
+    for _i in rt.forever() {
+        match make_attempt(
+            rt,
+            alloc,
+            shared,
+            me,
+            kept_receipts,
+            failed_tries,
+            job,
+            piece,
+        ) {
+            Attempt::More => {}
+            Attempt::Reread => {}
+            Attempt::Again => {
+                failed += 1;
+                if failed >= job.tries {
+                    return PieceEnd::Busy { tries: job.tries };
+                }
+            }
+            Attempt::Ended(end) => return end,
+        }
+    }
+    unreachable!()
 }
 
 impl<'a, L: SharedLedger, R: Wait> Worker for PieceWorker<'a, L, R> {
@@ -63,10 +118,21 @@ impl<'a, L: SharedLedger, R: Wait> Worker for PieceWorker<'a, L, R> {
             shared,
             handle,
             kept_receipts,
+            failed_tries,
             job,
             ..
         } = self;
-        work_piece(rt, alloc, shared, handle, kept_receipts, job, number as u32)
+        *failed_tries = FailedTries::none();
+        work_piece(
+            rt,
+            alloc,
+            shared,
+            handle,
+            kept_receipts,
+            failed_tries,
+            job,
+            number as u32,
+        )
     }
 
     fn held_back() -> PieceEnd {

@@ -108,7 +108,8 @@ all_stayed P Q step (p ∷ ps) f all = all_step Q step ps p (f p all.0) (all_sta
 
 -- ---- a cursor that comes on
 
-moved_number : (n piece : ℕ) (cursor : Bytes) (p : Progress) (b : Bool) → is_of n p ≡ b → (moved_to n piece cursor p).element.number ≡ p.element.number
+-- it is of the same element
+pub moved_number : (n piece : ℕ) (cursor : Bytes) (p : Progress) (b : Bool) → is_of n p ≡ b → (moved_to n piece cursor p).element.number ≡ p.element.number
 moved_number n piece cursor p true e = ap (λ (b : Bool). (let q : Progress = cond b (come_to piece cursor p) p in q).element.number) e
 moved_number n piece cursor p false e = ap (λ (b : Bool). (let q : Progress = cond b (come_to piece cursor p) p in q).element.number) e
 

@@ -4,6 +4,7 @@ pub mod Agree
 pub mod Standing
 pub mod Begun
 pub mod Cursors
+pub mod Different
 pub mod Moved
 pub mod Publication
 pub mod Openings

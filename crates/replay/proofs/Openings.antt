@@ -41,6 +41,7 @@ use Rattle.replay.specs.Laws.{BeginsKeep, IsPieceCount}
 use Rattle.replay.proofs.Agree.{at_number}
 use Rattle.replay.proofs.Begun.{get_passed}
 use Rattle.replay.proofs.Cursors.{begin_in_pieces}
+use Rattle.replay.proofs.Different.{begin_different}
 use Rattle.replay.proofs.Soundness.{lawful}
 use Rattle.replay.proofs.Time.{at, kept_later}
 
@@ -177,7 +178,7 @@ module _ (facts : Facts) (now number pieces : ℕ) (element : ElementDef) (work 
     element = ap (element_at facts.newest) own ∙ there;
     wanted_so = wants;
     joined = begun_joined (scan_range_of element work) facts.pairs pieces (omega (arith, count.0));
-    bounds = begins_at_bounds element work facts.pairs pieces lawful_element.range.table_below kept.core_kept.formed;
+    bounds = begins_at_bounds element work facts.pairs pieces kept.core_kept.formed;
   }
 
   lows : List Bytes
@@ -205,6 +206,7 @@ module _ (facts : Facts) (now number pieces : ℕ) (element : ElementDef) (work 
     rows = k.rows;
     rows_before = k.rows_before;
     begun = all_append (IsBegun facts.newest) facts.progress (b ∷ []) k.begun (is_begun, tt);
+    different = begin_different facts.progress b (ap (progress_of facts.progress) own ∙ new) k.different;
     in_pieces = begin_in_pieces element work facts.pairs pieces facts.progress count k.in_pieces;
   }
 

@@ -39,8 +39,8 @@ use Rattle.reorganise.specs.declared.read.Reading.{Reading}
 use Rattle.reorganise.specs.ScanRanges.{scan_range_of, start, end}
 use Rattle.reorganise.specs.Pieces.{part}
 use Rattle.reorganise.specs.Batches.{batch_for, piece_writes}
-use Rattle.reorganise.specs.Laws.{passed_by, bounds_of, clear_of, HasBounds, HasColumns}
-use Rattle.reorganise.proofs.Bounds.{cursor_stands, cursor_moves, join_stays, bounds_stay, comes_to_bound, clear_is_of_kind}
+use Rattle.reorganise.specs.Laws.{passed_by, bounds_of, clear_of, IsPieceBound, HasBounds, HasColumns}
+use Rattle.reorganise.proofs.Bounds.{cursor_stands, cursor_moves, join_stays, bounds_stay, comes_to_bound, bounds_serve, clear_is_of_kind}
 use Rattle.reorganise.proofs.Clears.{clear_lays}
 use Rattle.reorganise.proofs.Columns.{columns_agree}
 use Rattle.reorganise.proofs.Fills.{fill_lays}
@@ -51,6 +51,7 @@ use Rattle.replay.specs.Laws.{IsNextOf, piece_entry, PiecesKeep}
 use Rattle.replay.proofs.Agree.{at_number, consistent}
 use Rattle.replay.proofs.Begun.{found, get_passed, passed_at, progress_moved}
 use Rattle.replay.proofs.Cursors.{move_in_pieces}
+use Rattle.replay.proofs.Different.{move_different}
 use Rattle.replay.proofs.Openings.{WantedBy, clear_fill, with_progress}
 use Rattle.replay.proofs.Soundness.{lawful}
 use Rattle.replay.proofs.Time.{at, kept_later}
@@ -136,17 +137,20 @@ module _ (facts : Facts) (now number : ℕ) (read : Reading) (later : facts.mome
   passed_p : map.get w.progress number ≡ Some (passed p)
   passed_p = passed_at facts.progress number p next.here
 
-  bounds_p : HasBounds (bounds_of p.element p.kind) next.span
-  bounds_p = at_place (HasBounds (bounds_of p.element p.kind)) p.pieces read.piece next.span begun_p.0.bounds next.piece
+  bounds_p : HasBounds (scan_range_of p.element p.kind) next.span
+  bounds_p = at_place (HasBounds (scan_range_of p.element p.kind)) p.pieces read.piece next.span begun_p.0.bounds next.piece
 
-  bound_to : IsBound (bounds_of p.element p.kind) to
+  bound_to : IsPieceBound (scan_range_of p.element p.kind) to
   bound_to =
-      subst (λ (e : ElementDef). IsBound (bounds_of e p.kind) to) next.element
-      (subst (λ (u : Work). IsBound (bounds_of read.element u) to) next.work
+      subst (λ (e : ElementDef). IsPieceBound (scan_range_of e p.kind) to) next.element
+      (subst (λ (u : Work). IsPieceBound (scan_range_of read.element u) to) next.work
       (comes_to_bound read next.read_so
-      (subst (λ (e : ElementDef). IsBound (bounds_of e read.kind) read.high) (sym next.element)
-      (subst (λ (u : Work). IsBound (bounds_of p.element u) read.high) (sym next.work)
-      (subst (IsBound (bounds_of p.element p.kind)) (sym next.high) bounds_p.high)))))
+      (subst (λ (e : ElementDef). IsPieceBound (scan_range_of e read.kind) read.high) (sym next.element)
+      (subst (λ (u : Work). IsPieceBound (scan_range_of p.element u) read.high) (sym next.work)
+      (subst (IsPieceBound (scan_range_of p.element p.kind)) (sym next.high) bounds_p.high)))))
+
+  serves : (key : Bytes) → IsPieceBound (scan_range_of p.element p.kind) key → IsBound (bounds_of p.element p.kind) key
+  serves key = bounds_serve p.element p.kind key own.range.table_below
 
   -- ---- what it writes
 
@@ -183,7 +187,7 @@ module _ (facts : Facts) (now number : ℕ) (read : Reading) (later : facts.mome
 
   core_by : (work : Work) → p.kind ≡ work → After (laid (batch_for read) facts.pairs)
   core_by Fill is =
-      let bound = subst (λ (u : Work). IsBound (bounds_of p.element u) to) is bound_to in
+      let bound = subst (λ (u : Work). IsBound (bounds_of p.element u) to) is (serves to bound_to) in
       let same : read.element ≡ p.element = next.element in
       let laying = fill_lays facts.newest read facts.pairs facts.rows next.read_so (next.work ∙ is) next.holds kept.core_kept.held kept.core_kept.formed (exists_exact facts.newest facts.pairs facts.rows kept.core_kept.newest) (columns_fit is)
       (subst (λ (e : ElementDef). e.table + 1 < 2 ^ 32) (sym same) own.range.table_below) (subst (λ (e : ElementDef). IsBound (RowsOf e.table) to) (sym same) bound) in
@@ -197,8 +201,8 @@ module _ (facts : Facts) (now number : ℕ) (read : Reading) (later : facts.mome
       (passed_p ∙ ap (λ (u : Work). Some (let c : core.CoreProgress = record { work = u; spans = passed_by p.pieces } in c)) is))))))
   core_by Clear is =
       let of_source = λ (key : Bytes) (b : IsBound (clear_of p.element).bounds key). subst (λ (c : ClearRange). IsBound c.bounds key) (clear_is_of_kind facts.newest p.element) b in
-      let bound = subst (λ (u : Work). IsBound (bounds_of p.element u) to) is bound_to in
-      let from = subst (λ (u : Work). IsBound (bounds_of p.element u) next.span.cursor) is bounds_p.cursor in
+      let bound = subst (λ (u : Work). IsBound (bounds_of p.element u) to) is (serves to bound_to) in
+      let from = subst (λ (u : Work). IsBound (bounds_of p.element u) next.span.cursor) is (serves next.span.cursor bounds_p.cursor) in
       let same : read.element ≡ p.element = next.element in
       let laying = clear_lays read facts.pairs facts.rows next.read_so (next.work ∙ is) next.holds kept.core_kept.held kept.core_kept.formed (exists_exact facts.newest facts.pairs facts.rows kept.core_kept.newest)
       (subst (λ (e : ElementDef). HasRange e.table e.number) (sym same) (subst (HasRange p.element.table) (sym begun_p.1) own.range)) in
@@ -248,7 +252,7 @@ module _ (facts : Facts) (now number : ℕ) (read : Reading) (later : facts.mome
         element = h.element;
         wanted_so = h.wanted_so;
         joined = join_stays (start (scan_range_of q.element q.kind)) (end (scan_range_of q.element q.kind)) q.pieces read.piece to h.joined;
-        bounds = bounds_stay (bounds_of q.element q.kind) q.pieces read.piece to (subst (λ (u : Work). IsBound (bounds_of q.element u) to) work (subst (λ (e : ElementDef). IsBound (bounds_of e p.kind) to) same bound_to)) h.bounds;
+        bounds = bounds_stay (scan_range_of q.element q.kind) q.pieces read.piece to (subst (λ (u : Work). IsPieceBound (scan_range_of q.element u) to) work (subst (λ (e : ElementDef). IsPieceBound (scan_range_of e p.kind) to) same bound_to)) h.bounds;
       }
 
   in_pieces : AreInPieces (each (moved_to number read.piece to) facts.progress)
@@ -270,6 +274,7 @@ module _ (facts : Facts) (now number : ℕ) (read : Reading) (later : facts.mome
     rows = k.rows;
     rows_before = k.rows_before;
     begun = all_moved (IsBegun facts.newest) number read.piece to come_begun facts.progress k.begun;
+    different = move_different number read.piece to facts.progress k.different;
     in_pieces = in_pieces;
   }
 

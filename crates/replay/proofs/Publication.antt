@@ -57,6 +57,7 @@ use Rattle.replay.proofs.Agree.{at_number}
 use Rattle.replay.proofs.Begun.{found, stayed, all_stayed, passed_at, from_passed}
 use Rattle.replay.proofs.Moved.{filled_of, filled_in, visible, is_zero, get_visible, joined_step, source_same, live_state, not_at_once, same_tables, next_rises}
 use Rattle.replay.proofs.Cursors.{stay_in_pieces}
+use Rattle.replay.proofs.Different.{stay_different}
 use Rattle.replay.proofs.Soundness.{lawful}
 use Rattle.replay.proofs.Time.{retired}
 
@@ -387,6 +388,7 @@ module _ (facts : Facts) (step : List Move) (allowed : IsAllowed facts.newest st
         rows = rows_after;
         rows_before = subst (λ (u : Version). AreLawfulRows u facts.rows) (sym used) k.rows;
         begun = begun_after;
+        different = stay_different step facts.progress k.different;
         in_pieces = stay_in_pieces step facts.progress k.in_pieces;
       }
 

@@ -105,6 +105,7 @@ kept_later facts now later k =
       rows = k.rows;
       rows_before = g.rows;
       begun = k.begun;
+      different = k.different;
       in_pieces = k.in_pieces;
     }
 
@@ -136,5 +137,6 @@ opened_kept opening within sound =
       rows = none;
       rows_before = subst (λ (v : Version). AreLawfulRows v map.empty) (sym same) none;
       begun = tt;
+      different = tt;
       in_pieces = λ number progress there. none_some progress there;
     }

@@ -225,6 +225,7 @@ module _ (facts : Facts) (now : ℕ) (prepared : PreparedTxn) (later : facts.mom
       rows = both_lawful.1;
       rows_before = both_lawful.0;
       begun = k.begun;
+      different = k.different;
       in_pieces = k.in_pieces;
     }
 

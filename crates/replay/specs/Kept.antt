@@ -1,6 +1,6 @@
 -- Cited by the contracts of world::World::lemma_agrees.
 -- What every log of accepted calls keeps, of which the agreement of the pairs with the rows is a part.
-use Rattle.std.specs.Prelude.{◌≡◌, ℕ, ◌≤◌, List, ◌∷◌, length, Some, true, nat_lt, if◌then◌else◌}
+use Rattle.std.specs.Prelude.{◌≡◌, ◌≢◌, ℕ, ◌≤◌, List, [], ◌∷◌, length, Some, true, nat_lt, if◌then◌else◌}
 use Rattle.std.specs.List.{AllByRecursion}
 use mathlib.Core.List.{map as each}
 use Rattle.std.specs.FinMap.{FinMap, from_entries}
@@ -18,7 +18,7 @@ use Rattle.reorganise.specs.declared.work.Span.{Span}
 use Rattle.reorganise.specs.declared.work.Progress.{Progress}
 use Rattle.reorganise.specs.ScanRanges.{scan_range_of, start, end}
 use Rattle.reorganise.specs.Partition.{AreJoined}
-use Rattle.reorganise.specs.Laws.{passed_by, bounds_of, HasBounds}
+use Rattle.reorganise.specs.Laws.{passed_by, HasBounds}
 use Rattle.replay.specs.Replay.{Facts, before_of, version_at, progress_of}
 
 -- ---- the core as the elements' laws see it
@@ -51,7 +51,16 @@ pub record IsBegun (newest : Version) (progress : Progress) : Type 0 where
   pub element : element_at newest progress.element.number ≡ Some progress.element
   pub wanted_so : wanted_work progress.element ≡ Some progress.kind
   pub joined : AreJoined (start (scan_range_of progress.element progress.kind)) (end (scan_range_of progress.element progress.kind)) progress.pieces
-  pub bounds : AllByRecursion (HasBounds (bounds_of progress.element progress.kind)) progress.pieces
+  pub bounds : AllByRecursion (HasBounds (scan_range_of progress.element progress.kind)) progress.pieces
+
+-- of another element
+abbrev pub IsOfAnother : Progress → Progress → Type 0
+IsOfAnother one other = other.element.number ≢ one.element.number
+
+-- no two are of one element
+abbrev pub AreOfDifferentElements : List Progress → Type 0
+AreOfDifferentElements [] = Unit {0}
+AreOfDifferentElements (one ∷ others) = AllByRecursion (IsOfAnother one) others × AreOfDifferentElements others
 
 -- the cursor does not stand past the upper bound
 abbrev pub IsInPiece : Span → Type 0
@@ -85,6 +94,7 @@ pub record IsKept (facts : Facts) : Type 0 where
   pub rows : AreLawfulRows facts.newest facts.rows
   pub rows_before : AreLawfulRows (used_before facts facts.moment) facts.rows
   pub begun : AllByRecursion (IsBegun facts.newest) facts.progress
+  pub different : AreOfDifferentElements facts.progress
   pub in_pieces : AreInPieces facts.progress
 
 -- for every usable version, each element has the pairs that its state demands, by the rows of the log

@@ -5,7 +5,7 @@ use Rattle.std.specs.List.{AllByRecursion}
 use Rattle.reorganise.specs.Pieces.{IsReading}
 use Rattle.row_write.specs.Made.{IsMade}
 use Rattle.replay.specs.declared.entry.Entry.{Entry}
-use Rattle.replay.specs.Replay.{Opening}
+use Rattle.checkpoint.specs.Checkpoint.{Checkpoint as Opening}
 use Rattle.world.specs.declared.committed.Committed.TheVariants as committed
 use Rattle.world.specs.declared.entry.Receipt.{Receipt}
 use Rattle.world.specs.declared.event.Event.{Event}
@@ -26,7 +26,7 @@ RepeatsAll old (entry ∷ entries) new = (receipt : Receipt) × (middle : State)
 
 -- a world is what its opening and its log say
 abbrev pub WorldsAreTheirLogs : Type 0
-WorldsAreTheirLogs = (one other : State) → IsReplayed one → IsReplayed other → one.opening ≡ other.opening → one.log ≡ other.log → one ≡ other
+WorldsAreTheirLogs = (one other : State) → IsReplayed one → IsReplayed other → one.opening ≡ other.opening → one.log ≡ other.log → one ≡ record other { cut = one.cut }
 
 -- two worlds that were equal, and repeated the same entries, are equal
 abbrev pub RepeatsAreEqual : Type 0

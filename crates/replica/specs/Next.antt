@@ -1,6 +1,6 @@
 -- Cited by the contracts of repeat, lemma_worlds_are_their_logs, lemma_accepted_calls_repeat and lemma_logs_repeat.
 -- Which entry an accepted call would add to a log, and what repeating it answers.
-use Rattle.std.specs.Prelude.{◌≡◌, ℕ, ◌+◌, ◌≤◌, List, length, Result, Ok, Err}
+use Rattle.std.specs.Prelude.{◌≡◌, ℕ, ◌+◌, ◌≤◌, List, Result, Ok, Err}
 use Rattle.collections.specs.Refusal.{IsClear}
 use Rattle.lease.specs.declared.lease.Lease.{Lease}
 use Rattle.lease.specs.Timeline.{granted_at}
@@ -21,7 +21,7 @@ use Rattle.world.specs.BeginReorg.{BeginCondition}
 use Rattle.world.specs.Calls.{GrantCondition, CommitCondition, Appends}
 use Rattle.world.specs.Piece.{PieceCondition}
 use Rattle.world.specs.Publish.{PublishCondition}
-use Rattle.world.specs.State.{State, facts_of, effect}
+use Rattle.world.specs.State.{State, entry_count, facts_of, effect}
 use Rattle.replica.specs.declared.fault.RepeatFault.{RepeatFault}
 use Rattle.replica.specs.declared.fault.RepeatFault.TheVariants.{NotNext, Memory}
 
@@ -68,6 +68,6 @@ RepeatAt old now what (Err Memory) new = new ≡ old
 
 -- the entry is at the end of the log, and the pairs are what it gives; or nothing changed
 abbrev pub RepeatStep : State → Entry → Result Receipt RepeatFault → State → Type 0
-RepeatStep old entry (Ok receipt) new = IsNext old entry × (receipt.entry ≡ entry) × (receipt.place ≡ length old.log + 1) × (new ≡ effect old entry)
+RepeatStep old entry (Ok receipt) new = IsNext old entry × (receipt.entry ≡ entry) × (receipt.place ≡ entry_count old + 1) × (new ≡ effect old entry)
 RepeatStep old entry (Err NotNext) new = (¬ (IsNext old entry)) × (new ≡ old)
 RepeatStep old entry (Err Memory) new = new ≡ old

@@ -12,7 +12,9 @@ use collections::{ArcValue, List};
 use keycode::Value;
 use lease::Lease;
 use row_map::{ReadSet, ReadView};
-use row_write::{PrepareFault, Prepared, RowFault, RowOp, RowOutcome, prepare, reads_of};
+use row_write::{
+    PrepareFault, Prepared, RowFault, RowOp, RowOps, RowOutcome, prepare, prepare_shared, reads_of,
+};
 use std::alloc::{AllocError, Global};
 
 const LEASE: Lease = Lease {
@@ -89,6 +91,23 @@ fn prepared(alloc: Global, ops: Vec<RowOp>, view: ReadView) -> Result<Prepared, 
     }
 }
 
+/// What is prepared from operations that have another owner.
+fn prepared_shared(
+    alloc: Global,
+    ops: &ArcValue<RowOps>,
+    view: ReadView,
+) -> Result<Prepared, PrepareFault> {
+    let schema = ArcValue::new(alloc, declared(alloc)?)?;
+    match prepare_shared(alloc, schema, LEASE, ops.clone()?, view) {
+        Ok(prepared) => Ok(prepared),
+        Err((fault, back)) => Err(if back.get().len() == ops.get().len() {
+            fault
+        } else {
+            NoTable
+        }),
+    }
+}
+
 /// The outcome, if there are just these writes in this order.
 fn outcome_with(prepared: &Prepared, wanted: Points) -> Option<RowOutcome> {
     if are_writes(prepared.batch().writes(), wanted) {
@@ -109,6 +128,32 @@ fn outcome_once(
     let view = view(alloc, points)?;
     let prepared = prepared(alloc, ops, view)?;
     Ok(outcome_with(&prepared, wanted))
+}
+
+/// The same of these operations with another owner.
+fn outcome_shared_once(
+    alloc: Global,
+    plain: &[Op],
+    points: Points,
+    wanted: Points,
+) -> Result<Option<RowOutcome>, PrepareFault> {
+    let ops = ArcValue::new(alloc, List::new(operations(alloc, plain)?))?;
+    let view = view(alloc, points)?;
+    let prepared = prepared_shared(alloc, &ops, view)?;
+    Ok(outcome_with(&prepared, wanted))
+}
+
+/// The same, asked once more if memory was short.
+fn outcome_shared(
+    alloc: Global,
+    plain: &[Op],
+    points: Points,
+    wanted: Points,
+) -> Result<Option<RowOutcome>, PrepareFault> {
+    match outcome_shared_once(alloc, plain, points, wanted) {
+        Err(PrepareFault::Memory) => outcome_shared_once(alloc, plain, points, wanted),
+        reported => reported,
+    }
 }
 
 /// The same, asked once more if memory was short.
@@ -184,6 +229,8 @@ fn under_refusal_accepted_operations_write_pairs(rt: HostRuntime) {
     for (name, plain, points, wanted) in &ACCEPTED {
         let reported = outcome(rt.alloc(), *plain, *points, *wanted);
         assert!(rt; reported == Ok(Some(Done)), "{name}");
+        let reported = outcome_shared(rt.alloc(), *plain, *points, *wanted);
+        assert!(rt; reported == Ok(Some(Done)), "{name}, shared");
     }
 }
 
@@ -333,6 +380,10 @@ fn under_refusal_what_writes_nothing_is_reported(rt: HostRuntime) {
         assert!(rt;
             outcome(rt.alloc(), *plain, *points, &[]) == *want,
             "{name}"
+        );
+        assert!(rt;
+            outcome_shared(rt.alloc(), *plain, *points, &[]) == *want,
+            "{name}, shared"
         );
     }
 }

@@ -1,5 +1,5 @@
 -- Entries that have the keys of a row, in their order.
-use Rattle.std.proofs.Common.{◌≡◌, ◌<◌, ◌≤◌, ◌-◌, ◌==◌, ◌++◌, ℕ, zero, suc, Bool, true, false, not, List, [], ◌∷◌, length, get_or, take, drop, Option, Some, None, refl, sym, ap, ap₂, subst, ◌∙◌, arith}
+use Rattle.std.proofs.Common.{◌≡◌, ◌<◌, ◌≤◌, ◌-◌, ◌==◌, ◌++◌, ℕ, zero, suc, Bool, true, false, not, List, [], ◌∷◌, length, get_or, take, drop, Option, Some, None, refl, sym, ap, ap₂, subst, ◌∙◌, arith, ext_get_or}
 use Rattle.std.proofs.lemmas.List.{take_all, take-append-drop, length-append}
 use Rattle.std.proofs.Math.Seq.{take-append_seam}
 use Rattle.std.specs.Cmp.Lexicographic.{pointwise, same_text}
@@ -29,6 +29,17 @@ same_bytes a b other reported is = same_text a b (by (pointwise ◌==◌ a b) (s
     by : (x : Bool) → not x ≡ false → true ≡ x
     by true e = refl
     by false e = absurd (let wrong : true ≡ false = e in cc)
+
+-- four bytes that are the same one by one
+pub four_same : (a b : Bytes) → length a ≡ 4 → length b ≡ 4 → get_or a 0 0 ≡ get_or b 0 0 → get_or a 1 0 ≡ get_or b 1 0 → get_or a 2 0 ≡ get_or b 2 0 → get_or a 3 0 ≡ get_or b 3 0 → a ≡ b
+four_same a b long too p q r s = ext_get_or 0 a b (long ∙ sym too) each
+  where
+    each : (k : ℕ) → k < length a → get_or a k 0 ≡ get_or b k 0
+    each zero lt = p
+    each (suc zero) lt = q
+    each (suc (suc zero)) lt = r
+    each (suc (suc (suc zero))) lt = s
+    each (suc (suc (suc (suc k)))) lt = absurd (omega (arith, lt, long))
 
 -- all of a row's key but the number at its end
 abbrev prefix_of : ℕ → List Value → Bytes

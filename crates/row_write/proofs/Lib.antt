@@ -12,3 +12,4 @@ pub mod Wanted
 pub mod Own
 pub mod Ran
 pub mod Prepares
+pub mod Inserts

@@ -5,3 +5,4 @@ pub mod View
 pub mod WorkRows
 pub mod RowCode
 pub mod Run
+pub mod Insert

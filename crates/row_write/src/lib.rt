@@ -21,7 +21,7 @@ mod write;
 
 pub use fault::{PrepareFault, RowFault};
 pub use op::{RowOp, RowOps, RowOutcome};
-pub use prepare_txn::prepare;
+pub use prepare_txn::{prepare, prepare_shared};
 pub use prepared::Prepared;
 pub use reads::reads_of;
 pub use same::are_same_ops;

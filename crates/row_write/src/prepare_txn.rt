@@ -82,8 +82,8 @@ fn share_ops(alloc: Global, ops: &RowOps) -> Result<ArcValue<RowOps>, AllocError
     ArcValue::new(alloc, ops.clone()?)
 }
 
-/// The same, with the operations as the log shares them.
-fn prepare_shared(
+/// The same, with a copy of the operations.
+fn prepare_copied(
     alloc: Global,
     schema: &Schema,
     view: &ReadView,
@@ -134,12 +134,43 @@ pub fn prepare(
     ensures refused { IfErr result (λ e. IsRefusal rank (Condition schema ops view) OutOfMemory e.0) }
     ensures returned { IfErr result (λ e. e.1 ≡ ops) }
 {
-    match prepare_shared(alloc, schema.get(), &view, &ops) {
+    match prepare_copied(alloc, schema.get(), &view, &ops) {
         Err(fault) => Err((fault, ops)),
         Ok((reported, batch, shared)) => Ok(Prepared {
             schema,
             lease,
             ops: shared,
+            expect: Expect {
+                points: view,
+                key_range: None,
+            },
+            batch,
+            reported,
+        }),
+    }
+}
+
+/// Prepares a transaction as `prepare` does, from operations that may have other owners: the log
+/// shares them too, and none is copied. A refusal gives them back.
+pub fn prepare_shared(
+    alloc: Global,
+    schema: ArcValue<Schema>,
+    lease: Lease,
+    ops: ArcValue<RowOps>,
+    view: ReadView,
+) -> Result<Prepared, (PrepareFault, ArcValue<RowOps>)>
+    ensures holds { IfOk result (λ p. (p.schema ≡ schema) × (p.lease ≡ lease) × (p.ops ≡ ops) × (p.expect ≡ expects view)) }
+    ensures clear { OnOk result (IsClear (Condition schema ops view)) }
+    ensures prepared { IfOk result (λ p. IsPrepared schema ops view p.reported p.batch) }
+    ensures refused { IfErr result (λ e. IsRefusal rank (Condition schema ops view) OutOfMemory e.0) }
+    ensures returned { IfErr result (λ e. e.1 ≡ ops) }
+{
+    match prepare_ops(alloc, schema.get(), &view, ops.get().as_slice()) {
+        Err(fault) => Err((fault, ops)),
+        Ok((reported, batch)) => Ok(Prepared {
+            schema,
+            lease,
+            ops,
             expect: Expect {
                 points: view,
                 key_range: None,

@@ -9,7 +9,7 @@ use schema_version::{ElementDef, Schema};
 use std::alloc::{AllocError, Global};
 
 /// The number and the type of a public column of the table.
-fn public_column(element: &ElementDef, table: u32) -> Option<(u32, ColumnType)>
+pub(crate) fn public_column(element: &ElementDef, table: u32) -> Option<(u32, ColumnType)>
     ensures { result ≡ public_column_of table element.now }
 {
     if element.table != table || !element.state.is_public() {

@@ -1,31 +1,49 @@
 //! What a transaction reads.
 ghost use Rattle.std.specs.Prelude.{◌≡◌, ◌↔◌, Some, IfOk, OnOk};
+ghost use Rattle.std.specs.List.{filter_map};
 ghost use Rattle.std.specs.FinMap as map;
 ghost use Rattle.row_map.specs.Rows.{Bytes as ByteString};
+ghost use Rattle.schema_version.specs.Shape.{public_column as public_column_of, column_types};
+ghost use Rattle.row_write.specs.Plain.{table_of};
 ghost use Rattle.row_write.specs.Reads.{IsRead};
 ghost use Rattle.row_write.specs.inner.Enter.{entered, column_keys, op_keys, entered_all};
 
 use crate::lemmas::lemma_served;
 use crate::op::RowOp;
-use crate::public_columns::columns_of;
+use crate::public_columns::{own_elements, public_column};
 use byte_map::KeyMap;
-use row_map::{ColumnType, ReadSet, column_key, exists_key};
-use schema_version::Schema;
+use row_map::{ReadSet, column_key, exists_key};
+use schema_version::{ElementDef, Schema};
 use std::alloc::{AllocError, Global};
 
-fn enter_columns(
+/// Enters the keys of the row's pairs for the public columns among these elements.
+fn enter_among(
     alloc: Global,
     set: &mut ReadSet,
     op: &RowOp,
-    columns: &[(u32, ColumnType)],
+    elements: &[ElementDef],
 ) -> Result<(), AllocError>
-    ensures { OnOk result (set.new ≡ entered set.old (column_keys op.now columns.now)) }
+    ensures { OnOk result (set.new ≡ entered set.old (column_keys op.now (filter_map (public_column_of (table_of op.now)) elements.now))) }
 {
-    for (number, _kind) in columns {
-        let key = column_key(alloc, op.table(), op.key().as_slice(), *number)?;
-        set.insert(key, ())?;
+    for element in elements {
+        if let Some((number, _kind)) = public_column(element, op.table()) {
+            let key = column_key(alloc, op.table(), op.key().as_slice(), number)?;
+            set.insert(key, ())?;
+        }
     }
     Ok(())
+}
+
+/// Enters the keys of the row's pairs for the public columns of its table.
+fn enter_columns(
+    alloc: Global,
+    set: &mut ReadSet,
+    schema: &Schema,
+    op: &RowOp,
+) -> Result<(), AllocError>
+    ensures { OnOk result (set.new ≡ entered set.old (column_keys op.now (column_types schema.now (table_of op.now)))) }
+{
+    enter_among(alloc, set, op, own_elements(schema, op.table()))
 }
 
 /// Enters the keys of an operation's row.
@@ -42,8 +60,7 @@ fn enter_row(
     }
     let key = exists_key(alloc, op.table(), op.key().as_slice())?;
     set.insert(key, ())?;
-    let columns = columns_of(alloc, schema, op.table())?;
-    enter_columns(alloc, set, op, columns.as_slice())
+    enter_columns(alloc, set, schema, op)
 }
 
 fn read_set(alloc: Global, schema: &Schema, ops: &[RowOp]) -> Result<ReadSet, AllocError>

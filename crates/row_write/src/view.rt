@@ -11,7 +11,7 @@ ghost use Rattle.row_write.specs.inner.View.{IsMissed, IsCell, IsThere, with_pre
 
 use crate::fault::PrepareFault;
 use crate::op::RowOp;
-use byte_map::Bytes;
+use byte_map::{Bytes, words};
 use collections::List;
 use keycode::Value;
 use row_map::{ColumnType, ReadView, column_key, exists_key, read_typed_value};
@@ -148,11 +148,20 @@ fn is_column_key(key: &[u8], exists: &[u8], number: u32) -> bool
     }
     let place = key.len() - 4;
     let (prefix, end) = key.split_at(place);
-    if prefix != exists.split_at(place).0 {
+    if !words::is_same(prefix, exists.split_at(place).0) {
         return false;
     }
     let encoded = number.to_be_bytes();
-    end == encoded.as_slice()
+    if end[0] != encoded[0] {
+        return false;
+    }
+    if end[1] != encoded[1] {
+        return false;
+    }
+    if end[2] != encoded[2] {
+        return false;
+    }
+    end[3] == encoded[3]
 }
 
 /// Whether these entries have the keys of a row's pairs for these columns, in their order.

@@ -1,24 +1,28 @@
 //! What a change of one row writes.
-ghost use Rattle.std.specs.Prelude.{◌≡◌, Some, OnOk, IfSome, option_map};
+ghost use Rattle.std.specs.Prelude.{◌≡◌, ◌∷◌, Some, OnOk, IfSome, option_map};
+ghost use Rattle.row_map.specs.Keys.{index_code};
 ghost use Rattle.row_map.specs.Writes.{noted};
 ghost use Rattle.schema_version.specs.Version.{live};
 ghost use Rattle.element_state.specs.Exists.{exists_by};
 ghost use Rattle.element_state.specs.Kinds.{kind_meaning};
 ghost use Rattle.element_state.specs.Sources.{source_in};
-ghost use Rattle.element_state.specs.Operations.{cells_of};
+ghost use Rattle.element_state.specs.Operations.{cells_of, inserted};
 ghost use Rattle.element_state.specs.Schemas.{version_writes};
 ghost use Rattle.element_state.specs.Versions.{the_kinds, schema_of};
 ghost use Rattle.row_write.specs.Plain.{key_of, row_of};
+ghost use Rattle.row_write.specs.inner.Insert.{IsOnlyIndexed, put_writes};
 ghost use Rattle.row_write.specs.inner.Run.{change_at, element_writes, live_writes};
 
 use crate::lemmas::lemma_served;
 use crate::op::RowOp;
 use crate::public_columns::own_elements;
 use byte_map::Bytes;
-use element_state::{AnyElement, Element};
-use row_map::{Batch, Row, exists_key};
-use schema_version::{ElementDef, Schema};
+use element_state::{AnyElement, Element, cell};
+use keycode::Value;
+use row_map::{Batch, Row, exists_key, index_key};
+use schema_version::{ElementDef, ElementState, Kind, Schema};
 use std::alloc::{AllocError, Global};
+use std::slice::from_ref;
 
 /// Writes the row's `exists` pair.
 fn write_exists(
@@ -43,6 +47,61 @@ fn write_exists(
     }
 }
 
+/// The row's value in the column of an index over one column that it has a value in.
+fn only_indexed<'a>(kind: &Kind, row: &'a Row) -> Option<&'a Value>
+    ensures { IfSome result (λ v. IsOnlyIndexed kind.now (cells_of row.now) v.now) }
+{
+    let Kind::Index(columns) = kind else {
+        return None;
+    };
+    let [column] = columns.as_slice() else {
+        return None;
+    };
+    cell(row, *column)
+}
+
+/// Writes the pair of a new row for an index over one column, in which the row has this value.
+fn put_indexed(
+    alloc: Global,
+    definition: &ElementDef,
+    value: &Value,
+    row: &Row,
+    batch: &mut Batch,
+) -> Result<(), AllocError>
+    ensures { OnOk result (batch.new ≡ noted batch.old (put_writes definition.now.state (index_code definition.now.number (value.now ∷ row.now.key)))) }
+{
+    match definition.state {
+        ElementState::Absent | ElementState::DeleteOnly => Ok(()),
+        ElementState::WriteOnly | ElementState::Public => {
+            let key = index_key(
+                alloc,
+                definition.number,
+                from_ref(value),
+                row.key.as_slice(),
+            )?;
+            batch.put(key, Bytes::new(Vec::new(alloc))?)
+        }
+    }
+}
+
+/// Writes what an element asks for at the insert of a row, as if it were one of its table.
+fn write_inserted(
+    alloc: Global,
+    schema: &Schema,
+    definition: &ElementDef,
+    row: &Row,
+    batch: &mut Batch,
+) -> Result<(), AllocError>
+    ensures { OnOk result (batch.new ≡ noted batch.old ((kind_meaning definition.now.number (source_in schema.now definition.now.kind)).writes definition.now.state (inserted definition.now.table row.now))) }
+{
+    // Most indexes have one column, and make no list of what stands for missing values.
+    if let Some(value) = only_indexed(&definition.kind, row) {
+        return put_indexed(alloc, definition, value, row, batch);
+    }
+    let element = AnyElement::of(alloc, schema, definition)?;
+    element.on_insert(alloc, definition.state, row, batch)
+}
+
 /// Writes what an element asks for, as if the row were one of its table.
 fn write_own(
     alloc: Global,
@@ -57,16 +116,16 @@ fn write_own(
     requires new { IfSome new (λ r. r.now.key ≡ key_of op.now) }
     ensures { OnOk result (batch.new ≡ noted batch.old ((kind_meaning definition.now.number (source_in schema.now definition.now.kind)).writes definition.now.state (change_at (definition.now.table, key_of op.now) (option_map (λ r. cells_of r.now) old.entry) (option_map (λ r. cells_of r.now) new.entry)))) }
 {
-    let element = AnyElement::of(alloc, schema, definition)?;
-    match old {
-        None => match new {
+    let Some(old) = old else {
+        return match new {
             None => Ok(()),
-            Some(new) => element.on_insert(alloc, definition.state, new, batch),
-        },
-        Some(old) => match new {
-            None => element.on_delete(alloc, definition.state, old, batch),
-            Some(new) => element.on_update(alloc, definition.state, old, new, batch),
-        },
+            Some(new) => write_inserted(alloc, schema, definition, new, batch),
+        };
+    };
+    let element = AnyElement::of(alloc, schema, definition)?;
+    match new {
+        None => element.on_delete(alloc, definition.state, old, batch),
+        Some(new) => element.on_update(alloc, definition.state, old, new, batch),
     }
 }
 

@@ -90,7 +90,7 @@ strange_column v t cs = (to, from)
 
 -- ---- taken names
 
-named : (table : ℕ) (name : List ℕ) (e : ElementDef) → Decides (is_named table name e) ((e.table ≡ table) × (e.name ≡ name))
+pub named : (table : ℕ) (name : List ℕ) (e : ElementDef) → Decides (is_named table name e) ((e.table ≡ table) × (e.name ≡ name))
 named table name e = Decides-and (e.table == table) (bytes_eq e.name name) (Decides-eqb e.table table) (bytes_eq-Decides e.name name)
 
 entry_named : (table : ℕ) (name : List ℕ) (m : Move) → Decides (is_entry_named table name m) (Enters table name m)
@@ -151,7 +151,7 @@ pub passes_so : (b : Bool) (v : Value) → IsValue v → b ≡ (b && is_value v)
 passes_so true v known = sym ((value_is v).1 known)
 passes_so false v known = refl
 
-fair_kind : (k : Kind) → Decides (is_fair_kind k) (IsFairKind k)
+pub fair_kind : (k : Kind) → Decides (is_fair_kind k) (IsFairKind k)
 fair_kind (Index columns) =
     Decides-like (nat_le 1 (length columns) && (nat_le (length columns) max_listed && is_distinct columns))
     (λ (some, (few, distinct)). (some, few, distinct))
@@ -216,7 +216,7 @@ go_says v step earlier n e to numbered =
       memory = λ h. h;
     })
 
-public : (s : ElementState) → Decides (is_public s) (s ≡ Public)
+pub public : (s : ElementState) → Decides (is_public s) (s ≡ Public)
 public Public = (λ e. refl, λ e. refl)
 public Absent = (λ e. cc, λ e. cc)
 public DeleteOnly = (λ e. cc, λ e. cc)

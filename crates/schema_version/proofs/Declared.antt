@@ -18,7 +18,7 @@ both_true false b e = cc
 pub and_true : (a b : Bool) → a ≡ true → b ≡ true → (a && b) ≡ true
 and_true a b p q = ap (λ x. x && b) p ∙ q
 
-all_decides : {X : Type 0} (test : X → Bool) (P : X → Type 0) → ((x : X) → Decides (test x) (P x)) → (xs : List X) → Decides (list_all test xs) (AllByRecursion P xs)
+pub all_decides : {X : Type 0} (test : X → Bool) (P : X → Type 0) → ((x : X) → Decides (test x) (P x)) → (xs : List X) → Decides (list_all test xs) (AllByRecursion P xs)
 all_decides test P d [] = (λ e. tt, λ h. refl)
 all_decides test P d (x ∷ xs) = Decides-and (test x) (list_all test xs) (d x) (all_decides test P d xs)
 

@@ -35,7 +35,7 @@ each_has f (y ∷ xs) x there =
       | inr more ↦ later (f y) (f x) (each f xs) (each_has f xs x more)
     ]
 
-all_has : {X : Type 0} (P : X → Type 0) (xs : List X) (x : X) → AllByRecursion P xs → Contains xs x → P x
+pub all_has : {X : Type 0} (P : X → Type 0) (xs : List X) (x : X) → AllByRecursion P xs → Contains xs x → P x
 all_has P [] x all (k, below, is) = absurd (omega (arith, below))
 all_has P (y ∷ xs) x all there =
     elim (here_or_later y x xs there) [

@@ -23,7 +23,7 @@ use mathlib.Core.List.{map as each}
 pub tells : (a b : ℕ) → ((nat_eq a b ≡ true) × (a ≡ b)) ⊎ ((nat_eq a b ≡ false) × (a ≢ b))
 tells a b = eqb_tells a b
 
-both : (a b : Bool) → T a → T b → T (a && b)
+pub both : (a b : Bool) → T a → T b → T (a && b)
 both true b p q = q
 both false b p q = p
 
@@ -40,7 +40,7 @@ is_less Less p = refl
 is_less Equal p = absurd p
 is_less Greater p = absurd p
 
-lower : (x y : ℕ) → T (is_lt (nat_cmp x y)) → x < y
+pub lower : (x y : ℕ) → T (is_lt (nat_cmp x y)) → x < y
 lower x y h = ranked x y Less (sym (is_less (nat_cmp x y) h))
 
 higher : (x y : ℕ) → y < x → nat_cmp x y ≡ Greater

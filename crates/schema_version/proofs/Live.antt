@@ -19,7 +19,7 @@ module _ {X : Type 0} where
   at_head q e es x p found = some_same (sym (ap (λ b. cond b (Some e.1) (lookup (nat_eq q) es)) p) ∙ found)
 
   -- what is above the head is found after it
-  behind : (q : ℕ) (e : ℕ × X) (es : List (ℕ × X)) (x : X) → e.0 < q → lookup (nat_eq q) es ≡ Some x → lookup (nat_eq q) (e ∷ es) ≡ Some x
+  pub behind : (q : ℕ) (e : ℕ × X) (es : List (ℕ × X)) (x : X) → e.0 < q → lookup (nat_eq q) es ≡ Some x → lookup (nat_eq q) (e ∷ es) ≡ Some x
   behind q e es x up found =
       elim (tells q e.0) [
         | inl p ↦ absurd (omega (arith, p.1, up))
@@ -34,7 +34,7 @@ module _ {X : Type 0} where
         | inr p ↦ later e.1 x (values_of es) (among_values q es x (beyond q e es x p.0 found))
       ]
 
-  found_itself : (e : ℕ × X) (es : List (ℕ × X)) → lookup (nat_eq e.0) (e ∷ es) ≡ Some e.1
+  pub found_itself : (e : ℕ × X) (es : List (ℕ × X)) → lookup (nat_eq e.0) (e ∷ es) ≡ Some e.1
   found_itself e es =
       elim (tells e.0 e.0) [
         | inl p ↦ ap (λ b. cond b (Some e.1) (lookup (nat_eq e.0) es)) p.0

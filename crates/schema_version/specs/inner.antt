@@ -1,2 +1,3 @@
 pub mod AcceptTables
 pub mod Encoding
+pub mod RestoreTests

@@ -8,6 +8,7 @@ ghost use Rattle.schema_version.specs.inner.Encoding.{word as word_of, after_one
 
 use crate::element::{ElementDef, ElementState, Kind, Way};
 use crate::table::Columns;
+use byte_map::words;
 use indexmap::IndexMap;
 use keycode::{Text, push_value};
 use row_map::ColumnType;
@@ -202,5 +203,5 @@ pub(crate) fn encode(
 pub(crate) fn same_bytes(a: &[u8], b: &[u8]) -> bool
     ensures { Decides result (a.now ≡ b.now) }
 {
-    a == b
+    words::is_same(a, b)
 }

@@ -11,7 +11,7 @@ use crate::table::TableDef;
 use keycode::Text;
 
 // Whether one of these has the name.
-fn has_named<T>(items: &[(Text, T)], name: &[u8]) -> bool
+pub(crate) fn has_named<T>(items: &[(Text, T)], name: &[u8]) -> bool
     ensures { result ≡ is_among name.now (names_in items.now) }
 {
     any_named(items, name)
@@ -24,7 +24,7 @@ fn any_named<T>(items: &[(Text, T)], name: &[u8]) -> bool
 }
 
 // Whether each of these has a name of its own.
-fn are_distinct<T>(items: &[(Text, T)]) -> bool
+pub(crate) fn are_distinct<T>(items: &[(Text, T)]) -> bool
     ensures { result ≡ is_distinct (names_in items.now) }
 {
     match items {
@@ -34,7 +34,7 @@ fn are_distinct<T>(items: &[(Text, T)]) -> bool
 }
 
 // Whether each of these has a name that may be given.
-fn are_names<T>(items: &[(Text, T)]) -> bool
+pub(crate) fn are_names<T>(items: &[(Text, T)]) -> bool
     ensures { result ≡ list_all is_name_of (names_in items.now) }
 {
     all_named_well(items)

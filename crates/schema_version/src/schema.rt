@@ -5,12 +5,14 @@ ghost use Rattle.std.specs.List.{find};
 ghost use Rattle.std.specs.Option.{option_copied, option_map};
 ghost use Rattle.schema_version.specs.Version.{Table, state_of, element_at, table_at, live, is_in, grouped, is_named as is_named_of};
 ghost use Rattle.schema_version.specs.Held.{table_held, IsHeld, holding};
-ghost use Rattle.std.specs.Prelude.{◌≤◌, ◌⊎◌, IfOk, IfErr, OnOk, count_by};
+ghost use Rattle.std.specs.Prelude.{◌≤◌, ◌⊎◌, map, IfOk, IfErr, OnOk, count_by};
 ghost use Rattle.schema_version.specs.Moves.{after_step, IsAllowed, IsRefused, is_entry};
 ghost use Rattle.schema_version.specs.Names.{max_elements};
 ghost use Rattle.schema_version.specs.Sound.{IsSoundVersion};
 ghost use Rattle.schema_version.specs.Declare.{declared as declared_of, IsLawful};
 ghost use Rattle.schema_version.specs.declared.table.DeclareFault.TheVariants as declare;
+ghost use Rattle.schema_version.specs.Restored.{IsRestorable, part_of, version_with};
+ghost use Rattle.schema_version.specs.declared.restore_fault.RestoreFault.TheVariants as restore;
 ghost use Rattle.schema_version.specs.declared.step.StepFault.TheVariants.{Memory};
 
 use crate::apply::{copy_elements, copy_tables, make_all};
@@ -20,6 +22,8 @@ use crate::element::{ElementDef, ElementState};
 use crate::encoding::{encode, same_bytes};
 use crate::lawful::are_lawful;
 use crate::moves::is_named;
+use crate::restore::{are_parts, hold_elements, hold_parts, push_parts};
+use crate::restore_fault::RestoreFault;
 use crate::step::{Move, Step, StepFault};
 use crate::table::{Columns, DeclareFault, TableDef};
 use collections::List;
@@ -186,6 +190,20 @@ impl Schema {
         Some(name.as_str())
     }
 
+    /// A copy of each table's name and key, in the order of the tables' numbers. Refused only when
+    /// out of memory.
+    pub fn tables(&self) -> Result<List<(Text, Columns)>, AllocError>
+        ensures { IfOk result (λ parts. parts ≡ map part_of self.now.tables) }
+    {
+        let mut parts = Vec::new(*self.encoding.allocator());
+        push_parts(
+            &mut parts,
+            self.tables.keys().as_slice(),
+            self.tables.values().as_slice(),
+        )?;
+        Ok(List::new(parts))
+    }
+
     /// The number, from 1, of the table of this name; None if no table has it.
     pub fn table(&self, name: &str) -> Option<u32>
         ensures { result ≡ option_map (λ place. place + 1) (position (λ (t : Table). bytes_eq name.now t.name) self.now.tables) }
@@ -287,6 +305,41 @@ impl Schema {
         )?;
         Ok(Schema {
             tables: held,
+            elements,
+            next,
+            encoding,
+            by_table,
+        })
+    }
+
+    /// The version that has exactly these tables, each with its name and its key, these live
+    /// elements by rising number, and this next free number of an element.
+    ///
+    /// Unsound comes if and only if no sound version has these parts, or the elements do not come by
+    /// rising number. Then Memory: all is tried before the first growth.
+    pub fn restored(
+        alloc: Global,
+        tables: &[(Text, Columns)],
+        elements: &[ElementDef],
+        next: u32,
+    ) -> Result<Schema, RestoreFault>
+        ensures whole { IfOk result (λ schema. schema ≡ version_with tables.now elements.now next) }
+        ensures restorable { OnOk result (IsRestorable tables.now elements.now next) }
+        ensures refused { IfErr result (λ fault. ((fault ≡ restore.Memory) × IsRestorable tables.now elements.now next) ⊎ ((fault ≡ restore.Unsound) × (¬ (IsRestorable tables.now elements.now next)))) }
+    {
+        if !are_parts(tables, elements, next) {
+            return Err(RestoreFault::Unsound);
+        }
+        let tables = hold_parts(alloc, tables)?;
+        let elements = hold_elements(alloc, next, elements)?;
+        let encoding = encode(alloc, &tables, &elements, next)?;
+        let by_table = by_table(
+            alloc,
+            elements.values().as_slice(),
+            tables.values().as_slice(),
+        )?;
+        Ok(Schema {
+            tables,
             elements,
             next,
             encoding,

@@ -52,6 +52,9 @@ timeline|the versions with their moments, and what is in progress|timeline|\n\
 explain|by which path the query is answered; explain plan: .. shows the steps, and keeps \
 none|explain query a: select town from people where town = 'Ulm'|\n\
 help|what a command is for|help query|\n\
+undo|takes the last declaration back, before open|undo|\n\
+cut|gives the memory of the log's entries back; no reply changes|cut|\n\
+save|writes the state into a file, from which shell prompt --at FILE goes on|save people.saved|\n\
 quit|ends the prompt|quit|\n";
 
 fn all_commands(alloc: Global) -> Result<String, AllocError> {

@@ -5,8 +5,8 @@ use row_map::ColumnType;
 use schema_version::{
     MAX_COLUMNS, MAX_INDEXES, MAX_KEY_COLUMNS, MAX_LISTED, MAX_NAME, MAX_TABLES, TableDef,
 };
-use script_grammar::{Command, read_command};
-use script_session::{Declarations, Session};
+use script_grammar::Command;
+use script_session::Declarations;
 use script_views::push_nearest;
 use std::alloc::{AllocError, Global};
 
@@ -283,8 +283,11 @@ fn push_faults(
     Ok(())
 }
 
-// What is wrong with each declaration that `open` refuses; empty if it refuses none.
-fn all_faults(alloc: Global, tables: &[TableDef]) -> Result<String, AllocError> {
+/// Each declaration that `open` refuses `BadTable`, and why, a line each; empty if it refuses none.
+/// Refused only when out of memory.
+///
+/// - `tables`: what was declared.
+pub(crate) fn opening_faults(alloc: Global, tables: &[TableDef]) -> Result<String, AllocError> {
     if tables.is_empty() {
         return "no table is declared".to_string(alloc);
     }
@@ -296,25 +299,4 @@ fn all_faults(alloc: Global, tables: &[TableDef]) -> Result<String, AllocError> 
         out.push_str("\nall must be declared again")?;
     }
     Ok(out)
-}
-
-fn is_open(alloc: Global, line: &str) -> bool {
-    let read = read_command(alloc, line.as_bytes());
-    let found = matches!(&read, Ok(Command::Open));
-    drop(read);
-    found
-}
-
-/// Each declaration that `open` will refuse `BadTable`, and why, a line each; empty if it refuses
-/// none, or if the line is not `open`. Refused only when out of memory.
-///
-/// - `session`: the session before the reply, which is only read.
-/// - `line`: the line without its ending.
-pub fn opening_faults(alloc: Global, session: &Session, line: &str) -> Result<String, AllocError> {
-    match session {
-        Session::Declaring(declared) if is_open(alloc, line) => {
-            all_faults(alloc, declared.tables.as_slice())
-        }
-        _ => Ok(String::new(alloc)),
-    }
 }

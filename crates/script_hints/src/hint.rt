@@ -1,7 +1,7 @@
 //! The hint that goes with a reply.
 
 use crate::declared::declared_hint;
-use crate::in_way::{left_out, push_replaced};
+use crate::in_way::left_out;
 use crate::refused::{opening_hint, refusal_hint, refusal_of};
 use crate::rows::row_hint;
 use script_grammar::{Command, read_command};
@@ -73,14 +73,10 @@ fn refused_hint(
     hint
 }
 
-// What an accepted plan leaves unfinished, and how many steps of the kept plan it replaces.
-fn plan_hint(alloc: Global, session: &Session, steps: usize) -> Result<String, AllocError> {
+// What an accepted plan leaves unfinished.
+fn plan_hint(alloc: Global, session: &Session) -> Result<String, AllocError> {
     match session {
-        Session::Running(opened) => {
-            let mut out = left_out(alloc, opened)?;
-            push_replaced(&mut out, steps)?;
-            Ok(out)
-        }
+        Session::Running(opened) => left_out(alloc, opened),
         Session::Declaring(_) => Ok(String::new(alloc)),
     }
 }
@@ -108,10 +104,9 @@ fn accepted_hint(
     session: &Session,
     line: &str,
     reply: &str,
-    steps: usize,
 ) -> Result<String, AllocError> {
     if reply.contains("ok plan ") {
-        plan_hint(alloc, session, steps)
+        plan_hint(alloc, session)
     } else if reply == "ok\n" || reply.starts_with("ok refused ") {
         answered_hint(alloc, session, line, reply)
     } else {
@@ -121,14 +116,13 @@ fn accepted_hint(
 
 /// The hint that goes with a reply: where a bad line stops being a command and what was expected
 /// there, what a refusal means and what may be done, which row an operation is refused for, what
-/// `open` will refuse of a declaration, or what an accepted plan leaves unfinished and what it
-/// replaces. Empty for any other reply.
+/// `open` will refuse of a declaration, or what an accepted plan leaves unfinished. Empty for any
+/// other reply.
 ///
 /// - `session`: the session after the reply, which is only read.
 /// - `line`: the line that was answered, without its ending.
 /// - `reply`: the reply.
 /// - `may_omit`: whether `at M` may be left out.
-/// - `steps`: how many steps of the kept plan were left before the reply.
 ///
 /// Refused only when out of memory.
 pub fn hint_of(
@@ -137,13 +131,12 @@ pub fn hint_of(
     line: &str,
     reply: &str,
     may_omit: bool,
-    steps: usize,
 ) -> Result<String, AllocError> {
     if reply == "bad line\n" {
         return bad_hint(alloc, session, line, may_omit);
     }
     match reply.strip_prefix("refused ") {
         Some(refusal) => refused_hint(alloc, session, line, refusal.trim_end()),
-        None => accepted_hint(alloc, session, line, reply, steps),
+        None => accepted_hint(alloc, session, line, reply),
     }
 }

@@ -1,9 +1,8 @@
 //! The unfinished change that is in the way of a plan, or that a plan leaves as it is.
-use crate::describe::push_standing;
-use crate::progress::{is_resting, push_waiting};
 use keycode::Text;
 use schema_version::{ElementDef, Schema, moves_element};
 use script_grammar::{Command, NamedChange, New};
+use script_progress::{is_resting, push_standing, push_waiting};
 use script_session::Opened;
 use script_views::push_element;
 use std::alloc::{AllocError, Global};

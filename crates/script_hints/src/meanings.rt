@@ -10,6 +10,9 @@ NoPlan|no step of a plan is left; plan: .. makes one\n\
 MomentTooLarge|a moment is at most 4611686018427387904\n\
 BadLease|no such lease was granted; take a new lease: lease {s} at {m}\n\
 LeaseEnded|the lease ended at {1}, and it is {2}; take a new lease: lease {s} at {2}\n\
+BadLease of work|no such lease was granted; take a new lease and prepare it again\n\
+LeaseEnded of work|the lease ended at {1}, and it is {2}; take a new lease and prepare it \
+again\n\
 WrongSchema|it was prepared by another schema than that of its lease\n\
 TooManyOps|a transaction has at most 64 operations\n\
 TooEarly|the newest version has to stay the newest until moment {1}\n\
@@ -39,7 +42,7 @@ Memory|out of memory\n";
 
 /// What a refusal means; empty if there is nothing to say.
 ///
-/// - `name`: the refusal.
+/// - `name`: the refusal, or a lease's with ` of work`, since the line does not name the server then.
 pub(crate) fn meaning_of(name: &str) -> &'static str {
     row_of(MEANINGS, name).unwrap_or("")
 }

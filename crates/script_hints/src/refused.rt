@@ -82,6 +82,14 @@ fn push_field(
     }
 }
 
+fn meaning_for(command: &Command, name: &str) -> &'static str {
+    match (command, name) {
+        (Command::Commit { .. }, "BadLease") => meaning_of("BadLease of work"),
+        (Command::Commit { .. }, "LeaseEnded") => meaning_of("LeaseEnded of work"),
+        _ => meaning_of(name),
+    }
+}
+
 // Adds what the refusal means, with its fields.
 fn push_meaning(
     out: &mut String,
@@ -89,7 +97,7 @@ fn push_meaning(
     command: &Command,
     refusal: Refusal<'_>,
 ) -> Result<(), AllocError> {
-    for part in meaning_of(refusal.name).split('{') {
+    for part in meaning_for(command, refusal.name).split('{') {
         match part.split_once('}') {
             Some((field, text)) => {
                 push_field(out, opened, command, refusal, field)?;

@@ -4,12 +4,10 @@ ghost use Rattle.script_views.specs.Check.{ShowsCheck, ShowsCheckIn};
 ghost use Rattle.script_views.specs.Explain.{ShowsPath, ShowsPathIn};
 
 use crate::command_help::help_text;
-use crate::describe::description;
 use crate::explain_plan::plan_explanation;
 use crate::hint::NOT_OPEN;
-use crate::progress::{plan_left, progress};
-use crate::timeline::timeline;
 use lease::LeaseFault;
+use script_progress::{description, plan_left, progress, timeline};
 use script_session::{Opened, ServerLease, Session};
 use script_views::{explanation, named_pairs, named_view};
 use std::alloc::{AllocError, Global};

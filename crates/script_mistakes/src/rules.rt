@@ -238,6 +238,9 @@ describe|END|\n\
 |leases|end\n\
 |progress|end\n\
 |timeline|end\n\
+|undo|end\n\
+|cut|end\n\
+|save|end\n\
 |explain|explain\n\
 explain|query|end\n\
 explain|plan|end\n\

@@ -48,8 +48,9 @@ fn named_cells(
 ) -> Result<List<(u32, Value)>, AllocError>
     ensures { IfOk result (λ cells. cells ≡ named_cells schema.now table sets) }
 {
-    let mut cells = Vec::new(alloc);
-    for (name, value) in sets.into_vec() {
+    let sets = sets.into_vec();
+    let mut cells = Vec::with_capacity(alloc, sets.len())?;
+    for (name, value) in sets {
         cells.push((element_number(schema, table, &name), value))?;
     }
     Ok(List::new(cells))
@@ -88,8 +89,9 @@ pub fn resolved_all(
 ) -> Result<RowOps, AllocError>
     ensures { IfOk result (λ ops. ops ≡ resolved_all schema.now operations) }
 {
-    let mut ops = Vec::new(alloc);
-    for operation in operations.into_vec() {
+    let operations = operations.into_vec();
+    let mut ops = Vec::with_capacity(alloc, operations.len())?;
+    for operation in operations {
         let op = resolve_operation(alloc, schema, operation)?;
         ops.push(op)?;
     }

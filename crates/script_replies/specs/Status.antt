@@ -1,6 +1,6 @@
 -- Cited by the contracts of status_line.
 -- What a world's status line says.
-use Rattle.std.specs.Prelude.{◌≡◌, ◌↔◌, ℕ, List, [], length, Option, Some, None, Contains, codes}
+use Rattle.std.specs.Prelude.{◌≡◌, ◌↔◌, ℕ, List, [], Option, Some, None, Contains, codes}
 use Rattle.std.specs.List.Sorted.{IsStrictlyIncreasing}
 use mathlib.Core.List.{map as each}
 use Rattle.script_grammar.specs.Print.{state_word}
@@ -13,7 +13,7 @@ use Rattle.schema_version.specs.Version.{Version, Table, live, table_at}
 use Rattle.serde_json.specs.Data.{Data, unsigned, number, string, array, object, member, no_members}
 use Rattle.serde_json.specs.View.{items_of}
 use Rattle.serde_json.specs.Written.{compact_text}
-use Rattle.world.specs.State.{State, facts_of}
+use Rattle.world.specs.State.{State, entry_count, facts_of}
 
 -- the versions that a lease may still use, rising
 pub record AreUsable (facts : Facts) (numbers : List ℕ) : Type 0 where
@@ -56,7 +56,7 @@ abbrev pub status_data : State → List ℕ → Data
 status_data state usable =
     object
     (member (codes "elements") (elements_data (facts_of state).newest)
-    (member (codes "log") (count_data (length state.log))
+    (member (codes "log") (count_data (entry_count state))
     (member (codes "moment") (count_data (facts_of state).moment)
     (member (codes "usable") (list_data (each count_data usable))
     (member (codes "version") (count_data (newest_number (facts_of state).line)) no_members)))))

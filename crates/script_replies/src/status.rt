@@ -13,7 +13,7 @@ fn status_value(alloc: Global, world: &World, usable: &[u64]) -> Result<Value, A
     ensures { IfOk result (λ value. view value ≡ status_data world.now usable.now) }
 {
     let elements = elements_value(alloc, world.newest().get())?;
-    let log = world.log().len();
+    let log = world.log_len();
     let moment = world.moment();
     let usable = numbers_value(alloc, usable)?;
     let version = world.timeline().newest();
@@ -26,7 +26,7 @@ fn status_value(alloc: Global, world: &World, usable: &[u64]) -> Result<Value, A
 /// - `elements`: the live elements of the newest version by rising number, each an object with
 ///   `name`, `number`, `state` (`delete_only`, `write_only` or `public`), `table` (the table's
 ///   name) and `way` (`adding` or `dropping`);
-/// - `log`: the number of log entries;
+/// - `log`: how many log entries there were ever, those that were cut off among them;
 /// - `moment`: the moment of the last entry, 0 before the first;
 /// - `usable`: the versions that a lease may still use at that moment, rising;
 /// - `version`: the newest version's number.

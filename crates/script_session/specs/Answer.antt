@@ -1,6 +1,6 @@
 -- Cited by the definitions of Replies.
 -- What the lines after `open` do.
-use Rattle.std.specs.Prelude.{◌≡◌, ℕ, List, [], ◌∷◌, length, Option, Some, None, Result, Ok, Err, Bool, false, ◌⊎◌, ◌++◌, codes}
+use Rattle.std.specs.Prelude.{◌≡◌, ℕ, List, [], ◌∷◌, Option, Some, None, Result, Ok, Err, Bool, false, ◌⊎◌, ◌++◌, codes}
 use Rattle.std.specs.FinMap as map
 use Rattle.std.specs.Fmt.{decimal}
 use Rattle.audit.specs.declared.report.CheckReport.{CheckReport}
@@ -21,7 +21,7 @@ use Rattle.schema_version.specs.declared.step.Move.{Move}
 use Rattle.world.specs.BeginReorg.{BeginStep}
 use Rattle.world.specs.Piece.{PieceStep}
 use Rattle.world.specs.Publish.{PublishStep}
-use Rattle.world.specs.State.{State, facts_of}
+use Rattle.world.specs.State.{State, entry_count, facts_of}
 use Rattle.world.specs.declared.entry.Grant.{Grant}
 use Rattle.world.specs.declared.entry.PieceDone.{PieceDone}
 use Rattle.world.specs.declared.entry.Receipt.{Receipt}
@@ -210,7 +210,7 @@ Answers old (command.Lease server moment) reply bad new =
 Answers old (command.Txn server moment operations) reply bad new = TxnUnder old (map.get old.leases server) moment operations reply bad new
 Answers old command.Pairs reply bad new = (reply ≡ pairs_text (map.entries old.world.pairs)) × (bad ≡ false) × (new ≡ Running old)
 Answers old command.Check reply bad new = Checked old reply bad × (new ≡ Running old)
-Answers old command.Log reply bad new = IsReply (codes "ok log " ++ decimal (length old.world.log)) reply bad × (new ≡ Running old)
+Answers old command.Log reply bad new = IsReply (codes "ok log " ++ decimal (entry_count old.world)) reply bad × (new ≡ Running old)
 Answers old (command.Prepare name server operations) reply bad new = PrepareUnder old (map.get old.leases server) name operations reply bad new
 Answers old (command.Commit name moment) reply bad new = CommitOf old (map.get old.pending name) name moment reply bad new
 Answers old (command.Query server moment selection) reply bad new = QueryUnder old (map.get old.leases server) moment selection reply bad new

@@ -95,7 +95,7 @@ fn pairs(alloc: Global, opened: &Opened) -> Result<Answer, AllocError>
 fn log(alloc: Global, opened: &Opened) -> Result<Answer, AllocError>
     ensures { IfOk result (λ a. Answers opened.now command.Log (string_bytes a.text) a.is_bad (Running opened.now)) }
 {
-    let number = opened.world.log().len() as u64;
+    let number = opened.world.log_len();
     let mut text = String::new(alloc);
     push_numbered(&mut text, "ok log ", number)?;
     Ok(reply(text))

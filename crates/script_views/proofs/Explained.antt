@@ -57,7 +57,7 @@ pub cut_names : (names table name : List ℕ) (r : Option (Bor (List ℕ) × Bor
     → MatchOption r ⊥ (λ x. (x.0.now ≡ table) × (x.1.now ≡ name))
 cut_names names table name r cut same none = split_after 46 names table name r cut (lit< tt) same none
 
--- no space, and a tab just where one is found
+-- no space, and a tab if and only if one is found
 pub bare_by : (bytes : List ℕ) (tab : Bool) → HasNo 32 bytes → (tab ≡ true → (k : ℕ) × (k < length bytes) × (get_or bytes k 0 ≡ 9)) × ((k : ℕ) → k < length bytes → get_or bytes k 0 ≡ 9 → tab ≡ true)
     → Decides (not tab) (HasNoSpace bytes)
 bare_by bytes true none found = ((λ e. absurd (false≢true e)), λ bare. let at = found.0 refl in absurd (bare.0 at.0 at.1 at.2))

@@ -77,7 +77,7 @@ IsCheckLine line = (table : List ℕ) × (name : List ℕ) × IsBare table × Ha
 -- the line `check TABLE.NAME` shows the check of that element
 abbrev pub ShowsCheckIn : Opened → List ℕ → Option (List ℕ) → Type 0
 ShowsCheckIn opened line shown =
-    (table name : List ℕ) → IsBare table → IsBare name → line ≡ codes "check " ++ (table ++ 46 ∷ name) → IsSomeAnd shown (λ text. ShowsElement opened.world table name text)
+    (table name : List ℕ) → IsBare table → HasNoSpace name → line ≡ codes "check " ++ (table ++ 46 ∷ name) → IsSomeAnd shown (λ text. ShowsElement opened.world table name text)
 
 -- in an opened world, whatever white space is around the line
 abbrev pub ShowsCheck : Session → List ℕ → Option (List ℕ) → Type 0

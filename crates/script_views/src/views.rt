@@ -53,7 +53,7 @@ fn is_bare(name: &str) -> bool
 
 // The names of `check TABLE.NAME`, if there is no white space in them.
 fn checked_names(line: &str) -> Option<(&str, &str)>
-    ensures names { (table name : List ℕ) → IsBare table → IsBare name → line.now ≡ codes "check " ++ (table ++ 46 ∷ name) → IsSomeAnd result (λ n. (n.0.now ≡ table) × (n.1.now ≡ name)) }
+    ensures names { (table name : List ℕ) → IsBare table → HasNoSpace name → line.now ≡ codes "check " ++ (table ++ 46 ∷ name) → IsSomeAnd result (λ n. (n.0.now ≡ table) × (n.1.now ≡ name)) }
     ensures only { IfSome result (λ names. IsCheckLine line.now) }
 {
     if !line.starts_with("check ") {

@@ -11,7 +11,7 @@ use Rattle.locked_store.proofs.Fronts.{back_risen}
 use Rattle.server.specs.HandlePorts.{SaidByCore}
 use Rattle.server.specs.Outcomes.{receipts_of, IsLeaseReceipt}
 use Rattle.server.specs.Works.{Orders, Serving, AreIdle, IsOutcomeAt}
-use Rattle.server.specs.Serve.{Serves}
+use Rattle.server.specs.Serve.{IsMostFront, Serves}
 use Rattle.server.specs.declared.request.Request.{Request}
 use Rattle.server.specs.declared.request.Outcome.{Outcome}
 
@@ -38,17 +38,17 @@ numbers handles ws is =
 abbrev which : Serving → ℕ × ℕ
 which w = (w.handle.id, w.first_front)
 
-pub serves : (start : State) (requests : List Request) (tries front : ℕ) (handles : List Known) (ws ps : List Serving) (outcomes : List (ℕ × Outcome)) (back : List Known) (receipts : List (List Receipt))
-    → IsLeastFront handles front → map (λ w. w.handle) ws ≡ reverse handles → AreIdle (record { requests = requests; tries = tries; front = front }) ws → IsRow (length requests) outcomes
+pub serves : (start : State) (requests : List Request) (tries front most : ℕ) (handles : List Known) (ws ps : List Serving) (outcomes : List (ℕ × Outcome)) (back : List Known) (receipts : List (List Receipt))
+    → IsLeastFront handles front → IsMostFront handles most → map (λ w. w.handle) ws ≡ reverse handles → AreIdle (record { requests = requests; tries = tries; front = front; most = most }) ws → IsRow (length requests) outcomes
     → ((orders : Orders) → All (λ w. w.orders ≡ orders) ws → All (λ o. IsOutcomeAt start orders o.0 o.1) outcomes)
     → map which ps ≡ map which ws
     → ((orders : Orders) → All (λ w. w.orders ≡ orders) ws → All (λ w. w.orders ≡ orders) ps)
     → sum_by (λ w. w.handle.count) ps + sum_by (λ w. length w.kept_receipts) ws ≡ sum_by (λ w. w.handle.count) ws + sum_by (λ w. length w.kept_receipts) ps + held_in receipts_of outcomes
     → back ≡ reverse (map (λ w. w.handle) ps) → All (λ w. w.first_front ≤ w.handle.front) ps → length receipts ≡ length ps → sum_by length receipts ≡ sum_by (λ w. length w.kept_receipts) ps
-    → ((orders : Orders) → All (λ w. w.orders ≡ orders) ps → All (All (IsLeaseReceipt (SaidByCore start orders.front))) receipts)
+    → ((orders : Orders) → All (λ w. w.orders ≡ orders) ps → All (All (IsLeaseReceipt (SaidByCore start orders.front orders.most))) receipts)
     → Serves start requests tries handles outcomes back receipts
-serves start requests tries front handles ws ps outcomes back receipts least staff idle row fits same plans counted back_is risen lists kept_receipts leases =
-    let orders : Orders = record { requests = requests; tries = tries; front = front } in
+serves start requests tries front most handles ws ps outcomes back receipts least greatest staff idle row fits same plans counted back_is risen lists kept_receipts leases =
+    let orders : Orders = record { requests = requests; tries = tries; front = front; most = most } in
     let on_plan : All (λ (w : Serving). w.orders ≡ orders) ws = λ i d lt. (idle i d lt).1 in
     let first : handles ≡ reverse (map (λ (w : Serving). w.handle) ws) = sym (given_back handles ws staff) in
     let ids : map (λ (w : Serving). w.handle.id) ps ≡ map (λ (w : Serving). w.handle.id) ws =
@@ -58,7 +58,9 @@ serves start requests tries front handles ws ps outcomes back receipts least sta
     let staff_back : map (λ (w : Serving). w.handle) ps ≡ reverse back = sym (ap reverse back_is ∙ reverse-reverse (map (λ (w : Serving). w.handle) ps)) in
     record {
       front = front;
+      most = most;
       least = least;
+      greatest = greatest;
       each = row;
       own = fits orders on_plan;
       same = numbers back ps back_is ∙ ap reverse ids ∙ sym (numbers handles ws first);

@@ -1,6 +1,6 @@
 -- Cited by the contracts of HandlePort.
 -- What a handle's server may be given.
-use Rattle.std.specs.Prelude.{◌≡◌, ℕ, ◌<◌, List, [], ◌∷◌, ◌++◌, Result, Ok, Err}
+use Rattle.std.specs.Prelude.{◌≡◌, ℕ, ◌<◌, ◌≤◌, ◌⊎◌, List, [], ◌∷◌, ◌++◌, Result, Ok, Err}
 use Rattle.row_write.specs.declared.op.RowOp.{RowOp}
 use Rattle.row_write.specs.declared.op.RowOutcome.TheVariants.{Refused}
 use Rattle.row_write.specs.Plain.{outcome}
@@ -38,17 +38,25 @@ pub record WasUncommitted (start : State) (front moment : ℕ) (ops : List RowOp
   pub left : State
   pub refused : CommitStep core moment prepared (Err (fault, back)) left
 
--- what a handle's server may say, each of a core behind the lock that has at least so many entries
-abbrev pub SaidByCore : State → ℕ → Said → Type 0
-SaidByCore start front (Said.granted moment lease schema) =
+-- a front that a handle had: one that a handle came with is at most `most`; any later one is a length that the log had
+abbrev pub HasSeen : State → ℕ → ℕ → Type 0
+HasSeen start most front = (front ≤ most) ⊎ WasLength start front
+
+-- the log had this length, and a handle had seen more
+abbrev pub WasShorter : State → ℕ → ℕ → Type 0
+WasShorter start most seen = WasLength start seen × ((front : ℕ) × HasSeen start most front × (seen < front))
+
+-- what a handle's server may say, each of a core behind the lock that has at least so many entries, if no handle came with a front above `most`
+abbrev pub SaidByCore : State → ℕ → ℕ → Said → Type 0
+SaidByCore start front most (Said.granted moment lease schema) =
     (core : State) × IsCoreSince start front core × (lease ≡ granted_at (facts_of core).line (effective_moment core moment)) × (schema ≡ (facts_of core).newest)
-SaidByCore start front (Said.overdue moment) = (core : State) × IsCoreSince start front core × (max_moment < effective_moment core moment)
-SaidByCore start front (Said.viewed keys view) = (core : State) × IsCoreSince start front core × IsReadView core keys view
-SaidByCore start front (Said.logged receipt) = IsLogged start front receipt
-SaidByCore start front (Said.done moment ops receipt) = WasCommitted start front moment ops receipt
-SaidByCore start front (Said.unfit ops op why) = (core : State) × IsCoreSince start front core × (outcome (facts_of core).rows ops ≡ Refused op why)
-SaidByCore start front (Said.uncommitted moment ops fault) = WasUncommitted start front moment ops fault
-SaidByCore start front (Said.went_back seen) = WasLength start seen
+SaidByCore start front most (Said.overdue moment) = (core : State) × IsCoreSince start front core × (max_moment < effective_moment core moment)
+SaidByCore start front most (Said.viewed keys view) = (core : State) × IsCoreSince start front core × IsReadView core keys view
+SaidByCore start front most (Said.logged receipt) = IsLogged start front receipt
+SaidByCore start front most (Said.done moment ops receipt) = WasCommitted start front moment ops receipt
+SaidByCore start front most (Said.unfit ops op why) = (core : State) × IsCoreSince start front core × (outcome (facts_of core).rows ops ≡ Refused op why)
+SaidByCore start front most (Said.uncommitted moment ops fault) = WasUncommitted start front moment ops fault
+SaidByCore start front most (Said.went_back seen) = WasShorter start most seen
 
 -- a lease and its schema, without the receipt
 abbrev pub lease_and_schema : {E : Type 0} → Result Grant E → Result (Lease × Version) E

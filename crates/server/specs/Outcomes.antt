@@ -1,6 +1,6 @@
 -- Cited by the contracts of serve_one, Port, RequestWorker.
 -- What becomes of one request.
-use Rattle.std.specs.Prelude.{◌≡◌, ℕ, ◌+◌, ◌⊎◌, List, [], ◌∷◌, ◌++◌, length, All, Result, Ok, Err, Some, ◌↔◌, Bool, true, false}
+use Rattle.std.specs.Prelude.{◌≡◌, ℕ, ◌+◌, ◌≤◌, ◌⊎◌, List, [], ◌∷◌, ◌++◌, length, All, Result, Ok, Err, Some, ◌↔◌, Bool, true, false}
 use Rattle.std.specs.FinMap as map
 use Rattle.keycode.specs.Order.{bytes_cmp}
 use Rattle.collections.specs.Refusal.{IsFirst}
@@ -36,7 +36,12 @@ use Rattle.server.specs.declared.tally.Last.TheVariants as last
 abbrev pub Keys : Type 0
 Keys = map.FinMap bytes_cmp (Unit {0})
 
--- ---- what a port says of the world that it calls. A port's `may` tells which of these it may say after so many entries
+-- ---- what a port says of the world that it calls. A port's `may` tells which of these it may say after so many entries, if at first no
+-- handle had seen more than so many
+
+-- a port of this front has seen at least so many entries, and may have this front if at first no handle had seen more than so many
+abbrev pub Sees : (ℕ → ℕ → Type 0) → ℕ → ℕ → ℕ → Type 0
+Sees has_seen least most front = (least ≤ front) × has_seen most front
 
 pub data Said : Type 0 where
   -- it grants this lease at this moment, and the version of the lease has this schema
@@ -53,7 +58,7 @@ pub data Said : Type 0 where
   unfit : List RowOp → ℕ → RowFault → Said
   -- a transaction of these operations is refused at this moment, for this reason
   uncommitted : ℕ → List RowOp → CommitFault → Said
-  -- the log has this length, which is shorter than it was
+  -- the log has this length, which is shorter than the port had seen it
   went_back : ℕ → Said
 
 -- the entry of the receipt is a transaction of these operations

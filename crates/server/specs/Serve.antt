@@ -23,19 +23,26 @@ abbrev pub IsRefused : ℕ → ℕ → ℕ → ServeFault → Type 0
 IsRefused handles requests tries serve_fault.BadCount = (handles ≡ 0) ⊎ ((64 < handles) ⊎ ((tries ≡ 0) ⊎ ((1000 < tries) ⊎ (1000000 < requests))))
 IsRefused handles requests tries serve_fault.Memory = IsCount handles requests tries
 
+-- the greatest log length that any of these handles has seen
+pub record IsMostFront (handles : List Known) (front : ℕ) : Type 0 where
+  pub seen : All (λ h. h.front ≤ front) handles
+  pub least : (other : ℕ) → All (λ h. h.front ≤ other) handles → front ≤ other
+
 -- one outcome for each request, by rising number, and each is one that may become of its own request in this shared world, after all that
 -- the handles had seen, with so many tries; all handles are back, in their order, none with a lower front, and their shares rose together by
 -- the receipts, those in outcomes and the others; the others are a list for each handle, of leases alone
 pub record Serves (start : State) (requests : List Request) (tries : ℕ) (handles : List Known) (outcomes : List (ℕ × Outcome)) (back : List Known) (receipts : List (List Receipt)) : Type 0 where
   pub front : ℕ
+  pub most : ℕ
   pub least : IsLeastFront handles front
+  pub greatest : IsMostFront handles most
   pub each : IsRow (length requests) outcomes
-  pub own : AreOutcomes start (record { requests = requests; tries = tries; front = front }) outcomes
+  pub own : AreOutcomes start (record { requests = requests; tries = tries; front = front; most = most }) outcomes
   pub same : map (λ h. h.id) back ≡ map (λ h. h.id) handles
   pub risen : HaveRisen handles back
   pub counted : total_count back ≡ total_count handles + held_in receipts_of outcomes + sum_by length receipts
   pub lists : length receipts ≡ length handles
-  pub leases : All (All (IsLeaseReceipt (SaidByCore start front))) receipts
+  pub leases : All (All (IsLeaseReceipt (SaidByCore start front most))) receipts
 
 abbrev pub to_fault : TaskFault → ServeFault
 to_fault task_fault.BadCount = serve_fault.BadCount

@@ -43,7 +43,7 @@ fn kept_apart(
 }
 
 impl<'a, L: SharedLedger, R: Wait> Port for HandlePort<'a, L, R> {
-    ghost use Rattle.server.specs.HandlePorts.{SaidByCore};
+    ghost use Rattle.server.specs.HandlePorts.{HasSeen, SaidByCore};
 
     ghost id = { λ d. d.handle.id };
 
@@ -54,6 +54,8 @@ impl<'a, L: SharedLedger, R: Wait> Port for HandlePort<'a, L, R> {
     ghost front = { λ d. d.handle.front };
 
     ghost kept_receipts = { λ d. d.kept_receipts.items };
+
+    ghost has_seen = { HasSeen L.start };
 
     ghost may = { SaidByCore L.start };
 

@@ -1,6 +1,6 @@
 //! One request, tried until a try ends otherwise than in a conflict or with the end of its lease.
 ghost use Rattle.std.specs.Prelude.{◌≡◌, ℕ, ◌+◌, ◌<◌, ◌≤◌, ◌^◌, length, All, IfOk, IfErr};
-ghost use Rattle.server.specs.Outcomes.{Said, IsAgain, IsEnd, IsLeaseReceipt, IsServed, IsTrueOf, receipts_of, receipts_by, unprepared_by};
+ghost use Rattle.server.specs.Outcomes.{Said, Sees, IsAgain, IsEnd, IsLeaseReceipt, IsServed, IsTrueOf, receipts_of, receipts_by, unprepared_by};
 ghost use Rattle.server.specs.inner.Tries.{HasFailed, IsHeld, IsNext, StayLeases};
 
 use crate::port::Port;
@@ -21,14 +21,15 @@ fn held_or_new<P: Port>(
     held: Option<(Lease, ArcValue<Schema>)>,
 ) -> Result<(Lease, ArcValue<Schema>), Outcome>
     requires room { (P.tally port.old).retries < 2 ^ 63 }
-    ensures granted { (f : ℕ) → f ≤ P.front port.old → IsHeld (P.may f) request.now.moment held → IfOk result (λ h. P.may f (Said.granted request.now.moment h.0 h.1)) }
+    ensures granted { (f m : ℕ) → Sees P.has_seen f m (P.front port.old) → IsHeld (P.may f m) request.now.moment held → IfOk result (λ h. P.may f m (Said.granted request.now.moment h.0 h.1)) }
     ensures over { IfErr result (λ o. IsEnd o (P.tally port.new).last) }
-    ensures own { (f n : ℕ) → f ≤ P.front port.old → IfErr result (λ o. IsTrueOf (P.may f) request.now.moment request.now.ops n o) }
+    ensures own { (f m n : ℕ) → Sees P.has_seen f m (P.front port.old) → IfErr result (λ o. IsTrueOf (P.may f m) request.now.moment request.now.ops n o) }
     ensures retries { (P.tally port.new).retries ≡ (P.tally port.old).retries }
     ensures own_handle { P.id port.new ≡ P.id port.old }
     ensures rises { P.front port.old ≤ P.front port.new }
+    ensures stays { (m : ℕ) → P.has_seen m (P.front port.old) → P.has_seen m (P.front port.new) }
     ensures counted { P.count port.new + length (P.kept_receipts port.old) ≡ P.count port.old + length (P.kept_receipts port.new) + receipts_by result }
-    ensures kept_receipts { (f : ℕ) → f ≤ P.front port.old → StayLeases (P.may f) (P.kept_receipts port.old) (P.kept_receipts port.new) }
+    ensures kept_receipts { (f m : ℕ) → Sees P.has_seen f m (P.front port.old) → StayLeases (P.may f m) (P.kept_receipts port.old) (P.kept_receipts port.new) }
 {
     if let Some(held) = held {
         return Ok(held);
@@ -71,10 +72,11 @@ fn prepared_by<P: Port>(
     requires room { (P.tally port.old).retries < 2 ^ 63 }
     ensures of_request { IfOk result (λ p. p.ops ≡ request.now.ops) }
     ensures over { IfErr result (λ o. IsEnd o (P.tally port.new).last) }
-    ensures own { (f n : ℕ) → f ≤ P.front port.old → P.may f (Said.granted request.now.moment lease schema.now) → IfErr result (λ o. IsTrueOf (P.may f) request.now.moment request.now.ops n o) }
+    ensures own { (f m n : ℕ) → Sees P.has_seen f m (P.front port.old) → P.may f m (Said.granted request.now.moment lease schema.now) → IfErr result (λ o. IsTrueOf (P.may f m) request.now.moment request.now.ops n o) }
     ensures retries { (P.tally port.new).retries ≡ (P.tally port.old).retries }
     ensures own_handle { P.id port.new ≡ P.id port.old }
     ensures rises { P.front port.old ≤ P.front port.new }
+    ensures stays { (m : ℕ) → P.has_seen m (P.front port.old) → P.has_seen m (P.front port.new) }
     ensures counted { P.count port.new + length (P.kept_receipts port.old) ≡ P.count port.old + length (P.kept_receipts port.new) + receipts_by result }
     ensures kept_receipts { P.kept_receipts port.new ≡ P.kept_receipts port.old }
 {
@@ -108,13 +110,14 @@ fn committed_by<P: Port>(
     requires room { (P.tally port.old).retries < 2 ^ 63 }
     requires of_request { prepared.ops ≡ request.now.ops }
     ensures again { IfOk result (λ serves. IsAgain serves (P.tally port.new).last) }
-    ensures failed { (f : ℕ) → f ≤ P.front port.old → IfOk result (λ _. HasFailed (P.may f) request.now.moment request.now.ops) }
+    ensures failed { (f m : ℕ) → Sees P.has_seen f m (P.front port.old) → IfOk result (λ _. HasFailed (P.may f m) request.now.moment request.now.ops) }
     ensures over { IfErr result (λ o. IsEnd o (P.tally port.new).last) }
-    ensures own { (f n : ℕ) → f ≤ P.front port.old → IfErr result (λ o. IsTrueOf (P.may f) request.now.moment request.now.ops n o) }
+    ensures own { (f m n : ℕ) → Sees P.has_seen f m (P.front port.old) → IfErr result (λ o. IsTrueOf (P.may f m) request.now.moment request.now.ops n o) }
     ensures more { IfOk result (λ _. (P.tally port.new).retries ≡ (P.tally port.old).retries + 1) }
     ensures once { IfErr result (λ _. (P.tally port.new).retries ≡ (P.tally port.old).retries) }
     ensures own_handle { P.id port.new ≡ P.id port.old }
     ensures rises { P.front port.old ≤ P.front port.new }
+    ensures stays { (m : ℕ) → P.has_seen m (P.front port.old) → P.has_seen m (P.front port.new) }
     ensures counted { P.count port.new + length (P.kept_receipts port.old) ≡ P.count port.old + length (P.kept_receipts port.new) + receipts_by result }
     ensures kept_receipts { P.kept_receipts port.new ≡ P.kept_receipts port.old }
 {
@@ -145,17 +148,18 @@ fn try_once<P: Port>(
     held: Option<(Lease, ArcValue<Schema>)>,
 ) -> Result<Option<(Lease, ArcValue<Schema>)>, Outcome>
     requires room { (P.tally port.old).retries < 2 ^ 63 }
-    ensures held { (f : ℕ) → f ≤ P.front port.old → IsHeld (P.may f) request.now.moment held → IfOk result (λ next. IsHeld (P.may f) request.now.moment next) }
+    ensures held { (f m : ℕ) → Sees P.has_seen f m (P.front port.old) → IsHeld (P.may f m) request.now.moment held → IfOk result (λ next. IsHeld (P.may f m) request.now.moment next) }
     ensures again { IfOk result (λ next. IsNext next (P.tally port.new).last) }
-    ensures failed { (f : ℕ) → f ≤ P.front port.old → IfOk result (λ _. HasFailed (P.may f) request.now.moment request.now.ops) }
+    ensures failed { (f m : ℕ) → Sees P.has_seen f m (P.front port.old) → IfOk result (λ _. HasFailed (P.may f m) request.now.moment request.now.ops) }
     ensures over { IfErr result (λ o. IsEnd o (P.tally port.new).last) }
-    ensures own { (f n : ℕ) → f ≤ P.front port.old → IsHeld (P.may f) request.now.moment held → IfErr result (λ o. IsTrueOf (P.may f) request.now.moment request.now.ops n o) }
+    ensures own { (f m n : ℕ) → Sees P.has_seen f m (P.front port.old) → IsHeld (P.may f m) request.now.moment held → IfErr result (λ o. IsTrueOf (P.may f m) request.now.moment request.now.ops n o) }
     ensures more { IfOk result (λ _. (P.tally port.new).retries ≡ (P.tally port.old).retries + 1) }
     ensures once { IfErr result (λ _. (P.tally port.new).retries ≡ (P.tally port.old).retries) }
     ensures own_handle { P.id port.new ≡ P.id port.old }
     ensures rises { P.front port.old ≤ P.front port.new }
+    ensures stays { (m : ℕ) → P.has_seen m (P.front port.old) → P.has_seen m (P.front port.new) }
     ensures counted { P.count port.new + length (P.kept_receipts port.old) ≡ P.count port.old + length (P.kept_receipts port.new) + receipts_by result }
-    ensures kept_receipts { (f : ℕ) → f ≤ P.front port.old → StayLeases (P.may f) (P.kept_receipts port.old) (P.kept_receipts port.new) }
+    ensures kept_receipts { (f m : ℕ) → Sees P.has_seen f m (P.front port.old) → StayLeases (P.may f m) (P.kept_receipts port.old) (P.kept_receipts port.new) }
 {
     let (lease, schema) = held_or_new(alloc, port, request, held)?;
     let prepared = prepared_by(alloc, port, request, lease, &schema)?;
@@ -180,19 +184,21 @@ fn try_once<P: Port>(
 /// What the outcome tells is what the port said after all that it had seen when the call began:
 /// `Done` has the receipt of a commit of the operations at the request's moment, `Row` and
 /// `Rejected` have a refusal, `Unprepared` comes of a lease that was granted and of what was read
-/// under it, `WentBack` has a length of the log, and `Busy` comes after that many tries that ended
-/// in a conflict or with the end of their lease. The receipts that the port keeps are of leases.
+/// under it, `WentBack` has a length of the log that is below a front of the port, and `Busy` comes
+/// after that many tries that ended in a conflict or with the end of their lease. The receipts that
+/// the port keeps are of leases.
 #[tactic(auto, using(crate::proofs::Ends::served))]
 pub fn serve_one<P: Port>(alloc: Global, port: &mut P, request: &Request, tries: u32) -> Outcome
     requires tries { (1 ≤ tries) × (tries ≤ 1000) }
     requires room { (P.tally port.old).retries ≤ 2 ^ 62 }
     ensures served { IsServed tries (P.tally port.old) result (P.tally port.new) }
-    ensures own { (f : ℕ) → f ≤ P.front port.old → IsTrueOf (P.may f) request.now.moment request.now.ops tries result }
+    ensures own { (f m : ℕ) → Sees P.has_seen f m (P.front port.old) → IsTrueOf (P.may f m) request.now.moment request.now.ops tries result }
     ensures few { (P.tally port.new).retries ≤ (P.tally port.old).retries + tries }
     ensures own_handle { P.id port.new ≡ P.id port.old }
     ensures rises { P.front port.old ≤ P.front port.new }
+    ensures stays { (m : ℕ) → P.has_seen m (P.front port.old) → P.has_seen m (P.front port.new) }
     ensures counted { P.count port.new + length (P.kept_receipts port.old) ≡ P.count port.old + length (P.kept_receipts port.new) + receipts_of result }
-    ensures kept_receipts { (f : ℕ) → f ≤ P.front port.old → All (IsLeaseReceipt (P.may f)) (P.kept_receipts port.old) → All (IsLeaseReceipt (P.may f)) (P.kept_receipts port.new) }
+    ensures kept_receipts { (f m : ℕ) → Sees P.has_seen f m (P.front port.old) → All (IsLeaseReceipt (P.may f m)) (P.kept_receipts port.old) → All (IsLeaseReceipt (P.may f m)) (P.kept_receipts port.new) }
 {
     let mut held = None;
     for _i in 0..tries {

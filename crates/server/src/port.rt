@@ -1,7 +1,7 @@
 //! What one server needs of a shared world.
 ghost use Rattle.std.specs.Prelude.{◌≡◌, ℕ, ◌+◌, ◌<◌, ◌≤◌, ◌^◌, length};
 ghost use Rattle.server.specs.Tallies.{tally as tally_of, retried, last_of_grant, last_of_read, last_of_commit};
-ghost use Rattle.server.specs.Outcomes.{GrantSays, Keeps, ReadSays, CommitSays, given_by};
+ghost use Rattle.server.specs.Outcomes.{GrantSays, Keeps, ReadSays, CommitSays, Sees, given_by};
 
 use crate::tally::Tally;
 use collections::ArcValue;
@@ -18,7 +18,8 @@ use world::{CommitFault, Committed, GrantFault};
 ///
 /// Each answer is of a state of the world that is no older than what the port had seen before the
 /// call: the lease that it grants, the pairs that it reads, the receipt of an entry that came
-/// after, and each refusal but `WentBack` and `Memory`.
+/// after, and each refusal but `WentBack`, which has a length of the log below what the port had
+/// seen, and `Memory`.
 pub trait Port {
     ghost use Rattle.std.specs.Prelude.{ℕ, List};
     ghost use Rattle.world.specs.declared.entry.Receipt.{Receipt};
@@ -40,8 +41,12 @@ pub trait Port {
     // the receipts that it keeps
     ghost kept_receipts: { Self → List Receipt };
 
-    // what it may say of the world that it calls, after so many entries of the log
-    ghost may: { ℕ → Said → Type 0 };
+    // whether it may have this front, if at first no handle had seen more entries than so many
+    ghost has_seen: { ℕ → ℕ → Type 0 };
+
+    // what it may say of the world that it calls, after so many entries of the log, if at first no
+    // handle had seen more than so many
+    ghost may: { ℕ → ℕ → Said → Type 0 };
 
     /// Takes a lease on the newest version at `moment`, and gives it with the schema of that
     /// version. The port keeps the receipt, whose room is made first.
@@ -56,9 +61,10 @@ pub trait Port {
         ensures tallied { tally self.new ≡ tally_of (tally self.old).retries (last_of_grant result) }
         ensures own_handle { id self.new ≡ id self.old }
         ensures rises { front self.old ≤ front self.new }
+        ensures stays { (m : ℕ) → has_seen m (front self.old) → has_seen m (front self.new) }
         ensures counted { count self.new + length (kept_receipts self.old) ≡ count self.old + length (kept_receipts self.new) }
-        ensures keeps { (f : ℕ) → f ≤ front self.old → Keeps (may f) (kept_receipts self.old) result (kept_receipts self.new) }
-        ensures says { (f : ℕ) → f ≤ front self.old → GrantSays (may f) moment result };
+        ensures keeps { (f m : ℕ) → Sees has_seen f m (front self.old) → Keeps (may f m) (kept_receipts self.old) result (kept_receipts self.new) }
+        ensures says { (f m : ℕ) → Sees has_seen f m (front self.old) → GrantSays (may f m) moment result };
 
     /// The pairs of these keys. Refused as `Shared::read` is.
     fn read(&mut self, alloc: Global, keys: &ReadSet) -> Result<ReadView, SharedFault<AllocError>>
@@ -67,7 +73,8 @@ pub trait Port {
         ensures own_handle { id self.new ≡ id self.old }
         ensures same { (count self.new ≡ count self.old) × (kept_receipts self.new ≡ kept_receipts self.old) }
         ensures rises { front self.old ≤ front self.new }
-        ensures says { (f : ℕ) → f ≤ front self.old → ReadSays (may f) keys.now result };
+        ensures stays { (m : ℕ) → has_seen m (front self.old) → has_seen m (front self.new) }
+        ensures says { (f m : ℕ) → Sees has_seen f m (front self.old) → ReadSays (may f m) keys.now result };
 
     /// Commits a prepared transaction at `moment`: `Done` has the receipt for an entry of its
     /// operations, and `Refused` tells that the rows refuse them. The call is refused as
@@ -83,7 +90,8 @@ pub trait Port {
         ensures own_handle { id self.new ≡ id self.old }
         ensures counted { (count self.new ≡ count self.old + given_by result) × (kept_receipts self.new ≡ kept_receipts self.old) }
         ensures rises { front self.old ≤ front self.new }
-        ensures says { (f : ℕ) → f ≤ front self.old → CommitSays (may f) moment prepared.ops result };
+        ensures stays { (m : ℕ) → has_seen m (front self.old) → has_seen m (front self.new) }
+        ensures says { (f m : ℕ) → Sees has_seen f m (front self.old) → CommitSays (may f m) moment prepared.ops result };
 
     /// How many of its answers were a conflict or the end of a lease, and its last answer.
     fn tally(&self) -> Tally

@@ -3,7 +3,7 @@ ghost use Rattle.std.specs.Prelude.{◌≡◌, ◌≤◌, length, map, reverse, 
 ghost use Rattle.server.specs.HandlePorts.{SaidByCore};
 ghost use Rattle.server.specs.Outcomes.{IsLeaseReceipt};
 ghost use Rattle.server.specs.Works.{Orders, AreIdle};
-ghost use Rattle.server.specs.Serve.{IsRefused, IsCount, Serves, to_fault};
+ghost use Rattle.server.specs.Serve.{IsMostFront, IsRefused, IsCount, Serves, to_fault};
 
 use crate::handle_port::HandlePort;
 use crate::request::{Outcome, Request};
@@ -50,6 +50,17 @@ pub enum ServeFault {
     Memory,
 }
 
+// The greatest front of these handles: no handle has seen the log longer.
+fn most_front<L: SharedLedger>(handles: &[Handle<L>]) -> u64
+    ensures { IsMostFront handles.now result }
+{
+    let mut most = 0;
+    for handle in handles {
+        most = most.max(handle.front());
+    }
+    most
+}
+
 // A server for each handle, the last handle first.
 fn make_workers<'a, L: SharedLedger, R: Wait>(
     rt: &'a R,
@@ -58,15 +69,17 @@ fn make_workers<'a, L: SharedLedger, R: Wait>(
     requests: &'a [Request],
     tries: u32,
     front: u64,
+    most: u64,
     room: Vec<RequestWorker<'a, L, R>>,
     handles: &mut Vec<Handle<L>>,
 ) -> Vec<RequestWorker<'a, L, R>>
     requires tries { (1 ≤ tries) × (tries ≤ 1000) }
     requires seen { All (λ h. front ≤ h.front) handles.old.items }
+    requires most { All (λ h. h.front ≤ most) handles.old.items }
     requires room { (room.items ≡ []) × (vec_len handles.old ≤ vec_capacity room) }
     ensures taken { (handles.new.items ≡ []) × (vec_capacity handles.new ≡ vec_capacity handles.old) }
     ensures staff { map (λ w. w.handle) result.items ≡ reverse handles.old.items }
-    ensures idle { AreIdle (record { requests = requests.now; tries = tries; front = front }) result.items }
+    ensures idle { AreIdle (record { requests = requests.now; tries = tries; front = front; most = most }) result.items }
 {
     let mut workers = room;
     while let Some(handle) = handles.pop() {
@@ -85,6 +98,7 @@ fn make_workers<'a, L: SharedLedger, R: Wait>(
             requests,
             tries,
             front,
+            most,
             first_front,
         });
     }
@@ -103,7 +117,7 @@ fn into_parts<L: SharedLedger, R: Wait>(
     ensures risen { All (λ w. w.first_front ≤ w.handle.front) workers.entry.items }
     ensures lists { length receipts.new.items ≡ length workers.entry.items }
     ensures kept_receipts { sum_by length receipts.new.items ≡ sum_by (λ w. length w.kept_receipts) workers.entry.items }
-    ensures leases { (orders : Orders) → All (λ w. w.orders ≡ orders) workers.entry.items → All (All (IsLeaseReceipt (SaidByCore L.start orders.front))) receipts.new.items }
+    ensures leases { (orders : Orders) → All (λ w. w.orders ≡ orders) workers.entry.items → All (All (IsLeaseReceipt (SaidByCore L.start orders.front orders.most))) receipts.new.items }
 {
     let mut workers = workers;
     while let Some(worker) = workers.pop() {
@@ -143,6 +157,7 @@ fn run<'a, L: SharedLedger + Send + Sync, G: Gate + Sync, R: Threads + Wait + Sy
     let mut handles = handles;
     let mut receipts = receipts;
     let front = least_front(&handles);
+    let most = most_front(&handles);
     let workers = make_workers(
         rt,
         alloc,
@@ -150,6 +165,7 @@ fn run<'a, L: SharedLedger + Send + Sync, G: Gate + Sync, R: Threads + Wait + Sy
         requests,
         tries,
         front,
+        most,
         room,
         &mut handles,
     );
@@ -200,7 +216,8 @@ fn to_fault(fault: TaskFault) -> ServeFault
 /// - `Rejected` has a refusal by such a state after which no further try would help.
 /// - `Busy` comes after as many tries as were allowed, each refused by such a state with a conflict
 ///   or with the end of its lease.
-/// - `WentBack` has the length of the log of some state of the world.
+/// - `WentBack` has a length that the log had; a handle came with a greater front, or the log also
+///   had a greater length.
 /// - `Held` and `Memory` say nothing of it.
 ///
 /// The receipts that come back beside the outcomes, in one list for each handle, are of leases

@@ -1,7 +1,7 @@
 //! One worker: a server that commits the requests whose numbers it draws.
 ghost use Rattle.std.specs.Prelude.{◌≡◌, ℕ, ◌+◌, ◌≤◌, length, All};
-ghost use Rattle.server.specs.HandlePorts.{SaidByCore};
-ghost use Rattle.server.specs.Outcomes.{IsLeaseReceipt, IsServed, receipts_of};
+ghost use Rattle.server.specs.HandlePorts.{HasSeen, SaidByCore};
+ghost use Rattle.server.specs.Outcomes.{IsLeaseReceipt, IsServed, Sees, receipts_of};
 ghost use Rattle.server.specs.Tallies.{tally};
 ghost use Rattle.server.specs.Works.{Orders, IsOutcomeOf, IsOutcomeAt};
 
@@ -15,14 +15,16 @@ use std::marker::Model;
 use std::sync::Wait;
 use tasks::Worker;
 
-/// A server at its port, the requests that all servers share, and the length of the log that all
-/// their handles had seen.
+/// A server at its port, and the requests that all servers share.
 #[derive(Drop)]
 pub(crate) struct RequestWorker<'a, L: SharedLedger, R: Wait> {
     pub(crate) port: HandlePort<'a, L, R>,
     pub(crate) requests: &'a [Request],
     pub(crate) tries: u32,
+    /// The least front with which a handle of theirs came.
     pub(crate) front: u64,
+    /// The greatest one.
+    pub(crate) most: u64,
     /// The front with which its own handle came.
     pub(crate) first_front: u64,
 }
@@ -32,9 +34,9 @@ impl<'a, L: SharedLedger, R: Wait> Model for RequestWorker<'a, L, R> {
 
     ghost Value = { Serving };
 
-    ghost view = { λ w. record { handle = w.port.handle; first_front = w.first_front; kept_receipts = w.port.kept_receipts.items; orders = record { requests = w.requests.now; tries = w.tries; front = w.front } } };
+    ghost view = { λ w. record { handle = w.port.handle; first_front = w.first_front; kept_receipts = w.port.kept_receipts.items; orders = record { requests = w.requests.now; tries = w.tries; front = w.front; most = w.most } } };
 
-    ghost invariant = { λ w. IsAtWork L.start (record { handle = w.port.handle; first_front = w.first_front; kept_receipts = w.port.kept_receipts.items; orders = record { requests = w.requests.now; tries = w.tries; front = w.front } }) };
+    ghost invariant = { λ w. IsAtWork L.start (record { handle = w.port.handle; first_front = w.first_front; kept_receipts = w.port.kept_receipts.items; orders = record { requests = w.requests.now; tries = w.tries; front = w.front; most = w.most } }) };
 }
 
 // The outcome of one request, by a tally of its own.
@@ -46,9 +48,10 @@ fn outcome_of<L: SharedLedger, R: Wait>(
 ) -> Outcome
     requires tries { (1 ≤ tries) × (tries ≤ 1000) }
     ensures served { IsServed tries (tally 0 Last.Nothing) result port.new.tally }
-    ensures own { (f : ℕ) → f ≤ port.old.handle.front → IsOutcomeOf L.start f request.now tries result }
-    ensures leases { (f : ℕ) → f ≤ port.old.handle.front → All (IsLeaseReceipt (SaidByCore L.start f)) port.old.kept_receipts.items → All (IsLeaseReceipt (SaidByCore L.start f)) port.new.kept_receipts.items }
+    ensures own { (f m : ℕ) → Sees (HasSeen L.start) f m port.old.handle.front → IsOutcomeOf L.start f m request.now tries result }
+    ensures leases { (f m : ℕ) → Sees (HasSeen L.start) f m port.old.handle.front → All (IsLeaseReceipt (SaidByCore L.start f m)) port.old.kept_receipts.items → All (IsLeaseReceipt (SaidByCore L.start f m)) port.new.kept_receipts.items }
     ensures rises { port.old.handle.front ≤ port.new.handle.front }
+    ensures stays { (m : ℕ) → HasSeen L.start m port.old.handle.front → HasSeen L.start m port.new.handle.front }
     ensures same { port.new.handle.id ≡ port.old.handle.id }
     ensures counted { port.new.handle.count + length port.old.kept_receipts.items ≡ port.old.handle.count + length port.new.kept_receipts.items + receipts_of result }
 {

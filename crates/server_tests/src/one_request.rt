@@ -143,7 +143,9 @@ impl Port for Stubborn {
 
     ghost kept_receipts = { λ p. p.kept_receipts.items };
 
-    ghost may = { λ f said. Unit {0} };
+    ghost has_seen = { λ m front. Unit {0} };
+
+    ghost may = { λ f m said. Unit {0} };
 
     #[tactic(auto, using(crate::proofs::Words::grants))]
     fn lease(

@@ -1,5 +1,5 @@
 -- What the lock answered, as what an attempt comes to.
-use Rattle.std.proofs.Common.{◌≡◌, ℕ, ◌+◌, ◌≤◌, ◌⊎◌, ◌∷◌, [], ◌++◌, List, length, Option, Some, None, refl, sym, ap, ◌∙◌, subst, inl, inr, arith}
+use Rattle.std.proofs.Common.{◌≡◌, ℕ, ◌+◌, ◌≤◌, ◌⊎◌, ◌∷◌, [], ◌++◌, List, Option, Some, None, refl, sym, ap, ◌∙◌, subst, inl, inr, arith}
 use Rattle.std.specs.Prelude.{Result, Ok, Err, IfOk}
 use Rattle.std.proofs.lemmas.List.{length_push}
 use Rattle.std.proofs.lemmas.List.Elements.{All-push, All-nil}
@@ -21,7 +21,7 @@ use Rattle.world.specs.BeginReorg.{BeginStep}
 use Rattle.world.specs.Calls.{effective_moment}
 use Rattle.world.specs.Piece.{PieceStep}
 use Rattle.world.specs.Publish.{PublishStep}
-use Rattle.world.specs.State.{State, facts_of}
+use Rattle.world.specs.State.{State, entry_count, facts_of}
 use Rattle.locked_store.specs.Answers.{Answers, AnswersBack, BackBy, WentBackTo, no_place, receipt_place, publish_place, piece_place}
 use Rattle.locked_store.specs.Cores.{IsCore, IsCoreSince}
 use Rattle.locked_store.specs.Known.{Known}
@@ -41,11 +41,11 @@ use Rattle.shared_rollout.specs.declared.fault.OperatorFault.TheVariants as faul
 -- ---- what is known after a call
 
 -- what has seen as much as a handle has seen as much as was seen at entry
-since : (start : State) (front : ℕ) (v : Known) (core : State) → front ≤ v.front → IsCore start core → v.front ≤ length core.log → IsCoreSince start front core
+since : (start : State) (front : ℕ) (v : Known) (core : State) → front ≤ v.front → IsCore start core → v.front ≤ entry_count core → IsCoreSince start front core
 since start front v core seen is_core more = record { is_core = is_core; since = omega (arith, seen, more) }
 
 -- a call that adds no entry
-kept : (start : State) (ask : Ask) (v w : Known) (attempt : Attempt) (found left : State) → v.front ≤ length found.log → left ≡ found → w.front ≡ length left.log → w.id ≡ v.id
+kept : (start : State) (ask : Ask) (v w : Known) (attempt : Attempt) (found left : State) → v.front ≤ entry_count found → left ≡ found → w.front ≡ entry_count left → w.id ≡ v.id
     → Says start ask v attempt w → Attempts start ask v attempt w
 kept start ask v w attempt found left seen is front id says = record { same = id; rises = stays v w found left seen front is; says = says }
 
@@ -88,7 +88,7 @@ was_due start ask v w what seen a = (a.0, since start ask.front v a.0 seen a.2.0
 pub was_due_at : (start : State) (ask : Ask) (v w : Known) (what : Act)
     → Answers start v (let r : Result Act (SharedFault AllocError) = Ok what in r) w (λ c r d. IfOk r (λ a. IsDue (facts_of c) (effective_moment c ask.moment) a) × (d ≡ c)) no_place
     → WasDueAt start w.front ask.moment what
-was_due_at start ask v w what a = (a.0, a.2.0, sym (a.2.4 ∙ ap (λ (s : State). length s.log) a.2.3.1), a.2.3.0)
+was_due_at start ask v w what a = (a.0, a.2.0, sym (a.2.4 ∙ ap entry_count a.2.3.1), a.2.3.0)
 
 -- an act that needs no call
 pub looked : (start : State) (ask : Ask) (v w : Known) (done : Advanced) → entries_of done ≡ 0 → IsAdvanced start ask done → IsSeen start ask.moment done w.front → (w.id ≡ v.id) × (w.count ≡ v.count) × (v.front ≤ w.front)

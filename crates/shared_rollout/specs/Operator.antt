@@ -20,7 +20,7 @@ use Rattle.world.specs.BeginReorg.{BeginStep}
 use Rattle.world.specs.Calls.{effective_moment}
 use Rattle.world.specs.Piece.{PieceStep}
 use Rattle.world.specs.Publish.{PublishStep}
-use Rattle.world.specs.State.{State, facts_of}
+use Rattle.world.specs.State.{State, entry_count, facts_of}
 use Rattle.locked_store.specs.Cores.{IsCore, IsCoreSince, WasLength}
 use Rattle.locked_store.specs.Receipts.{IsLogged}
 use Rattle.piece_work.specs.WorkOff.{NextStep}
@@ -101,7 +101,7 @@ receipts_of advanced.Finished = []
 
 -- the act was due in a core whose log has this length
 abbrev pub WasDueAt : State → ℕ → ℕ → Act → Type 0
-WasDueAt start front moment what = (core : State) × IsCore start core × (length core.log ≡ front) × IsDue (facts_of core) (effective_moment core moment) what
+WasDueAt start front moment what = (core : State) × IsCore start core × (entry_count core ≡ front) × IsDue (facts_of core) (effective_moment core moment) what
 
 -- the handle has then seen the log up to the entry of the act, or, if it added none, the log in which it was due
 abbrev pub IsSeen : State → ℕ → Advanced → ℕ → Type 0

@@ -1,8 +1,10 @@
 //! The program: it runs the script on standard input, or a load, as the command line chooses.
 #![tactic(auto)]
 
+mod checkpoints;
 mod reports;
 
+use crate::checkpoints::{Folder, checkpoint_in};
 use crate::reports::Reports;
 use clap::Error;
 use command_line::{Chosen, NOT_UTF8, options, status_of};
@@ -15,6 +17,7 @@ use std::io;
 use std::io::{BufRead, BufReader, ErrorKind, IsTerminal, Read};
 use std::process::ExitCode;
 use std::time::Instant;
+use world::Checkpoint;
 
 /// The exit status of a command line that is refused.
 const REFUSED: u8 = 2;
@@ -58,14 +61,21 @@ fn run_input(rt: &HostRuntime, file: Option<&str>, stops: bool) -> u8 {
     }
 }
 
-/// Answers the lines of a reader as they come. If there is a prompt, it is shown.
-fn answer_lines<R: BufRead + Drop>(rt: &HostRuntime, reader: R, is_shown: bool) -> u8 {
+/// Answers the lines of a reader as they come. If there is a checkpoint, the session opens there; if
+/// there is a prompt, it is shown.
+fn answer_lines<R: BufRead + Drop>(
+    rt: &HostRuntime,
+    reader: R,
+    checkpoint: Option<Checkpoint>,
+    is_shown: bool,
+) -> u8 {
     let mut streams = Streams {
         reader,
         writer: io::writer(rt),
         is_flushed: false,
     };
-    let outcome = converse(rt.alloc(), &mut streams, is_shown);
+    let mut files = Folder { rt };
+    let outcome = converse(rt.alloc(), &mut streams, &mut files, checkpoint, is_shown);
     if let Err(fault) = &outcome {
         let _ = eprintln!(rt; "fault: {fault}");
     }
@@ -84,14 +94,25 @@ fn opened(rt: &HostRuntime, file: &str) -> Result<BufReader<File>, u8> {
 }
 
 /// Answers the lines of a file, or those of standard input, with a prompt if it is a terminal.
-fn answer_input(rt: &HostRuntime, file: Option<&str>) -> u8 {
+fn answer_input(rt: &HostRuntime, file: Option<&str>, checkpoint: Option<Checkpoint>) -> u8 {
     match file {
         None => {
             let is_shown = rt.stdin().is_terminal() && rt.stdout().is_terminal();
-            answer_lines(rt, rt.reader(), is_shown)
+            answer_lines(rt, rt.reader(), checkpoint, is_shown)
         }
         Some(file) => match opened(rt, file) {
-            Ok(reader) => answer_lines(rt, reader, false),
+            Ok(reader) => answer_lines(rt, reader, checkpoint, false),
+            Err(status) => status,
+        },
+    }
+}
+
+/// Answers lines from the checkpoint in a file on, if one is named.
+fn answer_from(rt: &HostRuntime, file: Option<&str>, at: Option<&str>) -> u8 {
+    match at {
+        None => answer_input(rt, file, None),
+        Some(at) => match checkpoint_in(rt, at) {
+            Ok(checkpoint) => answer_input(rt, file, Some(checkpoint)),
             Err(status) => status,
         },
     }
@@ -180,7 +201,7 @@ fn main(rt: HostRuntime) -> ExitCode {
     };
     match options(alloc, words.as_slice()) {
         Ok(Chosen::Run { file, stops }) => ExitCode::from(run_input(&rt, file, stops)),
-        Ok(Chosen::Prompt { file }) => ExitCode::from(answer_input(&rt, file)),
+        Ok(Chosen::Prompt { file, at }) => ExitCode::from(answer_from(&rt, file, at)),
         Ok(Chosen::Load { size, is_timed }) => {
             let started = if is_timed {
                 Instant::now(&rt).ok()

@@ -15,7 +15,7 @@ pub struct Reports<E: Drop> {
 
 impl<E: Write + Drop> Report for Reports<E> {
     fn report(&mut self, alloc: Global, session: &Session, number: u64, line: &str, reply: &str) {
-        let Ok(hint) = hint_of(alloc, session, line, reply, false, 0) else {
+        let Ok(hint) = hint_of(alloc, session, line, reply, false) else {
             return;
         };
         let Ok(text) = format!(in alloc; "line {number}: {hint}\n") else {

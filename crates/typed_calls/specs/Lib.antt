@@ -6,6 +6,8 @@ pub mod Txns
 pub mod Prepare
 pub mod Commit
 pub mod Snapshots
+pub mod Cuts
+pub mod Checkpoints
 pub mod Queries
 pub mod Changes
 pub mod Writes

@@ -4,7 +4,7 @@ use Rattle.std.specs.Prelude.{◌≡◌, ℕ, ℤ, length, Result, Ok, Err}
 use Rattle.audit.specs.declared.report.CheckReport.{CheckReport}
 use Rattle.lease.specs.declared.lease.Lease.{Lease}
 use Rattle.script_session.specs.Session.{Session}
-use Rattle.world.specs.State.{State}
+use Rattle.world.specs.State.{State, entry_count}
 use Rattle.world.specs.Calls.{IsCheck}
 use Rattle.world.specs.Snapshot.{Taken, SnapshotStep, IsSnapshotCheck}
 use Rattle.world.specs.declared.snapshot.SnapshotFault.{SnapshotFault}
@@ -40,4 +40,4 @@ ChecksTaken taken (Ok report) = IsSnapshotCheck taken report
 ChecksTaken taken (Err status) = status ≡ out_of_memory
 
 abbrev pub LengthIn : Session → Result ℕ ℤ → Type 0
-LengthIn session answer = OfSession (Err not_opened) (λ world a. a ≡ Ok (length world.log)) session answer
+LengthIn session answer = OfSession (Err not_opened) (λ world a. a ≡ Ok (entry_count world)) session answer

@@ -3,7 +3,9 @@
 #![tactic(auto)]
 
 mod changes;
+mod checkpoints;
 mod commits;
+mod cuts;
 mod leases;
 mod opening;
 mod pieces;
@@ -17,7 +19,9 @@ mod txns;
 mod writes;
 
 pub use changes::{ChangeRefusal, begin_reorg, publish};
+pub use checkpoints::{checkpoint, open_at, saved};
 pub use commits::commit;
+pub use cuts::{cut, log_start};
 pub use leases::{held_by, lease};
 pub use opening::open_session;
 pub use pieces::{PieceWork, commit_piece, prepare_piece, read_piece};

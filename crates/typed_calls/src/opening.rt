@@ -1,6 +1,6 @@
 //! A session that is opened by the code of its opening.
 ghost use Rattle.std.specs.Prelude.{◌≡◌};
-ghost use Rattle.typed_calls.specs.Opening.{open_status, OpensFor, OpensWorld, OpensSession};
+ghost use Rattle.typed_calls.specs.Opening.{open_status, session_over, OpensFor, OpensWorld, OpensSession};
 
 use crate::status::{BAD_CODE, BAD_LENGTH, BAD_TABLE, OUT_OF_MEMORY};
 use byte_map::KeyMap;
@@ -44,6 +44,18 @@ fn open_world(alloc: Global, code: &[u8]) -> Result<World, i32>
     }
 }
 
+/// A session over a world, with no leases, pending work or plan.
+pub(crate) fn session_over(alloc: Global, world: World) -> Session
+    ensures { result ≡ session_over world }
+{
+    Session::Running(Opened {
+        world,
+        leases: KeyMap::new(alloc),
+        pending: KeyMap::new(alloc),
+        plan: List::new(Vec::new(alloc)),
+    })
+}
+
 /// A session with a world that is opened by this code, and with no leases, pending work or plan.
 ///
 /// - `code`: what `entry_code::opening_bytes` gives for a lease length, in moments, and the tables.
@@ -55,12 +67,7 @@ pub fn open_session(alloc: Global, code: &[u8]) -> Result<Session, i32>
     ensures { OpensSession code.now result }
 {
     match open_world(alloc, code) {
-        Ok(world) => Ok(Session::Running(Opened {
-            world,
-            leases: KeyMap::new(alloc),
-            pending: KeyMap::new(alloc),
-            plan: List::new(Vec::new(alloc)),
-        })),
+        Ok(world) => Ok(session_over(alloc, world)),
         Err(status) => Err(status),
     }
 }

@@ -78,12 +78,12 @@ pub fn check_snapshot(alloc: Global, snapshot: &Snapshot) -> Result<CheckReport,
     }
 }
 
-/// How many entries the log of the session's world has. Refused only by `NOT_OPENED`.
+/// How many entries the log of the session's world had ever, those that were cut off among them. Refused only by `NOT_OPENED`.
 pub fn log_length(session: &Session) -> Result<usize, i32>
     ensures { LengthIn session.now result }
 {
     match session {
         Session::Declaring(_) => Err(NOT_OPENED),
-        Session::Running(opened) => Ok(opened.world.log().len()),
+        Session::Running(opened) => Ok(opened.world.log_len() as usize),
     }
 }

@@ -8,26 +8,26 @@ use std::alloc::{AllocError, Global};
 use txn_store::{PairSnapshot, Store};
 
 /// What a store has to hold: numbers that rise, each with a value.
-type Pairs = Vec<(u64, u8)>;
+pub(crate) type Pairs = Vec<(u64, u8)>;
 
 /// Changes of numbers that rise: a value, or none if the pair goes.
-type Changes = Vec<(u64, Option<u8>)>;
+pub(crate) type Changes = Vec<(u64, Option<u8>)>;
 
 /// Numbers that look random, the same ones at each run.
 #[derive(Drop)]
-struct Numbers {
-    state: u64,
+pub(crate) struct Numbers {
+    pub(crate) state: u64,
 }
 
 impl Numbers {
-    fn next(&mut self) -> u64 {
+    pub(crate) fn next(&mut self) -> u64 {
         let state = self.state.wrapping_mul(25_214_903_917).wrapping_add(11);
         self.state = state;
         state >> 24
     }
 
     /// A number below a limit.
-    fn below(&mut self, limit: u64) -> u64 {
+    pub(crate) fn below(&mut self, limit: u64) -> u64 {
         self.next().checked_rem(limit).unwrap_or(0)
     }
 }
@@ -54,7 +54,7 @@ fn step(choice: u64) -> u64 {
 }
 
 /// So many changes of numbers that are up to a step apart. Three of ten take a pair away.
-fn random(
+pub(crate) fn random(
     alloc: Global,
     numbers: &mut Numbers,
     count: usize,
@@ -117,7 +117,7 @@ fn changes(
 }
 
 /// How many of the pairs have a number below this one.
-fn count_below(pairs: &[(u64, u8)], number: u64) -> usize
+pub(crate) fn count_below(pairs: &[(u64, u8)], number: u64) -> usize
     ensures { result ≤ length pairs.now }
 {
     for at in 0..pairs.len() {
@@ -129,7 +129,7 @@ fn count_below(pairs: &[(u64, u8)], number: u64) -> usize
 }
 
 /// The pairs after changes.
-fn changed(
+pub(crate) fn changed(
     alloc: Global,
     pairs: &[(u64, u8)],
     changes: &[(u64, Option<u8>)],
@@ -152,7 +152,7 @@ fn changed(
 }
 
 /// The key of a number, after so many bytes that all keys share.
-fn key(alloc: Global, shared: usize, number: u64) -> Result<Vec<u8>, AllocError> {
+pub(crate) fn key(alloc: Global, shared: usize, number: u64) -> Result<Vec<u8>, AllocError> {
     let mut key = Vec::new(alloc);
     for _i in 0..shared {
         key.push(7)?;
@@ -184,7 +184,7 @@ fn write(
 }
 
 /// Whether a key is that of a number.
-fn is_key(key: &[u8], shared: usize, number: u64) -> bool {
+pub(crate) fn is_key(key: &[u8], shared: usize, number: u64) -> bool {
     if key.len() < shared {
         return false;
     }

@@ -18,4 +18,6 @@ mod ranks;
 #[cfg(test)]
 mod rows;
 #[cfg(test)]
+mod snapshots;
+#[cfg(test)]
 mod stores;

@@ -8,6 +8,7 @@ use Rattle.schema_version.specs.declared.element.Work.{Work}
 use Rattle.reorganise.specs.declared.work.Progress.{Progress}
 use Rattle.replay.specs.declared.entry.Entry.{Entry}
 use Rattle.replay.specs.declared.entry.What.TheVariants.{Begin}
+use Rattle.replay.specs.Headline.{MayFollow}
 use Rattle.replay.specs.Replay.{Facts, begun_by, begun_of}
 use Rattle.replay.specs.Kept.{used_before}
 use Rattle.replay.specs.Laws.{BeginsKeep}
@@ -40,7 +41,7 @@ after_begin f begun log = record f { begun = begun; log = log }
 
 begin_state : (f : Inside) (now number pieces : ℕ) (begun : Vec Progress Global) (log : Log) (receipt : Receipt) → IsLogged f.log (begin_entry now number pieces) receipt log
     → state_in (after_begin f begun log) ≡ effect (state_in f) (begin_entry now number pieces)
-begin_state f now number pieces begun log receipt e = state_logged f (after_begin f begun log) (begin_entry now number pieces) receipt refl refl e refl
+begin_state f now number pieces begun log receipt e = state_logged f (after_begin f begun log) (begin_entry now number pieces) receipt e refl
 
 -- the element's state is the newest version's
 own_state : (facts : Facts) (now number : ℕ) (element : ElementDef) → element_at facts.newest number ≡ Some element → IsSettled facts now number → state_of (used_before facts now) number ≡ element.state
@@ -65,3 +66,8 @@ begin_held f s now number pieces progress begun log receipt law h view later_s b
       pairs = w.pairs;
     })
     (law (facts_of (state_in f)) now number pieces b.element b.work (subst (λ (x : State). (facts_of x).moment ≤ now) (sym view) later_s) b.there b.wants (own_state (facts_of (state_in f)) now number b.element b.there b.settled) b.new b.count h.kept)
+
+-- it may follow
+pub begin_follows : (facts : Facts) (now number pieces : ℕ) (progress : Progress) → Begins facts now number pieces progress → MayFollow facts now (Begin number pieces)
+begin_follows facts now number pieces progress b =
+    record { element = b.element; work = b.work; there = b.there; wants = b.wants; settled = own_state facts now number b.element b.there b.settled; new = b.new; count = b.count }

@@ -32,22 +32,24 @@ use Rattle.world.specs.declared.entry.Receipt.{Receipt}
 use Rattle.world.specs.declared.log.Log.{Log}
 use Rattle.world.specs.declared.world.World.TheInside.{Inside}
 use Rattle.world.specs.Calls.{effective_moment, GrantCondition, LeaseAt, LeaseStep, CommitCondition, commit_rank, CommitAt}
-use Rattle.world.specs.Inside.{state_of, Follow, IsHeld}
+use Rattle.checkpoint.specs.Checkpoint.{Checkpoint, said_by, IsWhole}
+use Rattle.world.specs.Inside.{state_of, state_with, Follow, IsHeld}
+use Rattle.world.specs.Whole.{Entries, whole, none_yet}
 use Rattle.world.specs.State.{State, facts_of, effect}
 use Rattle.world.specs.Faults.{set_reported, lease_reported}
-use Rattle.world.proofs.Invariant.{IsLogged, state_logged, appended, held_after, held_same, follow_of}
+use Rattle.world.proofs.Invariant.{IsLogged, state_logged, appended, held_after, held_same, follow_of, later as not_before}
 
 some_one : {A : Type 0} {v w : A} → Some v ≡ (let o : Option A = Some w in o) → v ≡ w
 some_one e = cc
 
 -- ---- opening
 
-pub opened_held : (f : Inside) → OpeningsKeep → IsLength f.line.length → IsSoundVersion f.first → f.line ≡ line_opened f.line.length → f.newest ≡ f.first → f.before ≡ None → f.begun.items ≡ [] → f.log.entries.items ≡ [] → f.store ≡ map.empty → f.log.moment ≡ 0 → IsHeld f
-opened_held f law length sound line newest before begun log store moment =
-    let same : start (state_of f).opening ≡ facts_of (state_of f) = ap (λ (es : List Entry). facts_of (record { opening = (state_of f).opening; log = es; pairs = f.store })) (sym log) in
+pub opened_held : (f : Inside) (opening : Checkpoint) → IsWhole opening → f.log.moment ≡ opening.moment → f.line ≡ opening.line → f.newest ≡ opening.newest → f.before ≡ opening.before → f.begun.items ≡ opening.progress → whole f.log ≡ none_yet opening → f.store ≡ opening.pairs → IsHeld f
+opened_held f opening is_whole moment line newest before begun log store =
+    let same : said_by opening ≡ facts_of (state_of f) = ap (λ (es : Entries). facts_of (state_with es f.store)) (sym log) in
     record {
-      follow = subst (Follow f) same (record { moment = moment; line = line; newest = newest; before = before; begun = begun; pairs = store });
-      kept = subst IsKept same (law (state_of f).opening length sound);
+      follow = subst (Follow f) same (record { moment = moment; line = line; newest = newest; before = before ∙ sym is_whole.before; begun = begun; pairs = store });
+      kept = subst IsKept same is_whole.kept;
     }
 
 -- ---- lease
@@ -60,7 +62,7 @@ abbrev pub lease_entry : ℕ → Lease → Entry
 lease_entry now lease = record { moment = now; what = Granted lease }
 
 lease_state : (f : Inside) (log : Log) (now : ℕ) (lease : Lease) (receipt : Receipt) → IsLogged f.log (lease_entry now lease) receipt log → state_of (with_log f log) ≡ effect (state_of f) (lease_entry now lease)
-lease_state f log now lease receipt e = state_logged f (with_log f log) (lease_entry now lease) receipt refl refl e refl
+lease_state f log now lease receipt e = state_logged f (with_log f log) (lease_entry now lease) receipt e refl
 
 pub lease_held : (f : Inside) (s : State) (log : Log) (now : ℕ) (lease : Lease) (receipt : Receipt) → LeasesKeep → IsHeld f → state_of f ≡ s → (facts_of s).moment ≤ now → IsLogged f.log (lease_entry now lease) receipt log → IsHeld (with_log f log)
 lease_held f s log now lease receipt law h view later e =
@@ -73,13 +75,13 @@ grant_clear : (now : ℕ) → now ≤ max_moment → IsClear (GrantCondition now
 grant_clear now le grant_fault.MomentTooLarge = λ lt. absurd (omega (arith, le, lt))
 grant_clear now le grant_fault.Memory = λ x. x
 
-lease_done : (f : Inside) (log : Log) (now : ℕ) (lease : Lease) (schema : Version) (receipt : Receipt) → IsHeld f → now ≤ max_moment → lease ≡ granted_at f.line now → schema ≡ f.newest → IsLogged f.log (lease_entry now lease) receipt log
+lease_done : (f : Inside) (log : Log) (now : ℕ) (lease : Lease) (schema : Version) (receipt : Receipt) → IsHeld f → (facts_of (state_of f)).moment ≤ now → now ≤ max_moment → lease ≡ granted_at f.line now → schema ≡ f.newest → IsLogged f.log (lease_entry now lease) receipt log
     → LeaseAt (state_of f) now (Ok (record { lease = lease; schema = schema; receipt = receipt })) (state_of (with_log f log))
-lease_done f log now lease schema receipt h le granted same e = (
+lease_done f log now lease schema receipt h after_last le granted same e = (
   grant_clear now le,
   granted ∙ ap (λ (l : Timeline). granted_at l now) h.follow.line,
   same ∙ h.follow.newest,
-  appended f (with_log f log) now (Granted lease) receipt e (lease_state f log now lease receipt e),
+  appended f (with_log f log) now (Granted lease) receipt e (lease_state f log now lease receipt e) after_last tt,
 )
 
 ok_one : {A E : Type 0} (a b : A) → (Ok a ≡ (let r : Result A E = Ok b in r)) → a ≡ b
@@ -89,7 +91,8 @@ pub lease_step : (f : Inside) (s : State) (log : Log) (now moment : ℕ) (lease 
     → Serves f.line lease now → (now ≤ max_moment → Ok lease ≡ (let r : Result Lease LeaseFault = Ok (granted_at f.line now) in r)) → schema ≡ f.newest → IsLogged f.log (lease_entry now lease) receipt log
     → LeaseStep s moment (Ok (record { lease = lease; schema = schema; receipt = receipt })) (state_of (with_log f log))
 lease_step f s log now moment lease schema receipt h view counted_at v granted same e =
-    let done = lease_done f log now lease schema receipt h v.moment (ok_one lease (granted_at f.line now) (granted v.moment)) same e in
+    let after_last : (facts_of (state_of f)).moment ≤ now = subst (λ (x : State). (facts_of x).moment ≤ now) (sym view) (not_before f s moment now counted_at) in
+    let done = lease_done f log now lease schema receipt h after_last v.moment (ok_one lease (granted_at f.line now) (granted v.moment)) same e in
     subst (λ (n : ℕ). LeaseAt s n (Ok (record { lease = lease; schema = schema; receipt = receipt })) (state_of (with_log f log))) counted_at
     (subst (λ (x : State). LeaseAt x now (Ok (record { lease = lease; schema = schema; receipt = receipt })) (state_of (with_log f log))) view done)
 
@@ -164,10 +167,10 @@ differs facts p number found same at other = λ is. other (some_one (sym is ∙ 
 abbrev pub with_store : Inside → Pairs → Log → Inside
 with_store f store log = record f { store = store; log = log }
 
-pub same_state : (f : Inside) (store : Pairs) (log : Log) → store ≡ f.store → log.entries.items ≡ f.log.entries.items → state_of (with_store f store log) ≡ state_of f
-same_state f store log pairs items = λ i. record { opening = (state_of f).opening; log = items i; pairs = pairs i }
+pub same_state : (f : Inside) (store : Pairs) (log : Log) → store ≡ f.store → whole log ≡ whole f.log → state_of (with_store f store log) ≡ state_of f
+same_state f store log pairs items = λ i. state_with (items i) (pairs i)
 
-pub same_held : (f : Inside) (store : Pairs) (log : Log) → IsHeld f → store ≡ f.store → log.entries.items ≡ f.log.entries.items → log.moment ≡ f.log.moment → IsHeld (with_store f store log)
+pub same_held : (f : Inside) (store : Pairs) (log : Log) → IsHeld f → store ≡ f.store → whole log ≡ whole f.log → log.moment ≡ f.log.moment → IsHeld (with_store f store log)
 same_held f store log h pairs items moment =
     let w = h.follow in
     held_same f (with_store f store log) h (same_state f store log pairs items) (record { moment = moment ∙ w.moment; line = w.line; newest = w.newest; before = w.before; begun = w.begun; pairs = pairs ∙ w.pairs })
@@ -177,12 +180,12 @@ set_same : (f : Inside) (p : PreparedTxn) (fault : SetFault) (store : Pairs) →
 set_same f p (reported.Conflict key) store set = set.1
 set_same f p reported.Memory store set = set
 
-commit_failed : (f : Inside) (now : ℕ) (p : PreparedTxn) (fault : SetFault) (store : Pairs) (log : Log) → IsFit (facts_of (state_of f)) now p → Sets p.expect p.batch f.store (Err fault) store → log.entries.items ≡ f.log.entries.items
+commit_failed : (f : Inside) (now : ℕ) (p : PreparedTxn) (fault : SetFault) (store : Pairs) (log : Log) → IsFit (facts_of (state_of f)) now p → Sets p.expect p.batch f.store (Err fault) store → whole log ≡ whole f.log
     → CommitAt (state_of f) now p (Err (set_reported fault)) (state_of (with_store f store log))
 commit_failed f now p (reported.Conflict key) store log v set items = ((inr set.0, commit_lower (state_of f) now p v), same_state f store log set.1 items)
 commit_failed f now p reported.Memory store log v set items = ((inl refl, commit_lower (state_of f) now p v), same_state f store log set items)
 
-pub failed_held : (f : Inside) (p : PreparedTxn) (fault : SetFault) (store : Pairs) (log : Log) → IsHeld f → Sets p.expect p.batch f.store (Err fault) store → log.entries.items ≡ f.log.entries.items → log.moment ≡ f.log.moment → IsHeld (with_store f store log)
+pub failed_held : (f : Inside) (p : PreparedTxn) (fault : SetFault) (store : Pairs) (log : Log) → IsHeld f → Sets p.expect p.batch f.store (Err fault) store → whole log ≡ whole f.log → log.moment ≡ f.log.moment → IsHeld (with_store f store log)
 failed_held f p fault store log h set items moment = same_held f store log h (set_same f p fault store set) items moment
 
 -- ---- a commit that comes to the store
@@ -231,7 +234,7 @@ step_refused f s now p op why store laws view v set is =
       set.0,
     )
 
-pub step_failed : (f : Inside) (s : State) (now : ℕ) (p : PreparedTxn) (fault : SetFault) (as_reported : CommitFault) (store : Pairs) (log : Log) → state_of f ≡ s → IsServed f now p → Sets p.expect p.batch f.store (Err fault) store → log.entries.items ≡ f.log.entries.items
+pub step_failed : (f : Inside) (s : State) (now : ℕ) (p : PreparedTxn) (fault : SetFault) (as_reported : CommitFault) (store : Pairs) (log : Log) → state_of f ≡ s → IsServed f now p → Sets p.expect p.batch f.store (Err fault) store → whole log ≡ whole f.log
     → as_reported ≡ set_reported fault → CommitAt s now p (Err as_reported) (state_of (with_store f store log))
 step_failed f s now p fault as_reported store log view v set items is =
     subst (λ (r : CommitFault). CommitAt s now p (Err r) (state_of (with_store f store log))) (sym is)
@@ -257,7 +260,7 @@ written f now p store laws v set is =
 txn_state : (f : Inside) (now : ℕ) (p : PreparedTxn) (store : Pairs) (log : Log) (receipt : Receipt) → IsHeld f → store ≡ (after (facts_of (state_of f)) (txn_entry now p)).pairs → IsLogged f.log (txn_entry now p) receipt log
     → state_of (with_store f store log) ≡ effect (state_of f) (txn_entry now p)
 txn_state f now p store log receipt h is_pairs e =
-    state_logged f (with_store f store log) (txn_entry now p) receipt refl refl e (is_pairs ∙ ap (λ (ps : Pairs). pairs_by (facts_of (state_of f)) ps (txn_entry now p).what) (sym h.follow.pairs))
+    state_logged f (with_store f store log) (txn_entry now p) receipt e (is_pairs ∙ ap (λ (ps : Pairs). pairs_by (facts_of (state_of f)) ps (txn_entry now p).what) (sym h.follow.pairs))
 
 pub done_held : (f : Inside) (now : ℕ) (p : PreparedTxn) (store : Pairs) (log : Log) (receipt : Receipt) → TxnLaws → IsServed f now p → Holds p.expect f.store × (store ≡ laid p.batch f.store) → p.reported ≡ Done → IsLogged f.log (txn_entry now p) receipt log
     → IsHeld (with_store f store log)
@@ -271,9 +274,11 @@ pub step_done : (f : Inside) (s : State) (now : ℕ) (p : PreparedTxn) (store : 
     → CommitAt s now p (Ok (committed.Done receipt)) (state_of (with_store f store log))
 step_done f s now p store log receipt laws view v set done e =
     let wrote = written f now p store laws v set done in
+    let d = due f now p v set.0 in
+    let accepts = sym (laws.outcome (facts_of (state_of f)) now p v.fit.later d v.held.kept) ∙ done in
     subst (λ (x : State). CommitAt x now p (Ok (committed.Done receipt)) (state_of (with_store f store log))) view (
       commit_clear (state_of f) now p v.fit set.0,
       sym (laws.outcome (facts_of (state_of f)) now p v.fit.later (due f now p v set.0) v.held.kept) ∙ done,
-      appended f (with_store f store log) now (txn_entry now p).what receipt e (txn_state f now p store log receipt v.held wrote.0 e),
+      appended f (with_store f store log) now (txn_entry now p).what receipt e (txn_state f now p store log receipt v.held wrote.0 e) v.fit.later (record { prepared = p; same = refl; due = d; done = accepts }),
       set.0,
     )

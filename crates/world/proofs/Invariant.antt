@@ -10,13 +10,16 @@ use Rattle.row_map.specs.Rows.{Pairs}
 use Rattle.schema_version.specs.Version.{Version}
 use Rattle.replay.specs.declared.entry.Entry.{Entry}
 use Rattle.replay.specs.declared.entry.What.{What}
+use Rattle.replay.specs.Headline.{MayFollow}
 use Rattle.replay.specs.Replay.{Facts, start, version_in, version_at, after, after_all, pairs_by}
 use Rattle.replay.specs.Kept.{IsKept, FactsAgree as AgreesOf}
 use Rattle.world.specs.declared.entry.Receipt.{Receipt}
 use Rattle.world.specs.declared.log.Log.{Log}
 use Rattle.world.specs.declared.world.World.TheInside.{Inside}
 use Rattle.world.specs.Calls.{effective_moment, Appends}
-use Rattle.world.specs.Inside.{state_of, Follow, IsHeld}
+use Rattle.checkpoint.specs.Checkpoint.{said_by}
+use Rattle.world.specs.Inside.{state_of, state_with, Follow, IsHeld}
+use Rattle.world.specs.Whole.{whole, one_more, count_of}
 use Rattle.world.specs.State.{State, facts_of, effect, recent, IsReplayed, Agrees}
 
 none_some : {A B : Type 0} {v : A} → None ≡ Some v → B
@@ -32,7 +35,7 @@ after_all-append facts [] more = refl
 after_all-append facts (entry ∷ log) more = after_all-append (after facts entry) log more
 
 pub facts_after : (s : State) (entry : Entry) → facts_of (effect s entry) ≡ after (facts_of s) entry
-facts_after s entry = after_all-append (start s.opening) s.log (entry ∷ [])
+facts_after s entry = after_all-append (said_by s.opening) s.log (entry ∷ [])
 
 -- the fields g after an accepted call on f
 pub held_after : (f g : Inside) (entry : Entry) → state_of g ≡ effect (state_of f) entry → Follow g (after (facts_of (state_of f)) entry) → IsKept (after (facts_of (state_of f)) entry) → IsHeld g
@@ -50,26 +53,28 @@ held_same f g h state follow =
 
 -- one entry more, and the receipt for it
 pub record IsLogged (old : Log) (entry : Entry) (receipt : Receipt) (new : Log) : Type 0 where
-  pub entries : new.entries.items ≡ old.entries.items ++ entry ∷ []
+  pub entries : whole new ≡ one_more (whole old) entry
   pub moment : new.moment ≡ entry.moment
-  pub reported : receipt ≡ record { place = length old.entries.items + 1; entry = entry }
+  pub reported : receipt ≡ record { place = count_of (whole old) + 1; entry = entry }
 
 -- what was made ready, where room was made before, is entered
-pub logged : (old room new : Log) (draft entry : Entry) (receipt : Receipt) → room.entries.items ≡ old.entries.items → draft ≡ entry → new.entries.items ≡ room.entries.items ++ draft ∷ [] → new.moment ≡ draft.moment
-    → receipt ≡ record { place = length room.entries.items + 1; entry = draft } → IsLogged old entry receipt new
+pub logged : (old room new : Log) (draft entry : Entry) (receipt : Receipt) → whole room ≡ whole old → draft ≡ entry → whole new ≡ one_more (whole room) draft → new.moment ≡ draft.moment
+    → receipt ≡ record { place = count_of (whole room) + 1; entry = draft } → IsLogged old entry receipt new
 logged old room new draft entry receipt made is entries moment reported = record {
-  entries = entries ∙ (λ i. made i ++ is i ∷ []);
+  entries = entries ∙ (λ i. one_more (made i) (is i));
   moment = moment ∙ ap (λ (e : Entry). e.moment) is;
-  reported = reported ∙ (λ i. record { place = length (made i) + 1; entry = is i });
+  reported = reported ∙ (λ i. record { place = count_of (made i) + 1; entry = is i });
 }
 
--- the fields g have the opening of f, an entry more, and the pairs that it gives
-pub state_logged : (f g : Inside) (entry : Entry) (receipt : Receipt) → g.line.length ≡ f.line.length → g.first ≡ f.first → IsLogged f.log entry receipt g.log → g.store ≡ pairs_by (facts_of (state_of f)) f.store entry.what
+-- the fields g have an entry more than f, and the pairs that it gives
+pub state_logged : (f g : Inside) (entry : Entry) (receipt : Receipt) → IsLogged f.log entry receipt g.log → g.store ≡ pairs_by (facts_of (state_of f)) f.store entry.what
     → state_of g ≡ effect (state_of f) entry
-state_logged f g entry receipt same first e pairs = λ i. record { opening = record { length = same i; schema = first i }; log = e.entries i; pairs = pairs i }
+state_logged f g entry receipt e pairs = λ i. state_with (e.entries i) (pairs i)
 
-pub appended : (f g : Inside) (now : ℕ) (what : What) (receipt : Receipt) → IsLogged f.log (record { moment = now; what = what }) receipt g.log → state_of g ≡ effect (state_of f) (record { moment = now; what = what }) → Appends (state_of f) now what receipt (state_of g)
-appended f g now what receipt e state = record {
+pub appended : (f g : Inside) (now : ℕ) (what : What) (receipt : Receipt) → IsLogged f.log (record { moment = now; what = what }) receipt g.log → state_of g ≡ effect (state_of f) (record { moment = now; what = what }) → (facts_of (state_of f)).moment ≤ now → MayFollow (facts_of (state_of f)) now what → Appends (state_of f) now what receipt (state_of g)
+appended f g now what receipt e state later follows = record {
+  later = later;
+  follows = follows;
   entry = ap (λ (r : Receipt). r.entry) e.reported;
   place = ap (λ (r : Receipt). r.place) e.reported;
   state = state ∙ ap (λ (r : Receipt). effect (state_of f) r.entry) (sym e.reported);

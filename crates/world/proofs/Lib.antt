@@ -9,3 +9,4 @@ pub mod Publications
 pub mod Begins
 pub mod PieceSteps
 pub mod Runs
+pub mod Wholes

@@ -29,6 +29,7 @@ use Rattle.world.specs.declared.log.Log.{Log}
 use Rattle.world.specs.declared.world.World.TheInside.{Inside}
 use Rattle.world.specs.Inside.{state_of, IsHeld}
 use Rattle.world.specs.Piece.{IsPieceOf, IsCurrent, piece_rank, PieceCondition, PieceAt}
+use Rattle.world.specs.Whole.{whole}
 use Rattle.world.specs.State.{State, facts_of, effect}
 use Rattle.world.specs.Faults.{piece_reported}
 use Rattle.world.proofs.CallSteps.{with_store, same_state}
@@ -83,13 +84,13 @@ piece_clear s now read current holds piece_fault.Memory = λ c. c
 pub piece_short : (s g : State) (now : ℕ) (read : Reading) (reported_as : PieceFault) → IsCurrent (facts_of s) now read → g ≡ s → reported_as ≡ piece_fault.Memory → PieceAt s now read (Err reported_as) g
 piece_short s g now read reported_as current same is = (short_of s now read current.span reported_as current.moment current.own is, same)
 
-failed : (f : Inside) (now : ℕ) (read : Reading) (fault : SetFault) (store : Pairs) (log : Log) → IsCurrent (facts_of (state_of f)) now read → Sets (expect_of read.key_range) (batch_for read) f.store (Err fault) store → log.entries.items ≡ f.log.entries.items
+failed : (f : Inside) (now : ℕ) (read : Reading) (fault : SetFault) (store : Pairs) (log : Log) → IsCurrent (facts_of (state_of f)) now read → Sets (expect_of read.key_range) (batch_for read) f.store (Err fault) store → whole log ≡ whole f.log
     → PieceAt (state_of f) now read (Err (piece_reported fault)) (state_of (with_store f store log))
 failed f now read (reported.Conflict key) store log current set items = ((inr set.0, current_lower (state_of f) now read current), same_state f store log set.1 items)
 failed f now read reported.Memory store log current set items = ((inl refl, λ other lt. current_lower (state_of f) now read current other (omega (arith, lt))), same_state f store log set items)
 
 pub piece_failed : (f : Inside) (s : State) (now : ℕ) (read : Reading) (fault : SetFault) (reported_as : PieceFault) (store : Pairs) (log : Log) → state_of f ≡ s → IsCurrent (facts_of s) now read → Sets (expect_of read.key_range) (batch_for read) f.store (Err fault) store
-    → log.entries.items ≡ f.log.entries.items → reported_as ≡ piece_reported fault → PieceAt s now read (Err reported_as) (state_of (with_store f store log))
+    → whole log ≡ whole f.log → reported_as ≡ piece_reported fault → PieceAt s now read (Err reported_as) (state_of (with_store f store log))
 piece_failed f s now read fault reported_as store log view current set items is =
     subst (λ (r : PieceFault). PieceAt s now read (Err r) (state_of (with_store f store log))) (sym is)
     (subst (λ (x : State). PieceAt x now read (Err (piece_reported fault)) (state_of (with_store f store log))) view (failed f now read fault store log (subst (λ (x : State). IsCurrent (facts_of x) now read) (sym view) current) set items))
@@ -143,7 +144,7 @@ after_piece f store begun log = record f { store = store; begun = begun; log = l
 piece_state : (f : Inside) (now : ℕ) (read : Reading) (store : Pairs) (begun : Vec Progress Global) (log : Log) (receipt : Receipt) → IsHeld f → store ≡ (after (facts_of (state_of f)) (entry_of now read)).pairs → IsLogged f.log (entry_of now read) receipt log
     → state_of (after_piece f store begun log) ≡ effect (state_of f) (entry_of now read)
 piece_state f now read store begun log receipt h is e =
-    state_logged f (after_piece f store begun log) (entry_of now read) receipt refl refl e (is ∙ ap (λ (ps : Pairs). pairs_by (facts_of (state_of f)) ps (entry_of now read).what) (sym h.follow.pairs))
+    state_logged f (after_piece f store begun log) (entry_of now read) receipt e (is ∙ ap (λ (ps : Pairs). pairs_by (facts_of (state_of f)) ps (entry_of now read).what) (sym h.follow.pairs))
 
 pub piece_held : (f : Inside) (s : State) (now : ℕ) (read : Reading) (store : Pairs) (begun : Vec Progress Global) (log : Log) (receipt : Receipt) → PiecesKeep → IsReady f s now read store
     → begun.items ≡ each (moved_to (number_of read) read.piece read.key_range.high) f.begun.items → IsLogged f.log (entry_of now read) receipt log → IsHeld (after_piece f store begun log)
@@ -161,6 +162,7 @@ piece_done f s now ended read store begun log receipt law r e ends =
     subst (λ (x : State). PieceAt x now read (Ok (record { receipt = receipt; ended = ended })) (state_of (after_piece f store begun log))) r.view (
       piece_clear (state_of f) now read current r.set.0,
       ends,
-      appended f (after_piece f store begun log) now (entry_of now read).what receipt e (piece_state f now read store begun log receipt r.held wrote.0 e),
+      appended f (after_piece f store begun log) now (entry_of now read).what receipt e (piece_state f now read store begun log receipt r.held wrote.0 e)
+          (subst (λ (x : State). (facts_of x).moment ≤ now) (sym r.view) r.later) (record { read = read; same = refl; next = next f s now read store r }),
       r.set.0,
     )

@@ -23,8 +23,9 @@ use Rattle.world.specs.declared.entry.Receipt.{Receipt}
 use Rattle.world.specs.declared.log.Log.{Log}
 use Rattle.world.specs.declared.world.World.TheInside.{Inside}
 use Rattle.world.specs.Calls.{Appends}
-use Rattle.world.specs.Inside.{state_of, Follow, IsHeld}
+use Rattle.world.specs.Inside.{state_of, state_with, Follow, IsHeld}
 use Rattle.world.specs.Publish.{max_versions, publish_rank, PublishCondition, PublishAt, MayPublish, IsUnready}
+use Rattle.world.specs.Whole.{whole}
 use Rattle.world.specs.State.{State, facts_of, effect}
 use Rattle.world.proofs.Awaited.{not_unfinished}
 use Rattle.world.proofs.Invariant.{IsLogged, state_logged, appended, held_after, held_same, follow_of}
@@ -187,7 +188,7 @@ pub record IsEntered (f : Inside) (now : ℕ) (step : List Move) (before : Optio
 -- the state that they stand for
 entered_state : (f : Inside) (now : ℕ) (step : List Move) (before : Option Version) (newest : Version) (line : Timeline) (begun : Vec Progress Global) (log : Log) (receipt : Receipt) → IsEntered f now step before newest line begun log receipt
     → state_of (after_publish f before newest line begun log) ≡ effect (state_of f) (publish_entry now step)
-entered_state f now step before newest line begun log receipt is = state_logged f (after_publish f before newest line begun log) (publish_entry now step) receipt (ap (λ (l : Timeline). l.length) is.line_is) refl is.log_is refl
+entered_state f now step before newest line begun log receipt is = state_logged f (after_publish f before newest line begun log) (publish_entry now step) receipt is.log_is refl
 
 pub entered_held : (f : Inside) (s : State) (now : ℕ) (step : List Move) (before : Option Version) (newest : Version) (line : Timeline) (begun : Vec Progress Global) (log : Log) (receipt : Receipt) → PublicationsKeep → IsHeld f → state_of f ≡ s → (facts_of s).moment ≤ now
     → MayPublish (facts_of s) now step → IsEntered f now step before newest line begun log receipt → IsHeld (after_publish f before newest line begun log)
@@ -205,21 +206,22 @@ entered_held f s now step before newest line begun log receipt law h view later 
     })
     (law (facts_of (state_of f)) now step (subst (λ (x : State). (facts_of x).moment ≤ now) (sym view) later) may.moment may.in_turn may.allowed may.finished h.kept)
 
-pub entered_step : (f : Inside) (s : State) (now version : ℕ) (step : List Move) (before : Option Version) (newest : Version) (line : Timeline) (begun : Vec Progress Global) (log : Log) (receipt : Receipt) → IsHeld f → state_of f ≡ s
+pub entered_step : (f : Inside) (s : State) (now version : ℕ) (step : List Move) (before : Option Version) (newest : Version) (line : Timeline) (begun : Vec Progress Global) (log : Log) (receipt : Receipt) → IsHeld f → state_of f ≡ s → (facts_of s).moment ≤ now
     → MayPublish (facts_of s) now step → IsEntered f now step before newest line begun log receipt → version ≡ newest_number line → PublishAt s now step (Ok (version, receipt)) (state_of (after_publish f before newest line begun log))
-entered_step f s now version step before newest line begun log receipt h view may is number =
+entered_step f s now version step before newest line begun log receipt h view later may is number =
     let next : newest_number line ≡ newest_number (facts_of s).line + 1 = ap newest_number is.line_is ∙ one_up f.line.published now ∙ ap (λ (l : Timeline). newest_number l + 1) (follow_of f s h view).line in
-    let added = appended f (after_publish f before newest line begun log) now (Publish step) receipt is.log_is (entered_state f now step before newest line begun log receipt is) in
+    let added = appended f (after_publish f before newest line begun log) now (Publish step) receipt is.log_is (entered_state f now step before newest line begun log receipt is)
+    (subst (λ (x : State). (facts_of x).moment ≤ now) (sym view) later) (let m : MayPublish (facts_of (state_of f)) now step = subst (λ (x : State). MayPublish (facts_of x) now step) (sym view) may in (m.moment, m.in_turn, m.allowed, m.finished)) in
     (may_clear s now step may, number ∙ next, subst (λ (x : State). Appends x now (Publish step) receipt (state_of (after_publish f before newest line begun log))) view added)
   where
     one_up : (published : List ℕ) (moment : ℕ) → length (moment ∷ published) ≡ length published + 1
     one_up published moment = omega arith
 
 -- the fields where the log alone had room made, and memory ran out then
-pub same_room : (f : Inside) (log : Log) (line : Timeline) → log.entries.items ≡ f.log.entries.items → line ≡ f.line → state_of (record f { log = log; line = line }) ≡ state_of f
-same_room f log line items same = λ i. record { opening = record { length = (same i).length; schema = f.first }; log = items i; pairs = f.store }
+pub same_room : (f : Inside) (log : Log) (line : Timeline) → whole log ≡ whole f.log → line ≡ f.line → state_of (record f { log = log; line = line }) ≡ state_of f
+same_room f log line items same = λ i. state_with (items i) f.store
 
-pub room_held : (f : Inside) (log : Log) (line : Timeline) → IsHeld f → log.entries.items ≡ f.log.entries.items → log.moment ≡ f.log.moment → line ≡ f.line → IsHeld (record f { log = log; line = line })
+pub room_held : (f : Inside) (log : Log) (line : Timeline) → IsHeld f → whole log ≡ whole f.log → log.moment ≡ f.log.moment → line ≡ f.line → IsHeld (record f { log = log; line = line })
 room_held f log line h items moment same =
     let w = h.follow in
     held_same f (record f { log = log; line = line }) h (same_room f log line items same) (record { moment = moment ∙ w.moment; line = same ∙ w.line; newest = w.newest; before = w.before; begun = w.begun; pairs = w.pairs })

@@ -1,6 +1,6 @@
 -- Cited by the contracts of World::check, World::commit, World::lease, World::open and 6 more.
 -- What each call of the core may answer, and the state that it leaves.
-use Rattle.std.specs.Prelude.{◌≡◌, ◌≢◌, ℕ, ◌+◌, ◌<◌, max, length, Option, Some, Result, Ok, Err, ◌↔◌}
+use Rattle.std.specs.Prelude.{◌≡◌, ◌≢◌, ℕ, ◌+◌, ◌<◌, ◌≤◌, max, length, Option, Some, Result, Ok, Err, ◌↔◌}
 use Rattle.std.specs.FinMap as map
 use Rattle.audit.specs.declared.report.CheckReport.{CheckReport}
 use Rattle.audit.specs.Audit.{IsAudit}
@@ -15,7 +15,9 @@ use Rattle.row_write.specs.Plain.{outcome}
 use Rattle.row_write.specs.Made.{PreparedTxn}
 use Rattle.replay.specs.declared.entry.What.{What}
 use Rattle.replay.specs.declared.entry.What.TheVariants.{Lease as Granted, Txn}
+use Rattle.replay.specs.Headline.{MayFollow}
 use Rattle.replay.specs.Replay.{Opening, version_at}
+use Rattle.checkpoint.specs.Checkpoint.{opening_checkpoint}
 use Rattle.world.specs.declared.config.Config.{Config}
 use Rattle.world.specs.declared.committed.Committed.{Committed}
 use Rattle.world.specs.declared.committed.Committed.TheVariants as committed
@@ -27,16 +29,18 @@ use Rattle.world.specs.declared.grant.GrantFault.{GrantFault}
 use Rattle.world.specs.declared.grant.GrantFault.TheVariants as grant_fault
 use Rattle.world.specs.declared.commit.CommitFault.{CommitFault}
 use Rattle.world.specs.declared.commit.CommitFault.TheVariants as commit_fault
-use Rattle.world.specs.State.{State, facts_of, effect, opened}
+use Rattle.world.specs.State.{State, facts_of, effect, entry_count, opened}
 
 -- the moment that counts: the greater of the one handed in and the last entry's
 abbrev pub effective_moment : State → ℕ → ℕ
 effective_moment state moment = max moment (facts_of state).moment
 
--- one entry more, with the receipt for it
+-- one entry more, which may follow those before it, with the receipt for it
 pub record Appends (old : State) (now : ℕ) (what : What) (receipt : Receipt) (new : State) : Type 0 where
+  pub later : (facts_of old).moment ≤ now
+  pub follows : MayFollow (facts_of old) now what
   pub entry : receipt.entry ≡ record { moment = now; what = what }
-  pub place : receipt.place ≡ length old.log + 1
+  pub place : receipt.place ≡ entry_count old + 1
   pub state : new ≡ effect old receipt.entry
 
 -- ---- opening
@@ -56,7 +60,7 @@ opening_of config = record { length = config.length; schema = declared config.ta
 
 -- a world begins with the declared version, no rows and no pairs
 abbrev pub OpenStep : Config → Result State OpenFault → Type 0
-OpenStep config (Ok new) = IsClear (OpenCondition config) × (new ≡ opened (opening_of config))
+OpenStep config (Ok new) = IsClear (OpenCondition config) × (new ≡ opened (opening_checkpoint (opening_of config)))
 OpenStep config (Err fault) = IsRefusal open_rank (OpenCondition config) open_fault.Memory fault
 
 -- ---- lease

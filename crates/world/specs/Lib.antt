@@ -10,3 +10,8 @@ pub mod BeginReorg
 pub mod Piece
 pub mod Run
 pub mod inner
+pub mod EntryCode
+pub mod Whole
+pub mod CheckpointCode
+pub mod Checkpoints
+pub mod Restored

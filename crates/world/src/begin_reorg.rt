@@ -156,6 +156,7 @@ impl World {
     }
 
     // The reorganisation has begun.
+    #[tactic(auto, using(crate::proofs::Begins::begin_follows))]
     fn add_begun(
         &mut self,
         alloc: Global,

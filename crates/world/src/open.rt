@@ -6,12 +6,12 @@ ghost use Rattle.collections.specs.Refusal.{IsRefusal};
 ghost use Rattle.world.specs.Calls.{OpenStep, open_rank, OpenCondition};
 ghost use Rattle.world.specs.declared.open.OpenFault.TheVariants.{Memory};
 
+use crate::checkpoints::Checkpoint;
 use crate::config::Config;
-use crate::log::Log;
 use crate::world::World;
+use checkpoint::lemma_checkpoints_keep;
 use collections::ArcValue;
 use lease::{MAX_LENGTH, Timeline, TimelineFault};
-use replay::lemma_openings_keep;
 use schema_version::{DeclareFault, Schema};
 use std::alloc::{AllocError, Global};
 use thiserror::Error;
@@ -83,17 +83,17 @@ impl World {
         let schema = declare(alloc, config)?;
         let line = begin(alloc, config)?;
         schema.lemma_known();
-        lemma_openings_keep();
-        let first = ArcValue::new(alloc, schema)?;
-        let newest = first.clone()?;
-        Ok(World {
-            first,
-            before: None,
-            newest,
+        lemma_checkpoints_keep();
+        let newest = ArcValue::new(alloc, schema)?;
+        let start = Checkpoint {
+            place: 0,
+            moment: 0,
             line,
+            newest,
+            before: None,
             begun: Vec::new(alloc),
             store: Store::new(alloc),
-            log: Log::new(alloc),
-        })
+        };
+        Ok(World::open_at(alloc, start))
     }
 }

@@ -1,13 +1,13 @@
 //! The core: what it keeps, and what it tells of itself.
 ghost use Rattle.std.specs.Option.{option_copied};
-ghost use Rattle.std.specs.Prelude.{◌≡◌, ◌≤◌, max, option_map, Some};
+ghost use Rattle.std.specs.Prelude.{◌≡◌, ◌≤◌, ◌+◌, length, max, option_map, Some};
 ghost use Rattle.lease.specs.Refusals.{Serves};
 ghost use Rattle.lease.specs.Timeline.{IsValid, last_publication};
 ghost use Rattle.replay.specs.Kept.{AreInPieces, IsKept};
 ghost use Rattle.replay.specs.Replay.{progress_of, version_at};
 ghost use Rattle.schema_version.specs.Sound.{IsSoundVersion};
 ghost use Rattle.world.specs.Calls.{effective_moment};
-ghost use Rattle.world.specs.State.{facts_of, recent, IsReplayed, Agrees};
+ghost use Rattle.world.specs.State.{facts_of, recent, entry_count, entries_before, entries_kept, cut_here, IsReplayed, Agrees};
 
 use crate::log::Log;
 use collections::ArcValue;
@@ -16,14 +16,15 @@ use reorganise::Progress;
 use replay::{Entry, lemma_kept_agrees};
 use row_map::{Near, PairView, RankedView, Walk};
 use schema_version::Schema;
+use std::alloc::Global;
 use std::marker::Model;
 use txn_store::Store;
 
 /// The core: the schema versions in use, the store of pairs, and the log of all accepted calls.
-/// Contracts see it as its state: what it was opened with, its log and its pairs.
+/// Contracts see it as its state: the checkpoint that it opened at, its whole log, how much of that
+/// is no longer in memory, and its pairs.
+#[derive(Drop)]
 pub struct World {
-    /// Version 1.
-    pub(crate) first: ArcValue<Schema>,
     /// The version before the newest.
     pub(crate) before: Option<ArcValue<Schema>>,
     pub(crate) newest: ArcValue<Schema>,
@@ -32,21 +33,6 @@ pub struct World {
     pub(crate) begun: Vec<Progress>,
     pub(crate) store: Store,
     pub(crate) log: Log,
-}
-
-// By hand, so that a caller's proof sees one call and not each field's.
-impl Drop for World {
-    fn drop(self) {
-        let World {
-            first: _,
-            before: _,
-            newest: _,
-            line: _,
-            begun: _,
-            store: _,
-            log: _,
-        } = self;
-    }
 }
 
 impl Model for World {
@@ -127,11 +113,46 @@ impl World {
         moment.max(self.log.moment())
     }
 
-    /// All entries, the first one first. The place of a receipt counts them from 1.
+    /// The entries that are in memory, the first one first: all since the last cut, or since the
+    /// opening. The place of the first of them is one above `log_start`.
     pub fn log(&self) -> &[Entry]
-        ensures { result.now ≡ self.now.log }
+        ensures { result.now ≡ entries_kept self.now }
     {
         self.log.entries()
+    }
+
+    /// How many entries there were before those of `log`.
+    pub fn log_start(&self) -> u64
+        ensures { result ≡ entries_before self.now }
+    {
+        self.log.start()
+    }
+
+    /// How many entries there were ever: also those that were cut off, and those before the
+    /// checkpoint at which this world opened. The place of a receipt counts them from 1.
+    pub fn log_len(&self) -> u64
+        ensures count { result ≡ entry_count self.now }
+        ensures kept { result ≡ entries_before self.now + length (entries_kept self.now) }
+    {
+        self.log.count()
+    }
+
+    /// Hands out the entries that are in memory, the first one first, so that they may be stored, and
+    /// freed outside of a lock. No later answer depends on them, but for those of `log` and
+    /// `log_start`. It takes no memory, and the same time whatever there is.
+    pub fn take_log(&mut self) -> Vec<Entry>
+        ensures entries { result.items ≡ entries_kept self.old }
+        ensures state { self.new ≡ cut_here self.old }
+    {
+        self.log.take()
+    }
+
+    /// Gives the memory of all entries back, as `take_log` whose answer is dropped. It takes time
+    /// with the entries since the last cut.
+    pub fn cut(&mut self)
+        ensures { self.new ≡ cut_here self.old }
+    {
+        let _taken = self.take_log();
     }
 
     // The begun reorganisation of an element.

@@ -25,7 +25,7 @@ finds_consistent old new now step p =
     let state : new ≡ effect old entry = p.accepted.2.state ∙ ap (effect old) p.accepted.2.entry in
     let facts : facts_of new ≡ after (facts_of old) entry = ap facts_of state ∙ facts_after old entry in
     let past : last_publication (facts_of new).line ≤ (facts_of new).moment = subst (λ (f : Facts). last_publication f.line ≤ f.moment) (sym facts) (omega arith) in
-    let all : IsConsistent (facts_of new).newest (facts_of new).rows new.pairs = consistent_newest new (record { valid = p.valid; past = past }) p.agrees in
+    let all : IsConsistent (facts_of new).newest (facts_of new).rows new.pairs = consistent_newest new (record { valid = p.valid; past = past; counted = p.counted }) p.agrees in
     subst (λ (r : Rows). IsConsistent (facts_of new).newest r old.pairs) (ap (λ (f : Facts). f.rows) facts)
     (subst (λ (q : Pairs). IsConsistent (facts_of new).newest (facts_of new).rows q) (ap (λ (s : State). s.pairs) state) all)
 

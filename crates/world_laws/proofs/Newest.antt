@@ -4,27 +4,9 @@ use Rattle.lease.specs.Timeline.{newest as newest_number}
 use Rattle.lease.proofs.Uses.{usable_from}
 use Rattle.schema_version.specs.Version.{Version}
 use Rattle.element_state.specs.Consistent.{IsConsistent}
-use Rattle.replay.specs.declared.entry.Entry.{Entry}
-use Rattle.replay.specs.declared.entry.What.{What}
-use Rattle.replay.specs.declared.entry.What.TheVariants.{Lease as Granted, Txn, Publish, Begin, Piece}
-use Rattle.replay.specs.Replay.{Facts, start, after, after_call, after_all, version_in}
+use Rattle.replay.specs.Replay.{version_in}
 use Rattle.world.specs.State.{State, facts_of, Agrees}
 use Rattle.world_laws.specs.Recent.{IsPublishedBy}
-
--- there is a version for each publication
-abbrev AreCounted : Facts → Type 0
-AreCounted facts = length (facts.newest ∷ facts.older) ≡ newest_number facts.line
-
-counted_call : (facts : Facts) (moment : ℕ) (what : What) → AreCounted facts → AreCounted (after_call facts moment what)
-counted_call facts moment (Granted lease) h = h
-counted_call facts moment (Txn lease ops) h = h
-counted_call facts moment (Publish step) h = ap suc h
-counted_call facts moment (Begin element pieces) h = h
-counted_call facts moment (Piece element piece cursor) h = h
-
-counted_all : (facts : Facts) (log : List Entry) → AreCounted facts → AreCounted (after_all facts log)
-counted_all facts [] h = h
-counted_all facts (entry ∷ log) h = counted_all (after facts entry) log (counted_call facts entry.moment entry.what h)
 
 -- the newest version stands under the number of publications
 newest_there : (newest : Version) (older : List Version) (number : ℕ) → length (newest ∷ older) ≡ number → version_in (newest ∷ older) number ≡ Some newest
@@ -34,4 +16,4 @@ pub consistent_newest : (s : State) → IsPublishedBy s (facts_of s).moment → 
 consistent_newest s by agrees =
     agrees (newest_number (facts_of s).line) (facts_of s).newest
     (usable_from (facts_of s).line (newest_number (facts_of s).line) (facts_of s).moment by.valid by.past (inl refl))
-    (newest_there (facts_of s).newest (facts_of s).older (newest_number (facts_of s).line) (counted_all (start s.opening) s.log refl))
+    (newest_there (facts_of s).newest (facts_of s).older (newest_number (facts_of s).line) by.counted)

@@ -28,13 +28,13 @@ use Rattle.world_laws.proofs.Recent.{commits_recent, queries_recent}
 use Rattle.world_laws.proofs.Snapshots.{answer_their_log, check_their_log, snapshots_recent}
 
 published : (start : State) (core : State) (moment : ℕ) → IsCore start core → IsPublishedBy core (effective_moment core moment)
-published start core moment is = record { valid = is.kept.valid; past = omega (arith, is.kept.since) }
+published start core moment is = record { valid = is.kept.valid; past = omega (arith, is.kept.since); counted = is.kept.counted }
 
 world_state : (start : State) (core : State) → IsCore start core → IsWorldState core
-world_state start core is = record { published = record { valid = is.kept.valid; past = is.kept.since }; sound = is.kept.sound; agrees = is.agrees }
+world_state start core is = record { published = record { valid = is.kept.valid; past = is.kept.since; counted = is.kept.counted }; sound = is.kept.sound; agrees = is.agrees }
 
 publication : (start : State) (v w : Known) (moment : ℕ) (step : List Move) (done : ℕ × Receipt) (a : Publishing start v moment step done w) → IsPublication a.0 (effective_moment a.0 moment) step a.1
-publication start v w moment step done a = record { done = done; accepted = a.2.3; valid = a.2.1.kept.valid; agrees = a.2.1.agrees }
+publication start v w moment step done a = record { done = done; accepted = a.2.3; valid = a.2.1.kept.valid; counted = a.2.1.kept.counted; agrees = a.2.1.agrees }
 
 pub shared_commits_recent : SharedCommitsAreRecent
 shared_commits_recent start v w moment prepared done a = commits_recent a.0 a.1 (effective_moment a.0 moment) prepared done (published start a.0 moment a.2.0) a.2.3

@@ -1,7 +1,7 @@
 -- Cited by the contracts of publications_find_exact.
 -- What a publication finds: the pairs are already what the next version demands.
-use Rattle.std.specs.Prelude.{◌≡◌, ℕ, ◌≤◌, List, Some, Ok}
-use Rattle.lease.specs.Timeline.{IsValid}
+use Rattle.std.specs.Prelude.{◌≡◌, ℕ, ◌≤◌, List, Some, Ok, ◌∷◌, length}
+use Rattle.lease.specs.Timeline.{IsValid, newest as newest_number}
 use Rattle.schema_version.specs.declared.element.ElementState.TheVariants.{Absent, Public}
 use Rattle.schema_version.specs.declared.element.ElementDef.{ElementDef}
 use Rattle.schema_version.specs.declared.step.Move.{Move}
@@ -20,6 +20,7 @@ pub record IsPublication (old : State) (now : ℕ) (step : List Move) (new : Sta
   pub done : ℕ × Receipt
   pub accepted : PublishAt old now step (Ok done) new
   pub valid : IsValid (facts_of new).line
+  pub counted : length ((facts_of new).newest ∷ (facts_of new).older) ≡ newest_number (facts_of new).line
   pub agrees : Agrees new
 
 -- the store before it is consistent with the version after it

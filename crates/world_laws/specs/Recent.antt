@@ -1,8 +1,8 @@
 -- Cited by the contracts of commits_are_recent.
 -- What runs under a lease runs on one of the last two versions.
-use Rattle.std.specs.Prelude.{ℕ, ◌≤◌, List, Ok}
+use Rattle.std.specs.Prelude.{◌≡◌, ℕ, ◌≤◌, ◌∷◌, List, length, Ok}
 use Rattle.lease.specs.declared.lease.Lease.{Lease}
-use Rattle.lease.specs.Timeline.{IsValid, IsLastTwo, last_publication}
+use Rattle.lease.specs.Timeline.{IsValid, IsLastTwo, last_publication, newest as newest_number}
 use Rattle.row_map.specs.declared.shape.Row.{Row}
 use Rattle.row_query.specs.declared.query.Query.{Query}
 use Rattle.row_write.specs.Made.{PreparedTxn}
@@ -15,6 +15,7 @@ use Rattle.world.specs.State.{State, facts_of}
 pub record IsPublishedBy (state : State) (now : ℕ) : Type 0 where
   pub valid : IsValid (facts_of state).line
   pub past : last_publication (facts_of state).line ≤ now
+  pub counted : length ((facts_of state).newest ∷ (facts_of state).older) ≡ newest_number (facts_of state).line
 
 -- the lease is on the newest version, or on the one before it
 abbrev pub IsRecent : State → Lease → Type 0

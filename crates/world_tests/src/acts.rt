@@ -55,6 +55,12 @@ pub(crate) enum Act {
     State(u64, Option<ElementState>),
     /// So many rows, with no pair missing and none without a reason.
     Check(u64),
+    /// The entries in memory are handed out, so many of them.
+    Take(usize),
+    /// The memory of all entries is given back.
+    Cut,
+    /// The world is one that opens from its checkpoint.
+    Reopen,
 }
 
 /// What acts keep for later ones.
@@ -166,6 +172,33 @@ fn checks(alloc: Global, world: &World, rows: u64) -> Reported {
     }
 }
 
+// Whether no entry is in memory any more, and as many are counted as before.
+fn is_cut(world: &World, count: u64) -> bool {
+    world.log().is_empty() && world.log_start() == count && world.log_len() == count
+}
+
+fn takes(world: &mut World, entries: usize) -> Reported {
+    let count = world.log_len();
+    let start = world.log_start();
+    let taken = world.take_log();
+    judged(taken.len() == entries && start + entries as u64 == count && is_cut(world, count))
+}
+
+fn cuts(world: &mut World) -> Reported {
+    let count = world.log_len();
+    world.cut();
+    judged(is_cut(world, count))
+}
+
+fn reopens(alloc: Global, world: &mut World) -> Reported {
+    let count = world.log_len();
+    let Ok(checkpoint) = world.checkpoint() else {
+        return Reported::Short;
+    };
+    *world = World::open_at(alloc, checkpoint);
+    judged(is_cut(world, count))
+}
+
 /// What comes of an act.
 pub(crate) fn acted(alloc: Global, world: &mut World, kept: &mut Kept, act: &Act) -> Reported {
     match act {
@@ -194,5 +227,8 @@ pub(crate) fn acted(alloc: Global, world: &mut World, kept: &mut Kept, act: &Act
         ),
         Act::State(version, state) => judged(state_in(world, *version) == *state),
         Act::Check(rows) => checks(alloc, world, *rows),
+        Act::Take(entries) => takes(world, *entries),
+        Act::Cut => cuts(world),
+        Act::Reopen => reopens(alloc, world),
     }
 }

@@ -19,6 +19,8 @@ mod replicas;
 #[cfg(test)]
 mod reported;
 #[cfg(test)]
+mod restored;
+#[cfg(test)]
 mod transactions;
 #[cfg(test)]
 mod walks;

@@ -8,8 +8,8 @@ use crate::pieces::Refusal::{Moved, NotWanted, WrongElement};
 use crate::replicas::are_alike;
 use crate::reported::{Reported, seen};
 use Act::{
-    Begin, ByHand, Check, Commit, Enter, Find, Go, Insert, Keep, Left, LetGo, Look, LookOver, Read,
-    Stand, State, Strange, Swap,
+    Begin, ByHand, Check, Commit, Cut, Enter, Find, Go, Insert, Keep, Left, LetGo, Look, LookOver,
+    Read, Reopen, Stand, State, Strange, Swap, Take,
 };
 use lease::Lease;
 use reorganise::Work::{Clear, Fill};
@@ -35,7 +35,7 @@ fn is_right(alloc: Global, world: &mut World, kept: &mut Kept, act: &Act) -> boo
 // How many of the acts are, up to the first that is not.
 fn walked(alloc: Global, world: &mut World, kept: &mut Kept, rows: &[Row]) -> usize {
     for (place, (act, entries)) in rows.iter().enumerate() {
-        if !is_right(alloc, world, kept, act) || world.log().len() != *entries {
+        if !is_right(alloc, world, kept, act) || world.log_len() != *entries as u64 {
             return place;
         }
     }
@@ -57,7 +57,7 @@ fn walked_anew(alloc: Global, kept: &mut Kept, rows: &[Row]) -> usize {
         return 0;
     };
     let place = walked(alloc, &mut world, kept, rows);
-    let is_repeated = is_repeated(alloc, &world);
+    let is_repeated = world.log_start() > 0 || is_repeated(alloc, &world);
     drop(world);
     if is_repeated { place } else { 0 }
 }
@@ -194,6 +194,40 @@ static FILL: [Row; 25] = [
 #[test]
 fn under_refusal_fills(rt: HostRuntime) {
     are_right(&rt, rt.alloc(), &OTHER, &FILL);
+}
+
+// A fill in a world whose entries are handed out and given back, and that opens from its checkpoint
+// again and again: the lease and the prepared piece of before serve, and places go on.
+static REOPENED: [Row; 24] = [
+    (Act::Lease(FIRST), 1),
+    (Insert(FIRST, (7, 5)), 2),
+    (Take(2), 2),
+    (Reopen, 2),
+    (Insert(FIRST, (8, 6)), 3),
+    (Enter("i"), 4),
+    (Reopen, 4),
+    (Go(2, WriteOnly, 20, Ok(3)), 5),
+    (Take(1), 5),
+    (Reopen, 5),
+    (Begin(2, 1, Ok(())), 6),
+    (Read, 6),
+    (Reopen, 6),
+    (Stand(Some((Fill, 1, false))), 6),
+    (Commit(Ok(())), 7),
+    (Cut, 7),
+    (Stand(Some((Fill, 1, true))), 7),
+    (Reopen, 7),
+    (Go(2, Public, 30, Ok(4)), 8),
+    (State(2, None), 8),
+    (State(3, Some(WriteOnly)), 8),
+    (State(4, Some(Public)), 8),
+    (Take(1), 8),
+    (Check(2), 8),
+];
+
+#[test]
+fn under_refusal_reopened(rt: HostRuntime) {
+    are_right(&rt, rt.alloc(), &[], &REOPENED);
 }
 
 // A lease, and 22 rows of even keys, whose 44 pairs are one page.

@@ -1,7 +1,7 @@
 -- Cited by private functions alone: read, edit, lay, bytes_of and 4 more.
 -- Pairs that lie in one string of bytes.
 use Rattle.std.specs.Prelude.{ℕ, ◌+◌, ◌≤◌, ◌<◌, ◌^◌, List, [], ◌∷◌, Option, Some, None, length, map, slice_range}
-use Rattle.page_map.specs.declared.flat_pairs.Slot.{Slot}
+use Rattle.page_map.specs.declared.slots.Slot.{Slot}
 
 -- the pair that a slot marks
 abbrev pub marked : List ℕ → Slot → List ℕ × List ℕ

@@ -1,6 +1,6 @@
--- Cited by private functions alone: unread_end, look, refused.
+-- Cited by private functions alone: unread_end, look, refused, failed_by and 2 more.
 -- What an attempt at a piece comes to, by what the lock answered. Only private functions cite this.
-use Rattle.std.specs.Prelude.{ℕ, Option, Some, None}
+use Rattle.std.specs.Prelude.{◌≡◌, ℕ, ◌+◌, Option, Some, None}
 use Rattle.reorganise.specs.declared.fault.ViewFault.TheVariants as view_fault
 use Rattle.world.specs.declared.piece.PieceFault.{PieceFault}
 use Rattle.world.specs.declared.piece.PieceFault.TheVariants.{MomentTooLarge, NotWanted, WrongElement, Moved, Conflict, Memory}
@@ -38,3 +38,19 @@ attempt_of (shared.World WrongElement) = attempt.Ended (piece_end.Refused WrongE
 attempt_of (shared.World (Moved cursor)) = attempt.Again
 attempt_of (shared.World (Conflict key)) = attempt.Again
 attempt_of (shared.World Memory) = attempt.Ended piece_end.Memory
+
+-- how many failed tries an attempt is
+abbrev pub failed_by : Attempt → ℕ
+failed_by attempt.More = 0
+failed_by attempt.Again = 1
+failed_by attempt.Reread = 0
+failed_by (attempt.Ended end) = 0
+
+-- Busy comes only after that many failed tries, each of them counted
+abbrev pub IsCounted : ℕ → PieceEnd → ℕ → Type 0
+IsCounted before piece_end.Finished after = Unit {0}
+IsCounted before (piece_end.Busy tries) after = after ≡ before + tries
+IsCounted before (piece_end.Refused fault) after = Unit {0}
+IsCounted before piece_end.Held after = Unit {0}
+IsCounted before (piece_end.WentBack seen) after = Unit {0}
+IsCounted before piece_end.Memory after = Unit {0}

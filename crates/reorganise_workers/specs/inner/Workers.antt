@@ -4,7 +4,7 @@ use Rattle.std.specs.Prelude.{◌≡◌, ℕ, ◌≤◌, List, [], All}
 use Rattle.world.specs.declared.entry.Receipt.{Receipt}
 use Rattle.world.specs.State.{State}
 use Rattle.locked_store.specs.Known.{Known}
-use Rattle.reorganise_workers.specs.Ends.{IsPieceReceipt}
+use Rattle.reorganise_workers.specs.Ends.{HasSeen, IsPieceReceipt}
 use Rattle.reorganise_workers.specs.inner.Jobs.{IsJob}
 use Rattle.reorganise_workers.specs.declared.job.Job.{Job}
 
@@ -15,12 +15,13 @@ pub record Filling : Type 0 where
   pub kept_receipts : List Receipt
   pub job : Job
 
--- its handle has seen at least what the job says that all handles had seen, and what it had seen itself when it came; each receipt is of a
--- piece of the job's element
+-- its handle has seen at least what the job says that all handles had seen, and what it had seen itself when it came; its front is one that a
+-- handle came with, or a length that the log had; each receipt is of a piece of the job's element
 pub record IsAtWork (start : State) (w : Filling) : Type 0 where
   pub job : IsJob w.job
   pub seen : w.job.front ≤ w.handle.front
   pub risen : w.first_front ≤ w.handle.front
+  pub had : HasSeen start w.job.most w.handle.front
   pub pieces : All (IsPieceReceipt start w.job) w.kept_receipts
 
 -- workers that have done nothing of this job yet

@@ -1,9 +1,12 @@
-use Rattle.std.proofs.Common.{◌≡◌, ◌+◌, ◌∙◌, length, ap, arith, rules}
-use Rattle.replay.specs.declared.entry.Entry.{Entry}
+use Rattle.std.proofs.Common.{◌≡◌, ◌+◌, ◌<◌, length, arith, rules}
+use Rattle.locked_store.specs.Receipts.{AreAfter}
+use Rattle.world.specs.State.{entries_before, entries_kept}
 use Rattle.load.proofs.load_run.compare_counts.Goals as goal
 
 pub returns-in-Ok : goal.returns-in-Ok
 returns-in-Ok c counted none =
-    let same : length c.args.receipts.now ≡ length c.log.result.now = grind (arith, rules, counted) in
-    let log : length c.log.result.now ≡ length c.args.world.now.log = ap (λ (es : _). length es) c.log.ensures in
-    c.lemma_receipts_are_the_log.ensures c.args.world.now.log 0 c.args.receipts.now c.in-Ok.ensures.ok (λ i r at. (c.in-Ok.ensures.ok.stands i r at).0) (omega (arith, same, log))
+    let before = entries_before c.args.world.now in
+    let kept = entries_kept c.args.world.now in
+    let same : before + length kept ≡ 0 + length c.args.receipts.now = grind (arith, rules, counted, c.log_len.ensures.kept) in
+    let after : AreAfter 0 c.args.receipts.now = λ i r at. omega (arith, (c.in-Ok.ensures.ok.stands i r at).0) in
+    c.lemma_receipts_are_the_log.ensures before kept 0 c.args.receipts.now c.in-Ok.ensures.ok after same

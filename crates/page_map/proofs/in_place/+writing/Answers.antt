@@ -1,19 +1,19 @@
 use Rattle.std.proofs.Common.{◌≡◌, ◌∙◌, ◌+◌, ◌-◌, ◌<◌, ◌++◌, T, List, ℕ, Option, length, get_or, take, drop, set, ap, sym, subst, refl, arith}
 use Rattle.std.specs.Vec.{with_items}
 use Rattle.std.specs.FinMap.Entries.{below_all}
-use Rattle.std.proofs.lemmas.List.{get_or-take, length-drop, length-take-le, take-append-drop, take_all, with_items_is}
+use Rattle.std.proofs.lemmas.List.{get_or-take, length-drop, length-take-le, take-append-drop, with_items_is}
 use Rattle.byte_map.specs.Order.{bytes_cmp}
 use Rattle.byte_map.specs.Sorted.{IsSorted, all_below, changed_all}
 use Rattle.byte_map.proofs.Ranges.{sorted_drop}
 use Rattle.page_map.specs.Empties.{empties}
-use Rattle.page_map.specs.inner.Prefix.{prefix_of}
+use Rattle.page_map.specs.inner.Prefix.{IsPrefix, HasPrefix}
 use Rattle.page_map.specs.Pages.{joined, AllFull, Stands}
 use Rattle.page_map.proofs.Changes.{sorted_from}
 use Rattle.page_map.proofs.Cuts.{sorted_one, sorted_prefix}
 use Rattle.page_map.proofs.Placing.{first_left}
 use Rattle.page_map.proofs.Empties.{few_empties}
-use Rattle.page_map.proofs.Full.{full_at, full_drop, full_take, full_append, full_set, some_parts, some_joined}
-use Rattle.page_map.proofs.InPlace.{IsNear, near_all, all_length, set_length, all_written}
+use Rattle.page_map.proofs.Full.{full_at, full_drop, full_take, full_append, full_set, some_parts, some_joined, has_prefix}
+use Rattle.page_map.proofs.InPlace.{IsNear, near_all, all_length, set_length, all_empties, set_empties, all_written}
 use Rattle.page_map.proofs.in_place.+writing.Goals as goal
 
 pub write_pages-write_pages-requires : goal.write_pages-write_pages-requires
@@ -45,7 +45,13 @@ write_pages-write_pages-requires t c =
                 c.requires.later,
                 (
                   omega (arith, c.requires.counted, all_length ps at page lt is, ap (λ l. length (joined l)) back),
-                  omega (arith, c.requires.few, back_len),
+                  (
+                    omega (arith, c.requires.few, back_len),
+                    (
+                      omega (arith, c.requires.empties, all_empties ps at page lt is, ap (λ l. length (empties (joined l))) back),
+                      omega (arith, c.requires.few_empties, back_len),
+                    ),
+                  ),
                 ),
               ),
             ),
@@ -54,8 +60,8 @@ write_pages-write_pages-requires t c =
       ),
     )
 
-pub write_pages-write_all_reserved-requires-clause-sorted : goal.write_pages-write_all_reserved-requires-clause-sorted
-write_pages-write_all_reserved-requires-clause-sorted t c =
+pub write_pages-write_all_reserved-new_count-requires-clause-sorted : goal.write_pages-write_all_reserved-new_count-requires-clause-sorted
+write_pages-write_all_reserved-new_count-requires-clause-sorted t c =
     let ps = c.args.pages.now in
     let ws = c.args.here.now in
     let at = c.place_of-at.result in
@@ -79,9 +85,9 @@ write_pages-pair-requires t c =
     let back : c.split_at_mut-prefix.result.1.now ≡ drop (at + 1) ps = c.split_at_mut-prefix.ensures.back in
     let held : c.is_ready.new.pairs.pairs ≡ page = c.if-not-is_ready.ensures.kept ∙ ap (λ f. f.pairs) c.in-Some.ensures.value ∙ c.page.view_is ∙ sym c.index-prefix-at.is in
     let sorted : IsSorted page = subst IsSorted (sym is) (sorted_one ps at page c.requires.sorted lt) in
-    let new : c.write_all_reserved.new.self.pairs ≡ changed_all page (take n ws) = c.write_all_reserved.ensures ∙ (λ i. changed_all (held i) (c.split_at.ensures.front i)) in
+    let new : c.write_all_reserved-new_count.new.self.pairs ≡ changed_all page (take n ws) = c.write_all_reserved-new_count.ensures.written ∙ (λ i. changed_all (held i) (c.split_at.ensures.front i)) in
     let near : IsNear (length page) (length (changed_all page (take n ws))) (length (take n ws)) = near_all page (take n ws) sorted in
-    let now : length c.write_all_reserved.new.self.pairs ≡ length (changed_all page (take n ws)) = ap length new in
+    let now : length c.write_all_reserved-new_count.new.self.pairs ≡ length (changed_all page (take n ws)) = ap length new in
     let here : length c.split_at.result.0.now ≡ length (take n ws) = ap length c.split_at.ensures.front in
     let size : length c.is_ready.new.pairs.pairs ≡ length page = ap length held in
     let kept : length c.is_ready.new.pairs.pairs ≡ length c.in-Some.pairs.now.pairs = ap length c.if-not-is_ready.ensures.kept in
@@ -101,9 +107,9 @@ write_pages-overflow_sub-result t c =
     let back : c.split_at_mut-prefix.result.1.now ≡ drop (at + 1) ps = c.split_at_mut-prefix.ensures.back in
     let held : c.is_ready.new.pairs.pairs ≡ page = c.if-not-is_ready.ensures.kept ∙ ap (λ f. f.pairs) c.in-Some.ensures.value ∙ c.page.view_is ∙ sym c.index-prefix-at.is in
     let sorted : IsSorted page = subst IsSorted (sym is) (sorted_one ps at page c.requires.sorted lt) in
-    let new : c.write_all_reserved.new.self.pairs ≡ changed_all page (take n ws) = c.write_all_reserved.ensures ∙ (λ i. changed_all (held i) (c.split_at.ensures.front i)) in
+    let new : c.write_all_reserved-new_count.new.self.pairs ≡ changed_all page (take n ws) = c.write_all_reserved-new_count.ensures.written ∙ (λ i. changed_all (held i) (c.split_at.ensures.front i)) in
     let near : IsNear (length page) (length (changed_all page (take n ws))) (length (take n ws)) = near_all page (take n ws) sorted in
-    let now : length c.write_all_reserved.new.self.pairs ≡ length (changed_all page (take n ws)) = ap length new in
+    let now : length c.write_all_reserved-new_count.new.self.pairs ≡ length (changed_all page (take n ws)) = ap length new in
     let here : length c.split_at.result.0.now ≡ length (take n ws) = ap length c.split_at.ensures.front in
     let size : length c.is_ready.new.pairs.pairs ≡ length page = ap length held in
     let kept : length c.is_ready.new.pairs.pairs ≡ length c.in-Some.pairs.now.pairs = ap length c.if-not-is_ready.ensures.kept in
@@ -124,9 +130,9 @@ write_pages-invariant_of-page-2 t c =
     let back : c.split_at_mut-prefix.result.1.now ≡ drop (at + 1) ps = c.split_at_mut-prefix.ensures.back in
     let held : c.is_ready.new.pairs.pairs ≡ page = c.if-not-is_ready.ensures.kept ∙ ap (λ f. f.pairs) c.in-Some.ensures.value ∙ c.page.view_is ∙ sym c.index-prefix-at.is in
     let sorted : IsSorted page = subst IsSorted (sym is) (sorted_one ps at page c.requires.sorted lt) in
-    let new : c.write_all_reserved.new.self.pairs ≡ changed_all page (take n ws) = c.write_all_reserved.ensures ∙ (λ i. changed_all (held i) (c.split_at.ensures.front i)) in
+    let new : c.write_all_reserved-new_count.new.self.pairs ≡ changed_all page (take n ws) = c.write_all_reserved-new_count.ensures.written ∙ (λ i. changed_all (held i) (c.split_at.ensures.front i)) in
     let near : IsNear (length page) (length (changed_all page (take n ws))) (length (take n ws)) = near_all page (take n ws) sorted in
-    let now : length c.write_all_reserved.new.self.pairs ≡ length (changed_all page (take n ws)) = ap length new in
+    let now : length c.write_all_reserved-new_count.new.self.pairs ≡ length (changed_all page (take n ws)) = ap length new in
     let here : length c.split_at.result.0.now ≡ length (take n ws) = ap length c.split_at.ensures.front in
     let size : length c.is_ready.new.pairs.pairs ≡ length page = ap length held in
     let kept : length c.is_ready.new.pairs.pairs ≡ length c.in-Some.pairs.now.pairs = ap length c.if-not-is_ready.ensures.kept in
@@ -134,8 +140,8 @@ write_pages-invariant_of-page-2 t c =
     let few = c.if-not-is_ready.ensures.few refl in
     record {
       page = (omega (arith, near.1, now, here, size, kept, some), omega (arith, near.0, now, here, size, kept, few));
-      counted = c.count_empty-page-inside.ensures ∙ ap (λ (l : List (List ℕ × List ℕ)). length (empties l)) (take_all _ c.write_all_reserved.new.self.pairs (omega (arith, c.len-2.ensures)));
-      prefix = λ first stands. c.prefix_of-page-inside.ensures ∙ ap (λ (l : List (List ℕ × List ℕ)). prefix_of (get_or l 0 first).0) (sym c.pair.ensures ∙ stands);
+      counted = c.write_all_reserved-new_count.ensures.counted;
+      prefix = λ first stands. subst (λ (l : List (List ℕ × List ℕ)). IsPrefix c.prefix_of-page-inside.result (get_or l 0 first).0) (sym c.pair.ensures ∙ stands) c.prefix_of-page-inside.ensures;
     }
 
 pub write_pages-overflow_add-result : goal.write_pages-overflow_add-result
@@ -150,9 +156,9 @@ write_pages-overflow_add-result t c =
     let back : c.split_at_mut-prefix.result.1.now ≡ drop (at + 1) ps = c.split_at_mut-prefix.ensures.back in
     let held : c.is_ready.new.pairs.pairs ≡ page = c.if-not-is_ready.ensures.kept ∙ ap (λ f. f.pairs) c.in-Some.ensures.value ∙ c.page.view_is ∙ sym c.index-prefix-at.is in
     let sorted : IsSorted page = subst IsSorted (sym is) (sorted_one ps at page c.requires.sorted lt) in
-    let new : c.write_all_reserved.new.self.pairs ≡ changed_all page (take n ws) = c.write_all_reserved.ensures ∙ (λ i. changed_all (held i) (c.split_at.ensures.front i)) in
+    let new : c.write_all_reserved-new_count.new.self.pairs ≡ changed_all page (take n ws) = c.write_all_reserved-new_count.ensures.written ∙ (λ i. changed_all (held i) (c.split_at.ensures.front i)) in
     let near : IsNear (length page) (length (changed_all page (take n ws))) (length (take n ws)) = near_all page (take n ws) sorted in
-    let now : length c.write_all_reserved.new.self.pairs ≡ length (changed_all page (take n ws)) = ap length new in
+    let now : length c.write_all_reserved-new_count.new.self.pairs ≡ length (changed_all page (take n ws)) = ap length new in
     let here : length c.split_at.result.0.now ≡ length (take n ws) = ap length c.split_at.ensures.front in
     let size : length c.is_ready.new.pairs.pairs ≡ length page = ap length held in
     let kept : length c.is_ready.new.pairs.pairs ≡ length c.in-Some.pairs.now.pairs = ap length c.if-not-is_ready.ensures.kept in
@@ -180,13 +186,13 @@ write_pages-returns-clause-written t c =
     let back : c.split_at_mut-prefix.result.1.now ≡ drop (at + 1) ps = c.split_at_mut-prefix.ensures.back in
     let held : c.is_ready.new.pairs.pairs ≡ page = c.if-not-is_ready.ensures.kept ∙ ap (λ f. f.pairs) c.in-Some.ensures.value ∙ c.page.view_is ∙ sym c.index-prefix-at.is in
     let w = c.index-here-0.result in
-    let new : c.write_all_reserved.new.self.pairs ≡ changed_all page (take n ws) = c.write_all_reserved.ensures ∙ (λ i. changed_all (held i) (c.split_at.ensures.front i)) in
+    let new : c.write_all_reserved-new_count.new.self.pairs ≡ changed_all page (take n ws) = c.write_all_reserved-new_count.ensures.written ∙ (λ i. changed_all (held i) (c.split_at.ensures.front i)) in
     let rest : joined c.write_pages.new.pages ≡ changed_all (joined (drop (at + 1) ps)) (drop n ws) = c.in-Some-write_pages.ensures.written ∙ (λ i. changed_all (joined (back i)) (c.split_at.ensures.back i)) in
     let here : Stands ws 0 w = first_left ws ws 0 w (omega (arith, c.in-len1-up.len_at_least)) c.index-here-0.is refl in
-    ap (λ l. joined (set l at c.write_all_reserved.new.self.pairs ++ c.write_pages.new.pages)) c.split_at_mut-prefix.ensures.front
+    ap (λ l. joined (set l at c.write_all_reserved-new_count.new.self.pairs ++ c.write_pages.new.pages)) c.split_at_mut-prefix.ensures.front
     ∙ all_written ps at page lt is ws n w c.requires.sorted c.requires.here here
     (subst (λ k. T (all_below (joined (take at ps)) k)) (c.as_slice.ensures ∙ ap (λ (v : List ℕ × Option (List ℕ)). v.0) (sym c.index-here-0.is)) c.place_of-at.ensures.before)
-    c.count_before-count.ensures.parted c.write_all_reserved.new.self.pairs c.write_pages.new.pages new rest
+    c.count_before-count.ensures.parted c.write_all_reserved-new_count.new.self.pairs c.write_pages.new.pages new rest
 
 pub write_pages-returns-clause-counted : goal.write_pages-returns-clause-counted
 write_pages-returns-clause-counted t c =
@@ -200,18 +206,118 @@ write_pages-returns-clause-counted t c =
     let back : c.split_at_mut-prefix.result.1.now ≡ drop (at + 1) ps = c.split_at_mut-prefix.ensures.back in
     let held : c.is_ready.new.pairs.pairs ≡ page = c.if-not-is_ready.ensures.kept ∙ ap (λ f. f.pairs) c.in-Some.ensures.value ∙ c.page.view_is ∙ sym c.index-prefix-at.is in
     let sorted : IsSorted page = subst IsSorted (sym is) (sorted_one ps at page c.requires.sorted lt) in
-    let new : c.write_all_reserved.new.self.pairs ≡ changed_all page (take n ws) = c.write_all_reserved.ensures ∙ (λ i. changed_all (held i) (c.split_at.ensures.front i)) in
+    let new : c.write_all_reserved-new_count.new.self.pairs ≡ changed_all page (take n ws) = c.write_all_reserved-new_count.ensures.written ∙ (λ i. changed_all (held i) (c.split_at.ensures.front i)) in
     let near : IsNear (length page) (length (changed_all page (take n ws))) (length (take n ws)) = near_all page (take n ws) sorted in
-    let now : length c.write_all_reserved.new.self.pairs ≡ length (changed_all page (take n ws)) = ap length new in
+    let now : length c.write_all_reserved-new_count.new.self.pairs ≡ length (changed_all page (take n ws)) = ap length new in
     let here : length c.split_at.result.0.now ≡ length (take n ws) = ap length c.split_at.ensures.front in
     let size : length c.is_ready.new.pairs.pairs ≡ length page = ap length held in
     let kept : length c.is_ready.new.pairs.pairs ≡ length c.in-Some.pairs.now.pairs = ap length c.if-not-is_ready.ensures.kept in
     let total = c.in-Some-write_pages.ensures.counted in
     let old : length (joined c.split_at_mut-prefix.result.1.now) ≡ length (joined (drop (at + 1) ps)) = ap (λ l. length (joined l)) back in
     let all = all_length ps at page lt is in
-    let whole : length (joined (set c.split_at_mut-prefix.result.0.now at c.write_all_reserved.new.self.pairs ++ c.write_pages.new.pages)) ≡ (length (joined (take at ps)) + length c.write_all_reserved.new.self.pairs) + length (joined c.write_pages.new.pages) =
-    ap (λ l. length (joined (set l at c.write_all_reserved.new.self.pairs ++ c.write_pages.new.pages))) c.split_at_mut-prefix.ensures.front ∙ set_length ps at page lt is c.write_all_reserved.new.self.pairs c.write_pages.new.pages in
+    let whole : length (joined (set c.split_at_mut-prefix.result.0.now at c.write_all_reserved-new_count.new.self.pairs ++ c.write_pages.new.pages)) ≡ (length (joined (take at ps)) + length c.write_all_reserved-new_count.new.self.pairs) + length (joined c.write_pages.new.pages) =
+    ap (λ l. length (joined (set l at c.write_all_reserved-new_count.new.self.pairs ++ c.write_pages.new.pages))) c.split_at_mut-prefix.ensures.front ∙ set_length ps at page lt is c.write_all_reserved-new_count.new.self.pairs c.write_pages.new.pages in
     omega (arith, c.len-before.ensures, c.len.ensures, size, kept, total, old, all, whole, c.requires.counted)
+
+pub write_pages-write_all_reserved-new_count-requires-clause-counted : goal.write_pages-write_all_reserved-new_count-requires-clause-counted
+write_pages-write_all_reserved-new_count-requires-clause-counted t c =
+    let ps = c.args.pages.now in
+    let ws = c.args.here.now in
+    let at = c.place_of-at.result in
+    let n = c.count_before-count.result in
+    let page = c.index-prefix-at.result in
+    let lt : at < length ps = omega (arith, c.if-at-pages.false) in
+    let is : page ≡ get_or ps at page = c.index-prefix-at.is ∙ ap (λ l. get_or l at page) c.split_at_mut-prefix.ensures.front ∙ get_or-take (at + 1) ps at page (omega arith) in
+    let back : c.split_at_mut-prefix.result.1.now ≡ drop (at + 1) ps = c.split_at_mut-prefix.ensures.back in
+    let held : c.is_ready.new.pairs.pairs ≡ page = c.if-not-is_ready.ensures.kept ∙ ap (λ f. f.pairs) c.in-Some.ensures.value ∙ c.page.view_is ∙ sym c.index-prefix-at.is in
+    c.empties-old_count.ensures ∙ ap (λ (l : List (List ℕ × List ℕ)). length (empties l)) (sym c.index-prefix-at.is ∙ sym held)
+
+pub write_pages-write_all_reserved-new_count-requires-clause-few : goal.write_pages-write_all_reserved-new_count-requires-clause-few
+write_pages-write_all_reserved-new_count-requires-clause-few t c =
+    let ps = c.args.pages.now in
+    let ws = c.args.here.now in
+    let at = c.place_of-at.result in
+    let n = c.count_before-count.result in
+    let page = c.index-prefix-at.result in
+    let lt : at < length ps = omega (arith, c.if-at-pages.false) in
+    let is : page ≡ get_or ps at page = c.index-prefix-at.is ∙ ap (λ l. get_or l at page) c.split_at_mut-prefix.ensures.front ∙ get_or-take (at + 1) ps at page (omega arith) in
+    let back : c.split_at_mut-prefix.result.1.now ≡ drop (at + 1) ps = c.split_at_mut-prefix.ensures.back in
+    let held : c.is_ready.new.pairs.pairs ≡ page = c.if-not-is_ready.ensures.kept ∙ ap (λ f. f.pairs) c.in-Some.ensures.value ∙ c.page.view_is ∙ sym c.index-prefix-at.is in
+    let few = c.if-not-is_ready.ensures.few refl in
+    let kept : length c.is_ready.new.pairs.pairs ≡ length c.in-Some.pairs.now.pairs = ap length c.if-not-is_ready.ensures.kept in
+    omega (arith, c.empties-old_count.ensures, ap (λ (l : List (List ℕ × List ℕ)). length (empties l)) c.index-prefix-at.is, few_empties page, ap length held, kept, few)
+
+pub write_pages-returns-clause-empties : goal.write_pages-returns-clause-empties
+write_pages-returns-clause-empties t c =
+    let ps = c.args.pages.now in
+    let ws = c.args.here.now in
+    let at = c.place_of-at.result in
+    let n = c.count_before-count.result in
+    let page = c.index-prefix-at.result in
+    let lt : at < length ps = omega (arith, c.if-at-pages.false) in
+    let is : page ≡ get_or ps at page = c.index-prefix-at.is ∙ ap (λ l. get_or l at page) c.split_at_mut-prefix.ensures.front ∙ get_or-take (at + 1) ps at page (omega arith) in
+    let back : c.split_at_mut-prefix.result.1.now ≡ drop (at + 1) ps = c.split_at_mut-prefix.ensures.back in
+    let held : c.is_ready.new.pairs.pairs ≡ page = c.if-not-is_ready.ensures.kept ∙ ap (λ f. f.pairs) c.in-Some.ensures.value ∙ c.page.view_is ∙ sym c.index-prefix-at.is in
+    let whole : length (empties (joined (set c.split_at_mut-prefix.result.0.now at c.write_all_reserved-new_count.new.self.pairs ++ c.write_pages.new.pages))) ≡ (length (empties (joined (take at ps))) + length (empties c.write_all_reserved-new_count.new.self.pairs)) + length (empties (joined c.write_pages.new.pages)) =
+    ap (λ l. length (empties (joined (set l at c.write_all_reserved-new_count.new.self.pairs ++ c.write_pages.new.pages)))) c.split_at_mut-prefix.ensures.front ∙ set_empties ps at page lt is c.write_all_reserved-new_count.new.self.pairs c.write_pages.new.pages in
+    omega (
+      arith,
+      whole,
+      c.in-Some-write_pages.ensures.empties,
+      c.empties-old_count.ensures,
+      ap (λ (l : List (List ℕ × List ℕ)). length (empties l)) c.index-prefix-at.is,
+      c.write_all_reserved-new_count.ensures.counted,
+      all_empties ps at page lt is,
+      ap (λ l. length (empties (joined l))) back,
+      c.requires.empties,
+    )
+
+pub write_pages-overflow_sub-result-2 : goal.write_pages-overflow_sub-result-2
+write_pages-overflow_sub-result-2 t c =
+    let ps = c.args.pages.now in
+    let ws = c.args.here.now in
+    let at = c.place_of-at.result in
+    let n = c.count_before-count.result in
+    let page = c.index-prefix-at.result in
+    let lt : at < length ps = omega (arith, c.if-at-pages.false) in
+    let is : page ≡ get_or ps at page = c.index-prefix-at.is ∙ ap (λ l. get_or l at page) c.split_at_mut-prefix.ensures.front ∙ get_or-take (at + 1) ps at page (omega arith) in
+    let back : c.split_at_mut-prefix.result.1.now ≡ drop (at + 1) ps = c.split_at_mut-prefix.ensures.back in
+    omega (
+      arith,
+      c.in-Some-write_pages.ensures.empties,
+      c.empties-old_count.ensures,
+      ap (λ (l : List (List ℕ × List ℕ)). length (empties l)) c.index-prefix-at.is,
+      all_empties ps at page lt is,
+      ap (λ l. length (empties (joined l))) back,
+      c.requires.empties,
+    )
+
+pub write_pages-returns-clause-few_empties : goal.write_pages-returns-clause-few_empties
+write_pages-returns-clause-few_empties t c =
+    let ps = c.args.pages.now in
+    let ws = c.args.here.now in
+    let at = c.place_of-at.result in
+    let n = c.count_before-count.result in
+    let page = c.index-prefix-at.result in
+    let lt : at < length ps = omega (arith, c.if-at-pages.false) in
+    let is : page ≡ get_or ps at page = c.index-prefix-at.is ∙ ap (λ l. get_or l at page) c.split_at_mut-prefix.ensures.front ∙ get_or-take (at + 1) ps at page (omega arith) in
+    let back : c.split_at_mut-prefix.result.1.now ≡ drop (at + 1) ps = c.split_at_mut-prefix.ensures.back in
+    let prefix_len : length c.split_at.result.0.now ≡ n = ap length c.split_at.ensures.front ∙ length-take-le n ws c.count_before-count.ensures.in_range in
+    let back_len : length c.split_at.result.1.now ≡ length ws - n = ap length c.split_at.ensures.back ∙ length-drop n ws in
+    omega (
+      arith,
+      c.in-Some-write_pages.ensures.empties,
+      c.empties-old_count.ensures,
+      ap (λ (l : List (List ℕ × List ℕ)). length (empties l)) c.index-prefix-at.is,
+      all_empties ps at page lt is,
+      ap (λ l. length (empties (joined l))) back,
+      c.requires.empties,
+      c.in-Some-write_pages.ensures.few_empties,
+      c.write_all_reserved-new_count.ensures.few,
+      prefix_len,
+      back_len,
+      c.count_before-count.ensures.in_range,
+    )
 
 pub write_chunks-write_pages-requires : goal.write_chunks-write_pages-requires
 write_chunks-write_pages-requires t c =
@@ -242,7 +348,23 @@ write_chunks-write_pages-requires t c =
                 sorted_drop ws _ n c.requires.writes c.split_at.ensures.back,
                 (
                   omega (arith, c.requires.counted, all_length ps at chunk lt is, ap (λ l. length (joined l)) back, ap length held),
-                  omega (arith, c.requires.few, prefix_len, back_len, c.count_before-count.ensures.in_range),
+                  (
+                    omega (arith, c.requires.few, prefix_len, back_len, c.count_before-count.ensures.in_range),
+                    (
+                      omega (arith, c.empties-before.ensures, ap (λ (l : List (List ℕ × List ℕ)). length (empties l)) c.index-prefix-at.is, ap (λ (l : List (List ℕ × List ℕ)). length (empties l)) held),
+                      omega (
+                        arith,
+                        c.empties-before.ensures,
+                        ap (λ (l : List (List ℕ × List ℕ)). length (empties l)) c.index-prefix-at.is,
+                        few_empties chunk,
+                        c.requires.counted,
+                        all_length ps at chunk lt is,
+                        c.requires.few,
+                        prefix_len,
+                        c.count_before-count.ensures.in_range,
+                      ),
+                    ),
+                  ),
                 ),
               ),
             ),
@@ -336,29 +458,23 @@ write_chunks-returns-clause-full t c =
     (full_set c.split_at_mut-prefix.result.0.now at _ (subst AllFull (sym c.split_at_mut-prefix.ensures.front) (full_take ps (at + 1) c.requires.full)) (subst (λ l. 0 < length (joined l)) (sym now) some))
     c.write_pages.ensures.full
 
-pub write_chunks-count_pages-chunk-inside-requires : goal.write_chunks-count_pages-chunk-inside-requires
-write_chunks-count_pages-chunk-inside-requires t c =
+pub write_chunks-invariant_of-chunk-2 : goal.write_chunks-invariant_of-chunk-2
+write_chunks-invariant_of-chunk-2 t c =
     let ps = c.args.chunks.now in
-    let ws = c.args.writes.now in
     let at = c.place_of-at.result in
-    let n = c.count_before-count.result in
     let chunk = c.index-prefix-at.result in
-    let lt : at < length ps = omega (arith, c.if-at-chunks.false) in
-    let is : chunk ≡ get_or ps at chunk = c.index-prefix-at.is ∙ ap (λ l. get_or l at chunk) c.split_at_mut-prefix.ensures.front ∙ get_or-take (at + 1) ps at chunk (omega arith) in
     let pages = c.as_mut_slice-pages.result.now in
     let held : joined pages ≡ chunk = ap joined c.as_mut_slice-pages.ensures.value ∙ ap (λ v. joined v.items) c.in-Some.ensures.value ∙ c.chunk.view_is ∙ sym c.index-prefix-at.is in
-    let sorted : IsSorted chunk = subst IsSorted (sym is) (sorted_one ps at chunk c.requires.sorted lt) in
-    let prefix_len : length c.split_at.result.0.now ≡ n = ap length c.split_at.ensures.front ∙ length-take-le n ws c.count_before-count.ensures.in_range in
-    let near = near_all (joined pages) c.split_at.result.0.now (subst IsSorted (sym held) sorted) in
-    omega (
-      arith,
-      few_empties (joined c.write_pages.new.pages),
-      ap length c.in-Some-write_pages.ensures.written,
-      near.0,
-      prefix_len,
-      c.count_before-count.ensures.in_range,
-      c.requires.counted,
-      c.requires.few,
-      all_length ps at chunk lt is,
-      ap length held,
-    )
+    let new = c.write_pages.new.pages in
+    let now : (with_items c.in-Some.held.now new).items ≡ new = with_items_is c.in-Some.held.now new (c.write_pages.ensures.len ∙ c.as_mut_slice-pages.ensures.len) in
+    record {
+      prefix = subst (λ l. HasPrefix (joined l) c.first_prefix.result.now) (sym now) (has_prefix new c.index-first-0.result c.first_prefix.result.now c.index-first-0.is c.first_prefix.ensures.page.0 c.first_prefix.ensures.prefix);
+      counted = omega (
+        arith,
+        c.in-Some-write_pages.ensures.empties,
+        c.empties-before.ensures,
+        ap (λ (l : List (List ℕ × List ℕ)). length (empties l)) c.index-prefix-at.is,
+        ap (λ (l : List (List ℕ × List ℕ)). length (empties l)) held,
+        ap (λ l. length (empties (joined l))) now,
+      );
+    }

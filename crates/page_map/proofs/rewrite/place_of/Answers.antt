@@ -7,8 +7,8 @@ use Rattle.page_map.specs.Pages.{joined}
 use Rattle.page_map.proofs.Changes.{sorted_from, below_next}
 use Rattle.page_map.proofs.rewrite.place_of.Goals as goal
 
-pub count_up_to-count-requires : goal.count_up_to-count-requires
-count_up_to-count-requires c = subst (λ (l : List (List (List ℕ × List ℕ))). IsSorted (joined l)) (sym c.split_at.ensures.back) (sorted_from c.args.pages.now c.args.from c.requires.sorted)
+pub count_up_to-count-requires-clause-sorted : goal.count_up_to-count-requires-clause-sorted
+count_up_to-count-requires-clause-sorted c = subst (λ (l : List (List (List ℕ × List ℕ))). IsSorted (joined l)) (sym c.split_at.ensures.back) (sorted_from c.args.pages.now c.args.from c.requires.sorted)
 
 pub returns-then-count-eq0-clause-after : goal.returns-then-count-eq0-clause-after
 returns-then-count-eq0-clause-after c =

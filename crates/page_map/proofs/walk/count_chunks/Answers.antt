@@ -1,4 +1,4 @@
-use Rattle.std.proofs.Common.{◌∙◌, sym, ap, arith}
+use Rattle.std.proofs.Common.{arith}
 use Rattle.page_map.proofs.Empties.{count_page, empties_fit}
 use Rattle.page_map.proofs.walk.count_chunks.Goals as goal
 

@@ -9,7 +9,7 @@ returns-in_err-write-clause-cut g c =
     cut_by_writer _ c.from_residual-in_err-write.result _ c.from_residual-in_err-write.ensures.1 (λ e told. told ∙ c.in_err-write.ensures.err) (record {
       text = answer.text.items;
       bad = answer.is_bad;
-      new = c.answer_line.new.session;
+      new = c.answer_line.new.state;
       answered = c.in_ok-answer.ensures;
       written = subst (AppendsPrefix (g.W.Write.contents c.args.streams.now.writer) (g.W.Write.contents c.write.new.self.writer)) c.bytes.ensures c.in_err-write.ensures.cut;
     })

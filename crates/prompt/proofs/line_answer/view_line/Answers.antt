@@ -7,7 +7,7 @@ pub returns-in-Some : goal.returns-in-Some
 returns-in-Some c =
     let remark = string_bytes c.in-Some.view in
     let text : c.in_ok-answer.answer.text.items ≡ remark_text remark = cc (c.in_ok-answer.ensures.text, c.as_str.ensures.value) in
-    answered_view _ _ remark _ _ c.requires.foreign c.requires.calm (of_found c.in_ok-view.field-0 c.in-Some.view c.in-Some.is c.in_ok-view.ensures) text c.in_ok-answer.ensures.bad
+    answered_view _ _ remark _ _ c.requires.foreign c.requires.calm c.requires.no_undo c.requires.no_cut c.requires.no_save (of_found c.in_ok-view.field-0 c.in-Some.view c.in-Some.is c.in_ok-view.ensures) text c.in_ok-answer.ensures.bad
 
 pub reply_line-requires : goal.reply_line-requires
-reply_line-requires c = record { calm = λ _. c.requires.calm }
+reply_line-requires c = record { calm = λ _. (c.requires.calm, c.requires.no_undo, c.requires.no_cut, c.requires.no_save) }

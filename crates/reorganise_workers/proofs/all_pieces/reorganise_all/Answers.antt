@@ -14,7 +14,7 @@ pub returns-clause-done : goal.returns-clause-done
 returns-clause-done g c =
     ok_map c.run.result c.run.ensures.done
     (λ s r. worked_off g.L.SharedLedger.start c.args.moment c.args.element c.args.limit c.args.tries c.in-Ok.job c.args.handles.items c.look_again.new.handles.items s.ends.items s.handles.items s.receipts.items
-    c.in-Ok.ensures.stays.0 c.in-Ok.ensures.job.1 c.in-Ok.ensures.begun c.in-Ok.ensures.least r)
+    c.in-Ok.ensures.stays.0 c.in-Ok.ensures.job.1 c.in-Ok.ensures.begun c.in-Ok.ensures.least c.in-Ok.ensures.greatest r)
 
 pub returns-clause-refused : goal.returns-clause-refused
 returns-clause-refused g c =

@@ -1,8 +1,7 @@
-use Rattle.std.proofs.Common.{List, subst}
-use Rattle.row_map.specs.Rows.{Rows}
-use Rattle.row_write.specs.declared.op.RowOp.{RowOp}
-use Rattle.row_write.specs.Prepare.{Encodes}
+use Rattle.std.proofs.Common.{◌∙◌}
+use Rattle.row_write.proofs.Prepares.{made_from}
 use Rattle.row_write.proofs.prepare_txn.prepare_shared.Goals as goal
 
-pub returns-clause-some_rows : goal.returns-clause-some_rows
-returns-clause-some_rows c = subst (λ (ops : List RowOp). (rows : Rows) × Encodes c.args.schema.now ops c.args.view.now rows) c.as_slice.ensures c.in_ok-reported.ensures.some_rows
+pub invariant_of-result : goal.invariant_of-result
+invariant_of-result c =
+    made_from c.get.result.now c.args.schema c.as_slice.result.now c.args.ops c.args.lease c.args.view c.in-Ok.batch c.in-Ok.reported c.get.ensures (c.as_slice.ensures ∙ c.get-2.ensures) c.in-Ok.ensures.sound c.in-Ok.ensures.some_rows c.in-Ok.ensures.prepared

@@ -35,6 +35,6 @@ returns-else-is_bare-clause-names c =
     let first = c.is_bare.ensures.1 (subst HasNoSpace (sym names.0) (bare_table.no_tab, bare_table.no_space)) in
     elim c.else-is_bare.branch [
       | else-is_bare-via-then-is_bare+else-is_bare-2 w ↦
-          false≢true (sym w.if-is_bare-2.false ∙ w.is_bare-then-is_bare.ensures.1 (subst HasNoSpace (sym names.1) (bare_name.no_tab, bare_name.no_space)))
+          false≢true (sym w.if-is_bare-2.false ∙ w.is_bare-then-is_bare.ensures.1 (subst HasNoSpace (sym names.1) bare_name))
       | else-is_bare-via-else-is_bare w ↦ false≢true (sym w.if-is_bare.false ∙ first)
     ]

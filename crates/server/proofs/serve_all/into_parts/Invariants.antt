@@ -11,7 +11,7 @@ invariant-loop-worker g l =
     × (vec_len l.fn.workers ≤ vec_capacity l.handles) × (vec_len l.fn.workers ≤ vec_capacity l.receipts)
     × (l.handles.items ++ reverse (map (λ (w : Serving). w.handle) l.workers.items) ≡ reverse (map (λ (w : Serving). w.handle) l.fn.workers.items))
     × (sum_by length l.receipts.items + sum_by (λ (w : Serving). length w.kept_receipts) l.workers.items ≡ sum_by (λ (w : Serving). length w.kept_receipts) l.fn.workers.items)
-    × ((orders : Orders) → All (λ (w : Serving). w.orders ≡ orders) l.fn.workers.items → All (λ (w : Serving). w.orders ≡ orders) l.workers.items × All (All (IsLeaseReceipt (SaidByCore g.L.SharedLedger.start orders.front))) l.receipts.items)
+    × ((orders : Orders) → All (λ (w : Serving). w.orders ≡ orders) l.fn.workers.items → All (λ (w : Serving). w.orders ≡ orders) l.workers.items × All (All (IsLeaseReceipt (SaidByCore g.L.SharedLedger.start orders.front orders.most))) l.receipts.items)
     × (All (λ (w : Serving). w.first_front ≤ w.handle.front) l.workers.items → All (λ (w : Serving). w.first_front ≤ w.handle.front) l.fn.workers.items)
 
 abbrev pub decreases-loop-worker : goal.decreases-loop-worker

@@ -1,4 +1,4 @@
-use Rattle.std.proofs.Common.{◌∙◌, List, ℕ, ap, sym, arith}
+use Rattle.std.proofs.Common.{List, ℕ, arith}
 use Rattle.page_map.proofs.Empties.{count_pair}
 use Rattle.page_map.proofs.flat_pairs.FlatPairs.count_empty.Goals as goal
 

@@ -1,4 +1,4 @@
-use Rattle.std.proofs.Common.{◌∙◌, ap, arith, length, take, drop}
+use Rattle.std.proofs.Common.{ap, arith, length, take}
 use Rattle.page_map.specs.Empties.{empties}
 use Rattle.page_map.proofs.Empties.{empties_cut}
 use Rattle.page_map.proofs.page.Page.count_from.Goals as goal

@@ -1,10 +1,9 @@
-use Rattle.std.proofs.Common.{◌∙◌, ◌≡◌, sym, ap, subst, arith, Bool, Some, None}
+use Rattle.std.proofs.Common.{◌∙◌, ◌≡◌, sym, ap, subst, arith}
 use Rattle.std.specs.Option.{option_map}
 use Rattle.std.specs.List.{slice_get}
 use Rattle.std.specs.Ordering.{is_lt}
 use Rattle.std.specs.FinMap as map
-use Rattle.byte_map.specs.Order.{bytes_cmp}
-use Rattle.byte_map.specs.Sorted.{IsSorted, until}
+use Rattle.byte_map.specs.Sorted.{until}
 use Rattle.byte_map.specs.Walk.{within}
 use Rattle.byte_map.proofs.Maps.{entries_map, len_map}
 use Rattle.page_map.specs.Empties.{empties}

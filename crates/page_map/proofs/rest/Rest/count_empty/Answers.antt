@@ -1,5 +1,4 @@
-use Rattle.std.proofs.Common.{◌<◌, arith, length, drop, take}
-use Rattle.page_map.specs.Empties.{empties}
+use Rattle.std.proofs.Common.{◌<◌, arith, length}
 use Rattle.page_map.proofs.Empties.{place_fits, rest_count}
 use Rattle.page_map.proofs.rest.Rest.count_empty.Goals as goal
 

@@ -1,5 +1,4 @@
-use Rattle.std.proofs.Common.{◌∙◌, sym, ap, arith, length, length-append}
-use Rattle.page_map.specs.Empties.{empties}
+use Rattle.std.proofs.Common.{arith}
 use Rattle.page_map.specs.Pages.{joined}
 use Rattle.page_map.proofs.Empties.{walk_count}
 use Rattle.page_map.proofs.walk.Walk.count_empty.Goals as goal

@@ -1,4 +1,4 @@
-use Rattle.std.proofs.Common.{◌∙◌, ◌-◌, sym, ap, arith, length}
+use Rattle.std.proofs.Common.{◌∙◌, ◌-◌, ap, arith}
 use Rattle.std.specs.List.{slice_get}
 use Rattle.page_map.specs.Empties.{empties}
 use Rattle.page_map.specs.Pages.{joined}

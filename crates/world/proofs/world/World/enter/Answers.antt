@@ -59,5 +59,5 @@ returns c =
     } in
     record {
       step = entered_step c.self.inside c.args.self.now c.args.now c.in_ok-version.version c.args.step.now (Some c.replace.result) c.replace.new.dest c.publish.new.self c.keep_unmoved.new.begun c.enter-receipt.new.self c.enter-receipt.result
-          c.self.invariant c.self.view_is c.requires.may entered c.in_ok-version.ensures.number;
+          c.self.invariant c.self.view_is c.requires.later c.requires.may entered c.in_ok-version.ensures.number;
     }

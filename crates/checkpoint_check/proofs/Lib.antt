@@ -1,0 +1,12 @@
+pub mod Elements
+pub mod Bounds
+pub mod Versions
+pub mod Consistency
+pub mod Accepts
+pub mod Walked
+pub mod Done
+pub mod Found
+pub mod Needed
+pub mod Tests
+pub mod Accepted
+pub mod Refused

@@ -1,0 +1,4 @@
+pub mod Given
+pub mod Refusals
+pub mod Accepted
+pub mod inner

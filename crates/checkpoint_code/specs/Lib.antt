@@ -1,0 +1,4 @@
+pub mod Head
+pub mod Restores
+pub mod Page
+pub mod Pages

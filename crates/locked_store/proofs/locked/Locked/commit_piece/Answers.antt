@@ -1,0 +1,32 @@
+use Rattle.std.proofs.Common.{subst, arith}
+use Rattle.world.specs.Piece.{PieceStep}
+use Rattle.world.specs.State.{State}
+use Rattle.locked_store.specs.Cores.{IsCore}
+use Rattle.locked_store.proofs.Growing.{piece}
+use Rattle.locked_store.proofs.locked.Locked.commit_piece.Goals as goal
+
+pub invariant_of-self : goal.invariant_of-self
+invariant_of-self g c =
+    let done = c.piece_counted-result in
+    let step : PieceStep c.args.self.now c.args.moment c.args.prepared done.result done.new.world =
+    subst (λ (s : State). PieceStep s c.args.moment c.args.prepared done.result done.new.world) c.self.view_is done.ensures.step in
+    let core : IsCore g.L.SharedLedger.start done.new.world = record {
+      grew = piece g.L.SharedLedger.start c.args.self.now done.new.world c.args.moment c.args.prepared done.result c.lemma_is_core.ensures.grew step;
+      replayed = c.lemma_agrees.ensures.replayed;
+      agrees = c.lemma_agrees.ensures.agrees;
+      kept = c.lemma_agrees.ensures.kept;
+    } in
+    (core, omega (arith, done.ensures.added, c.self.invariant.1), omega (arith, done.ensures.total, c.self.invariant.2), c.self.invariant.3)
+
+pub returns : goal.returns
+returns g c =
+    let done = c.piece_counted-result in
+    let step : PieceStep c.args.self.now c.args.moment c.args.prepared done.result done.new.world =
+    subst (λ (s : State). PieceStep s c.args.moment c.args.prepared done.result done.new.world) c.self.view_is done.ensures.step in
+    let core : IsCore g.L.SharedLedger.start done.new.world = record {
+      grew = piece g.L.SharedLedger.start c.args.self.now done.new.world c.args.moment c.args.prepared done.result c.lemma_is_core.ensures.grew step;
+      replayed = c.lemma_agrees.ensures.replayed;
+      agrees = c.lemma_agrees.ensures.agrees;
+      kept = c.lemma_agrees.ensures.kept;
+    } in
+    (c.lemma_is_core.ensures, core, c.requires, step, done.ensures.front, done.ensures.counts)

@@ -1,0 +1,11 @@
+pub mod Head
+pub mod Taken
+pub mod Pages
+pub mod Follows
+pub mod Loading
+pub mod LoadedCode
+pub mod Inside
+pub mod Parts
+pub mod Saved
+pub mod Loaded
+pub mod inner

@@ -1,0 +1,4 @@
+pub mod Puts
+pub mod Adds
+pub mod Pushes
+pub mod PagesRead
