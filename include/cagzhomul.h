@@ -360,12 +360,13 @@ cagzhomul_outcome cagzhomul_log_length(cagzhomul_handle *session);
  * CAGZHOMUL_OK. Refusals: CAGZHOMUL_CLOSED; CAGZHOMUL_WRONG_KIND; CAGZHOMUL_NOT_OPENED. */
 cagzhomul_outcome cagzhomul_log_start(cagzhomul_handle *session);
 
-/* Gives the memory of all entries of the log back, so that a session that lives for long takes no
- * more memory than its data. No answer changes but those of cagzhomul_entry, which then has none of
- * these entries, and of cagzhomul_log_start; a receipt's place goes on counting from the first
- * entry ever. It takes no memory, and time with the entries since the last cut.
+/* Gives the memory of the log's entries back, but for the last `keep` of those that are in memory,
+ * so that a session that lives for long takes no more memory than its data. No answer changes but
+ * those of cagzhomul_entry, which then has none of these entries, and of cagzhomul_log_start; a
+ * receipt's place goes on counting from the first entry ever. It takes no memory, and time with the
+ * entries that were in memory.
  * CAGZHOMUL_OK. Refusals: CAGZHOMUL_CLOSED; CAGZHOMUL_WRONG_KIND; CAGZHOMUL_NOT_OPENED. */
-int32_t cagzhomul_cut(cagzhomul_handle *session);
+int32_t cagzhomul_cut(cagzhomul_handle *session, size_t keep);
 
 /* Takes the checkpoint of the session's world into the closed handle `checkpoint`: all that a world
  * needs to go on from here. The session goes on. Pairs are shared, so its time does not grow with

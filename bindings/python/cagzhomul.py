@@ -80,7 +80,7 @@ _FUNCTIONS: Dict[str, Tuple[Any, List[Any]]] = {
     "query": (_Queried, [_HANDLE, _NUMBER, _HANDLE, _BYTES, _SIZE, _HANDLE]), "rows_from": (_Outcome, [_HANDLE, _SIZE, _BYTES, _SIZE]),
     "snapshot_query": (_Queried, [_HANDLE, _BYTES, _SIZE, _HANDLE]),
     "snapshot": (_STATUS, [_HANDLE, _NUMBER, _HANDLE, _HANDLE]), "check": (_Checked, [_HANDLE]), "log_length": (_Outcome, [_HANDLE]),
-    "log_start": (_Outcome, [_HANDLE]), "cut": (_STATUS, [_HANDLE]),
+    "log_start": (_Outcome, [_HANDLE]), "cut": (_STATUS, [_HANDLE, _SIZE]),
     "checkpoint": (_STATUS, [_HANDLE, _HANDLE]), "save": (_STATUS, [_HANDLE, _HANDLE]), "open_at": (_STATUS, [_HANDLE, _BYTES, _SIZE]),
     "publish": (_Changed, [_HANDLE, _NUMBER, _BYTES, _SIZE]), "begin_reorg": (_Changed, [_HANDLE, _NUMBER, _SMALL, _SMALL]),
     "write": (_Written, [_HANDLE, _NUMBER, _HANDLE, _BYTES, _SIZE]), "plan": (_Outcome, [_HANDLE, _BYTES, _SIZE, _BYTES, _SIZE]),
@@ -796,11 +796,14 @@ class Session(_Audited):
         _check(outcome.status)
         return int(outcome.length)
 
-    def cut(self) -> None:
-        """Gives the memory of all entries of the log back; no answer changes but those of `entry` and
-        `log_start`. Raises Closed or NotOpened."""
+    def cut(self, keep: int = 0) -> None:
+        """Gives the memory of the log's entries back, but for the last `keep` of those that are in
+        memory; no answer changes but those of `entry` and `log_start`. Raises Closed or NotOpened, and
+        OverflowError for a number that is no length."""
+        if not 0 <= keep < 2**63:
+            raise OverflowError("keep is from 0 to 2**63 - 1")
         with self._lock:
-            _check(_library.cagzhomul_cut(self._handle))
+            _check(_library.cagzhomul_cut(self._handle, keep))
 
     def checkpoint(self) -> bytes:
         """The checkpoint of the world as it is now, as bytes, from which `open(..., at=...)` goes on. It
@@ -817,9 +820,9 @@ class Session(_Audited):
     def _grown(self, place: int) -> None:
         """The log has an entry of this place: it is cut if it has grown long enough, for a caller who
         has the lock."""
-        if self._keep is not None and place - self._start > self._keep:
-            _check(_library.cagzhomul_cut(self._handle))
-            self._start = place
+        if self._keep is not None and place - self._start >= max(2 * self._keep, 1):
+            _check(_library.cagzhomul_cut(self._handle, self._keep))
+            self._start = place - self._keep
 
     def repeat(self, entry: bytes) -> bool:
         """Repeats an entry of another session's log, given by its code, in this session's world.
@@ -860,9 +863,9 @@ class Db(Session):
     A moment (`now`) is a number of the caller's clock, or a function that gives it; one that is
     below that of the log's last entry counts as that.
 
-    It cuts its log by itself, so that it may live for ever: once more than `keep` entries are in
-    memory it gives them back. With `keep=None` it never does, as for a caller who takes each `entry`
-    and then calls `cut`.
+    It cuts its log by itself, so that it may live for ever: the last `keep` entries stay in memory,
+    and the older ones are given back once there are as many of them. With `keep=None` none ever is,
+    as for a caller who takes each `entry` and then calls `cut`.
     """
 
     def __init__(self, tables: Tables, lease_length: int = 10, keep: Optional[int] = 10_000, at: Optional[bytes] = None) -> None:
@@ -1195,8 +1198,8 @@ def open(tables: Optional[Tables] = None, lease_length: int = 10, keep: Optional
 
     The tables are `Table`s, or columns by the names of tables: `{"people": {"id": "int key", "town":
     "text"}}`. A lease lasts `lease_length` moments, from 1 to 2^32, and each version stays the newest
-    for as long. A store gives the entries of its log back once more than `keep` are in memory, or
-    never if that is None.
+    for as long. A store keeps the last `keep` entries of its log in memory and gives the older ones
+    back once there are as many of them, or never if that is None.
 
     With `at`, the bytes of a `checkpoint`, it goes on from there: the tables are those that were opened
     then, and the lease length is the checkpoint's. Raises BadCode if no world may open from the bytes.

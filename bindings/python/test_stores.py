@@ -91,11 +91,15 @@ class Stores(unittest.TestCase):
         with cagzhomul.open(PEOPLE, keep=3) as db, db.lease(5) as lease:
             for key in range(1, 8):
                 lease.insert("people", key)
-            # cut at the places 4 and 8, each once more than three entries are there
-            self.assertEqual((db.log_length(), db.log_start(), db.check()), (8, 8, Audit(7, 0, 0)))
+            # cut at the places 6 and 9, where three entries are older than the last three
+            self.assertEqual((db.log_length(), db.log_start(), db.check()), (8, 3, Audit(7, 0, 0)))
             self.assertEqual(lease.insert("people", 8), Receipt(9))
-            self.refused(cagzhomul.NoEntry, lambda: db.entry(8))
-            self.assertTrue(db.entry(9))
+            self.refused(cagzhomul.NoEntry, lambda: db.entry(6))
+            self.assertTrue(db.entry(7))
+            db.cut(1)
+            self.assertEqual((db.log_length(), db.log_start()), (9, 8))
+            with self.assertRaises(OverflowError):
+                db.cut(-1)
             db.cut()
             self.assertEqual((db.log_length(), db.log_start()), (9, 9))
         for call in (db.cut, db.log_start):

@@ -77,7 +77,7 @@ int main(int count, char **words) {
         write_row(UPDATE, done * 7 % ROWS, done / ROWS);
         if (done % FOR_EACH_MOMENT == 0) moment++;
         if (done % (updates / 100) == 0) change_index(done / (updates / 100) % 2);
-        if (done % (updates / 1000) == 0) demand(cagzhomul_cut(&session) == CAGZHOMUL_OK, "the log is cut");
+        if (done % (updates / 1000) == 0) demand(cagzhomul_cut(&session, 0) == CAGZHOMUL_OK, "the log is cut");
         if (done == updates / 10) first = resident();
     }
     long last = resident();

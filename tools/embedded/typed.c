@@ -163,7 +163,12 @@ static void cut_log(cagzhomul_handle *session, size_t length, uint64_t moment) {
     uint8_t out[ROOM];
     cagzhomul_outcome it = cagzhomul_log_start(session);
     check(it.status == CAGZHOMUL_OK && it.length == 0, "all entries are in memory");
-    check(cagzhomul_cut(session) == CAGZHOMUL_OK, "the log is cut");
+    check(cagzhomul_cut(session, length) == CAGZHOMUL_OK && cagzhomul_log_start(session).length == 0, "all are to stay");
+    check(cagzhomul_cut(session, 1) == CAGZHOMUL_OK && cagzhomul_log_start(session).length == length - 1, "the last one is to stay");
+    do it = cagzhomul_entry(session, length, out, ROOM);
+    while (is_short(it.status));
+    check(it.status == CAGZHOMUL_OK && cagzhomul_entry(session, length - 1, out, ROOM).status == CAGZHOMUL_NO_ENTRY, "it alone is there");
+    check(cagzhomul_cut(session, 0) == CAGZHOMUL_OK, "the log is cut");
     it = cagzhomul_log_start(session);
     check(it.status == CAGZHOMUL_OK && it.length == length && is_log(session, length), "none is any more");
     check(cagzhomul_entry(session, length, out, ROOM).status == CAGZHOMUL_NO_ENTRY, "nor handed out");
@@ -351,7 +356,7 @@ static void look_at_worlds(cagzhomul_handle *session, cagzhomul_handle *lease, i
     cagzhomul_handle snapshot = {0};
     code step = enter_code();
     check(cagzhomul_check(session).status == status && cagzhomul_log_length(session).status == status, "no audit, no log");
-    check(cagzhomul_log_start(session).status == status && cagzhomul_cut(session) == status, "no cut");
+    check(cagzhomul_log_start(session).status == status && cagzhomul_cut(session, 0) == status, "no cut");
     check(cagzhomul_publish(session, 5, step.bytes, step.length).status == status, "no step");
     check(cagzhomul_begin_reorg(session, 5, 1, 1).status == status, "no reorganisation");
     if (lease) check(cagzhomul_snapshot(session, 5, lease, &snapshot) == status && !snapshot.is_open, "no snapshot");

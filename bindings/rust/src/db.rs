@@ -15,7 +15,7 @@ use std::sync::{Arc, Mutex, PoisonError};
 /// How many moments a lease lasts if nothing else is said.
 pub const DEFAULT_LEASE_LENGTH: u64 = 10;
 
-/// How many entries of its log a store keeps in memory at most, if nothing else is said.
+/// How many of the last entries of its log a store keeps in memory, if nothing else is said.
 pub const DEFAULT_KEEP: u64 = 10_000;
 
 /// A store of tables, in memory, whose indexes and columns come and go while transactions run.
@@ -115,9 +115,9 @@ impl Db {
         })
     }
 
-    /// The store gives the entries of its log back once more than so many are in memory; with `None`
-    /// it never does, as for a caller who takes each [`Session::entry`] and then calls
-    /// [`Session::cut`]. Without this call it is [`DEFAULT_KEEP`].
+    /// The last so many entries of the log stay in memory, and the older ones are given back once there
+    /// are as many of them; with `None` none ever is, as for a caller who takes each
+    /// [`Session::entry`] and then calls [`Session::cut`]. Without this call it is [`DEFAULT_KEEP`].
     ///
     /// ```
     /// # use cagzhomul::{Db, Table, Type};
@@ -125,7 +125,7 @@ impl Db {
     /// for now in 0..7 {
     ///     db.lease(now)?;
     /// }
-    /// assert_eq!((db.session().log_length()?, db.session().log_start()?), (7, 6));
+    /// assert_eq!((db.session().log_length()?, db.session().log_start()?), (7, 4));
     /// # Ok::<(), cagzhomul::Error>(())
     /// ```
     #[must_use]

@@ -89,7 +89,7 @@ unsafe extern "C" {
     fn cagzhomul_check(handle: *mut RawHandle) -> Checked;
     fn cagzhomul_log_length(session: *mut RawHandle) -> Outcome;
     fn cagzhomul_log_start(session: *mut RawHandle) -> Outcome;
-    fn cagzhomul_cut(session: *mut RawHandle) -> i32;
+    fn cagzhomul_cut(session: *mut RawHandle, keep: usize) -> i32;
     fn cagzhomul_checkpoint(session: *mut RawHandle, checkpoint: *mut RawHandle) -> i32;
     fn cagzhomul_save(checkpoint: *mut RawHandle, bytes: *mut RawHandle) -> i32;
     fn cagzhomul_open_at(handle: *mut RawHandle, bytes: *const u8, length: usize) -> i32;
@@ -302,10 +302,10 @@ impl Handle {
         unsafe { cagzhomul_open_at(self.raw(), bytes.as_ptr(), bytes.len()) }
     }
 
-    /// Gives the memory of the log's entries back.
-    pub(crate) fn cut(&mut self) -> i32 {
+    /// Gives the memory of the log's entries back, but for the last `keep` of them.
+    pub(crate) fn cut(&mut self, keep: usize) -> i32 {
         // SAFETY: the handle, as at the top of this file.
-        unsafe { cagzhomul_cut(self.raw()) }
+        unsafe { cagzhomul_cut(self.raw(), keep) }
     }
 
     /// Publishes the version that a step gives, by its code, in this session's world.

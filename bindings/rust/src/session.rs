@@ -85,16 +85,18 @@ impl Session {
         self.handle.lock().unwrap_or_else(PoisonError::into_inner)
     }
 
-    /// From now on the log is cut once more than so many entries are in memory.
+    /// From now on the last so many entries stay in memory, and the log is cut to them once it has more
+    /// than twice as many.
     pub(crate) fn keep(&self, entries: u64) {
         self.keep.store(entries, Ordering::Relaxed);
     }
 
     /// The log has an entry of this place: it is cut if it has grown long enough.
     pub(crate) fn grown(&self, handle: &mut Handle, place: u64) {
+        let keep = self.keep.load(Ordering::Relaxed);
         let kept = place.saturating_sub(self.start.load(Ordering::Relaxed));
-        if kept > self.keep.load(Ordering::Relaxed) && handle.cut() == ffi::OK {
-            self.start.store(place, Ordering::Relaxed);
+        if kept / 2 >= keep && kept > keep && handle.cut(usize::try_from(keep).unwrap_or(usize::MAX)) == ffi::OK {
+            self.start.store(place - keep, Ordering::Relaxed);
         }
     }
 
@@ -177,8 +179,8 @@ impl Session {
         fetch(|_, out| written.rows_from(0, out))
     }
 
-    /// Gives the memory of all entries of the log back; no answer changes but those of
-    /// [`Session::entry`] and [`Session::log_start`].
+    /// Gives the memory of the log's entries back, but for the last `keep` of those that are in memory;
+    /// no answer changes but those of [`Session::entry`] and [`Session::log_start`].
     ///
     /// Refusals: [`Error::Closed`], [`Error::NotOpened`].
     ///
@@ -188,14 +190,14 @@ impl Session {
     /// for line in ["table t (id int key)", "open", "lease a at 0"] {
     ///     session.line(line)?;
     /// }
-    /// session.cut()?;
+    /// session.cut(0)?;
     /// assert_eq!((session.log_start()?, session.log_length()?), (1, 1));
     /// assert_eq!(session.entry(1), Err(cagzhomul::Error::NoEntry));
     /// # Ok(())
     /// # }
     /// ```
-    pub fn cut(&self) -> Result<(), Error> {
-        done(self.lock().cut())
+    pub fn cut(&self, keep: usize) -> Result<(), Error> {
+        done(self.lock().cut(keep))
     }
 
     /// Repeats an entry of another session's log, given by its code, in this session's world: the

@@ -267,10 +267,10 @@ pub extern "C" fn cagzhomul_log_start(alloc: Global, session: &mut Handle) -> Ou
 
 /// `Handle::cut`.
 #[unsafe(no_mangle)]
-pub extern "C" fn cagzhomul_cut(alloc: Global, session: &mut Handle) -> i32
-    ensures { Cuts session.old.place.value result session.new.place.value }
+pub extern "C" fn cagzhomul_cut(alloc: Global, session: &mut Handle, keep: usize) -> i32
+    ensures { Cuts keep session.old.place.value result session.new.place.value }
 {
-    session.cut(alloc)
+    session.cut(alloc, keep)
 }
 
 /// `Handle::checkpoint`.

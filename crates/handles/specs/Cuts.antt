@@ -18,8 +18,8 @@ LogStarts (Some (engine.Session c)) outcome = StartOf c.session outcome
 LogStarts (Some other) outcome = outcome ≡ record { status = wrong_kind; length = 0 }
 
 -- the handle stays open, with the last reply
-abbrev pub Cuts : Option Engine → ℤ → Option Engine → Type 0
-Cuts None status new = (status ≡ closed) × (new ≡ None)
-Cuts (Some (engine.Session c)) status new =
-    (session : Session) × CutsIn c.session status session × (new ≡ Some (engine.Session (record c { session = session })))
-Cuts (Some other) status new = (status ≡ wrong_kind) × (new ≡ Some other)
+abbrev pub Cuts : ℕ → Option Engine → ℤ → Option Engine → Type 0
+Cuts keep None status new = (status ≡ closed) × (new ≡ None)
+Cuts keep (Some (engine.Session c)) status new =
+    (session : Session) × CutsIn keep c.session status session × (new ≡ Some (engine.Session (record c { session = session })))
+Cuts keep (Some other) status new = (status ≡ wrong_kind) × (new ≡ Some other)

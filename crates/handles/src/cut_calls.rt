@@ -22,11 +22,11 @@ fn start_of(session: &Session) -> Outcome
 
 impl Conversation {
     // Cuts the log; the last reply stays.
-    fn cut(&mut self) -> i32
-        ensures session { CutsIn self.old.session result self.new.session }
+    fn cut(&mut self, keep: usize) -> i32
+        ensures session { CutsIn keep self.old.session result self.new.session }
         ensures reply { self.new.reply ≡ self.old.reply }
     {
-        typed_calls::cut(&mut self.session)
+        typed_calls::cut(&mut self.session, keep)
     }
 }
 
@@ -49,11 +49,11 @@ impl Handle {
         outcome
     }
 
-    /// Gives the memory of all entries of the session's log back; no answer changes but those of
-    /// `entry` and `log_start`. `OK`; else `CLOSED`, `WRONG_KIND` or `NOT_OPENED`, and nothing
-    /// changes. It takes no memory.
-    pub fn cut(&mut self, alloc: Global) -> i32
-        ensures { Cuts self.old.place.value result self.new.place.value }
+    /// Gives the memory of the entries of the session's log back, but for the last `keep` of those
+    /// that are in memory; no answer changes but those of `entry` and `log_start`. `OK`; else
+    /// `CLOSED`, `WRONG_KIND` or `NOT_OPENED`, and nothing changes. It takes no memory.
+    pub fn cut(&mut self, alloc: Global, keep: usize) -> i32
+        ensures { Cuts keep self.old.place.value result self.new.place.value }
     {
         let Some(mut engine) = self.take(alloc) else {
             return CLOSED;
@@ -62,7 +62,7 @@ impl Handle {
             self.put(engine);
             return WRONG_KIND;
         };
-        let status = conversation.cut();
+        let status = conversation.cut(keep);
         self.put(engine);
         status
     }

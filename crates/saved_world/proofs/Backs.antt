@@ -28,7 +28,7 @@ Answer = Result Checkpoint LoadedFault
 -- ---- no part
 
 pub not_even_a_head : (bytes : List ℕ) → HasNoPart bytes → IsLoadAccepted bytes (Err Cut)
-not_even_a_head bytes none limit c whole saved = none (head_code (head_of c)) (pages_code saved.pages ++ end_part) saved.head_short saved.code
+not_even_a_head bytes none limit c saved = none (head_code (head_of c)) (pages_code saved.pages ++ end_part) saved.head_short saved.code
 
 module _ (bytes part more : List ℕ) (at : IsPartAt bytes part more) where
   -- the first part of what was saved is the head
@@ -41,7 +41,7 @@ module _ (bytes part more : List ℕ) (at : IsPartAt bytes part more) where
   no_head r fault is read = subst (IsLoaded bytes) (sym is) (part, more, at.code, read)
 
   pub no_head_so : (r : Answer) (fault : HeadFault) → r ≡ Err (OfHead fault) → IsHeadAccepted part (Err fault) → IsLoadAccepted bytes r
-  no_head_so r fault is accepted = subst (IsLoadAccepted bytes) (sym is) (λ limit c whole saved. accepted (head_of c) (saved.head_known whole) (sym (head_is limit c saved).0))
+  no_head_so r fault is accepted = subst (IsLoadAccepted bytes) (sym is) (λ limit c saved. accepted (head_of c) saved.head_known (sym (head_is limit c saved).0))
 
   -- ---- the head is read
 
@@ -76,21 +76,21 @@ module _ (bytes part more : List ℕ) (at : IsPartAt bytes part more) where
         by (OfCheckpoint why) read = absurd read
 
     pub no_pages_so : (r : Answer) (fault : LoadedFault) → r ≡ Err fault → ArePagesAccepted start more (Err fault) now → IsLoadAccepted bytes r
-    no_pages_so r fault is accepted = subst (IsLoadAccepted bytes) (sym is) (λ limit c whole saved. accepted limit (map.entries c.pairs) (map.entries_sorted c.pairs) (todo limit c saved))
+    no_pages_so r fault is accepted = subst (IsLoadAccepted bytes) (sym is) (λ limit c saved. accepted limit (map.entries c.pairs) (map.entries_sorted c.pairs) (todo limit c saved))
 
     -- ---- the pages are read
 
     module _ (read : AreReadTo start more now end_part) (head_so : IsHeadAccepted part (Ok start.head)) (pages_so : ArePagesAccepted start more (Ok tt) now) where
       -- it is the checkpoint that was saved
-      same : (limit : ℕ) (c : Checkpoint) → IsWhole c → IsSaved limit c bytes → checkpoint_in now ≡ c
-      same limit c whole saved =
-          let head_same : now.head ≡ head_of c = ap (λ (l : Loaded). l.head) read.is ∙ head_so (head_of c) (saved.head_known whole) (sym (head_is limit c saved).0) in
+      same : (limit : ℕ) (c : Checkpoint) → IsSaved limit c bytes → checkpoint_in now ≡ c
+      same limit c saved =
+          let head_same : now.head ≡ head_of c = ap (λ (l : Loaded). l.head) read.is ∙ head_so (head_of c) saved.head_known (sym (head_is limit c saved).0) in
           let pairs_same : now.pairs ≡ map.entries c.pairs = pages_so limit (map.entries c.pairs) (map.entries_sorted c.pairs) (todo limit c saved) in
           (λ i. checkpoint_in (record { head = head_same i; pairs = pairs_same i }))
           ∙ (λ i. record { place = c.place; moment = c.moment; line = c.line; newest = c.newest; before = c.before; progress = c.progress; pairs = map_entries c.pairs i })
 
       pub loaded_so : (d : Checkpoint) → d ≡ checkpoint_in now → IsLoadAccepted bytes (Ok d)
-      loaded_so d is limit c whole saved = is ∙ same limit c whole saved
+      loaded_so d is limit c saved = is ∙ same limit c saved
 
       pub loaded : (d : Checkpoint) → d ≡ checkpoint_in now → IsSound (checkpoint_in now) → IsLoaded bytes (Ok d)
       loaded d is sound = (now, whole_to end_part read, is, subst IsSound (sym is) sound)
@@ -100,7 +100,7 @@ module _ (bytes part more : List ℕ) (at : IsPartAt bytes part more) where
 
       pub no_checkpoint_so : (r : Answer) (fault : CheckpointFault) → r ≡ Err (OfCheckpoint fault) → WholeIsSound → IsRefusal rank (Condition (checkpoint_in now)) checkpoint.Memory fault → IsLoadAccepted bytes r
       no_checkpoint_so r fault is law refused =
-          subst (IsLoadAccepted bytes) (sym is) (λ limit c whole saved. by fault (subst IsSound (sym (same limit c whole saved)) (law c whole)) refused.0)
+          subst (IsLoadAccepted bytes) (sym is) (λ limit c saved. by fault (subst IsSound (sym (same limit c saved)) (law c saved.whole)) refused.0)
         where
           by : (fault : CheckpointFault) → IsSound (checkpoint_in now) → (fault ≡ checkpoint.Memory) ⊎ Condition (checkpoint_in now) fault → fault ≡ checkpoint.Memory
           by fault sound (inl is) = is

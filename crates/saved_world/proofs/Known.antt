@@ -57,8 +57,8 @@ on_ok : {A E P Q : Type 0} (r : Result A E) → (P → Q) → OnOk r P → OnOk 
 on_ok (Ok x) f h = f h
 on_ok (Err e) f h = tt
 
-pub known_of : {A E : Type 0} (c : Checkpoint) (h : Head) (r : Result A E) → h ≡ head_of c → IsSoundVersion h.newest → IfSome h.before IsSoundVersion → OnOk r (IsHead IsValue (parts_of h)) → OnOk r (IsWhole c → IsKnown IsStorable (head_of c))
-known_of c h r same sound earlier is =
+pub known_of : {A E : Type 0} (c : Checkpoint) (h : Head) (r : Result A E) → IsWhole c → h ≡ head_of c → IsSoundVersion h.newest → IfSome h.before IsSoundVersion → OnOk r (IsHead IsValue (parts_of h)) → OnOk r (IsKnown IsStorable (head_of c))
+known_of c h r whole same sound earlier is =
     on_ok r
-    (λ (of : IsHead IsValue (parts_of h)). known_head c (subst (λ (x : Head). IsSoundVersion x.newest) same sound) (subst (λ (x : Head). IfSome x.before IsSoundVersion) same earlier) (subst (λ (x : Head). IsHead IsValue (parts_of x)) same of))
+    (λ (of : IsHead IsValue (parts_of h)). known_head c (subst (λ (x : Head). IsSoundVersion x.newest) same sound) (subst (λ (x : Head). IfSome x.before IsSoundVersion) same earlier) (subst (λ (x : Head). IsHead IsValue (parts_of x)) same of) whole)
     is

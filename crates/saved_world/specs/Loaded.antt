@@ -1,7 +1,7 @@
 -- Cited by the contracts of load.
 -- What loading a checkpoint from one list of bytes answers.
 use Rattle.std.specs.Prelude.{◌≡◌, ◌≢◌, ◌⊎◌, ℕ, List, [], ◌++◌, Result, Ok, Err}
-use Rattle.checkpoint.specs.Checkpoint.{Checkpoint, IsWhole}
+use Rattle.checkpoint.specs.Checkpoint.{Checkpoint}
 use Rattle.checkpoint.specs.Sound.{IsSound}
 use Rattle.checkpoint_check.specs.Refusals.{Condition, rank}
 use Rattle.checkpoint_check.specs.declared.fault.CheckpointFault.TheVariants as checkpoint
@@ -47,6 +47,6 @@ abbrev pub GivesBack : Checkpoint → Result Checkpoint LoadedFault → Type 0
 GivesBack c (Ok d) = d ≡ c
 GivesBack c (Err fault) = IsLoadOutOfMemory fault
 
--- so it is with the bytes of every checkpoint from which a world may open, as each of a world is
+-- so it is with the bytes of every checkpoint
 abbrev pub IsLoadAccepted : List ℕ → Result Checkpoint LoadedFault → Type 0
-IsLoadAccepted bytes result = (limit : ℕ) (c : Checkpoint) → IsWhole c → IsSaved limit c bytes → GivesBack c result
+IsLoadAccepted bytes result = (limit : ℕ) (c : Checkpoint) → IsSaved limit c bytes → GivesBack c result

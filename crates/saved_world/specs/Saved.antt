@@ -44,4 +44,5 @@ pub record IsSaved (limit : ℕ) (checkpoint : Checkpoint) (bytes : List ℕ) : 
   pub all : joined pages ≡ map.entries checkpoint.pairs
   pub code : bytes ≡ head_part (head_of checkpoint) ++ (pages_code pages ++ end_part)
   pub head_short : IsByteString (head_code (head_of checkpoint))
-  pub head_known : IsWhole checkpoint → IsKnown IsStorable (head_of checkpoint)
+  pub head_known : IsKnown IsStorable (head_of checkpoint)
+  pub whole : IsWhole checkpoint

@@ -3,7 +3,6 @@ ghost use Rattle.std.specs.Option.{option_map};
 ghost use Rattle.std.specs.Prelude.{◌≡◌, IfOk, IfSome, OnOk};
 ghost use Rattle.keycode.specs.Valid.{IsStorable};
 ghost use Rattle.schema_version.specs.Sound.{IsSoundVersion};
-ghost use Rattle.checkpoint.specs.Checkpoint.{IsWhole};
 ghost use Rattle.checkpoint_code.specs.Head.{head_code, IsKnown};
 ghost use Rattle.saved_world.specs.Head.{head_of};
 
@@ -88,8 +87,9 @@ fn lemma_sound(head: &Head)
 /// these bytes only when out of memory.
 pub fn save_head(alloc: Global, checkpoint: &Checkpoint) -> Result<Vec<u8>, AllocError>
     ensures code { IfOk result (λ bytes. bytes.items ≡ head_code (head_of checkpoint.now)) }
-    ensures known { OnOk result (IsWhole checkpoint.now → IsKnown IsStorable (head_of checkpoint.now)) }
+    ensures known { OnOk result (IsKnown IsStorable (head_of checkpoint.now)) }
 {
+    checkpoint.lemma_whole();
     let head = head_in(alloc, checkpoint)?;
     lemma_sound(&head);
     head_bytes(alloc, &head)

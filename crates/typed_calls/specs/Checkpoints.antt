@@ -1,7 +1,7 @@
 -- Cited by the contracts of checkpoint, saved, open_at and of what they call.
 -- The checkpoint of a session's world, its bytes, and a session over a world that opens there.
 use Rattle.std.specs.Prelude.{◌≡◌, ℕ, ◌⊎◌, ℤ, List, Result, Ok, Err}
-use Rattle.checkpoint.specs.Checkpoint.{Checkpoint, IsWhole, checkpoint_of}
+use Rattle.checkpoint.specs.Checkpoint.{Checkpoint, checkpoint_of}
 use Rattle.checkpoint_check.specs.declared.fault.CheckpointFault.TheVariants as of_checkpoint
 use Rattle.checkpoint_code.specs.declared.fault.HeadFault.TheVariants as of_head
 use Rattle.checkpoint_code.specs.declared.fault.PageFault.TheVariants as of_page
@@ -47,4 +47,4 @@ OpensBack checkpoint (Ok session) = session ≡ session_over (opened checkpoint)
 OpensBack checkpoint (Err status) = status ≡ out_of_memory
 
 abbrev pub OpensSaved : List ℕ → Result Session ℤ → Type 0
-OpensSaved bytes answer = (limit : ℕ) (checkpoint : Checkpoint) → IsWhole checkpoint → IsSaved limit checkpoint bytes → OpensBack checkpoint answer
+OpensSaved bytes answer = (limit : ℕ) (checkpoint : Checkpoint) → IsSaved limit checkpoint bytes → OpensBack checkpoint answer

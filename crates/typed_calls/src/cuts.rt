@@ -1,7 +1,7 @@
 //! Which entries of the log are in memory, and how they are given back.
 ghost use Rattle.std.specs.Prelude.{◌≡◌};
 ghost use Rattle.typed_calls.specs.Cuts.{StartIn, CutsIn};
-ghost use Rattle.world.specs.State.{cut_here};
+ghost use Rattle.world.specs.State.{cut_but};
 
 use crate::status::{NOT_OPENED, OK};
 use script_session::Session;
@@ -18,21 +18,22 @@ pub fn log_start(session: &Session) -> Result<usize, i32>
     }
 }
 
-fn cut_world(world: &mut World)
-    ensures { world.new ≡ cut_here world.old }
+fn cut_world(world: &mut World, keep: usize)
+    ensures { world.new ≡ cut_but keep world.old }
 {
-    world.cut();
+    world.cut_but(keep);
 }
 
-/// Gives the memory of all entries of the log of the session's world back; no answer changes but
-/// those about single entries. `OK`, or `NOT_OPENED`. It takes no memory.
-pub fn cut(session: &mut Session) -> i32
-    ensures { CutsIn session.old result session.new }
+/// Gives the memory of the entries of the log of the session's world back, but for the last `keep`
+/// of those that are in memory; no answer changes but those about single entries. `OK`, or
+/// `NOT_OPENED`. It takes no memory.
+pub fn cut(session: &mut Session, keep: usize) -> i32
+    ensures { CutsIn keep session.old result session.new }
 {
     match session {
         Session::Declaring(_) => NOT_OPENED,
         Session::Running(opened) => {
-            cut_world(&mut opened.world);
+            cut_world(&mut opened.world, keep);
             OK
         }
     }

@@ -1,6 +1,6 @@
 -- Cited by the contracts of World::is_settled, World::progress, World::piece_progress, World::run and 11 more.
 -- The state of the core: the checkpoint that it was opened at, its log and its pairs; and what the log says of it.
-use Rattle.std.specs.Prelude.{◌≡◌, ℕ, ◌+◌, ◌==◌, ◌||◌, List, [], ◌∷◌, ◌++◌, drop, length, Option, Some, None, if◌then◌else◌}
+use Rattle.std.specs.Prelude.{◌≡◌, ℕ, ◌+◌, ◌-◌, ◌==◌, ◌||◌, List, [], ◌∷◌, ◌++◌, drop, length, Option, Some, None, if◌then◌else◌}
 use Rattle.lease.specs.Timeline.{IsUsable, newest as newest_number}
 use Rattle.row_map.specs.Rows.{Pairs}
 use Rattle.schema_version.specs.Version.{Version}
@@ -41,6 +41,10 @@ entries_before state = state.opening.place + state.cut
 
 abbrev pub entries_kept : State → List Entry
 entries_kept state = drop state.cut state.log
+
+-- the state when of these all but the last so many are no longer in memory
+abbrev pub cut_but : ℕ → State → State
+cut_but keep state = record { opening = state.opening; log = state.log; cut = state.cut + (length (entries_kept state) - keep); pairs = state.pairs }
 
 -- the newest version, and the one before it
 abbrev pub recent : Facts → ℕ → Option Version

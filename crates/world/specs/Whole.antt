@@ -1,6 +1,6 @@
 -- Cited by the contracts of Log, World.
 -- A log as contracts see it: from where it goes on, how many of its entries are no longer in memory, and all of them.
-use Rattle.std.specs.Prelude.{ℕ, ◌+◌, List, [], ◌∷◌, ◌++◌, length}
+use Rattle.std.specs.Prelude.{ℕ, ◌+◌, ◌-◌, List, [], ◌∷◌, ◌++◌, drop, length}
 use Rattle.checkpoint.specs.Checkpoint.{Checkpoint}
 use Rattle.replay.specs.declared.entry.Entry.{Entry}
 use Rattle.world.specs.declared.log.Log.{Log}
@@ -21,6 +21,10 @@ one_more entries entry = record { opening = entries.opening; cut = entries.cut; 
 
 abbrev pub cut_all : Entries → Entries
 cut_all entries = record { opening = entries.opening; cut = length entries.all; all = entries.all }
+
+-- all but the last so many of those in memory are given back
+abbrev pub cut_but : ℕ → Entries → Entries
+cut_but keep entries = record { opening = entries.opening; cut = entries.cut + (length (drop entries.cut entries.all) - keep); all = entries.all }
 
 -- how many entries there were ever
 abbrev pub count_of : Entries → ℕ

@@ -2,7 +2,7 @@
 //! and how an entry is added.
 //! All that can be refused comes first, so that a call enters its entry when nothing can fail any
 //! more.
-ghost use Rattle.std.specs.Prelude.{◌≡◌, ◌<◌, ◌+◌, ◌^◌, drop, length, IfOk, OnOk};
+ghost use Rattle.std.specs.Prelude.{◌≡◌, ◌<◌, ◌≤◌, ◌+◌, ◌^◌, drop, length, IfOk, OnOk};
 ghost use Rattle.std.specs.Vec.{vec_len, vec_capacity};
 
 use crate::entry::Receipt;
@@ -66,8 +66,18 @@ fn make_draft(alloc: Global, moment: u64, what: What) -> Result<Draft, AllocErro
     })
 }
 
+// Lets the first so many entries go; the others move to the front.
+fn let_go(entries: &mut Vec<Entry>, count: usize)
+    requires { count ≤ vec_len entries.old }
+    ensures { entries.new.items ≡ drop count entries.old.items }
+{
+    let left = entries.len() - count;
+    entries.rotate_left(count);
+    entries.truncate(left);
+}
+
 impl Log {
-    ghost use Rattle.world.specs.Whole.{whole, none_yet, one_more, cut_all, count_of};
+    ghost use Rattle.world.specs.Whole.{whole, none_yet, one_more, cut_all, cut_but, count_of};
 
     /// A log without entries that goes on from a checkpoint of this place and moment.
     pub(crate) fn new(alloc: Global, from: Origin, place: u64, moment: u64) -> Log
@@ -170,5 +180,23 @@ impl Log {
         *start += entries.len() as u64;
         let alloc = *entries.allocator();
         replace(entries, Vec::new(alloc))
+    }
+
+    /// Gives the entries in memory back, but for the last so many of them.
+    pub(crate) fn cut_but(&mut self, keep: usize)
+        ensures entries { whole self.new ≡ cut_but keep (whole self.old) }
+        ensures moment { self.new.moment ≡ self.old.moment }
+    {
+        let Log {
+            from: _,
+            gone,
+            start,
+            entries,
+            moment: _,
+        } = self;
+        let count = entries.len().saturating_sub(keep);
+        *gone = Gone::with(gone, &entries.as_slice()[..count]);
+        *start += count as u64;
+        let_go(entries, count);
     }
 }

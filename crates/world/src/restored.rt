@@ -2,6 +2,7 @@
 ghost use Rattle.std.specs.Option.{option_map};
 ghost use Rattle.std.specs.Prelude.{◌≡◌, ℕ, IfErr, IfOk, OnOk};
 ghost use Rattle.collections.specs.Refusal.{IsRefusal};
+ghost use Rattle.checkpoint.specs.Checkpoint.{IsWhole};
 ghost use Rattle.checkpoint.specs.Sound.{IsSound};
 ghost use Rattle.checkpoint_check.specs.Refusals.{Condition, rank};
 ghost use Rattle.checkpoint_check.specs.declared.fault.CheckpointFault.TheVariants.{Memory as OutOfMemory};
@@ -96,6 +97,13 @@ impl Checkpoint {
             begun,
             store,
         })
+    }
+
+    /// A world may open from each checkpoint. For a caller's proof: it does nothing and takes no memory.
+    pub fn lemma_whole(&self)
+        ensures { IsWhole self.now }
+    {
+        let _own = &self.line;
     }
 
     /// How many entries came before.

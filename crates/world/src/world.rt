@@ -7,7 +7,7 @@ ghost use Rattle.replay.specs.Kept.{AreInPieces, IsKept};
 ghost use Rattle.replay.specs.Replay.{progress_of, version_at};
 ghost use Rattle.schema_version.specs.Sound.{IsSoundVersion};
 ghost use Rattle.world.specs.Calls.{effective_moment};
-ghost use Rattle.world.specs.State.{facts_of, recent, entry_count, entries_before, entries_kept, cut_here, IsReplayed, Agrees};
+ghost use Rattle.world.specs.State.{facts_of, recent, entry_count, entries_before, entries_kept, cut_but, cut_here, IsReplayed, Agrees};
 
 use crate::log::Log;
 use collections::ArcValue;
@@ -153,6 +153,15 @@ impl World {
         ensures { self.new ≡ cut_here self.old }
     {
         let _taken = self.take_log();
+    }
+
+    /// Gives the memory of the entries back that are in memory, but for the last `keep` of them. It
+    /// takes no memory, and time with the entries that were in memory: some are freed, and the others
+    /// move to the front.
+    pub fn cut_but(&mut self, keep: usize)
+        ensures { self.new ≡ cut_but keep self.old }
+    {
+        self.log.cut_but(keep);
     }
 
     // The begun reorganisation of an element.

@@ -9,9 +9,9 @@ pub returns-in-Ok-clause-opens : goal.returns-in-Ok-clause-opens
 returns-in-Ok-clause-opens c = (c.in-Ok.checkpoint, c.in-Ok.ensures.read, c.session_over.ensures ∙ ap session_over c.open_at.ensures)
 
 pub returns-in-Ok-clause-saved : goal.returns-in-Ok-clause-saved
-returns-in-Ok-clause-saved c limit checkpoint whole saved =
-    c.session_over.ensures ∙ ap session_over (c.open_at.ensures ∙ ap opened (c.in-Ok.ensures.accepted limit checkpoint whole saved))
+returns-in-Ok-clause-saved c limit checkpoint saved =
+    c.session_over.ensures ∙ ap session_over (c.open_at.ensures ∙ ap opened (c.in-Ok.ensures.accepted limit checkpoint saved))
 
 pub returns-in-Err-clause-saved : goal.returns-in-Err-clause-saved
-returns-in-Err-clause-saved c limit checkpoint whole saved =
-    let short : c.load_status.result ≡ out_of_memory = c.load_status.ensures ∙ out_of_memory_alone c.in-Err.fault (c.in-Err.ensures.accepted limit checkpoint whole saved) in rw short refl
+returns-in-Err-clause-saved c limit checkpoint saved =
+    let short : c.load_status.result ≡ out_of_memory = c.load_status.ensures ∙ out_of_memory_alone c.in-Err.fault (c.in-Err.ensures.accepted limit checkpoint saved) in rw short refl
