@@ -5,7 +5,7 @@
  * a reply in UTF-8, of no line, one or several, each with its line ending.
  *
  * A typed call takes numbers, and codes in bytes: tables, operations, steps and queries, as
- * crates/entry_code describes them. What it makes, as a lease, a transaction or a query's rows, is
+ * docs/FORMAT.md describes them. What it makes, as a lease, a transaction or a query's rows, is
  * in a handle of its own, which is closed by cagzhomul_close like a session.
  *
  * What a caller owes, which nothing checks:

@@ -1,0 +1,92 @@
+"""The examples of docs/FORMAT.md, put through the library: run by `python3 -m unittest` in this folder, with CAGZHOMUL_LIBRARY set."""
+
+import ctypes
+import os
+import re
+import unittest
+from typing import Any, Dict
+
+from cagzhomul import _Handle, _library
+
+PAGE = os.path.join(os.path.dirname(os.path.abspath(__file__)), "..", "..", "docs", "FORMAT.md")
+ROOM = 4096
+
+
+def examples() -> Dict[str, bytes]:
+    """The page's blocks by their names: remarks follow two spaces."""
+    with open(PAGE, encoding="utf-8") as file:
+        blocks = re.findall(r"```hex ([^\n]*)\n(.*?)```", file.read(), re.DOTALL)
+    return {name: b"".join(bytes.fromhex(line.partition("  ")[0]) for line in text.splitlines()) for name, text in blocks}
+
+
+class Format(unittest.TestCase):
+    def setUp(self) -> None:
+        self.codes, self.session, self.lease = examples(), _Handle(), _Handle()
+        opening = self.codes["opening"]
+        self.assertEqual(_library.cagzhomul_open_tables(self.session, opening, len(opening)), 0)
+        self.assertEqual(_library.cagzhomul_lease(self.session, 5, self.lease).status, 0)
+        operations = self.codes["operations"]
+        self.assertEqual(_library.cagzhomul_write(self.session, 5, self.lease, operations, len(operations)).status, 0)
+
+    def tearDown(self) -> None:
+        for handle in (self.lease, self.session):
+            _library.cagzhomul_close(handle)
+
+    def told(self, call: Any, *words: Any) -> bytes:
+        """What a call writes that says how long it is."""
+        room = ctypes.create_string_buffer(ROOM)
+        outcome = call(*words, room, ROOM)
+        self.assertEqual(outcome.status, 0)
+        return room.raw[:int(outcome.length)]
+
+    def held(self, rows: _Handle) -> bytes:
+        """The bytes of a handle, which is closed."""
+        code = self.told(_library.cagzhomul_rows_from, rows, 0)
+        _library.cagzhomul_close(rows)
+        return code
+
+    def test_a_query_and_its_rows(self) -> None:
+        query, rows = self.codes["query"], _Handle()
+        self.assertEqual(_library.cagzhomul_query(self.session, 5, self.lease, query, len(query), rows).status, 0)
+        self.assertEqual(self.held(rows), self.codes["rows"])
+
+    def test_changes_their_plan_and_all_entries(self) -> None:
+        changes, step = self.codes["changes"], self.codes["step"]
+        self.assertEqual(self.told(_library.cagzhomul_plan, self.session, changes, len(changes)), self.codes["plan"])
+        self.assertEqual(_library.cagzhomul_publish(self.session, 20, step, len(step)).status, 0)
+        for moment in (30, 40, 40):
+            self.assertEqual(_library.cagzhomul_advance(self.session, moment, 1, 10).status, 0)
+        entries = [self.told(_library.cagzhomul_entry, self.session, place) for place in range(1, 7)]
+        self.assertEqual(entries, [self.codes[f"entry {place}"] for place in range(1, 7)])
+        self.assertEqual(_library.cagzhomul_log_length(self.session).length, 6)
+
+    def test_entries_are_repeated(self) -> None:
+        other, opening = _Handle(), self.codes["opening"]
+        self.assertEqual(_library.cagzhomul_open_tables(other, opening, len(opening)), 0)
+        for place in range(1, 7):
+            entry = self.codes[f"entry {place}"]
+            self.assertEqual(_library.cagzhomul_repeat(other, entry, len(entry)), 0, place)
+        _library.cagzhomul_close(other)
+
+    def test_a_checkpoint(self) -> None:
+        taken, written, other, rows = _Handle(), _Handle(), _Handle(), _Handle()
+        self.assertEqual(_library.cagzhomul_checkpoint(self.session, taken), 0)
+        self.assertEqual(_library.cagzhomul_save(taken, written), 0)
+        _library.cagzhomul_close(taken)
+        self.assertEqual(self.held(written), self.codes["checkpoint"])
+        code, query = self.codes["checkpoint"], self.codes["query"]
+        self.assertEqual(_library.cagzhomul_open_at(other, code, len(code)), 0)
+        self.assertEqual(_library.cagzhomul_query(other, 5, self.lease, query, len(query), rows).status, 0)
+        self.assertEqual(self.held(rows), self.codes["rows"])
+        _library.cagzhomul_close(other)
+
+    def test_no_byte_more_or_less(self) -> None:
+        for name in ("opening", "checkpoint"):
+            call = _library.cagzhomul_open_tables if name == "opening" else _library.cagzhomul_open_at
+            for code in (self.codes[name][:-1], self.codes[name] + b"\0"):
+                handle = _Handle()
+                self.assertEqual(call(handle, code, len(code)), 17, name)
+
+
+if __name__ == "__main__":
+    unittest.main()
