@@ -31,6 +31,7 @@ fn push_pages(alloc: Global, out: &mut Vec<u8>, checkpoint: &Checkpoint) -> Resu
 pub fn save(alloc: Global, checkpoint: &Checkpoint) -> Result<Vec<u8>, AllocError>
     ensures { IfOk result (λ bytes. IsSaved 1000 checkpoint.now bytes.items) }
 {
+    checkpoint.lemma_whole();
     let mut out = Vec::new(alloc);
     let head = save_head(alloc, checkpoint)?;
     push_part(&mut out, head.as_slice())?;
