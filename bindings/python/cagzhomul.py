@@ -526,6 +526,13 @@ class _Names:
         return next((name for name in named if not self.number(query.table, name)), None)
 
 
+class _Held(NamedTuple):
+    """A lease as the language has it: the names of its version, and from which moment until which it is in force."""
+    names: _Names
+    granted: int
+    until: int
+
+
 def _found(query: Query, names: _Names, ask: Callable[[bytes, _Handle], Any]) -> List[Row]:
     """The rows of a query, by a call that answers its code into a closed handle."""
     columns, rows = names.columns(query), _Handle()
@@ -678,6 +685,8 @@ class Session(_Audited):
         super().__init__()
         self._keep: Optional[int] = None
         self._start = 0
+        # whether a version may have been published that the kept lease of a Db is not on
+        self._is_newer = False
         self._out = ctypes.create_string_buffer(_ROOM)
         code = _opening_code
         if _checkpoint is not None:
@@ -701,7 +710,9 @@ class Session(_Audited):
         outcome = _library.cagzhomul_reply_to(self._handle, words, len(words), self._out, _ROOM)
         _check(outcome.status)
         if outcome.length <= _ROOM:
-            return ctypes.string_at(self._out, outcome.length).decode()
+            reply = ctypes.string_at(self._out, outcome.length).decode()
+            self._is_newer |= reply.startswith("ok version ")
+            return reply
         out = ctypes.create_string_buffer(outcome.length)
         _check(_library.cagzhomul_reply_from(self._handle, 0, out, outcome.length).status)
         return out.raw.decode()
@@ -740,7 +751,9 @@ class Session(_Audited):
         """
         moment = _at(now)
         with self._lock:
-            return _number_of(_library.cagzhomul_publish(self._handle, moment, step, len(step)))
+            version = _number_of(_library.cagzhomul_publish(self._handle, moment, step, len(step)))
+            self._is_newer = True
+            return version
 
     def begin_reorg(self, now: Moment, element: int, pieces: int = 8) -> int:
         """Begins the fill or the clear that an element wants, in 1 to 64 pieces; the answer is the
@@ -832,6 +845,7 @@ class Session(_Audited):
         """
         with self._lock:
             status = _library.cagzhomul_repeat(self._handle, entry, len(entry))
+            self._is_newer |= status == _OK
         if status == _NOT_NEXT:
             return False
         _check(status)
@@ -848,6 +862,7 @@ class Session(_Audited):
             raise OverflowError("moment, pieces and limit have 64, 32 and 32 bits")
         with self._lock:
             done = _library.cagzhomul_advance(self._handle, moment, pieces, limit)
+            self._is_newer |= done.status == _OK
             if self._keep is not None and done.status == _OK:
                 self._grown(int(_library.cagzhomul_log_length(self._handle).length))
         if done.status in (_WAITING, _FINISHED):
@@ -874,6 +889,8 @@ class Db(Session):
         super().__init__(_opening(lease_length, declared), at)
         self._keep = keep
         self._declared = declared
+        self._kept: Optional[_Held] = None
+        self._keeping = threading.Lock()
         self._names = _Names(self._reply_to("status"), declared)
 
     def lease(self, now: Moment) -> Lease:
@@ -885,9 +902,47 @@ class Db(Session):
         return Lease(self, now)
 
     def query(self, now: Moment, selection: str) -> List[Row]:
-        """The rows of a query under a lease that it takes: `lease`, and then the lease's `query`."""
-        with self.lease(now) as lease:
-            return lease.query(now, selection)
+        """The rows of a query, as `Lease.query` gives them, under a lease that the store keeps. It takes
+        one, which is an entry of the log, at the first query, and then only if the kept one has ended or
+        a newer version was published, by any call of this store.
+
+        Raises, if it takes a lease, what `lease` does; then what `Lease.query` does. BadLease or
+        LeaseEnded only if the lease that it took has ended meanwhile, too.
+        """
+        moment = _at(now)
+        held = self._kept_lease(moment)
+        try:
+            return self._rows_under(held, moment, selection)
+        except (BadLease, LeaseEnded):
+            return self._rows_under(self._kept_lease(moment, held), moment, selection)
+
+    def _kept_lease(self, moment: int, refused: Optional[_Held] = None) -> _Held:
+        """The kept lease; or a new one, if that is the refused one, or is on an older version."""
+        with self._keeping:
+            if self._kept is not None and (self._kept is refused or not self._is_newest(self._kept.names.version)):
+                self._kept = None
+            if self._kept is None:
+                with self.lease(moment) as lease:
+                    self._kept = lease._held
+            return self._kept
+
+    def _is_newest(self, version: int) -> bool:
+        """Whether this version is the newest, which `status` is asked for if another may have been
+        published since it was."""
+        with self._lock:
+            if not self._is_newer:
+                return True
+            newest: int = json.loads(_accepted(self._reply_to("status")))["version"]
+            self._is_newer = False
+            return newest == version
+
+    def _rows_under(self, held: _Held, moment: int, selection: str) -> List[Row]:
+        """The rows of a query under a lease, which the server of this module is given."""
+        with self._lock:
+            _accepted(self._reply_to(f"forge python_binding version {held.names.version} granted {held.granted} until {held.until}"))
+            reply = self._reply_to(f"query python_binding at {moment}: {selection}")
+        table = _TABLE_OF.match(selection)
+        return _rows(reply, held.names.keys.get(table[1], []) if table else [], held.names)
 
     def snapshot(self, lease: Lease, now: Moment) -> Snapshot:
         """What the store holds, under a lease; it is to be closed.
@@ -972,6 +1027,7 @@ class Lease(_Owner):
             self._names = db._names
         self._db, self._now = db, now
         self.version, self.granted, self.until, self.place = map(int, (granted.version, granted.granted, granted.until, granted.place))
+        self._held = _Held(self._names, self.granted, self.until)
 
     def txn(self, now: Optional[Moment] = None) -> Txn:
         """A transaction without operations yet, at this moment or that of the lease."""
@@ -999,12 +1055,7 @@ class Lease(_Owner):
         """
         if not self.is_open:
             raise Closed(_CLOSED)
-        moment, db = _at(now), self._db
-        with db._lock:
-            _accepted(db._reply_to(f"forge python_binding version {self.version} granted {self.granted} until {self.until}"))
-            reply = db._reply_to(f"query python_binding at {moment}: {selection}")
-        table = _TABLE_OF.match(selection)
-        return _rows(reply, self._names.keys.get(table[1], []) if table else [], self._names)
+        return self._db._rows_under(self._held, _at(now), selection)
 
     def find(self, query: Query, now: Optional[Moment] = None) -> List[Row]:
         """The rows of a query as `Snapshot.query` gives them, at this moment or that of the lease.

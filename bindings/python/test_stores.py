@@ -102,7 +102,8 @@ class Stores(unittest.TestCase):
                 db.cut(-1)
             db.cut()
             self.assertEqual((db.log_length(), db.log_start()), (9, 9))
-        for call in (db.cut, db.log_start):
+        calls: List[Callable[[], object]] = [db.cut, db.log_start]
+        for call in calls:
             self.refused(cagzhomul.Closed, call)
         with cagzhomul.open(PEOPLE, keep=None) as db, db.lease(5):
             self.assertEqual((db.log_length(), db.log_start()), (1, 0))

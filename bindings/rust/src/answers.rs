@@ -61,7 +61,7 @@ pub(crate) struct Advanced {
 
 /// `cagzhomul_granted`.
 #[repr(C)]
-#[derive(Clone, Copy)]
+#[derive(Debug, Clone, Copy)]
 pub(crate) struct Granted {
     pub(crate) status: i32,
     pub(crate) version: u64,

@@ -106,7 +106,9 @@ fn publish_first(db: &Db, change: &str, now: u64) -> Result<Published, Error> {
     if plan.starts_with("refused ") {
         return Err(refusal_of(&plan));
     }
-    published_of(&reply_to(&mut session, &format!("next at {now}"))?)
+    let published = published_of(&reply_to(&mut session, &format!("next at {now}"))?)?;
+    db.session().published();
+    Ok(published)
 }
 
 /// Whether there is a semicolon outside of quotes.

@@ -3,8 +3,8 @@
 use crate::change::{Change, State};
 use crate::code;
 use crate::error::Error;
-use crate::ffi::{Granted, Handle};
-use crate::lease::Lease;
+use crate::ffi::Handle;
+use crate::lease::{Held, Lease};
 use crate::names::Names;
 use crate::reply::Row;
 use crate::session::{done, status_of, Session};
@@ -46,6 +46,8 @@ pub const DEFAULT_KEEP: u64 = 10_000;
 pub struct Db {
     session: Session,
     names: Mutex<Arc<Names>>,
+    /// The lease of [`Db::query`]. Its lock is taken before that of the session.
+    kept: Mutex<Option<Held>>,
 }
 
 impl Db {
@@ -77,12 +79,16 @@ impl Db {
         let tables: Vec<Table> = tables.into_iter().collect();
         let mut handle = Handle::closed();
         done(handle.open_tables(code::opening(lease_length, &tables).as_bytes()))?;
-        let names = Names::new(&tables).at(&status_of(&mut handle)?)?;
-        let session = Session::over(handle);
+        Db::over(Session::over(handle), &tables)
+    }
+
+    fn over(session: Session, tables: &[Table]) -> Result<Db, Error> {
+        let names = Names::new(tables).at(&status_of(&mut session.lock())?)?;
         session.keep(DEFAULT_KEEP);
         Ok(Db {
             session,
             names: Mutex::new(Arc::new(names)),
+            kept: Mutex::new(None),
         })
     }
 
@@ -106,13 +112,7 @@ impl Db {
         tables: impl IntoIterator<Item = Table>,
     ) -> Result<Db, Error> {
         let tables: Vec<Table> = tables.into_iter().collect();
-        let session = Session::open_at(checkpoint)?;
-        session.keep(DEFAULT_KEEP);
-        let names = Names::new(&tables).at(&status_of(&mut session.lock())?)?;
-        Ok(Db {
-            session,
-            names: Mutex::new(Arc::new(names)),
-        })
+        Db::over(Session::open_at(checkpoint)?, &tables)
     }
 
     /// The last so many entries of the log stay in memory, and the older ones are given back once there
@@ -150,12 +150,12 @@ impl Db {
     /// ```
     pub fn lease(&self, now: u64) -> Result<Lease<'_>, Error> {
         let mut handle = Handle::closed();
-        let (granted, names) = self.grant(now, &mut handle)?;
-        Ok(Lease::new(self, handle, granted, names))
+        let held = self.grant(now, &mut handle)?;
+        Ok(Lease::new(self, handle, held))
     }
 
     /// Grants a lease into the handle, with the names of its version.
-    fn grant(&self, now: u64, lease: &mut Handle) -> Result<(Granted, Arc<Names>), Error> {
+    fn grant(&self, now: u64, lease: &mut Handle) -> Result<Held, Error> {
         let mut session = self.session.lock();
         let granted = session.lease(now, lease);
         done(granted.status)?;
@@ -164,7 +164,7 @@ impl Db {
         if names.version() != granted.version {
             *names = Arc::new(names.at(&status_of(&mut session)?)?);
         }
-        Ok((granted, Arc::clone(&names)))
+        Ok(Held::new(granted, Arc::clone(&names)))
     }
 
     /// The names of the newest version that a lease was granted on, with those of all tables.
@@ -172,11 +172,45 @@ impl Db {
         Arc::clone(&self.names.lock().unwrap_or_else(PoisonError::into_inner))
     }
 
-    /// The rows of a query under a lease that it takes: [`Db::lease`], and then [`Lease::query`].
+    /// The rows of a query, as [`Lease::query`] gives them, under a lease that the store keeps. It
+    /// takes one, which is an entry of the log, at the first query, and then only if the kept one
+    /// has ended or a newer version was published, by any call of this store.
     ///
-    /// Refusals: those of both.
+    /// Refusals: if it takes a lease, those of [`Db::lease`]; then those of [`Lease::query`].
+    /// [`Error::BadLease`] or [`Error::LeaseEnded`] only if the lease that it took has ended
+    /// meanwhile, too.
+    ///
+    /// ```
+    /// # use cagzhomul::{Db, Table, Type};
+    /// # let db = Db::open([Table::new("t").key("id", Type::Int)])?;
+    /// for now in 5..15 {
+    ///     db.query(now, "select * from t")?;
+    /// }
+    /// assert_eq!(db.session().log_length()?, 1); // the lease is in force before 15
+    /// # Ok::<(), cagzhomul::Error>(())
+    /// ```
     pub fn query(&self, now: u64, selection: &str) -> Result<Vec<Row>, Error> {
-        self.lease(now)?.query(now, selection)
+        let held = self.kept_lease(now, None)?;
+        match held.rows(&self.session, now, selection) {
+            Err(Error::BadLease | Error::LeaseEnded) => {
+                let held = self.kept_lease(now, Some(&held))?;
+                held.rows(&self.session, now, selection)
+            }
+            found => found,
+        }
+    }
+
+    /// The kept lease; or a new one, if that is the refused one, or is on an older version.
+    fn kept_lease(&self, now: u64, refused: Option<&Held>) -> Result<Held, Error> {
+        let mut kept = self.kept.lock().unwrap_or_else(PoisonError::into_inner);
+        if let Some(held) = kept.take() {
+            let is_refused = refused.is_some_and(|lease| lease.place() == held.place());
+            if !is_refused && self.session.is_newest(held.version())? {
+                return Ok(kept.insert(held).clone());
+            }
+        }
+        let held = self.grant(now, &mut Handle::closed())?;
+        Ok(kept.insert(held).clone())
     }
 
     /// The reply to any line of the script language, as text. The server `rust_binding` is the

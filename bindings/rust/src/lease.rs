@@ -6,7 +6,7 @@ use crate::ffi::{Granted, Handle};
 use crate::names::Names;
 use crate::query::{find, Query};
 use crate::reply::{refusal_of, rows_of, Row};
-use crate::session::{done, reply_to};
+use crate::session::{done, reply_to, Session};
 use crate::snapshot::Snapshot;
 use crate::txn::Txn;
 use std::fmt;
@@ -16,29 +16,66 @@ use std::sync::{Arc, Mutex, MutexGuard, PoisonError};
 /// of the last one.
 const SERVER: &str = "rust_binding";
 
+/// A lease as the script language has it: its numbers, and the names of its version.
+#[derive(Debug, Clone)]
+pub(crate) struct Held {
+    granted: Granted,
+    names: Arc<Names>,
+}
+
+impl Held {
+    pub(crate) fn new(granted: Granted, names: Arc<Names>) -> Held {
+        Held { granted, names }
+    }
+
+    pub(crate) fn version(&self) -> u64 {
+        self.granted.version
+    }
+
+    /// The place of its entry in the log.
+    pub(crate) fn place(&self) -> u64 {
+        self.granted.place
+    }
+
+    /// The rows of a query under it, which the server of this crate is given.
+    pub(crate) fn rows(
+        &self,
+        session: &Session,
+        now: u64,
+        selection: &str,
+    ) -> Result<Vec<Row>, Error> {
+        let Granted {
+            version,
+            granted,
+            until,
+            ..
+        } = self.granted;
+        let lease = format!("forge {SERVER} version {version} granted {granted} until {until}");
+        let query = format!("query {SERVER} at {now}: {selection}");
+        let mut handle = session.lock();
+        let forged = reply_to(&mut handle, &lease)?;
+        if forged != "ok\n" {
+            return Err(refusal_of(&forged));
+        }
+        let reply = reply_to(&mut handle, &query)?;
+        drop(handle);
+        rows_of(&reply, &self.names)
+    }
+}
+
 /// A lease on a version: until it ends, transactions and queries may run under it, from any thread.
 ///
 /// A transaction finds its columns by the names that they have in this version.
 pub struct Lease<'db> {
     db: &'db Db,
     handle: Mutex<Handle>,
-    granted: Granted,
-    names: Arc<Names>,
+    held: Held,
 }
 
 impl<'db> Lease<'db> {
-    pub(crate) fn new(
-        db: &'db Db,
-        handle: Handle,
-        granted: Granted,
-        names: Arc<Names>,
-    ) -> Lease<'db> {
-        Lease {
-            db,
-            handle: Mutex::new(handle),
-            granted,
-            names,
-        }
+    pub(crate) fn new(db: &'db Db, handle: Handle, held: Held) -> Lease<'db> {
+        let handle = Mutex::new(handle);
+        Lease { db, handle, held }
     }
 
     /// The store that granted it.
@@ -48,22 +85,22 @@ impl<'db> Lease<'db> {
 
     /// The number of the version that it is on.
     pub fn version(&self) -> u64 {
-        self.granted.version
+        self.held.version()
     }
 
     /// The moment from which on it is in force.
     pub fn granted(&self) -> u64 {
-        self.granted.granted
+        self.held.granted.granted
     }
 
     /// The moment at which it ends: it is in force before it.
     pub fn until(&self) -> u64 {
-        self.granted.until
+        self.held.granted.until
     }
 
     /// The place of its entry in the log.
     pub fn place(&self) -> u64 {
-        self.granted.place
+        self.held.place()
     }
 
     /// A transaction under this lease, without operations yet.
@@ -90,22 +127,7 @@ impl<'db> Lease<'db> {
     /// # Ok::<(), Error>(())
     /// ```
     pub fn query(&self, now: u64, selection: &str) -> Result<Vec<Row>, Error> {
-        let Granted {
-            version,
-            granted,
-            until,
-            ..
-        } = self.granted;
-        let lease = format!("forge {SERVER} version {version} granted {granted} until {until}");
-        let query = format!("query {SERVER} at {now}: {selection}");
-        let mut session = self.db.session().lock();
-        let forged = reply_to(&mut session, &lease)?;
-        if forged != "ok\n" {
-            return Err(refusal_of(&forged));
-        }
-        let reply = reply_to(&mut session, &query)?;
-        drop(session);
-        rows_of(&reply, &self.names)
+        self.held.rows(self.db.session(), now, selection)
     }
 
     /// The rows of a query, by rising primary key.
@@ -127,7 +149,7 @@ impl<'db> Lease<'db> {
     /// # Ok::<(), Error>(())
     /// ```
     pub fn find(&self, now: u64, query: &Query) -> Result<Vec<Row>, Error> {
-        find(query, &self.names, |code, rows| {
+        find(query, self.names(), |code, rows| {
             let mut session = self.db.session().lock();
             session.query(now, &mut self.lock(), code, rows)
         })
@@ -141,12 +163,12 @@ impl<'db> Lease<'db> {
         let mut handle = Handle::closed();
         let mut session = self.db.session().lock();
         done(session.snapshot(now, &mut self.lock(), &mut handle))?;
-        Ok(Snapshot::over(handle, Arc::clone(&self.names)))
+        Ok(Snapshot::over(handle, Arc::clone(&self.held.names)))
     }
 
     /// The names of its version.
     pub(crate) fn names(&self) -> &Names {
-        &self.names
+        &self.held.names
     }
 
     pub(crate) fn lock(&self) -> MutexGuard<'_, Handle> {

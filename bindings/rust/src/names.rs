@@ -42,8 +42,7 @@ impl Names {
 
     /// The names of the newest version, by its status.
     pub(crate) fn at(&self, status: &str) -> Result<Names, Error> {
-        let (version, elements) =
-            status_of(status).ok_or_else(|| Error::Reply(status.to_string()))?;
+        let (version, elements) = read(status)?;
         Ok(Names {
             version,
             tables: self.tables.clone(),
@@ -101,6 +100,15 @@ impl Names {
     }
 }
 
+/// The number of the newest version, by its status.
+pub(crate) fn version_of(status: &str) -> Result<u64, Error> {
+    read(status).map(|(version, _)| version)
+}
+
+fn read(status: &str) -> Result<(u64, Vec<Element>), Error> {
+    status_of(status).ok_or_else(|| Error::Reply(status.to_string()))
+}
+
 /// The newest version and its elements, by its status: JSON in one line, whose objects have their
 /// keys in alphabetic order, and whose names need no escapes.
 fn status_of(status: &str) -> Option<(u64, Vec<Element>)> {
@@ -148,7 +156,7 @@ mod tests {
     #[test]
     fn a_status_has_the_names_of_the_newest_version() {
         let names = names();
-        assert_eq!(names.version(), 2);
+        assert_eq!((names.version(), version_of(STATUS)), (2, Ok(2)));
         assert_eq!(
             (names.table("t"), names.table("u"), names.table("v")),
             (1, 2, 0)

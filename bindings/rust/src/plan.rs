@@ -263,7 +263,10 @@ impl Db {
     /// # Ok::<(), Error>(())
     /// ```
     pub fn publish(&self, now: u64, step: &PlannedStep) -> Result<u64, Error> {
-        number_of(self.session().lock().publish(now, &step.code))
+        let mut session = self.session().lock();
+        let version = number_of(session.publish(now, &step.code))?;
+        self.session().published();
+        Ok(version)
     }
 
     /// Begins the fill or the clear that an element wants, in 1 to 64 pieces, each of about as many

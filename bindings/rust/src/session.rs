@@ -2,8 +2,9 @@
 
 use crate::error::Error;
 use crate::ffi::{self, Handle, Outcome};
+use crate::names::version_of;
 use std::fmt;
-use std::sync::atomic::{AtomicU64, Ordering};
+use std::sync::atomic::{AtomicBool, AtomicU64, Ordering};
 use std::sync::{Mutex, MutexGuard, PoisonError};
 
 /// How many bytes of a reply or a code are fetched at once.
@@ -42,6 +43,9 @@ pub struct Session {
     keep: AtomicU64,
     /// How many entries come before those that are in memory, as far as this crate cut them off.
     start: AtomicU64,
+    /// Whether a version may have been published that the kept lease of a store is not on. It is
+    /// written under the lock of the handle.
+    is_newer: AtomicBool,
 }
 
 impl Session {
@@ -76,6 +80,7 @@ impl Session {
             handle: Mutex::new(handle),
             keep: AtomicU64::new(u64::MAX),
             start: AtomicU64::new(0),
+            is_newer: AtomicBool::new(false),
         }
     }
 
@@ -91,11 +96,31 @@ impl Session {
         self.keep.store(entries, Ordering::Relaxed);
     }
 
+    /// A version may have been published, by a caller who has the lock.
+    pub(crate) fn published(&self) {
+        self.is_newer.store(true, Ordering::Relaxed);
+    }
+
+    /// Whether this version is the newest, which `status` is asked for if another may have been
+    /// published since it was.
+    pub(crate) fn is_newest(&self, version: u64) -> Result<bool, Error> {
+        let mut handle = self.lock();
+        if !self.is_newer.load(Ordering::Relaxed) {
+            return Ok(true);
+        }
+        let is_newest = version_of(&status_of(&mut handle)?)? == version;
+        self.is_newer.store(false, Ordering::Relaxed);
+        Ok(is_newest)
+    }
+
     /// The log has an entry of this place: it is cut if it has grown long enough.
     pub(crate) fn grown(&self, handle: &mut Handle, place: u64) {
         let keep = self.keep.load(Ordering::Relaxed);
         let kept = place.saturating_sub(self.start.load(Ordering::Relaxed));
-        if kept / 2 >= keep && kept > keep && handle.cut(usize::try_from(keep).unwrap_or(usize::MAX)) == ffi::OK {
+        if kept / 2 >= keep
+            && kept > keep
+            && handle.cut(usize::try_from(keep).unwrap_or(usize::MAX)) == ffi::OK
+        {
             self.start.store(place - keep, Ordering::Relaxed);
         }
     }
@@ -105,7 +130,12 @@ impl Session {
     /// A refusal of the language, as `refused NoServer`, is a reply. Refusals: [`Error::Closed`],
     /// [`Error::BadLine`], and [`Error::OutOfMemory`], which frees the session.
     pub fn line(&self, line: &str) -> Result<String, Error> {
-        reply_to(&mut self.lock(), line)
+        let mut handle = self.lock();
+        let reply = reply_to(&mut handle, line)?;
+        if reply.starts_with("ok version ") {
+            self.published();
+        }
+        Ok(reply)
     }
 
     /// The code of the log's entry of this place. Places count from 1, as those of a
@@ -207,7 +237,10 @@ impl Session {
     /// has an equal world. Refusals: [`Error::Closed`], [`Error::NotOpened`], [`Error::BadEntry`],
     /// [`Error::NotNext`], [`Error::OutOfMemory`], which may come in place of the two before it.
     pub fn repeat(&self, entry: &[u8]) -> Result<(), Error> {
-        done(self.lock().repeat(entry))
+        let mut handle = self.lock();
+        done(handle.repeat(entry))?;
+        self.published();
+        Ok(())
     }
 
     /// Does the one act that is due of the changes under way, whoever began them: begins a
@@ -235,6 +268,7 @@ impl Session {
         let mut handle = self.lock();
         let advanced = handle.advance(now, pieces, limit);
         if advanced.status == ffi::OK {
+            self.published();
             let length = handle.log_length().length as u64;
             self.grown(&mut handle, length);
         }
