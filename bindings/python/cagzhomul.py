@@ -26,6 +26,7 @@ import os
 import re
 import struct
 import threading
+import time
 from dataclasses import dataclass, field
 from types import TracebackType
 from typing import Any, Callable, Dict, Iterable, Iterator, List, Mapping, NamedTuple, Optional, Sequence, Tuple, Type, TypeVar, Union, overload
@@ -35,11 +36,13 @@ __all__ = [
     "BadTable", "Begun", "CagzhomulError", "Change", "Clock", "Closed", "Conflict", "Db", "Dependent", "DropColumn", "DropIndex", "Duplicate", "InChange",
     "Key", "Kind", "Lease", "LeaseEnded", "Moment", "MomentTooLarge", "Move", "Moved", "NameTaken", "NoEntry", "NoRow", "NoTable", "NotAdjacent",
     "NotOpened", "NotPublic", "NotUtf8", "NotWanted", "OutOfMemory", "OverLimit", "Piece", "PlannedStep", "Progress", "Query", "Receipt",
-    "Reorganisation", "Row", "Session", "Snapshot", "Spent", "Step", "StillIndexed", "StillUsed", "Table", "Tables", "TooEarly", "TooManyOps", "Txn",
+    "Reorganisation", "Row", "Session", "Snapshot", "Spent", "Step", "StillIndexed", "StillUsed", "StillWaiting", "Table", "Tables", "TooEarly", "TooManyOps", "Txn",
     "UnexpectedReply", "Unfinished", "Unknown", "Value", "VersionsSpent", "Waiting", "Worked", "WrongElement", "WrongSchema", "WrongStage",
     "WrongType", "WrongWay", "literal", "open", "retry", "text_of",
 ]
 
+# how many seconds pass between two looks at a clock that is waited for
+_PAUSE = 0.001
 _ROOM, _OK, _BAD_LINE, _CLOSED, _NOT_NEXT, _WAITING, _FINISHED = 4096, 0, 1, 2, 9, 10, 11
 _WRONG_STAGE, _BAD_CODE, _NOT_PUBLIC, _WRONG_TYPE, _DUPLICATE, _NO_ROW, _DEPENDENT = 16, 17, 21, 22, 29, 30, 35
 
@@ -185,6 +188,15 @@ class BadPiece(CagzhomulError): """The reorganisation has no piece of this numbe
 class Spent(CagzhomulError): """The piece has ended: nothing is left of it to be read."""
 class WrongElement(CagzhomulError): """The piece is not one of the element's reorganisation."""
 class Moved(CagzhomulError): """The piece has gone on since it was read: it is to be read again."""
+class StillWaiting(CagzhomulError):
+    """Another change, which is `change`, waits for its first step, so that no other may begin: `advance`
+    or `resume` begins it."""
+
+    def __init__(self, change: str) -> None:
+        super().__init__(-1, f"another change still waits for its first step: {change}")
+        self.change = change
+
+
 class UnexpectedReply(CagzhomulError): """A reply of the language that this module does not know; its text has the reply."""
 
 
@@ -573,6 +585,13 @@ def _at(now: Moment) -> int:
     return moment
 
 
+def _arrived(clock: Clock, last: Step) -> int:
+    """The moment of a clock, once it is that for which the last step waits, if it waits."""
+    while (moment := _at(clock)) < (last.until if isinstance(last, Waiting) else 0):
+        time.sleep(_PAUSE)
+    return moment
+
+
 @dataclass(frozen=True)
 class Receipt:
     """What a committed transaction has: the place of its entry in the log, from 1."""
@@ -687,6 +706,8 @@ class Session(_Audited):
         self._start = 0
         # whether a version may have been published that the kept lease of a Db is not on
         self._is_newer = False
+        # the change that waits for its first step
+        self._waiting: Optional[str] = None
         self._out = ctypes.create_string_buffer(_ROOM)
         code = _opening_code
         if _checkpoint is not None:
@@ -851,24 +872,57 @@ class Session(_Audited):
         _check(status)
         return True
 
-    def advance(self, moment: int, pieces: int = 8, limit: int = 1000) -> Union[bool, int]:
-        """Does the one act that is due of the schema changes under way, in the session's world.
+    def advance(self, moment: int, pieces: int = 8, limit: int = 1000) -> Optional[Step]:
+        """Does the one act that is due of the schema changes under way, whoever began them: begins a
+        reorganisation in `pieces` pieces (1 to 64), publishes a step in which all that is ready moves
+        on, or works `limit` items of a piece (1 to 1,000). If a change of `Db.change` waits for its
+        first step, that comes before all, as soon as it may be published.
 
-        True: it was done, and the log has one entry more. False: no change is under way. Else a
-        number: nothing can be done before that moment. Raises Closed, NotOpened, BadCount,
-        MomentTooLarge, VersionsSpent or OutOfMemory, and the session is as it was.
+        The step says whether it acted, or until when nothing can be done; None if no change is under
+        way, and none waits. Raises Closed or NotOpened; if a change waits, then what `Db.change` would
+        for it, and forgets it, except at MomentTooLarge and OutOfMemory; then BadCount, MomentTooLarge,
+        VersionsSpent or OutOfMemory. The session is as it was.
         """
         if not (0 <= moment < 2**64 and 0 <= pieces < 2**32 and 0 <= limit < 2**32):
             raise OverflowError("moment, pieces and limit have 64, 32 and 32 bits")
         with self._lock:
+            first = self._begin_waiting(moment)
+            if isinstance(first, Acted):
+                return first
             done = _library.cagzhomul_advance(self._handle, moment, pieces, limit)
             self._is_newer |= done.status == _OK
             if self._keep is not None and done.status == _OK:
                 self._grown(int(_library.cagzhomul_log_length(self._handle).length))
-        if done.status in (_WAITING, _FINISHED):
-            return done.until if done.status == _WAITING else False
+        if done.status == _WAITING:
+            return Waiting(done.until if first is None else min(done.until, first.until))
+        if done.status == _FINISHED:
+            return first
         _check(done.status)
-        return True
+        return Acted()
+
+    def _begin_waiting(self, moment: int) -> Optional[Step]:
+        """Publishes the first step of the change that waits, for a caller who has the lock; None if none
+        waits."""
+        if self._waiting is None:
+            return None
+        try:
+            step = self._publish_first(self._waiting, moment)
+        except (Unknown, NameTaken, StillIndexed, InChange, OverLimit, VersionsSpent):
+            self._waiting = None
+            raise
+        if isinstance(step, Acted):
+            self._waiting = None
+        return step
+
+    def _publish_first(self, change: str, moment: int) -> Step:
+        """Publishes the first step of a change's plan, unless it is too early, for a caller who has the
+        lock: both lines are answered under it, so that the plan is of the newest version."""
+        _accepted(self._reply_to(f"plan: {change}"))
+        reply = self._reply_to(f"next at {moment}")
+        early = re.fullmatch(r"refused TooEarly (\d+)\n", reply)
+        if early is None:
+            _accepted(reply)
+        return Waiting(int(early[1])) if early else Acted()
 
 
 class Db(Session):
@@ -974,39 +1028,51 @@ class Db(Session):
         """Begins a schema change, and gives the steps that complete it. The change is one that the
         language's `plan` takes, as `add index by_town on people (town)`; the kept plan is lost.
 
+        When the call returns, the first of the steps is Acted, and the change is under way; or it is
+        Waiting, since the newest version is not old enough. Then the store keeps the change, and the
+        next step, `advance` or `resume` that is late enough begins it, also if these steps are let go;
+        until then another change is refused.
+
         `clock` gives the present moment, and is asked before each step. A reorganisation is begun in
         `pieces` pieces (1 to 64), and a step works `limit` items of one (1 to 1,000). Each step is
-        one short call, so other threads go on. At Waiting it is for the caller to wait. The steps
-        end when no change at all is under way; after an error `resume` goes on.
+        one short call, so other threads go on. The step after a Waiting comes once the clock has got to
+        its moment: until then the thread sleeps, and asks the clock every millisecond. The steps end
+        when no change at all is under way; after an error `resume` goes on.
 
-        Raises BadLine, also for a list of changes; Closed; Unknown, NameTaken, StillIndexed, InChange
-        or OverLimit; MomentTooLarge; VersionsSpent; OutOfMemory. The steps raise what `advance` does.
+        Raises BadLine for a list of changes; StillWaiting if another change waits; Closed; BadLine;
+        Unknown, NameTaken, StillIndexed, InChange or OverLimit; MomentTooLarge; VersionsSpent;
+        OutOfMemory. The steps raise what `advance` does.
         """
         if ";" in re.sub("'[^']*'", "", change):
             raise BadLine(_BAD_LINE)
-        steps = self._steps(change, clock, pieces, limit)
-        return itertools.chain([next(steps)], steps)
-
-    def _steps(self, change: str, clock: Clock, pieces: int, limit: int) -> Iterator[Step]:
-        """The first step of the change's plan, and then all that is due."""
-        while early := re.fullmatch(r"refused TooEarly (\d+)\n", reply := self._begin(change, _at(clock))):
-            yield Waiting(int(early[1]))
-        _accepted(reply)
-        yield Acted()
-        yield from self.resume(clock, pieces=pieces, limit=limit)
-
-    def _begin(self, change: str, moment: int) -> str:
-        """The reply to the publication of a plan's first step. Both lines are answered under one lock,
-        so that the plan is of the newest version, and is still the kept one."""
+        moment = _at(clock)
         with self._lock:
-            _accepted(self._reply_to(f"plan: {change}"))
-            return self._reply_to(f"next at {moment}")
+            if self._waiting is not None:
+                raise StillWaiting(self._waiting)
+            first = self._publish_first(change, moment)
+            if isinstance(first, Waiting):
+                self._waiting = change
+        return itertools.chain([first], self._steps_after(first, clock, pieces, limit))
+
+    def complete(self, change: str, clock: Clock, *, pieces: int = 8, limit: int = 1000) -> None:
+        """Begins a schema change as `change` does, and takes its steps to their end: when the call
+        returns, no change is under way. The thread sleeps while nothing can be done.
+
+        Raises what `change` and its steps do; after an error `resume` goes on.
+        """
+        for _ in self.change(change, clock, pieces=pieces, limit=limit):
+            pass
 
     def resume(self, clock: Clock, *, pieces: int = 8, limit: int = 1000) -> Iterator[Step]:
-        """The steps that complete the changes under way, whoever began them. They raise what
-        `advance` does."""
-        while (done := self.advance(_at(clock), pieces, limit)) is not False:
-            yield Acted() if done is True else Waiting(done)
+        """The steps that complete the changes under way, and that which waits, whoever began them, as
+        `change` gives them. They raise what `advance` does."""
+        return self._steps_after(Acted(), clock, pieces, limit)
+
+    def _steps_after(self, last: Step, clock: Clock, pieces: int, limit: int) -> Iterator[Step]:
+        """The steps after one, until there are no more."""
+        while (step := self.advance(_arrived(clock, last), pieces, limit)) is not None:
+            yield step
+            last = step
 
 
 class Lease(_Owner):

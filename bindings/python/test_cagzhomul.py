@@ -186,7 +186,8 @@ class Replicas(unittest.TestCase):
             for line in ("lease a at 5", "txn a at 5: insert people (1) set town = 'Ulm'; insert people (2)", "publish at 10: add index by_town on people (town)"):
                 self.assertNotIn("refused", session.reply_to(line))
             # the next version at 20, the begin when no lease on version 2 can be in force, two items one by one, and the last version
-            acts = [(10, 20), (20, True), (20, 30), (30, True), (30, True), (30, True), (30, True), (30, False)]
+            did = cagzhomul.Acted()
+            acts = [(10, cagzhomul.Waiting(20)), (20, did), (20, cagzhomul.Waiting(30)), (30, did), (30, did), (30, did), (30, did), (30, None)]
             self.assertEqual([session.advance(moment, pieces=1, limit=1) for moment, _ in acts], [done for _, done in acts])
             self.assertEqual(session.reply_to("log"), "ok log 8\n")
             self.assertEqual(session.reply_to("check"), "ok rows 2 missing 0 extra 0\n")

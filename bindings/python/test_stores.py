@@ -4,7 +4,7 @@ import random
 import struct
 import threading
 import unittest
-from typing import Callable, Dict, List, Tuple, Type
+from typing import Callable, Dict, Iterator, List, Tuple, Type
 
 import cagzhomul
 import test_cagzhomul
@@ -25,8 +25,12 @@ class Clock:
         return self.now
 
     def drive(self, db: cagzhomul.Db, change: str, **more: int) -> List[cagzhomul.Step]:
+        return self.take(lambda clock: db.change(change, clock, **more))
+
+    def take(self, begin: Callable[[cagzhomul.Clock], Iterator[cagzhomul.Step]]) -> List[cagzhomul.Step]:
+        """All steps, each taken at the moment for which the one before it waits."""
         steps = []
-        for step in db.change(change, self, **more):
+        for step in begin(self):
             steps.append(step)
             if isinstance(step, Waiting):
                 self.now = step.until
@@ -271,6 +275,7 @@ class Stores(unittest.TestCase):
             clock.now = 50
             self.assertEqual([next(late), next(late)], [Acted(), Waiting(60)])
             self.assertEqual({type(step) for step in db.resume(lambda: 60)}, {Acted})
+            clock.now = 60
             self.assertEqual(list(late), [])
             self.assertEqual(db.query(60, "select note from people where key = (1)"), [{"id": 1, "note": "a;'b"}])
 

@@ -225,13 +225,14 @@ class Process:
         """The next acts of the changes under way, found out so; or the moment to wait for; or None if no change is left."""
         self.replica.catch_up()
         trial = self.replica.trial()
-        before, done = trial.length(), True
+        before = trial.length()
+        step: Optional[cagzhomul.Step] = None
         for _ in range(ACTS):
-            done = trial.session.advance(trial.now(), PIECES, LIMIT)
+            step = trial.session.advance(trial.now(), PIECES, LIMIT)
             # where the pieces of a begin end depends on the rows that are there when it is in the log
-            if done is not True or entries.kind_of(trial.session.entry(trial.length())) != entries.PIECE:
+            if not isinstance(step, cagzhomul.Acted) or entries.kind_of(trial.session.entry(trial.length())) != entries.PIECE:
                 break
-        return trial.entries_after(before) or (None if done is False else done)
+        return trial.entries_after(before) or (step.until if isinstance(step, cagzhomul.Waiting) else None)
 
     def add_all(self, coded: Sequence[bytes]) -> bool:
         """Proposes entries until a slot has them; the moment is that of each try. False: they were passed over."""

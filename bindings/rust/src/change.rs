@@ -2,22 +2,20 @@
 
 use crate::db::Db;
 use crate::error::Error;
-use crate::reply::{published_of, refusal_of, Published};
-use crate::session::{reply_to, Step};
+use crate::reply::{refusal_of, step_of};
+use crate::session::{reply_to, Session, Step};
 use std::fmt;
+use std::sync::PoisonError;
+use std::thread;
+use std::time::Duration;
 
-/// How far a change is.
-#[derive(Debug, Clone, PartialEq, Eq)]
-pub(crate) enum State {
-    /// Its first step waits to be published.
-    ToBegin(String),
-    /// It is under way.
-    UnderWay,
-    /// There are no steps left.
-    Ended,
-}
+/// How much time passes between two looks at a clock that is waited for.
+const PAUSE: Duration = Duration::from_millis(1);
 
 /// The steps that complete a schema change, one at each call of `next`: [`Db::change`].
+///
+/// The step after a [`Step::Waiting`] comes once the clock has got to its moment: until then the
+/// thread sleeps, and asks the clock every millisecond.
 #[must_use = "a change goes on only as its steps are taken"]
 pub struct Change<'db, C> {
     db: &'db Db,
@@ -25,29 +23,32 @@ pub struct Change<'db, C> {
     pieces: u32,
     limit: u32,
     first: Option<Step>,
-    state: State,
+    /// The moment for which the last step waits.
+    until: u64,
+    is_ended: bool,
 }
 
 impl<'db, C: FnMut() -> u64> Change<'db, C> {
-    pub(crate) fn new(db: &'db Db, clock: C, state: State) -> Change<'db, C> {
+    /// The steps of what is under way, after this first one.
+    pub(crate) fn new(db: &'db Db, clock: C, first: Option<Step>) -> Change<'db, C> {
         Change {
             db,
             clock,
             pieces: 8,
             limit: 1000,
-            first: None,
-            state,
+            first,
+            until: 0,
+            is_ended: false,
         }
     }
 
     /// A change whose first step was published, or waits.
-    pub(crate) fn begin(db: &'db Db, change: &str, clock: C) -> Result<Change<'db, C>, Error> {
+    pub(crate) fn begin(db: &'db Db, change: &str, mut clock: C) -> Result<Change<'db, C>, Error> {
         if is_list(change) {
             return Err(Error::BadLine);
         }
-        let mut begun = Change::new(db, clock, State::ToBegin(change.to_string()));
-        begun.first = begun.step()?;
-        Ok(begun)
+        let first = db.session().begin_change(change, clock())?;
+        Ok(Change::new(db, clock, Some(first)))
     }
 
     /// In how many pieces a reorganisation is begun: 1 to 64, and 8 if nothing else is said. Each
@@ -82,33 +83,91 @@ impl<'db, C: FnMut() -> u64> Change<'db, C> {
         self
     }
 
+    /// The moment, once it is that for which the last step waits.
+    fn arrived(&mut self) -> u64 {
+        loop {
+            let now = (self.clock)();
+            if now >= self.until {
+                return now;
+            }
+            thread::sleep(PAUSE);
+        }
+    }
+
     /// Does what is due at the present moment; `None` if no change is under way.
     fn step(&mut self) -> Result<Option<Step>, Error> {
-        let now = (self.clock)();
-        let State::ToBegin(change) = &self.state else {
-            return self.db.session().advance(now, self.pieces, self.limit);
-        };
-        match publish_first(self.db, change, now)? {
-            Published::TooEarly(until) => Ok(Some(Step::Waiting { until })),
-            Published::Done => {
-                self.state = State::UnderWay;
-                Ok(Some(Step::Acted))
+        match self.first.take() {
+            None => {
+                let now = self.arrived();
+                self.db.session().advance(now, self.pieces, self.limit)
             }
+            first => Ok(first),
         }
     }
 }
 
-/// Publishes the first step of the change's plan. Both lines are answered under one lock, so that
-/// the plan is of the newest version, and is still the kept one.
-fn publish_first(db: &Db, change: &str, now: u64) -> Result<Published, Error> {
-    let mut session = db.session().lock();
-    let plan = reply_to(&mut session, &format!("plan: {change}"))?;
-    if plan.starts_with("refused ") {
-        return Err(refusal_of(&plan));
+impl<C: FnMut() -> u64> Iterator for Change<'_, C> {
+    type Item = Result<Step, Error>;
+
+    fn next(&mut self) -> Option<Self::Item> {
+        if self.is_ended {
+            return None;
+        }
+        let step = self.step().transpose();
+        self.until = match &step {
+            Some(Ok(Step::Waiting { until })) => *until,
+            _ => 0,
+        };
+        self.is_ended = !matches!(step, Some(Ok(_)));
+        step
     }
-    let published = published_of(&reply_to(&mut session, &format!("next at {now}"))?)?;
-    db.session().published();
-    Ok(published)
+}
+
+impl<C: FnMut() -> u64> std::iter::FusedIterator for Change<'_, C> {}
+
+impl Session {
+    /// Begins a change, or keeps it if its first step has to wait.
+    fn begin_change(&self, change: &str, now: u64) -> Result<Step, Error> {
+        let mut waiting = self.waiting.lock().unwrap_or_else(PoisonError::into_inner);
+        if let Some(change) = waiting.clone() {
+            return Err(Error::StillWaiting { change });
+        }
+        let first = self.publish_first(change, now)?;
+        if first != Step::Acted {
+            *waiting = Some(change.to_string());
+        }
+        Ok(first)
+    }
+
+    /// Publishes the first step of the change that waits; `None` if none does.
+    pub(crate) fn begin_waiting(&self, now: u64) -> Result<Option<Step>, Error> {
+        let mut waiting = self.waiting.lock().unwrap_or_else(PoisonError::into_inner);
+        let Some(change) = &*waiting else {
+            return Ok(None);
+        };
+        let first = self.publish_first(change, now);
+        let waits = matches!(
+            first,
+            Ok(Step::Waiting { .. }) | Err(Error::MomentTooLarge | Error::OutOfMemory)
+        );
+        if !waits {
+            *waiting = None;
+        }
+        first.map(Some)
+    }
+
+    /// Publishes the first step of a change's plan, unless it is too early. Both lines are answered
+    /// under one lock, so that the plan is of the newest version.
+    fn publish_first(&self, change: &str, now: u64) -> Result<Step, Error> {
+        let mut handle = self.lock();
+        let plan = reply_to(&mut handle, &format!("plan: {change}"))?;
+        if plan.starts_with("refused ") {
+            return Err(refusal_of(&plan));
+        }
+        let first = step_of(&reply_to(&mut handle, &format!("next at {now}"))?)?;
+        self.published();
+        Ok(first)
+    }
 }
 
 /// Whether there is a semicolon outside of quotes.
@@ -120,32 +179,13 @@ fn is_list(change: &str) -> bool {
     })
 }
 
-impl<C: FnMut() -> u64> Iterator for Change<'_, C> {
-    type Item = Result<Step, Error>;
-
-    fn next(&mut self) -> Option<Self::Item> {
-        if let Some(first) = self.first.take() {
-            return Some(Ok(first));
-        }
-        if self.state == State::Ended {
-            return None;
-        }
-        let step = self.step().transpose();
-        if !matches!(step, Some(Ok(_))) {
-            self.state = State::Ended;
-        }
-        step
-    }
-}
-
-impl<C: FnMut() -> u64> std::iter::FusedIterator for Change<'_, C> {}
-
 impl<C> fmt::Debug for Change<'_, C> {
     fn fmt(&self, f: &mut fmt::Formatter<'_>) -> fmt::Result {
         f.debug_struct("Change")
             .field("pieces", &self.pieces)
             .field("limit", &self.limit)
-            .field("state", &self.state)
+            .field("until", &self.until)
+            .field("is_ended", &self.is_ended)
             .finish_non_exhaustive()
     }
 }

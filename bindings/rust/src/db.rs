@@ -1,13 +1,13 @@
 //! A database.
 
-use crate::change::{Change, State};
+use crate::change::Change;
 use crate::code;
 use crate::error::Error;
 use crate::ffi::Handle;
 use crate::lease::{Held, Lease};
 use crate::names::Names;
 use crate::reply::Row;
-use crate::session::{done, status_of, Session};
+use crate::session::{done, status_of, Session, Step};
 use crate::snapshot::Check;
 use crate::table::Table;
 use std::sync::{Arc, Mutex, PoisonError};
@@ -251,17 +251,24 @@ impl Db {
     /// Begins a schema change, and gives the steps that complete it. The change is one of those
     /// that `plan` takes: `add index NAME on TABLE (COLUMNS)`, `add column NAME TYPE [default
     /// VALUE] on TABLE`, `drop index NAME on TABLE`, `drop column NAME on TABLE` or `abandon
-    /// TABLE.NAME`; the session's kept plan is lost. `clock` gives the present moment, and is
-    /// asked before each step.
+    /// TABLE.NAME`; the session's kept plan is lost.
     ///
-    /// Each step is one short call, so other threads go on. At [`Step::Waiting`](crate::Step) it is
-    /// for the caller to wait. The steps end when no change at all is under way, or after an error;
-    /// [`Db::resume`] goes on then.
+    /// When the call returns, the first of the steps is [`Step::Acted`], and the change is under
+    /// way; or it is [`Step::Waiting`], since the newest version is not old enough. Then the store
+    /// keeps the change, and the next step, [`Db::advance`] or [`Db::resume`] that is late enough
+    /// begins it, also if these steps are dropped; until then another change is refused.
     ///
-    /// Refusals: [`Error::BadLine`], also for a list of changes; [`Error::Closed`];
-    /// [`Error::Unknown`], [`Error::NameTaken`], [`Error::StillIndexed`], [`Error::InChange`] or
-    /// [`Error::Limit`]; [`Error::MomentTooLarge`]; [`Error::VersionsSpent`];
-    /// [`Error::OutOfMemory`]. The steps also have those of [`Session::advance`].
+    /// `clock` gives the present moment, and is asked before each step. Each step is one short
+    /// call, so other threads go on. The step after a [`Step::Waiting`] comes once the clock has
+    /// got to its moment: until then the thread sleeps, and asks the clock every millisecond. The
+    /// steps end when no change at all is under way, or after an error; [`Db::resume`] goes on
+    /// then.
+    ///
+    /// Refusals: [`Error::BadLine`] for a list of changes; [`Error::StillWaiting`] if another
+    /// change waits; [`Error::Closed`]; [`Error::BadLine`]; [`Error::Unknown`],
+    /// [`Error::NameTaken`], [`Error::StillIndexed`], [`Error::InChange`] or [`Error::Limit`];
+    /// [`Error::MomentTooLarge`]; [`Error::VersionsSpent`]; [`Error::OutOfMemory`]. The steps have
+    /// those of [`Db::advance`].
     ///
     /// ```
     /// # use cagzhomul::{Db, Error, Step, Table, Type};
@@ -287,7 +294,48 @@ impl Db {
         Change::begin(self, change, clock)
     }
 
-    /// The steps that complete the changes under way, whoever began them.
+    /// Begins a schema change as [`Db::change`] does, and takes its steps to their end: when the
+    /// call returns, no change is under way. The thread sleeps while nothing can be done.
+    ///
+    /// Refusals: those of [`Db::change`] and of its steps; after an error [`Db::resume`] goes on.
+    ///
+    /// ```
+    /// # use cagzhomul::{Db, Table, Type};
+    /// # let people = Table::new("people").key("id", Type::Int).column("town", Type::Text);
+    /// let db = Db::with_lease_length(20, [people])?;
+    /// let start = std::time::Instant::now();
+    /// let clock = || start.elapsed().as_millis() as u64;
+    /// db.complete("add index by_town on people (town)", clock)?;
+    /// assert_eq!(db.lease(clock())?.version(), 4);
+    /// assert!(clock() >= 60); // each version was the newest for a lease length
+    /// # Ok::<(), cagzhomul::Error>(())
+    /// ```
+    pub fn complete(&self, change: &str, clock: impl FnMut() -> u64) -> Result<(), Error> {
+        self.change(change, clock)?
+            .try_for_each(|step| step.map(drop))
+    }
+
+    /// Does the one act that is due of the changes under way, or begins the change that waits:
+    /// [`Session::advance`].
+    ///
+    /// Refusals: those of [`Session::advance`].
+    ///
+    /// ```
+    /// # use cagzhomul::{Db, Step, Table, Type};
+    /// # let db = Db::open([Table::new("t").key("id", Type::Int)])?;
+    /// drop(db.change("add column a int on t", || 5)?); // it waits, and the store keeps it
+    /// assert_eq!(db.advance(5, 8, 1000)?, Some(Step::Waiting { until: 10 }));
+    /// assert_eq!(db.advance(10, 8, 1000)?, Some(Step::Acted));
+    /// assert_eq!(db.advance(20, 8, 1000)?, Some(Step::Acted));
+    /// assert_eq!(db.advance(20, 8, 1000)?, None);
+    /// # Ok::<(), cagzhomul::Error>(())
+    /// ```
+    pub fn advance(&self, now: u64, pieces: u32, limit: u32) -> Result<Option<Step>, Error> {
+        self.session.advance(now, pieces, limit)
+    }
+
+    /// The steps that complete the changes under way, and that which waits, whoever began them, as
+    /// [`Db::change`] gives them.
     ///
     /// ```
     /// # use cagzhomul::{Db, Step, Table, Type};
@@ -300,6 +348,6 @@ impl Db {
     /// # Ok::<(), cagzhomul::Error>(())
     /// ```
     pub fn resume<C: FnMut() -> u64>(&self, clock: C) -> Change<'_, C> {
-        Change::new(self, clock, State::UnderWay)
+        Change::new(self, clock, None)
     }
 }

@@ -77,6 +77,12 @@ pub enum Error {
     InChange,
     /// A name, a list, a default or a count is over its limit.
     Limit,
+    /// Another change waits for its first step, so that no other may begin:
+    /// [`Db::advance`](crate::Db::advance) or [`Db::resume`](crate::Db::resume) begins it.
+    StillWaiting {
+        /// The change that waits.
+        change: String,
+    },
     /// The newest version has not been it for a lease length.
     TooEarly {
         /// The moment from which on it will have been.
@@ -200,6 +206,7 @@ impl Error {
             Error::StillIndexed => "an index is on the column",
             Error::InChange => "an element that a change names is in change",
             Error::Limit => "a name, a list, a default or a count is over its limit",
+            Error::StillWaiting { .. } => "another change still waits for its first step",
             Error::TooEarly { .. } => {
                 "the newest version has not been the newest for a full lease length"
             }
@@ -234,6 +241,7 @@ impl fmt::Display for Error {
             Error::Dependent { element } | Error::Unfinished { element } => {
                 write!(f, ": element {element}")
             }
+            Error::StillWaiting { change } => write!(f, ": {change}"),
             Error::Status(status) => write!(f, ": {status}, {}", ffi::text_of(*status)),
             Error::Reply(reply) => write!(f, ": {}", reply.trim_end()),
             _ => Ok(()),
@@ -277,6 +285,11 @@ mod tests {
         assert_eq!(
             Error::NoRow { operation: 2 }.to_string(),
             "no row of this key is there: operation 2"
+        );
+        let change = "drop index i on t".to_string();
+        assert_eq!(
+            Error::StillWaiting { change }.to_string(),
+            "another change still waits for its first step: drop index i on t"
         );
         assert_eq!(
             Error::Reply("refused What\n".to_string()).to_string(),

@@ -2,6 +2,7 @@
 
 use crate::error::Error;
 use crate::names::Names;
+use crate::session::Step;
 use crate::value::Value;
 use std::str::FromStr;
 
@@ -149,22 +150,13 @@ pub(crate) fn rows_of(reply: &str, names: &Names) -> Result<Vec<Row>, Error> {
     }
 }
 
-/// What a reply to a change's first step says.
-#[derive(Debug, PartialEq, Eq)]
-pub(crate) enum Published {
-    /// The step was published.
-    Done,
-    /// Nothing can be published before this moment.
-    TooEarly(u64),
-}
-
-/// What a reply to `next` says.
-pub(crate) fn published_of(reply: &str) -> Result<Published, Error> {
+/// What a reply to `next` says of a change's first step.
+pub(crate) fn step_of(reply: &str) -> Result<Step, Error> {
     if reply.starts_with("ok version ") {
-        return Ok(Published::Done);
+        return Ok(Step::Acted);
     }
     match numbered(reply, "refused TooEarly ") {
-        Some(earliest) => Ok(Published::TooEarly(earliest)),
+        Some(until) => Ok(Step::Waiting { until }),
         None => Err(refusal_of(reply)),
     }
 }
@@ -293,16 +285,16 @@ mod tests {
 
     #[test]
     fn a_first_step_is_published_early_or_refused() {
-        assert_eq!(published_of("ok version 2\n"), Ok(Published::Done));
+        assert_eq!(step_of("ok version 2\n"), Ok(Step::Acted));
         assert_eq!(
-            published_of("refused TooEarly 20\n"),
-            Ok(Published::TooEarly(20))
+            step_of("refused TooEarly 20\n"),
+            Ok(Step::Waiting { until: 20 })
         );
         assert_eq!(
-            published_of("refused VersionsSpent\n"),
+            step_of("refused VersionsSpent\n"),
             Err(Error::VersionsSpent)
         );
         let other = "refused Unfinished 3\n";
-        assert_eq!(published_of(other), Err(Error::Reply(other.to_string())));
+        assert_eq!(step_of(other), Err(Error::Reply(other.to_string())));
     }
 }

@@ -46,6 +46,8 @@ pub struct Session {
     /// Whether a version may have been published that the kept lease of a store is not on. It is
     /// written under the lock of the handle.
     is_newer: AtomicBool,
+    /// The change that waits for its first step. Its lock is taken before that of the handle.
+    pub(crate) waiting: Mutex<Option<String>>,
 }
 
 impl Session {
@@ -81,6 +83,7 @@ impl Session {
             keep: AtomicU64::new(u64::MAX),
             start: AtomicU64::new(0),
             is_newer: AtomicBool::new(false),
+            waiting: Mutex::new(None),
         }
     }
 
@@ -245,11 +248,17 @@ impl Session {
 
     /// Does the one act that is due of the changes under way, whoever began them: begins a
     /// reorganisation in `pieces` pieces (1 to 64), publishes a step in which all that is ready
-    /// moves on, or works `limit` items of a piece (1 to 1,000). `None` if no change is under way.
+    /// moves on, or works `limit` items of a piece (1 to 1,000). If a change of [`Db::change`]
+    /// waits for its first step, that comes before all, as soon as it may be published. `None` if
+    /// no change is under way, and none waits.
     ///
-    /// Refusals: [`Error::Closed`], [`Error::NotOpened`], [`Error::BadCount`],
-    /// [`Error::MomentTooLarge`], [`Error::VersionsSpent`], [`Error::OutOfMemory`], which may come
-    /// in place of the one before it.
+    /// Refusals: [`Error::Closed`], [`Error::NotOpened`]; if a change waits, those that
+    /// [`Db::change`] has of it, after which it is forgotten, except at [`Error::MomentTooLarge`]
+    /// and [`Error::OutOfMemory`]; [`Error::BadCount`], [`Error::MomentTooLarge`],
+    /// [`Error::VersionsSpent`], [`Error::OutOfMemory`], which may come in place of the one before
+    /// it.
+    ///
+    /// [`Db::change`]: crate::Db::change
     ///
     /// ```
     /// # fn main() -> Result<(), cagzhomul::Error> {
@@ -265,6 +274,10 @@ impl Session {
     /// # }
     /// ```
     pub fn advance(&self, now: u64, pieces: u32, limit: u32) -> Result<Option<Step>, Error> {
+        let first = self.begin_waiting(now)?;
+        if first == Some(Step::Acted) {
+            return Ok(first);
+        }
         let mut handle = self.lock();
         let advanced = handle.advance(now, pieces, limit);
         if advanced.status == ffi::OK {
@@ -274,10 +287,14 @@ impl Session {
         }
         match advanced.status {
             ffi::OK => Ok(Some(Step::Acted)),
-            ffi::WAITING => Ok(Some(Step::Waiting {
-                until: advanced.until,
-            })),
-            ffi::FINISHED => Ok(None),
+            ffi::WAITING => {
+                let until = match first {
+                    Some(Step::Waiting { until }) => until.min(advanced.until),
+                    _ => advanced.until,
+                };
+                Ok(Some(Step::Waiting { until }))
+            }
+            ffi::FINISHED => Ok(first),
             status => Err(Error::of(status)),
         }
     }
