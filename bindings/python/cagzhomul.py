@@ -5,8 +5,9 @@
     with cagzhomul.open({"people": {"id": "int key", "town": "text"}}) as db:
         with db.lease(now=5) as lease:
             lease.insert("people", (1,), town="Ulm")
-            print(lease.find(cagzhomul.Query("people", equal={"town": "Ulm"})))
-        print(db.query(6, "select town from people where town = 'Ulm'"))
+            lease.modify("people", 1, lambda row: {"town": "Bonn"} if row else None)
+            print(lease.find(cagzhomul.Query("people", equal={"town": "Bonn"})))
+        print(db.query(6, "select town from people where town = 'Bonn'"))
 
     with cagzhomul.open() as session:  # without tables: a session of the script language
         print(session.reply_to("table people (id int key, town text)"), end="")
@@ -18,6 +19,7 @@ system's loader looks. Each refusal is an exception named for its status, and ch
 
 from __future__ import annotations
 
+import contextlib
 import ctypes
 import ctypes.util
 import itertools
@@ -29,7 +31,7 @@ import threading
 import time
 from dataclasses import dataclass, field
 from types import TracebackType
-from typing import Any, Callable, Dict, Iterable, Iterator, List, Mapping, NamedTuple, Optional, Sequence, Tuple, Type, TypeVar, Union, overload
+from typing import Any, Callable, Dict, Iterable, Iterator, List, Mapping, NamedTuple, Optional, Sequence, Set, Tuple, Type, TypeVar, Union, overload
 
 __all__ = [
     "Abandon", "Acted", "AddColumn", "AddIndex", "AlreadyOpen", "Audit", "BadCode", "BadCount", "BadEntry", "BadLease", "BadLength", "BadLine", "BadPiece",
@@ -79,6 +81,7 @@ _FUNCTIONS: Dict[str, Tuple[Any, List[Any]]] = {
     "entry": (_Outcome, [_HANDLE, _SIZE, _BYTES, _SIZE]), "repeat": (_STATUS, [_HANDLE, _BYTES, _SIZE]),
     "advance": (_Advanced, [_HANDLE, _NUMBER, _SMALL, _SMALL]), "lease": (_Granted, [_HANDLE, _NUMBER, _HANDLE]),
     "transaction": (_STATUS, [_HANDLE, _BYTES, _SIZE, _HANDLE]), "read": (_STATUS, [_HANDLE, _HANDLE]),
+    "operations": (_STATUS, [_HANDLE, _BYTES, _SIZE]), "query_read": (_Queried, [_HANDLE, _BYTES, _SIZE, _HANDLE]),
     "prepare": (_Prepared, [_HANDLE]), "commit": (_Committed, [_HANDLE, _NUMBER, _HANDLE]),
     "query": (_Queried, [_HANDLE, _NUMBER, _HANDLE, _BYTES, _SIZE, _HANDLE]), "rows_from": (_Outcome, [_HANDLE, _SIZE, _BYTES, _SIZE]),
     "snapshot_query": (_Queried, [_HANDLE, _BYTES, _SIZE, _HANDLE]),
@@ -1111,6 +1114,25 @@ class Lease(_Owner):
         """Deletes a row by a transaction of its own: as `Txn.delete` and `Txn.write`."""
         return self.txn().delete(table, key).write()
 
+    def modify(self, table: str, key: Key, function: Callable[[Optional[Row]], Optional[Mapping[str, Value]]], now: Optional[Moment] = None) -> Optional[Receipt]:
+        """Changes a row by what it holds, at this moment or that of the lease: gets the row, calls the
+        function with it, or with None if it is not there, and writes the values by column that this
+        gives: it updates the row, or inserts it. None leaves all as it is, and then there is no receipt.
+
+        If the row has changed meanwhile, all is done again, so no update is lost; the function, which
+        is called without a lock, may be called several times. This counts:
+        `lease.modify("counters", 1, lambda row: {"n": row["n"] + 1} if row else {"n": 1})`.
+
+        Raises what `Txn.get`, the function and `Txn.commit` do, but not Conflict.
+        """
+        while True:
+            with contextlib.closing(self.txn(now)) as txn, contextlib.suppress(Conflict):
+                row = txn.get(table, key)
+                cells = function(row)
+                if cells is None:
+                    return None
+                return (txn.insert if row is None else txn.update)(table, key, **cells).commit()
+
     def query(self, now: Moment, selection: str) -> List[Row]:
         """The rows of a query by rising primary key, each a dict of its key columns and the columns
         that are selected: `select COLUMNS from TABLE [where CONDITION {and CONDITION}]`, as
@@ -1144,6 +1166,9 @@ class Txn(_Owner):
 
     Tables and columns are given by name, and a row by its primary key: one value, or a tuple or list
     of them. None is no value, and in a column with a default the default. An int is of 64 bits.
+
+    It is serializable in all rows that it gets or writes: none of them changes between `get`, or
+    `prepare` for those that it did not get, and the commit, which is refused as Conflict if one did.
     """
 
     def __init__(self, lease: Lease, now: Moment) -> None:
@@ -1151,10 +1176,53 @@ class Txn(_Owner):
         self._lease, self._now = lease, now
         self._operations: List[bytes] = []
         self._unknown: Optional[str] = None
+        # rows by their code: those that were got, with what they held, and those that operations write
+        self._got: Dict[bytes, Optional[Row]] = {}
+        self._written: Set[bytes] = set()
+        self._is_prepared = False
         self.receipt: Optional[Receipt] = None
 
+    def get(self, table: str, key: Key, /) -> Optional[Row]:
+        """A row as the store holds it, a dict of its key columns and all public columns, or None if it is
+        not there; what this transaction writes is not in it. From then on the row is pinned: the commit
+        is refused as Conflict if another call has changed it since, whether or not this transaction
+        writes it. So a value may be computed from it, and written:
+
+            def add_one() -> cagzhomul.Receipt:
+                txn = lease.txn()
+                row = txn.get("counters", 1)
+                return txn.update("counters", 1, n=row["n"] + 1).commit()
+
+            cagzhomul.retry(100, add_one)
+
+        A row that is got and not written counts as an operation, or as two if it is not there. A second
+        call gives the same answer.
+
+        Raises WrongStage if it is prepared, or has got rows and has ended; Closed; NoTable or WrongType,
+        but a text that is too long is WrongType before all; OutOfMemory.
+        """
+        names, row = self._lease._names, self._row(table, key)
+        with self._lock:
+            self._check_stage()
+            if row not in self._got:
+                self._read([b"\1" + it + _list([]) for it in (*self._got, row)])
+                rows = _found(Query(table, key=key), names, lambda code, rows: _library.cagzhomul_query_read(self._handle, code, len(code), rows))
+                self._got[row] = rows[0] if rows else None
+            found = self._got[row]
+        return None if found is None else dict(found)
+
+    def _row(self, table: str, key: Key) -> bytes:
+        """The code of a row; 0 is no table."""
+        return _number(self._lease._names.tables.get(table, 0), 4) + _key(key)
+
+    def _check_stage(self) -> None:
+        """Refuses more reads and operations if it is prepared, or if what it has got is let go."""
+        if (self._is_prepared if self.is_open else bool(self._got)):
+            raise WrongStage(_WRONG_STAGE)
+
     def insert(self, table: str, key: Key, /, **cells: Value) -> Txn:
-        """Adds the insertion of a row: its key, and values by column. Raises WrongStage."""
+        """Adds the insertion of a row: its key, and values by column. Raises WrongStage, as all three do, if
+        it is prepared, or has got rows and has ended."""
         return self._add(0, table, key, cells)
 
     def update(self, table: str, key: Key, /, **cells: Value) -> Txn:
@@ -1166,41 +1234,62 @@ class Txn(_Owner):
         return self._add(2, table, key, None)
 
     def _add(self, kind: int, table: str, key: Key, cells: Optional[Mapping[str, Value]]) -> Txn:
-        names = self._lease._names
-        code = bytes([kind]) + _number(names.tables.get(table, 0), 4) + _key(key)  # 0 is no table
+        names, row = self._lease._names, self._row(table, key)
+        code = bytes([kind]) + row
         if cells is not None:
             code += _list([_number(names.number(table, column), 4) + _value(value) for column, value in cells.items()])
         with self._lock:
-            if self.is_open:
-                raise WrongStage(_WRONG_STAGE)
+            self._check_stage()
             self._operations.append(code)
+            self._written.add(row)
             if self._unknown is None:
                 self._unknown = next((column for column in cells or () if not names.number(table, column)), None)
         return self
 
     def prepare(self) -> Txn:
-        """Reads the rows that it names and prepares it: the commit is refused as Conflict if any of
-        them has changed by then. It takes no more operations.
+        """Reads the rows that it names and did not get, and prepares it: the commit is refused as Conflict
+        if any of them, or of those that it got, has changed by then. It takes no more operations.
 
         Raises WrongStage; Closed; of the first faulty operation NoTable, NotPublic or WrongType, but
         a text that is too long is WrongType before all; TooManyOps; OutOfMemory.
         """
-        lease, db = self._lease, self._lease._db
         with self._lock:
-            if self.is_open:
-                raise WrongStage(_WRONG_STAGE)
-            code = b"\1" + _list(self._operations)
-            with lease._lock:
-                status = _library.cagzhomul_transaction(lease._handle, code, len(code), self._handle)
-            # only a text over 1,024 bytes makes a bad code of what this module writes
-            _check(_WRONG_TYPE if status == _BAD_CODE else status)
-            with db._lock:
-                status = _library.cagzhomul_read(db._handle, self._handle)
-            prepared = _library.cagzhomul_prepare(self._handle) if status == _OK else _Prepared(status, 0)
-            if prepared.status:
+            self._check_stage()
+            self._read(self._operations + self._pins())
+            prepared = _library.cagzhomul_prepare(self._handle)
+            self._is_prepared = prepared.status == _OK
+            if not self._is_prepared:
                 _library.cagzhomul_close(self._handle)
         self._accept(prepared.status, prepared.column)
         return self
+
+    def _read(self, operations: Sequence[bytes]) -> None:
+        """Reads the rows that these operations name and that it has not read yet, for a caller who has its
+        lock. Those that were read and are not named are let go."""
+        code = b"\1" + _list(operations)
+        lease, db = self._lease, self._lease._db
+        self._is_prepared = False
+        if self.is_open:
+            status = _library.cagzhomul_operations(self._handle, code, len(code))
+        else:
+            with lease._lock:
+                status = _library.cagzhomul_transaction(lease._handle, code, len(code), self._handle)
+        # only a text over 1,024 bytes makes a bad code of what this module writes
+        _check(_WRONG_TYPE if status == _BAD_CODE else status)
+        with db._lock:
+            status = _library.cagzhomul_read(db._handle, self._handle)
+        if status != _OK:
+            _library.cagzhomul_close(self._handle)
+        _check(status)
+
+    def _pins(self) -> List[bytes]:
+        """Operations that change nothing on the rows that it got and does not write: an update without
+        cells of one that is there, and an insertion and a deletion of one that is not."""
+        pins: List[bytes] = []
+        for row, found in self._got.items():
+            if row not in self._written:
+                pins += [b"\0" + row + _list([]), b"\2" + row] if found is None else [b"\1" + row + _list([])]
+        return pins
 
     def _accept(self, status: int, column: int) -> None:
         """Raises what a refused preparation does."""
@@ -1219,16 +1308,18 @@ class Txn(_Owner):
     def write(self, now: Optional[Moment] = None) -> Receipt:
         """Reads, prepares and commits it in one call, at this moment or its own, under the store's lock:
         the faster way for few operations, and no row that it names changes meanwhile. The receipt is
-        in `receipt`, too. A call after a refusal makes the transaction again.
+        in `receipt`, too. A call after a refusal makes the transaction again. One that has got rows is
+        committed as by `commit`.
 
         Raises WrongStage; Closed; of the first faulty operation NoTable, NotPublic or WrongType, but
         a text that is too long is WrongType before all; TooManyOps; MomentTooLarge, BadLease,
         LeaseEnded, WrongSchema, OutOfMemory, Duplicate or NoRow.
         """
+        if self._got:
+            return self.prepare().commit(now)
         moment, lease, db = _at(self._now if now is None else now), self._lease, self._lease._db
         with self._lock:
-            if self.is_open:
-                raise WrongStage(_WRONG_STAGE)
+            self._check_stage()
             code = b"\1" + _list(self._operations)
             with lease._lock, db._lock:
                 done = _library.cagzhomul_write(db._handle, moment, lease._handle, code, len(code))
@@ -1240,13 +1331,14 @@ class Txn(_Owner):
 
     def commit(self, now: Optional[Moment] = None) -> Receipt:
         """Commits it, at this moment or its own, and prepares it first if it is not. The receipt is in
-        `receipt`, too. A call after a refusal makes the transaction again.
+        `receipt`, too. A call after a refusal makes the transaction again; but one that has got rows has
+        ended then, since what was computed from them may be wrong by now.
 
         Raises what `prepare` does, and then Closed, MomentTooLarge, BadLease, LeaseEnded, WrongSchema,
         Conflict, OutOfMemory, which may come in place of the one before it, Duplicate or NoRow.
         """
         moment, db = _at(self._now if now is None else now), self._lease._db
-        if not self.is_open:
+        if not (self.is_open and self._is_prepared):
             self.prepare()
         with self._lock:
             with db._lock:
@@ -1297,7 +1389,12 @@ class Piece(_Owner):
 
 
 def retry(attempts: int, attempt: Callable[[], _Result]) -> _Result:
-    """Makes an attempt up to so many times, at least once: again as long as it raises Conflict."""
+    """Makes an attempt up to so many times, at least once: again as long as it raises Conflict.
+
+    No update is lost if the attempt begins its transaction, and computes from nothing but what the
+    transaction's `get` gives, as the counter there. What it reads by a query, or before it, is no part
+    of the transaction, and may have changed. `Lease.modify` does this for one row.
+    """
     for _ in range(attempts - 1):
         try:
             return attempt()

@@ -21,8 +21,8 @@ fn now() -> u64 {
 
 fn insert(lease: &Lease<'_>, id: u64) -> Result<Receipt, Error> {
     let town = TOWNS[id as usize % TOWNS.len()];
-    let txn = lease.txn().insert("people", id as i64, [("town", town)]);
-    retry(3, || txn.clone().commit(now()))
+    let insert = || lease.txn().insert("people", id as i64, [("town", town)]);
+    retry(3, || insert().commit(now()))
 }
 
 /// Inserts every fourth row, under a new lease whenever the last one has ended.

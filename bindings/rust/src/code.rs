@@ -4,6 +4,7 @@ use crate::plan::SchemaChange;
 use crate::query::Condition;
 use crate::table::{Table, Type};
 use crate::value::{Cells, Key, Value};
+use std::ops::Range;
 
 /// The first byte of a code.
 const VERSION: u8 = 1;
@@ -76,6 +77,11 @@ impl Code {
     fn key(&mut self, key: &Key) {
         self.count(key.0.len());
         key.0.iter().for_each(|value| self.value(value));
+    }
+
+    fn row(&mut self, table: u32, key: &Key) {
+        self.small_number(table);
+        self.key(key);
     }
 
     /// A bound, or that there is none.
@@ -203,26 +209,53 @@ pub(crate) enum Kind {
     Delete = 2,
 }
 
+/// The code of a row: its table and its key.
+pub(crate) fn row(table: u32, key: &Key) -> Vec<u8> {
+    let mut code = Code::default();
+    code.row(table, key);
+    code.0
+}
+
 /// A list of operations that grows.
-#[derive(Debug, Clone)]
+#[derive(Debug)]
 pub(crate) struct Operations {
     code: Code,
-    count: usize,
+    /// Where in the code the rows are, one of each operation.
+    rows: Vec<Range<usize>>,
 }
 
 impl Operations {
     pub(crate) fn new() -> Operations {
         let mut code = Code::new();
         code.count(0);
-        Operations { code, count: 0 }
+        Operations {
+            code,
+            rows: Vec::new(),
+        }
     }
 
     /// Adds an operation on the row of this key, up to its cells.
     pub(crate) fn push(&mut self, kind: Kind, table: u32, key: &Key) {
-        self.count += 1;
         self.code.byte(kind as u8);
-        self.code.small_number(table);
-        self.code.key(key);
+        let start = self.code.0.len();
+        self.code.row(table, key);
+        self.rows.push(start..self.code.0.len());
+    }
+
+    /// Adds an operation without cells on the row of this code.
+    pub(crate) fn push_row(&mut self, kind: Kind, row: &[u8]) {
+        self.code.byte(kind as u8);
+        let start = self.code.0.len();
+        self.code.0.extend_from_slice(row);
+        self.rows.push(start..self.code.0.len());
+        if !matches!(kind, Kind::Delete) {
+            self.code.count(0);
+        }
+    }
+
+    /// Whether an operation is on the row of this code.
+    pub(crate) fn names(&self, row: &[u8]) -> bool {
+        self.rows.iter().any(|it| &self.code.0[it.clone()] == row)
     }
 
     /// Adds the cells of the operation that was pushed last, each with its column's number.
@@ -236,7 +269,7 @@ impl Operations {
 
     /// The code of the whole list.
     pub(crate) fn finish(mut self) -> Code {
-        self.code.0[1..9].copy_from_slice(&(self.count as u64).to_be_bytes());
+        self.code.0[1..9].copy_from_slice(&(self.rows.len() as u64).to_be_bytes());
         self.code
     }
 }

@@ -51,6 +51,13 @@ unsafe extern "C" {
         txn: *mut RawHandle,
     ) -> i32;
     fn cagzhomul_read(session: *mut RawHandle, txn: *mut RawHandle) -> i32;
+    fn cagzhomul_query_read(
+        txn: *mut RawHandle,
+        query: *const u8,
+        length: usize,
+        rows: *mut RawHandle,
+    ) -> Queried;
+    fn cagzhomul_operations(txn: *mut RawHandle, operations: *const u8, length: usize) -> i32;
     fn cagzhomul_prepare(txn: *mut RawHandle) -> Prepared;
     fn cagzhomul_commit(session: *mut RawHandle, moment: u64, txn: *mut RawHandle) -> Committed;
     fn cagzhomul_write(
@@ -211,6 +218,18 @@ impl Handle {
         unsafe { cagzhomul_read(self.raw(), txn.raw()) }
     }
 
+    /// Answers a query of a row that this transaction has read, by its code, into a closed handle.
+    pub(crate) fn query_read(&mut self, query: &[u8], rows: &mut Handle) -> Queried {
+        // SAFETY: both handles and the slice, as at the top of this file.
+        unsafe { cagzhomul_query_read(self.raw(), query.as_ptr(), query.len(), rows.raw()) }
+    }
+
+    /// Gives this transaction, which was read, other operations, by their code.
+    pub(crate) fn operations(&mut self, operations: &[u8]) -> i32 {
+        // SAFETY: the handle and the slice, as at the top of this file.
+        unsafe { cagzhomul_operations(self.raw(), operations.as_ptr(), operations.len()) }
+    }
+
     /// Prepares this transaction, which was read.
     pub(crate) fn prepare(&mut self) -> Prepared {
         // SAFETY: the handle, as at the top of this file.
@@ -320,8 +339,7 @@ impl Handle {
         unsafe { cagzhomul_begin_reorg(self.raw(), moment, element, pieces) }
     }
 
-    /// Plans a batch of changes, by its code, and writes as much of the plan's code to `out` as
-    /// fits.
+    /// Plans a batch of changes, by its code, and writes what fits of the plan's code to `out`.
     pub(crate) fn plan(&mut self, changes: &[u8], out: &mut [u8]) -> Outcome {
         let (at, length) = (out.as_mut_ptr(), out.len());
         // SAFETY: the handle and both slices, as at the top of this file.

@@ -8,7 +8,8 @@ use crate::query::{find, Query};
 use crate::reply::{refusal_of, rows_of, Row};
 use crate::session::{done, reply_to, Session};
 use crate::snapshot::Snapshot;
-use crate::txn::Txn;
+use crate::txn::{Receipt, Txn};
+use crate::value::{Cells, Key};
 use std::fmt;
 use std::sync::{Arc, Mutex, MutexGuard, PoisonError};
 
@@ -106,6 +107,53 @@ impl<'db> Lease<'db> {
     /// A transaction under this lease, without operations yet.
     pub fn txn(&self) -> Txn<'_> {
         Txn::new(self)
+    }
+
+    /// Changes a row by what it holds: gets the row, calls the function with it, or with `None` if
+    /// it is not there, and writes the cells that this gives: it updates the row, or inserts it.
+    /// `None` leaves all as it is, and then there is no receipt.
+    ///
+    /// If the row has changed meanwhile, all is done again, so no update is lost; the function,
+    /// which is called without a lock, may be called several times.
+    ///
+    /// Refusals: those of [`Txn::get`], and those of [`Txn::commit`] but [`Error::Conflict`].
+    ///
+    /// ```
+    /// # use cagzhomul::{Db, Receipt, Row, Table, Type, Value};
+    /// # let db = Db::open([Table::new("counters").key("id", Type::Int).column("n", Type::Int)])?;
+    /// # let lease = db.lease(0)?;
+    /// let add_one = |row: Option<&Row>| match row.map(|row| row.get("n")) {
+    ///     Some(Some(Value::Int(n))) => Some([("n", n + 1)]),
+    ///     _ => Some([("n", 1)]),
+    /// };
+    /// assert_eq!(lease.modify("counters", 1, add_one, 0)?, Some(Receipt { place: 2 }));
+    /// assert_eq!(lease.modify("counters", 1, add_one, 0)?, Some(Receipt { place: 3 }));
+    /// assert_eq!(db.query(0, "select n from counters")?[0].get("n"), Some(&2.into()));
+    /// # Ok::<(), cagzhomul::Error>(())
+    /// ```
+    pub fn modify<'c, C: Into<Cells<'c>>>(
+        &self,
+        table: &str,
+        key: impl Into<Key>,
+        mut function: impl FnMut(Option<&Row>) -> Option<C>,
+        now: u64,
+    ) -> Result<Option<Receipt>, Error> {
+        let key = key.into();
+        loop {
+            let mut txn = self.txn();
+            let row = txn.get(table, key.clone())?;
+            let Some(cells) = function(row.as_ref()) else {
+                return Ok(None);
+            };
+            let txn = match row {
+                None => txn.insert(table, key.clone(), cells),
+                Some(_) => txn.update(table, key.clone(), cells),
+            };
+            match txn.commit(now) {
+                Err(Error::Conflict) => {}
+                ended => return ended.map(Some),
+            }
+        }
     }
 
     /// The rows of a query, by rising primary key: `select COLUMNS from TABLE [where CONDITION {and

@@ -47,6 +47,7 @@ mod names;
 mod piece;
 mod plan;
 mod query;
+mod reads;
 mod reply;
 mod rows;
 mod session;

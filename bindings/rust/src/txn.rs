@@ -1,9 +1,11 @@
 //! Transactions.
 
-use crate::code::{Kind, Operations};
+use crate::code::{self, Kind, Operations};
 use crate::error::Error;
 use crate::ffi::{self, Handle};
 use crate::lease::Lease;
+use crate::reads::Reads;
+use crate::reply::Row;
 use crate::session::done;
 use crate::value::{Cells, Key};
 use std::fmt;
@@ -19,6 +21,10 @@ pub struct Receipt {
 ///
 /// Tables and columns are given by name, rows by their primary keys. [`Value::Null`] is no value,
 /// and in a column with a default the default.
+///
+/// It is serializable in all rows that it gets or writes: none of them changes between
+/// [`Txn::get`], or [`Txn::prepare`] for those that it did not get, and the commit, which is
+/// refused as [`Error::Conflict`] if one did.
 ///
 /// [`Value::Null`]: crate::Value::Null
 ///
@@ -36,11 +42,11 @@ pub struct Receipt {
 /// assert_eq!(wrong.commit(0), Err(Error::NotPublic { column }));
 /// # Ok::<(), Error>(())
 /// ```
-#[derive(Clone)]
 #[must_use = "a transaction does nothing until it is committed"]
 pub struct Txn<'a> {
     lease: &'a Lease<'a>,
     operations: Operations,
+    reads: Reads,
     /// The first name of a column that its table does not have.
     unknown: Option<String>,
 }
@@ -50,8 +56,46 @@ impl<'a> Txn<'a> {
         Txn {
             lease,
             operations: Operations::new(),
+            reads: Reads::default(),
             unknown: None,
         }
+    }
+
+    /// A row as the store holds it, with all public columns, or `None` if it is not there; what
+    /// this transaction writes is not in it. From then on the row is pinned: the commit is refused
+    /// as [`Error::Conflict`] if another call has changed it since, whether or not this transaction
+    /// writes it. So a value may be computed from it, and written.
+    ///
+    /// A row that is got and not written counts as an operation, or as two if it is not there. A
+    /// second call gives the same answer.
+    ///
+    /// Refusals: [`Error::Closed`]; [`Error::NoTable`] or [`Error::WrongType`], but a text that is
+    /// too long is [`Error::WrongType`] before all; [`Error::OutOfMemory`].
+    ///
+    /// ```
+    /// # use cagzhomul::{retry, Db, Error, Receipt, Table, Type, Value};
+    /// # let db = Db::open([Table::new("counters").key("id", Type::Int).column("n", Type::Int)])?;
+    /// # let lease = db.lease(0)?;
+    /// lease.txn().insert("counters", 1, [("n", 5)]).commit(0)?;
+    /// let add_one = || {
+    ///     let mut txn = lease.txn();
+    ///     match txn.get("counters", 1)?.as_ref().and_then(|row| row.get("n")) {
+    ///         Some(Value::Int(n)) => txn.update("counters", 1, [("n", n + 1)]).commit(0),
+    ///         _ => Err(Error::NoRow { operation: 0 }),
+    ///     }
+    /// };
+    /// assert_eq!(retry(100, add_one)?, Receipt { place: 3 });
+    ///
+    /// let mut late = lease.txn();
+    /// assert_eq!(late.get("counters", 2)?, None);
+    /// lease.txn().insert("counters", 2, ()).commit(0)?;
+    /// assert_eq!(late.commit(0), Err(Error::Conflict));
+    /// # Ok::<(), Error>(())
+    /// ```
+    pub fn get(&mut self, table: &str, key: impl Into<Key>) -> Result<Option<Row>, Error> {
+        let key = key.into();
+        let row = code::row(self.lease.names().table(table), &key);
+        self.reads.get(self.lease, row, table, key)
     }
 
     /// Adds the insertion of a row: its key, and values by column. `()` is no values.
@@ -95,8 +139,9 @@ impl<'a> Txn<'a> {
         self
     }
 
-    /// Reads the rows that it names and prepares it, to be committed later: the commit is refused
-    /// as [`Error::Conflict`] if any of them has changed by then.
+    /// Reads the rows that it names and did not get, and prepares it, to be committed later: the
+    /// commit is refused as [`Error::Conflict`] if any of them, or of those that it got, has changed
+    /// by then.
     ///
     /// Refusals: [`Error::Closed`]; of the first faulty operation [`Error::NoTable`],
     /// [`Error::NotPublic`] or [`Error::WrongType`], but a text that is too long is
@@ -113,22 +158,16 @@ impl<'a> Txn<'a> {
     /// # Ok::<(), Error>(())
     /// ```
     pub fn prepare(self) -> Result<Prepared<'a>, Error> {
-        let mut handle = Handle::closed();
-        let code = self.operations.finish();
-        match self.lease.lock().transaction(code.as_bytes(), &mut handle) {
-            // Only a text over 1,024 bytes makes a bad code of what this crate writes.
-            ffi::BAD_CODE => return Err(Error::WrongType),
-            status => done(status)?,
-        }
-        done(self.lease.db().session().lock().read(&mut handle))?;
-        let prepared = handle.prepare();
         let (lease, unknown) = (self.lease, self.unknown);
+        let mut handle = self.reads.finish(lease, self.operations)?;
+        let prepared = handle.prepare();
         accepted(lease, unknown, prepared.status, prepared.column)
             .map(|()| Prepared { lease, handle })
     }
 
     /// Reads, prepares and commits it in one call, under the store's lock: the faster way for few
-    /// operations, and no row that it names changes meanwhile.
+    /// operations, and no row that it names changes meanwhile. One that has got rows is committed
+    /// as by [`Txn::commit`].
     ///
     /// Refusals: [`Error::Closed`]; of the first faulty operation [`Error::NoTable`],
     /// [`Error::NotPublic`] or [`Error::WrongType`], but a text that is too long is
@@ -146,6 +185,9 @@ impl<'a> Txn<'a> {
     /// # Ok::<(), Error>(())
     /// ```
     pub fn write(self, now: u64) -> Result<Receipt, Error> {
+        if !self.reads.is_empty() {
+            return self.commit(now);
+        }
         let (lease, unknown) = (self.lease, self.unknown);
         let code = self.operations.finish();
         let written = {
@@ -249,6 +291,10 @@ impl fmt::Debug for Prepared<'_> {
 
 /// Makes an attempt up to so many times, at least once: again as long as it is refused as
 /// [`Error::Conflict`].
+///
+/// No update is lost if the attempt begins its transaction, and computes from nothing but what
+/// [`Txn::get`] gives, as the counter there. What it reads by a query, or before it, is no part of
+/// the transaction, and may have changed. [`Lease::modify`] does this for one row.
 ///
 /// ```
 /// # use cagzhomul::{retry, Db, Table, Type};

@@ -63,8 +63,8 @@ fn a_transaction_in_one_call_is_as_one_in_four() -> Result<(), Error> {
     };
     assert_eq!(both().write(5)?.place, 2);
     assert_eq!(both().write(5), Err(Error::Duplicate { operation: 0 }));
-    let gone = lease.txn().delete("people", 1).delete("people", 3);
-    assert_eq!(gone.clone().write(5), gone.commit(5));
+    let gone = || lease.txn().delete("people", 1).delete("people", 3);
+    assert_eq!(gone().write(5), gone().commit(5));
     let named = |column| {
         lease
             .txn()

@@ -1,0 +1,110 @@
+//! What a transaction has read.
+
+use crate::code::{Kind, Operations};
+use crate::error::Error;
+use crate::ffi::{self, Handle};
+use crate::lease::Lease;
+use crate::query::{find, Query};
+use crate::reply::Row;
+use crate::session::done;
+use crate::value::Key;
+use std::sync::{Mutex, PoisonError};
+
+/// The rows that a transaction has got, and the handle that has read them.
+#[derive(Default)]
+pub(crate) struct Reads {
+    /// Each row that it got by its code, with what it held.
+    rows: Vec<(Vec<u8>, Option<Row>)>,
+    /// It is open once something was read. The lock is for those who share a transaction.
+    handle: Option<Mutex<Handle>>,
+    /// Why what was read is lost.
+    lost: Option<Error>,
+}
+
+impl Reads {
+    /// Whether no row was got.
+    pub(crate) fn is_empty(&self) -> bool {
+        self.rows.is_empty()
+    }
+
+    /// The row of this code and key, as it was read first.
+    pub(crate) fn get(
+        &mut self,
+        lease: &Lease<'_>,
+        row: Vec<u8>,
+        table: &str,
+        key: Key,
+    ) -> Result<Option<Row>, Error> {
+        if let Some((_, found)) = self.rows.iter().find(|it| it.0 == row) {
+            return Ok(found.clone());
+        }
+        let mut named = Operations::new();
+        let rows = self.rows.iter().map(|it| &it.0);
+        rows.chain([&row])
+            .for_each(|it| named.push_row(Kind::Update, it));
+        let handle = self.read(lease, named)?;
+        let mut found = find(&Query::of(table).key(key), lease.names(), |query, rows| {
+            handle.query_read(query, rows)
+        })?;
+        let found = found.pop();
+        self.rows.push((row, found.clone()));
+        Ok(found)
+    }
+
+    /// Reads what these operations name and was not read yet, and what was got and they do not name
+    /// is pinned: the handle may be prepared.
+    pub(crate) fn finish(
+        mut self,
+        lease: &Lease<'_>,
+        mut operations: Operations,
+    ) -> Result<Handle, Error> {
+        for (row, found) in &self.rows {
+            if operations.names(row) {
+                continue;
+            }
+            match found {
+                Some(_) => operations.push_row(Kind::Update, row),
+                None => {
+                    operations.push_row(Kind::Insert, row);
+                    operations.push_row(Kind::Delete, row);
+                }
+            }
+        }
+        self.read(lease, operations)?;
+        let handle = self.handle.take().expect("what was read has a handle");
+        Ok(handle.into_inner().unwrap_or_else(PoisonError::into_inner))
+    }
+
+    /// Reads the rows that these operations name and that were not read yet.
+    fn read(&mut self, lease: &Lease<'_>, operations: Operations) -> Result<&mut Handle, Error> {
+        if let Some(error) = &self.lost {
+            return Err(error.clone());
+        }
+        let code = operations.finish();
+        let handle = match &mut self.handle {
+            Some(begun) => {
+                let handle = begun.get_mut().unwrap_or_else(PoisonError::into_inner);
+                taken(handle.operations(code.as_bytes()))?;
+                handle
+            }
+            none => {
+                let mut handle = Handle::closed();
+                taken(lease.lock().transaction(code.as_bytes(), &mut handle))?;
+                let begun = none.insert(Mutex::new(handle));
+                begun.get_mut().unwrap_or_else(PoisonError::into_inner)
+            }
+        };
+        let read = done(lease.db().session().lock().read(handle));
+        self.lost = read.clone().err();
+        read.map(|()| handle)
+    }
+}
+
+/// Whether a code was taken. Only a text over 1,024 bytes makes a bad code of what this crate
+/// writes.
+fn taken(status: i32) -> Result<(), Error> {
+    match status {
+        ffi::BAD_CODE => Err(Error::WrongType),
+        status => done(status),
+    }
+}
