@@ -5,7 +5,7 @@ import time
 import unittest
 import unittest.mock
 from concurrent.futures import ThreadPoolExecutor
-from typing import Callable, Dict, Type
+from typing import Callable, Dict, List, Type
 
 import cagzhomul
 from cagzhomul import Acted, Waiting
@@ -153,27 +153,41 @@ class KeptLeases(unittest.TestCase):
             self.assertEqual((db.query(8, ALL), db.log_length()), ([], 2))
             self.assertEqual((db.query(17, ALL), db.log_length()), ([], 2))
 
-    def test_a_query_sees_the_newest_version(self) -> None:
+    def test_a_query_sees_the_newest_version_after_a_change(self) -> None:
         clock = Clock(5)
-        with cagzhomul.open(PEOPLE, lease_length=20) as db, db.lease(5) as lease:
+        with cagzhomul.open(PEOPLE) as db, db.lease(5) as lease:
             lease.insert("people", 1, town="Ulm")
             self.assertEqual((db.query(5, ALL), db.log_length()), ([{"id": 1, "town": "Ulm"}], 3))
-            clock.drive(db, "add column age int on people")
-            # the versions are from 20 and from 40 on, and nobody has asked under the second
-            self.assertEqual((clock(), db.log_length()), (40, 5))
-            self.assertEqual([db.query(40, ALL) for _ in range(9)], [[{"id": 1, "town": "Ulm", "age": None}]] * 9)
+            clock.drive(db, AGE)
+            # the versions are from 10 and from 20 on, and nobody has asked under the second
+            self.assertEqual((clock(), db.log_length()), (20, 5))
+            self.assertEqual([db.query(20, ALL) for _ in range(9)], [[{"id": 1, "town": "Ulm", "age": None}]] * 9)
             self.assertEqual(db.log_length(), 6)
-            # each call by which a version may be published is noticed: lines, steps, and entries of another log
-            self.assertEqual(db.reply_to("publish at 60: move people.age to delete_only"), "ok version 4\n")
-            self.assertEqual((db.query(50, ALL), db.log_length()), ([{"id": 1, "town": "Ulm"}], 8))
-            step = db.plan([cagzhomul.AddColumn("people", "name", str)])[0]
-            self.assertEqual(db.publish(80, step.code), 5)
-            self.assertEqual((db._kept and db._kept.names.version, len(db.query(80, ALL)), db._kept and db._kept.names.version), (4, 1, 5))
-            with cagzhomul.open(PEOPLE, lease_length=20) as replica:
-                self.assertTrue(all(replica.repeat(db.entry(place)) for place in range(1, 6)))
-                self.assertEqual(replica.query(45, ALL), [{"id": 1, "town": "Ulm", "age": None}])
-                self.assertTrue(replica.repeat(db.entry(7)))
-                self.assertEqual(replica.query(60, ALL), [{"id": 1, "town": "Ulm"}])
+
+    def test_each_call_by_which_a_version_may_be_published_is_noticed(self) -> None:
+        with cagzhomul.open(PEOPLE) as db, cagzhomul.open(PEOPLE) as replica, db.lease(0) as lease:
+            lease.insert("people", 1)
+            step = db.plan([cagzhomul.DropColumn("people", "town")])[0]
+            calls: List[Callable[[int], object]] = [
+                lambda moment: db.change(AGE, lambda: moment), lambda moment: db.advance(moment), lambda moment: db.publish(moment, step.code),
+                lambda moment: db.reply_to(f"publish at {moment}: move people.age to delete_only"),
+            ]
+            seen = []
+            for moment, call in zip((15, 35, 55, 75), calls):
+                db.query(moment - 3, ALL)  # under a lease until moment + 7
+                call(moment)
+                seen.append(sorted(db.query(moment, ALL)[0]))
+                self.assertEqual(db._kept and db._kept[1:], (moment, moment + 10))
+            self.assertEqual(seen, [["id", "town"], ["age", "id", "town"], ["age", "id"], ["id"]])
+            # the lease and the row, and then a lease, a publication and another lease each time
+            places = range(1, 2 + 3 * 4 + 1)
+            self.assertEqual((db.status()["version"], db.log_length()), (5, places[-1]))
+            for place in places:
+                self.assertTrue(replica.repeat(db.entry(place)))
+                if place > 2 and place % 3 == 0:
+                    replica.query(0, ALL)  # before the publication
+                if place > 2 and place % 3 == 1:
+                    self.assertEqual(sorted(replica.query(0, ALL)[0]), seen[place // 3 - 1])
 
     def test_acts_that_publish_nothing_cost_no_lease(self) -> None:
         clock = Clock(0)

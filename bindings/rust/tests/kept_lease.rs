@@ -2,7 +2,7 @@
 
 mod shared;
 
-use cagzhomul::{Error, SchemaChange, Step};
+use cagzhomul::{Db, Error, SchemaChange, Step};
 use shared::{drive, people};
 use std::cell::Cell;
 use std::thread;
@@ -33,8 +33,8 @@ fn queries_share_a_lease_until_it_ends() -> Result<(), Error> {
 }
 
 #[test]
-fn a_query_sees_the_newest_version() -> Result<(), Error> {
-    let (db, replica, now) = (people(), people(), Cell::new(0));
+fn a_query_sees_the_newest_version_after_a_change() -> Result<(), Error> {
+    let (db, now) = (people(), Cell::new(0));
     db.lease(0)?.txn().insert("people", 1, ()).commit(0)?;
     let columns = |now: u64| Ok::<_, Error>(db.query(now, ALL)?[0].cells().len());
     assert_eq!((columns(0)?, db.session().log_length()?), (1, 3));
@@ -45,17 +45,49 @@ fn a_query_sees_the_newest_version() -> Result<(), Error> {
         assert_eq!(columns(20)?, 2);
     }
     assert_eq!(db.session().log_length()?, 6);
-    // Each call by which a version may be published is noticed: lines, steps, and entries.
-    db.line("publish at 30: move people.age to delete_only")?;
-    assert_eq!((columns(25)?, db.session().log_length()?), (1, 8));
+    Ok(())
+}
+
+#[test]
+fn each_call_by_which_a_version_may_be_published_is_noticed() -> Result<(), Error> {
+    let (db, replica) = (people(), people());
+    db.lease(0)?.txn().insert("people", 1, ()).commit(0)?;
     let steps = db.plan(&[SchemaChange::drop_column("people", "town")])?;
-    assert_eq!((db.publish(40, &steps[0])?, columns(40)?), (5, 0));
-    for place in 1..=5 {
+    let columns = |db: &Db, now| -> Result<Vec<String>, Error> {
+        let cells = db.query(now, ALL)?[0].cells().to_vec();
+        Ok(cells.into_iter().map(|(column, _)| column).collect())
+    };
+    let calls: [&dyn Fn(u64) -> Result<(), Error>; 4] = [
+        &|now| db.change("add column age int on people", || now).map(drop),
+        &|now| db.advance(now, 8, 1000).map(drop),
+        &|now| db.publish(now, &steps[0]).map(drop),
+        &|now| {
+            let line = format!("publish at {now}: move people.age to delete_only");
+            db.line(&line).map(drop)
+        },
+    ];
+    let mut seen = Vec::new();
+    for (now, call) in [15, 35, 55, 75].into_iter().zip(calls) {
+        db.query(now - 3, ALL)?; // under a lease until now + 7
+        call(now)?;
+        seen.push(columns(&db, now)?);
+    }
+    assert_eq!(seen, [&["town"][..], &["town", "age"], &["age"], &[]]);
+    // The lease and the row, and then a lease, a publication and another lease each time.
+    assert_eq!(
+        (db.lease(75)?.version(), db.session().log_length()?),
+        (5, 2 + 3 * 4 + 1)
+    );
+    for place in 1..=2 {
         replica.session().repeat(&db.session().entry(place)?)?;
     }
-    assert_eq!(replica.query(25, ALL)?[0].cells().len(), 2);
-    replica.session().repeat(&db.session().entry(7)?)?;
-    assert_eq!(replica.query(30, ALL)?[0].cells().len(), 1);
+    for (place, seen) in (3..).step_by(3).zip(seen) {
+        replica.session().repeat(&db.session().entry(place)?)?;
+        replica.query(0, ALL)?;
+        replica.session().repeat(&db.session().entry(place + 1)?)?;
+        assert_eq!(columns(&replica, 0)?, seen);
+        replica.session().repeat(&db.session().entry(place + 2)?)?;
+    }
     Ok(())
 }
 
