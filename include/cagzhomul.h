@@ -383,6 +383,13 @@ int32_t cagzhomul_checkpoint(cagzhomul_handle *session, cagzhomul_handle *checkp
  * CAGZHOMUL_WRONG_KIND; CAGZHOMUL_OUT_OF_MEMORY. A refusal leaves `bytes` as it was. */
 int32_t cagzhomul_save(cagzhomul_handle *checkpoint, cagzhomul_handle *bytes);
 
+/* Makes a session of a checkpoint, in its handle: its world goes on from there, as that of
+ * cagzhomul_open_at does, apart from the one that the checkpoint was taken of. So a program can try
+ * calls, and look at the entries that they add, before it makes them. It takes no memory, and its
+ * time does not grow with the pairs.
+ * CAGZHOMUL_OK. Refusals: CAGZHOMUL_CLOSED; CAGZHOMUL_WRONG_KIND. */
+int32_t cagzhomul_open_checkpoint(cagzhomul_handle *checkpoint);
+
 /* Opens a session in the closed handle, whose world goes on from the checkpoint that these bytes
  * are: places go on counting, and each call answers what it would answer in the world of which it is
  * the checkpoint. The session has no leases by name, nothing prepared and no plan. Bytes may come

@@ -10,7 +10,7 @@ ghost use Rattle.handles.specs.Txns.{Transacts, Reads, Prepares};
 ghost use Rattle.handles.specs.Commits.{Commits};
 ghost use Rattle.handles.specs.Snapshots.{Snapshots, Checks, LogLengths};
 ghost use Rattle.handles.specs.Cuts.{Cuts, LogStarts};
-ghost use Rattle.handles.specs.Checkpoints.{OpensHere, SavesTo, Takes};
+ghost use Rattle.handles.specs.Checkpoints.{OpensHeld, OpensHere, SavesTo, Takes};
 ghost use Rattle.handles.specs.Queries.{Queries, SnapshotQueries, RowsFrom};
 ghost use Rattle.handles.specs.Writes.{Writes};
 ghost use Rattle.operator_calls.specs.Changes.{Publishes, Begins};
@@ -293,6 +293,14 @@ pub extern "C" fn cagzhomul_save(alloc: Global, checkpoint: &mut Handle, bytes: 
     ensures same { checkpoint.new.place.value ≡ checkpoint.old.place.value }
 {
     checkpoint.save(alloc, bytes)
+}
+
+/// `Handle::open_checkpoint`.
+#[unsafe(no_mangle)]
+pub extern "C" fn cagzhomul_open_checkpoint(alloc: Global, checkpoint: &mut Handle) -> i32
+    ensures { OpensHeld checkpoint.old.place.value result checkpoint.new.place.value }
+{
+    checkpoint.open_checkpoint(alloc)
 }
 
 /// `Handle::open_at`.

@@ -1,8 +1,10 @@
--- Cited by the contracts of cagzhomul_checkpoint, cagzhomul_save, cagzhomul_open_at and of what they call.
+-- Cited by the contracts of cagzhomul_checkpoint, cagzhomul_save, cagzhomul_open_checkpoint, cagzhomul_open_at and of what they call.
 -- The checkpoint of a session's world in a handle of its own, its bytes in another, and a session that opens there.
 use Rattle.std.specs.Prelude.{◌≡◌, ℕ, ◌⊎◌, ℤ, List, Option, Some, None, Result, Ok, Err}
 use Rattle.checkpoint.specs.Checkpoint.{Checkpoint}
 use Rattle.script_session.specs.Session.{Session}
+use Rattle.world.specs.State.{opened}
+use Rattle.typed_calls.specs.Opening.{session_over}
 use Rattle.typed_calls.specs.Checkpoints.{OpensAt, OpensSaved, Saves, TakesIn}
 use Rattle.typed_calls.specs.Statuses.{ok, closed, already_open, out_of_memory, wrong_kind}
 use Rattle.handles.specs.declared.engine.Engine.{Engine}
@@ -45,6 +47,17 @@ SavesFrom (Some other) status new = (status ≡ wrong_kind) × (new ≡ None)
 abbrev pub SavesTo : Option Engine → Option Engine → ℤ → Option Engine → Type 0
 SavesTo checkpoint (Some e) status new = (status ≡ already_open) × (new ≡ Some e)
 SavesTo checkpoint None status new = SavesFrom checkpoint status new
+
+-- ---- open_checkpoint
+
+-- a session over a world that goes on from the checkpoint, in its handle
+abbrev pub OpensHeld : Option Engine → ℤ → Option Engine → Type 0
+OpensHeld None status new = (status ≡ closed) × (new ≡ None)
+OpensHeld (Some (engine.Checkpoint checkpoint)) status new = (status ≡ ok) × IsOver (session_over (opened checkpoint)) new
+OpensHeld (Some other) status new = (status ≡ wrong_kind) × (new ≡ Some other)
+
+abbrev pub OpensEngine : Engine → ℤ → Engine → Type 0
+OpensEngine engine status left = OpensHeld (Some engine) status (Some left)
 
 -- ---- open_at
 

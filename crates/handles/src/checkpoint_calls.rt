@@ -1,13 +1,28 @@
 //! Checkpoints in handles of their own, their bytes, and sessions that open there.
 ghost use Rattle.std.specs.Prelude.{◌≡◌, None};
-ghost use Rattle.handles.specs.Checkpoints.{OpensHere, SavesInto, SavesTo, Takes, TakesInto};
+ghost use Rattle.handles.specs.Checkpoints.{OpensEngine, OpensHeld, OpensHere, SavesInto, SavesTo, Takes, TakesInto};
 
+use crate::boxes::{filled, taken_out};
 use crate::engine::{Conversation, Engine};
 use crate::handle::Handle;
 use script_session::Session;
 use std::alloc::Global;
-use typed_calls::status::{ALREADY_OPEN, CLOSED, WRONG_KIND};
+use typed_calls::status::{ALREADY_OPEN, CLOSED, OK, WRONG_KIND};
 use world::Checkpoint;
+
+// The engine after it was opened, if it is a checkpoint.
+fn open_engine(alloc: Global, engine: Engine) -> (i32, Engine)
+    ensures { OpensEngine engine result.0 result.1 }
+{
+    match engine {
+        Engine::Checkpoint(checkpoint) => {
+            let session = typed_calls::session_at(alloc, checkpoint);
+            let reply = String::new(alloc);
+            (OK, Engine::Session(Conversation { session, reply }))
+        }
+        other => (WRONG_KIND, other),
+    }
+}
 
 impl Handle {
     // Fills a closed handle with the checkpoint of the session's world.
@@ -73,6 +88,21 @@ impl Handle {
         };
         let status = bytes.keep_saved(alloc, checkpoint);
         self.put(engine);
+        status
+    }
+
+    /// Makes a session of a checkpoint, in its handle: its world goes on from there, apart from the
+    /// one that the checkpoint was taken of. `OK`; else `CLOSED` or `WRONG_KIND`, and nothing changes.
+    /// It takes no memory, and no time that grows with the pairs.
+    pub fn open_checkpoint(&mut self, alloc: Global) -> i32
+        ensures { OpensHeld self.old.place.value result self.new.place.value }
+    {
+        let Some(engine) = self.take(alloc) else {
+            return CLOSED;
+        };
+        let (held, room) = taken_out(alloc, engine);
+        let (status, left) = open_engine(alloc, held);
+        self.put(filled(room, left));
         status
     }
 

@@ -1,5 +1,7 @@
 //! The checkpoint of a session's world, its bytes, and a session that opens there.
 ghost use Rattle.std.specs.Prelude.{◌≡◌};
+ghost use Rattle.world.specs.State.{opened};
+ghost use Rattle.typed_calls.specs.Opening.{session_over};
 ghost use Rattle.typed_calls.specs.Checkpoints.{load_status, OpensAt, OpensSaved, Saves, TakesIn, TakesOf};
 
 use crate::opening::session_over;
@@ -56,6 +58,14 @@ fn load_status(fault: LoadedFault) -> i32
     }
 }
 
+/// A session over a world that goes on from a checkpoint, with no leases, pending work or plan. It
+/// takes no memory.
+pub fn session_at(alloc: Global, checkpoint: Checkpoint) -> Session
+    ensures { result ≡ session_over (opened checkpoint) }
+{
+    session_over(alloc, World::open_at(alloc, checkpoint))
+}
+
 /// A session over a world that opens at the checkpoint whose bytes these are, with no leases,
 /// pending work or plan. The bytes that `saved` gives for the checkpoint of a world are refused only
 /// when out of memory.
@@ -67,7 +77,7 @@ pub fn open_at(alloc: Global, bytes: &[u8]) -> Result<Session, i32>
     ensures saved { OpensSaved bytes.now result }
 {
     match load(alloc, bytes) {
-        Ok(checkpoint) => Ok(session_over(alloc, World::open_at(alloc, checkpoint))),
+        Ok(checkpoint) => Ok(session_at(alloc, checkpoint)),
         Err(fault) => Err(load_status(fault)),
     }
 }

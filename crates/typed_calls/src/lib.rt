@@ -19,7 +19,7 @@ mod txns;
 mod writes;
 
 pub use changes::{ChangeRefusal, begin_reorg, publish};
-pub use checkpoints::{checkpoint, open_at, saved};
+pub use checkpoints::{checkpoint, open_at, saved, session_at};
 pub use commits::commit;
 pub use cuts::{cut, log_start};
 pub use leases::{held_by, lease};
