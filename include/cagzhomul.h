@@ -38,6 +38,13 @@
 extern "C" {
 #endif
 
+/* The version of this header: a thousand times the major one, and the minor one. A program that was
+ * compiled with it works with each library of the same major version that has no lower minor one. */
+#define CAGZHOMUL_VERSION 1000
+
+/* The library's version. */
+uint32_t cagzhomul_version(void);
+
 /* The statuses. Any other number is none. */
 enum {
     CAGZHOMUL_OK = 0,
