@@ -43,6 +43,8 @@ __all__ = [
     "WrongType", "WrongWay", "literal", "open", "retry", "text_of",
 ]
 
+# the major version of the library
+_MAJOR = 1
 # how many seconds pass between two looks at a clock that is waited for
 _PAUSE = 0.001
 _ROOM, _OK, _BAD_LINE, _CLOSED, _NOT_NEXT, _WAITING, _FINISHED = 4096, 0, 1, 2, 9, 10, 11
@@ -87,7 +89,7 @@ _FUNCTIONS: Dict[str, Tuple[Any, List[Any]]] = {
     "snapshot_query": (_Queried, [_HANDLE, _BYTES, _SIZE, _HANDLE]),
     "snapshot": (_STATUS, [_HANDLE, _NUMBER, _HANDLE, _HANDLE]), "check": (_Checked, [_HANDLE]), "log_length": (_Outcome, [_HANDLE]),
     "log_start": (_Outcome, [_HANDLE]), "cut": (_STATUS, [_HANDLE, _SIZE]),
-    "checkpoint": (_STATUS, [_HANDLE, _HANDLE]), "save": (_STATUS, [_HANDLE, _HANDLE]), "open_at": (_STATUS, [_HANDLE, _BYTES, _SIZE]),
+    "checkpoint": (_STATUS, [_HANDLE, _HANDLE]), "save": (_STATUS, [_HANDLE, _HANDLE]), "open_checkpoint": (_STATUS, [_HANDLE]), "version": (_SMALL, []), "open_at": (_STATUS, [_HANDLE, _BYTES, _SIZE]),
     "publish": (_Changed, [_HANDLE, _NUMBER, _BYTES, _SIZE]), "begin_reorg": (_Changed, [_HANDLE, _NUMBER, _SMALL, _SMALL]),
     "write": (_Written, [_HANDLE, _NUMBER, _HANDLE, _BYTES, _SIZE]), "plan": (_Outcome, [_HANDLE, _BYTES, _SIZE, _BYTES, _SIZE]),
     "read_piece": (_STATUS, [_HANDLE, _SMALL, _SMALL, _SMALL, _HANDLE]), "prepare_piece": (_STATUS, [_HANDLE]),
@@ -104,8 +106,12 @@ def _load() -> ctypes.CDLL:
         raise ImportError("libcagzhomul.so was not found: name it in the variable CAGZHOMUL_LIBRARY")
     library = ctypes.CDLL(path)
     for name, (result, parameters) in _FUNCTIONS.items():
-        function = getattr(library, f"cagzhomul_{name}")
+        function = getattr(library, f"cagzhomul_{name}", None)
+        if function is None:
+            raise ImportError(f"{path} has no cagzhomul_{name}: it is older than this module")
         function.restype, function.argtypes = result, parameters
+    if library.cagzhomul_version() // 1000 != _MAJOR:
+        raise ImportError(f"{path} has the version {library.cagzhomul_version()}, and not {_MAJOR} as its major one")
     return library
 
 
@@ -703,7 +709,7 @@ class Snapshot(_Audited):
 class Session(_Audited):
     """A session, from its start to `close`. Any thread may call it: a lock has one call at a time."""
 
-    def __init__(self, _opening_code: bytes = b"", _checkpoint: Optional[bytes] = None) -> None:
+    def __init__(self, _opening_code: bytes = b"", _checkpoint: Optional[bytes] = None, _forked: Optional[Session] = None) -> None:
         super().__init__()
         self._keep: Optional[int] = None
         self._start = 0
@@ -713,6 +719,12 @@ class Session(_Audited):
         self._waiting: Optional[str] = None
         self._out = ctypes.create_string_buffer(_ROOM)
         code = _opening_code
+        if _forked is not None:
+            with _forked._lock:
+                _check(_library.cagzhomul_checkpoint(_forked._handle, self._handle))
+            _check(_library.cagzhomul_open_checkpoint(self._handle))
+            self._start = self.log_start()
+            return
         if _checkpoint is not None:
             _check(_library.cagzhomul_open_at(self._handle, _checkpoint, len(_checkpoint)))
             self._start = self.log_start()
@@ -853,6 +865,15 @@ class Session(_Audited):
                 _check(_library.cagzhomul_checkpoint(self._handle, taken._handle))
             _check(_library.cagzhomul_save(taken._handle, written._handle))
             return _code_of(written._handle)
+
+    def fork(self) -> Session:
+        """A session that goes on from the world as it is now, apart from this one: a program can try calls
+        there, and look at the entries that they add, before it makes them here. No row is copied. It
+        has no leases by name, nothing prepared and no plan, and it is to be closed.
+
+        Raises Closed, NotOpened or OutOfMemory.
+        """
+        return Session(_forked=self)
 
     def _grown(self, place: int) -> None:
         """The log has an entry of this place: it is cut if it has grown long enough, for a caller who

@@ -114,6 +114,20 @@ class Stores(unittest.TestCase):
         with cagzhomul.open() as session:
             self.refused(cagzhomul.NotOpened, session.cut)
 
+    def test_a_fork_goes_on_apart(self) -> None:
+        with cagzhomul.open(PEOPLE) as db, db.lease(5) as lease:
+            lease.insert("people", 1, town="Ulm")
+            with db.fork() as trial:
+                self.assertEqual((trial.log_start(), trial.log_length()), (2, 2))
+                trial.reply_to("lease a at 6")
+                self.assertEqual(trial.reply_to("txn a at 6: insert people (2) set town = 'Bonn'"), "ok done 4\n")
+                lease.insert("people", 3)
+                self.assertEqual((trial.check(), db.check()), (Audit(2, 0, 0), Audit(2, 0, 0)))
+                self.assertEqual([row["id"] for row in db.query(5, "select town from people")], [1, 3])
+            self.refused(cagzhomul.Closed, trial.fork)
+        with cagzhomul.open() as session:
+            self.refused(cagzhomul.NotOpened, session.fork)
+
     def test_a_store_opens_at_a_checkpoint(self) -> None:
         clock = Clock(5)
         with cagzhomul.open(PEOPLE) as db, db.lease(5) as lease:

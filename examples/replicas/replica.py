@@ -51,7 +51,7 @@ class Replica:
         trial = Replica.__new__(Replica)
         trial.slots, trial._began = self.slots, self._began
         trial.slot, trial.passed_over, trial.moment = self.slot, self.passed_over, self.moment
-        trial.session = cagzhomul.open(at=self.session.checkpoint())
+        trial.session = self.session.fork()
         return trial
 
     def put_checkpoint(self) -> None:

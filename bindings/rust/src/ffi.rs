@@ -99,6 +99,7 @@ unsafe extern "C" {
     fn cagzhomul_cut(session: *mut RawHandle, keep: usize) -> i32;
     fn cagzhomul_checkpoint(session: *mut RawHandle, checkpoint: *mut RawHandle) -> i32;
     fn cagzhomul_save(checkpoint: *mut RawHandle, bytes: *mut RawHandle) -> i32;
+    fn cagzhomul_open_checkpoint(checkpoint: *mut RawHandle) -> i32;
     fn cagzhomul_open_at(handle: *mut RawHandle, bytes: *const u8, length: usize) -> i32;
     fn cagzhomul_publish(
         session: *mut RawHandle,
@@ -307,6 +308,12 @@ impl Handle {
     pub(crate) fn checkpoint(&mut self, checkpoint: &mut Handle) -> i32 {
         // SAFETY: both handles, as at the top of this file.
         unsafe { cagzhomul_checkpoint(self.raw(), checkpoint.raw()) }
+    }
+
+    /// Makes a session of this checkpoint.
+    pub(crate) fn open_checkpoint(&mut self) -> i32 {
+        // SAFETY: the handle, as at the top of this file.
+        unsafe { cagzhomul_open_checkpoint(self.raw()) }
     }
 
     /// Writes the bytes of this checkpoint, into a closed handle.

@@ -212,6 +212,36 @@ impl Session {
         fetch(|_, out| written.rows_from(0, out))
     }
 
+    /// A session that goes on from the world as it is now, apart from this one: a program can try calls
+    /// there, and look at the entries that they add, before it makes them here. No row is copied. It
+    /// has no leases by name, nothing prepared and no plan.
+    ///
+    /// Refusals: [`Error::Closed`], [`Error::NotOpened`], [`Error::OutOfMemory`].
+    ///
+    /// ```
+    /// # fn main() -> Result<(), cagzhomul::Error> {
+    /// # let session = cagzhomul::Session::open()?;
+    /// for line in ["table t (id int key)", "open", "lease a at 0"] {
+    ///     session.line(line)?;
+    /// }
+    /// let trial = session.fork()?;
+    /// trial.line("lease b at 3")?;
+    /// assert_eq!((trial.log_length()?, session.log_length()?), (2, 1));
+    /// session.repeat(&trial.entry(2)?)?;
+    /// assert_eq!(session.entry(2)?, trial.entry(2)?);
+    /// # Ok(())
+    /// # }
+    /// ```
+    pub fn fork(&self) -> Result<Session, Error> {
+        let mut taken = Handle::closed();
+        done(self.lock().checkpoint(&mut taken))?;
+        done(taken.open_checkpoint())?;
+        let start = taken.log_start().length as u64;
+        let session = Session::over(taken);
+        session.start.store(start, Ordering::Relaxed);
+        Ok(session)
+    }
+
     /// Gives the memory of the log's entries back, but for the last `keep` of those that are in memory;
     /// no answer changes but those of [`Session::entry`] and [`Session::log_start`].
     ///
