@@ -263,11 +263,39 @@ cagzhomul_granted cagzhomul_lease(cagzhomul_handle *session, uint64_t moment,
 int32_t cagzhomul_transaction(cagzhomul_handle *lease, const uint8_t *operations,
                               size_t operations_length, cagzhomul_handle *txn);
 
-/* Reads the rows that a transaction names, of the session's world, which stays.
+/* Reads the rows that a transaction names, of the session's world, which stays. After
+ * cagzhomul_operations it reads only those that were not read before.
  * CAGZHOMUL_OK. Refusals: CAGZHOMUL_CLOSED and CAGZHOMUL_WRONG_KIND of `session`; CAGZHOMUL_CLOSED
  * and CAGZHOMUL_WRONG_KIND of `txn`; CAGZHOMUL_NOT_OPENED; CAGZHOMUL_WRONG_STAGE if it was read
  * already; CAGZHOMUL_OUT_OF_MEMORY. */
 int32_t cagzhomul_read(cagzhomul_handle *session, cagzhomul_handle *txn);
+
+/* Answers a query of one row, as the transaction read it, under the schema of its lease's version,
+ * into the closed handle `rows`: the query's only condition is a key. It takes no session, so it
+ * needs no lock of one. The transaction stays.
+ * With it a program changes a row by what it holds, and no update is lost: cagzhomul_transaction
+ * with operations that name the rows, cagzhomul_read, cagzhomul_query_read, then, with the new
+ * values, cagzhomul_operations, cagzhomul_read, cagzhomul_prepare and cagzhomul_commit; after
+ * CAGZHOMUL_CONFLICT it begins again.
+ * CAGZHOMUL_OK, with the row, or with no row if there is none of this key. Refusals:
+ * CAGZHOMUL_ALREADY_OPEN, of `rows`; CAGZHOMUL_CLOSED; CAGZHOMUL_WRONG_KIND; CAGZHOMUL_WRONG_STAGE
+ * if it was not read, or is prepared; CAGZHOMUL_BAD_CODE, also of a query with other conditions
+ * than one key; CAGZHOMUL_NO_TABLE; CAGZHOMUL_NOT_PUBLIC, with the column, or CAGZHOMUL_WRONG_TYPE,
+ * as for cagzhomul_query; CAGZHOMUL_VIEW_MISMATCH if the transaction did not read this row;
+ * CAGZHOMUL_OUT_OF_MEMORY, which may come in place of CAGZHOMUL_BAD_CODE and those after it. A
+ * refusal leaves `rows` as it was. */
+cagzhomul_queried cagzhomul_query_read(cagzhomul_handle *txn, const uint8_t *query,
+                                       size_t query_length, cagzhomul_handle *rows);
+
+/* Gives a transaction that was read other operations, by their code. It is to be read again, which
+ * reads only the rows that it has not read yet: of the others it keeps what it read first, so that
+ * its commit is a conflict if they have changed since. A row that the new operations do not name is
+ * forgotten. It takes no session, so it needs no lock of one.
+ * CAGZHOMUL_OK. Refusals: CAGZHOMUL_CLOSED; CAGZHOMUL_WRONG_KIND; CAGZHOMUL_WRONG_STAGE if it was
+ * not read, or is prepared; CAGZHOMUL_BAD_CODE; CAGZHOMUL_OUT_OF_MEMORY, which may come in place of
+ * the one before it. A refusal changes nothing. */
+int32_t cagzhomul_operations(cagzhomul_handle *txn, const uint8_t *operations,
+                             size_t operations_length);
 
 /* Prepares a transaction that was read, by the schema of its lease's version. It takes no session,
  * so it needs no lock of one.

@@ -18,7 +18,7 @@ static int is_short(int32_t status) {
 /* Plays with the first allocation refused, then the second, and so on, until none is left; prints how many there were, and is 0 if all
    was as it should be. */
 static int refuse_each(void (*play)(void)) {
-    is_ample = 0;
+    is_ample = refused = again = 0;
     do {
         count = is_reached = 0;
         refused++;

@@ -1,6 +1,7 @@
 /* One writer by typed calls: opens tables, takes a lease, commits transactions, meets a conflict and
    refusals by the rows, looks at the result by queries and by lines on the same handle, and lets an
-   index enter, which then serves queries.
+   index enter, which then serves queries. Another one queries what its transactions read, and
+   changes rows by what they hold.
    Each allocation is refused in turn, one in each run: the call that met it answers
    CAGZHOMUL_OUT_OF_MEMORY, changed nothing, and is made again. All values are worked out by hand. It prints how many allocations were refused, and ends with 0 if all was as
    include/cagzhomul.h says. */
@@ -338,6 +339,188 @@ static void play(void) {
     check(cagzhomul_close(&lease) == CAGZHOMUL_OK && cagzhomul_close(&session) == CAGZHOMUL_OK, "both are closed");
 }
 
+/* ---- transactions that read */
+
+static int32_t give(cagzhomul_handle *txn, const code *ops) {
+    int32_t status = cagzhomul_operations(txn, ops->bytes, ops->length);
+    return is_short(status) ? cagzhomul_operations(txn, ops->bytes, ops->length) : status;
+}
+
+static cagzhomul_queried query_read(cagzhomul_handle *txn, const code *asked, cagzhomul_handle *rows) {
+    cagzhomul_queried it = cagzhomul_query_read(txn, asked->bytes, asked->length, rows);
+    if (!is_short(it.status)) return it;
+    check(it.column == 0 && !rows->is_open, "nothing was answered");
+    return cagzhomul_query_read(txn, asked->bytes, asked->length, rows);
+}
+
+/* Whether the transaction read the row of this key with this town; with a null one, that there is none. */
+static int has_read(cagzhomul_handle *txn, int64_t id, const char *town) {
+    cagzhomul_handle rows = {0};
+    code asked = query_code(PEOPLE, TOWN, 1), due = rows_code(town ? 1 : 0);
+    put_key(&asked, id);
+    if (town) put_row(&due, id, town);
+    return has_rows(query_read(txn, &asked, &rows), &rows, &due);
+}
+
+/* Operations that name two rows, of which 0 is none, and change nothing in them. */
+static code touch(int64_t first, int64_t second) {
+    code ops = ops_code(second ? 2 : 1);
+    put_op(&ops, UPDATE, PEOPLE, first, 0, NULL);
+    if (second) put_op(&ops, UPDATE, PEOPLE, second, 0, NULL);
+    return ops;
+}
+
+static code both(const char *first, const char *second) {
+    code ops = ops_code(2);
+    put_op(&ops, UPDATE, PEOPLE, 1, TOWN, first), put_op(&ops, UPDATE, PEOPLE, 2, TOWN, second);
+    return ops;
+}
+
+static void begin_reading(cagzhomul_handle *session, cagzhomul_handle *lease, code ops, cagzhomul_handle *txn) {
+    check(begin(lease, &ops, txn) == CAGZHOMUL_OK && read_txn(session, txn) == CAGZHOMUL_OK, "it is read");
+}
+
+/* Gives a transaction that was read other operations, and reads it again. */
+static void read_again(cagzhomul_handle *session, cagzhomul_handle *txn, code ops) {
+    check(give(txn, &ops) == CAGZHOMUL_OK && read_txn(session, txn) == CAGZHOMUL_OK, "it is read again");
+}
+
+static cagzhomul_committed end(cagzhomul_handle *session, uint64_t moment, cagzhomul_handle *txn) {
+    check(prepare(txn).status == CAGZHOMUL_OK, "it is prepared");
+    cagzhomul_committed it = commit(session, moment, txn);
+    if (txn->is_open) cagzhomul_close(txn);
+    return it;
+}
+
+static int writes(cagzhomul_handle *session, cagzhomul_handle *lease, code ops, uint64_t place) {
+    return ends(run(session, lease, 9, &ops), CAGZHOMUL_OK, place, 0);
+}
+
+/* A row is changed by what it holds. */
+static void change_by_reading(cagzhomul_handle *session, cagzhomul_handle *lease) {
+    cagzhomul_handle txn = {0};
+    code ops = ops_code(2);
+    put_op(&ops, INSERT, PEOPLE, 1, TOWN, "Ulm"), put_op(&ops, INSERT, PEOPLE, 2, TOWN, "Bonn");
+    check(writes(session, lease, ops, 2), "two rows are entry 2");
+    begin_reading(session, lease, touch(1, 0), &txn);
+    check(has_read(&txn, 1, "Ulm"), "row 1 is in Ulm");
+    read_again(session, &txn, one(UPDATE, 1, "Hof"));
+    check(ends(end(session, 9, &txn), CAGZHOMUL_OK, 3, 0), "and goes to Hof");
+    begin_reading(session, lease, touch(1, 9), &txn);
+    check(has_read(&txn, 1, "Hof") && has_read(&txn, 9, NULL), "where it is then; row 9 is not there");
+    check(cagzhomul_close(&txn) == CAGZHOMUL_OK, "it is closed");
+}
+
+/* A write to a row after it was read is a conflict, whether it comes before or after the second read. */
+static void conflict_with_reads(cagzhomul_handle *session, cagzhomul_handle *lease) {
+    cagzhomul_handle txn = {0};
+    begin_reading(session, lease, touch(1, 0), &txn);
+    check(writes(session, lease, one(UPDATE, 1, "Bonn"), 4), "another writer is entry 4");
+    read_again(session, &txn, one(UPDATE, 1, "Ulm"));
+    check(has_read(&txn, 1, "Hof"), "the row stays what it was when it was first read");
+    check(ends(end(session, 9, &txn), CAGZHOMUL_CONFLICT, 0, 0), "and has changed since");
+    begin_reading(session, lease, touch(1, 0), &txn);
+    read_again(session, &txn, one(UPDATE, 1, "Ulm"));
+    check(writes(session, lease, one(UPDATE, 1, "Hof"), 5), "another writer is entry 5");
+    check(ends(end(session, 9, &txn), CAGZHOMUL_CONFLICT, 0, 0), "the row has changed");
+    begin_reading(session, lease, touch(1, 2), &txn);
+    check(writes(session, lease, one(UPDATE, 1, "Ulm"), 6), "another writer is entry 6");
+    read_again(session, &txn, one(UPDATE, 2, "Hof"));
+    check(ends(end(session, 9, &txn), CAGZHOMUL_OK, 7, 0), "row 1 is not named any more");
+    begin_reading(session, lease, touch(1, 0), &txn);
+    check(writes(session, lease, one(UPDATE, 2, "Ulm"), 8), "another writer is entry 8");
+    read_again(session, &txn, both("Bonn", "Bonn"));
+    check(has_read(&txn, 1, "Ulm") && has_read(&txn, 2, "Ulm"), "row 2 was read last");
+    check(ends(end(session, 9, &txn), CAGZHOMUL_OK, 9, 0), "and neither has changed since");
+}
+
+/* As much of the pairs of the session's world as fits; memory is ample for it. */
+static size_t pairs_of(cagzhomul_handle *session, uint8_t *out) {
+    int was_ample = is_ample;
+    is_ample = 1;
+    cagzhomul_outcome it = cagzhomul_reply_to(session, (const uint8_t *)"pairs", 5, out, ROOM);
+    is_ample = was_ample;
+    check(it.status == CAGZHOMUL_OK && it.length > 0 && it.length <= ROOM, "the pairs are told");
+    return it.length;
+}
+
+/* A row that is only read is pinned by operations that change nothing in it. */
+static void pin_rows(cagzhomul_handle *session, cagzhomul_handle *lease) {
+    cagzhomul_handle txn = {0};
+    uint8_t before[ROOM] = {0}, after[ROOM] = {0};
+    code one_read = ops_code(2), none_read = ops_code(2);
+    put_op(&one_read, UPDATE, PEOPLE, 1, 0, NULL), put_op(&one_read, UPDATE, PEOPLE, 2, TOWN, "Ulm");
+    put_op(&none_read, INSERT, PEOPLE, 9, TOWN, "Ulm"), put_op(&none_read, DELETE, PEOPLE, 9, 0, NULL);
+    begin_reading(session, lease, touch(1, 2), &txn);
+    check(writes(session, lease, one(UPDATE, 1, "Hof"), 10), "another writer is entry 10");
+    read_again(session, &txn, one_read);
+    check(ends(end(session, 9, &txn), CAGZHOMUL_CONFLICT, 0, 0), "the row that is only read has changed");
+    begin_reading(session, lease, touch(1, 2), &txn);
+    read_again(session, &txn, one_read);
+    check(ends(end(session, 9, &txn), CAGZHOMUL_OK, 11, 0), "it has not");
+    size_t length = pairs_of(session, before);
+    begin_reading(session, lease, none_read, &txn);
+    check(has_read(&txn, 9, NULL), "row 9 is not there");
+    read_again(session, &txn, none_read);
+    check(ends(end(session, 9, &txn), CAGZHOMUL_OK, 12, 0), "nor then");
+    begin_reading(session, lease, touch(1, 2), &txn);
+    check(has_read(&txn, 1, "Hof") && has_read(&txn, 2, "Ulm"), "row 1 stayed in Hof");
+    check(ends(end(session, 9, &txn), CAGZHOMUL_OK, 13, 0), "a transaction that only reads");
+    check(pairs_of(session, after) == length && !memcmp(before, after, ROOM), "these two wrote nothing");
+    begin_reading(session, lease, none_read, &txn);
+    check(writes(session, lease, one(INSERT, 9, "Ulm"), 14), "another writer inserts row 9");
+    read_again(session, &txn, none_read);
+    check(ends(end(session, 9, &txn), CAGZHOMUL_CONFLICT, 0, 0), "it has come since it was read");
+}
+
+/* Carries the change under way to its end, and gives the moment of that. */
+static uint64_t finish(cagzhomul_handle *session, uint64_t moment) {
+    for (int acts = 0; acts < 30; acts++) {
+        cagzhomul_advanced it = cagzhomul_advance(session, moment, 1, 1000);
+        if (is_short(it.status)) continue;
+        if (it.status == CAGZHOMUL_FINISHED) return moment;
+        check(it.status == CAGZHOMUL_OK || it.status == CAGZHOMUL_WAITING, "an act, or a wait");
+        if (it.status == CAGZHOMUL_WAITING) moment = it.until;
+    }
+    check(0, "the change ends");
+    return moment;
+}
+
+/* With an index and a column with a default, which are elements 2 and 3, each row that was read has its default. */
+static void read_defaults(cagzhomul_handle *session) {
+    cagzhomul_handle lease = {0}, txn = {0}, rows = {0};
+    uint8_t out[ROOM];
+    const char *plan = "plan: add index by_town on people (town); add column mail text default 'none' on people";
+    code asked = query_code(PEOPLE, 3, 1), due = rows_code(1);
+    put_key(&asked, 1);
+    put_number(&due, 1, 8), put_int(&due, 1), put_number(&due, 1, 8), put_number(&due, 3, 4), put_text(&due, "none");
+    int was_ample = is_ample;
+    is_ample = 1;
+    check(cagzhomul_reply_to(session, (const uint8_t *)plan, strlen(plan), out, ROOM).status == CAGZHOMUL_OK, "a plan");
+    is_ample = was_ample;
+    check(replies(session, "next at 10", "ok version 2\n"), "both enter");
+    uint64_t moment = finish(session, 10);
+    check(take_lease(session, moment, &lease).status == CAGZHOMUL_OK, "a lease on the last version");
+    begin_reading(session, &lease, touch(1, 0), &txn);
+    check(has_rows(query_read(&txn, &asked, &rows), &rows, &due), "row 1 has the default");
+    check(has_read(&txn, 1, "Hof"), "and is in Hof");
+    read_again(session, &txn, one(UPDATE, 1, "Ulm"));
+    check(end(session, moment, &txn).status == CAGZHOMUL_OK && is_check(session, 3, 0, 0), "it moves, and so does its pair in the index");
+    check(cagzhomul_close(&lease) == CAGZHOMUL_OK, "the lease is closed");
+}
+
+static void play_reads(void) {
+    cagzhomul_handle session = {0}, lease = {0};
+    code opening = opening_code(10, "town");
+    check(open_tables(&session, &opening) == CAGZHOMUL_OK, "tables are opened");
+    check(take_lease(&session, 5, &lease).status == CAGZHOMUL_OK, "a lease is granted");
+    change_by_reading(&session, &lease);
+    conflict_with_reads(&session, &lease);
+    pin_rows(&session, &lease);
+    read_defaults(&session);
+    check(cagzhomul_close(&lease) == CAGZHOMUL_OK && cagzhomul_close(&session) == CAGZHOMUL_OK, "both are closed");
+}
+
 static void look_at_codes(void) {
     cagzhomul_handle session = {0};
     code opening = opening_code(10, "town");
@@ -459,10 +642,69 @@ static void look_at_queries(void) {
     cagzhomul_close(&snapshot), cagzhomul_close(&lease), cagzhomul_close(&session);
 }
 
+/* A query of what the transaction read that is refused. */
+static void is_unread(cagzhomul_handle *txn, const code *asked, int32_t status, uint32_t column) {
+    cagzhomul_handle rows = {0};
+    cagzhomul_queried it = query_read(txn, asked, &rows);
+    check(it.status == status && it.column == column && !rows.is_open, "the query of what was read is refused");
+}
+
+static void look_at_read_faults(cagzhomul_handle *txn) {
+    code asked = query_code(PEOPLE, TOWN, 1);
+    put_key(&asked, 1);
+    for (size_t length = 0; length < asked.length; length++) {
+        code part = asked;
+        part.length = length;
+        is_unread(txn, &part, CAGZHOMUL_BAD_CODE, 0);
+    }
+    put_byte(&asked, 0);
+    is_unread(txn, &asked, CAGZHOMUL_BAD_CODE, 0);
+    asked = query_code(PEOPLE, TOWN, 0);
+    is_unread(txn, &asked, CAGZHOMUL_BAD_CODE, 0);
+    asked = query_code(PEOPLE, TOWN, 1), put_equal(&asked, TOWN, "Ulm");
+    is_unread(txn, &asked, CAGZHOMUL_BAD_CODE, 0);
+    asked = query_code(PEOPLE, TOWN, 2), put_key(&asked, 1), put_equal(&asked, TOWN, "Ulm");
+    is_unread(txn, &asked, CAGZHOMUL_BAD_CODE, 0);
+    asked = query_code(7, TOWN, 1), put_key(&asked, 2);
+    is_unread(txn, &asked, CAGZHOMUL_NO_TABLE, 0);
+    asked = query_code(PEOPLE, 9, 1), put_key(&asked, 2);
+    is_unread(txn, &asked, CAGZHOMUL_NOT_PUBLIC, 9);
+    asked = query_code(PEOPLE, TOWN, 1), put_byte(&asked, 0), put_number(&asked, 0, 8);
+    is_unread(txn, &asked, CAGZHOMUL_WRONG_TYPE, 0);
+    asked = query_code(PEOPLE, TOWN, 1), put_key(&asked, 2);
+    is_unread(txn, &asked, CAGZHOMUL_VIEW_MISMATCH, 0);
+}
+
+/* Queries of what a transaction read, and other operations for it, of other kinds and stages, and with faults. */
+static void look_at_reads(void) {
+    cagzhomul_handle session = {0}, lease = {0}, txn = {0};
+    code opening = opening_code(10, "town"), ops = one(INSERT, 1, "Ulm"), asked = query_code(PEOPLE, TOWN, 1);
+    put_key(&asked, 1);
+    is_unread(&txn, &asked, CAGZHOMUL_CLOSED, 0);
+    check(give(&txn, &ops) == CAGZHOMUL_CLOSED, "no transaction");
+    check(open_tables(&session, &opening) == CAGZHOMUL_OK && cagzhomul_lease(&session, 5, &lease).status == CAGZHOMUL_OK, "a lease");
+    is_unread(&lease, &asked, CAGZHOMUL_WRONG_KIND, 0);
+    check(give(&lease, &ops) == CAGZHOMUL_WRONG_KIND && query_read(&txn, &asked, &lease).status == CAGZHOMUL_ALREADY_OPEN, "kinds");
+    check(begin(&lease, &ops, &txn) == CAGZHOMUL_OK && give(&txn, &ops) == CAGZHOMUL_WRONG_STAGE, "it is to be read first");
+    is_unread(&txn, &asked, CAGZHOMUL_WRONG_STAGE, 0);
+    check(read_txn(&session, &txn) == CAGZHOMUL_OK, "it is read");
+    look_at_read_faults(&txn);
+    for (size_t length = 0; length < ops.length; length++)
+        check(cagzhomul_operations(&txn, ops.bytes, length) == CAGZHOMUL_BAD_CODE, "a part is no operations");
+    check(has_read(&txn, 1, NULL) && cagzhomul_read(&session, &txn) == CAGZHOMUL_WRONG_STAGE, "it stays as it was");
+    check(give(&txn, &ops) == CAGZHOMUL_OK && give(&txn, &ops) == CAGZHOMUL_WRONG_STAGE, "it is to be read again");
+    is_unread(&txn, &asked, CAGZHOMUL_WRONG_STAGE, 0);
+    check(read_txn(&session, &txn) == CAGZHOMUL_OK && prepare(&txn).status == CAGZHOMUL_OK, "it is prepared");
+    is_unread(&txn, &asked, CAGZHOMUL_WRONG_STAGE, 0);
+    check(give(&txn, &ops) == CAGZHOMUL_WRONG_STAGE && ends(cagzhomul_commit(&session, 5, &txn), CAGZHOMUL_OK, 2, 0), "and is committed");
+    cagzhomul_close(&lease), cagzhomul_close(&session);
+}
+
 int main(void) {
     is_ample = 1;
     look_at_codes();
     look_at_kinds();
     look_at_queries();
-    return refuse_each(play);
+    look_at_reads();
+    return refuse_each(play) | refuse_each(play_reads);
 }

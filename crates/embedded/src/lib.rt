@@ -9,10 +9,10 @@ mod logs;
 ghost use Rattle.std.specs.Prelude.{◌≡◌};
 ghost use Rattle.handles.specs.Calls.{Opens, RepliesTo, RepliesFrom, Closes, ShowsText};
 ghost use Rattle.handles.specs.Leases.{OpensTables, Leases};
-ghost use Rattle.handles.specs.Txns.{Transacts, Reads, Prepares};
+ghost use Rattle.handles.specs.Txns.{Transacts, Reads, GivesOperations, Prepares};
 ghost use Rattle.handles.specs.Commits.{Commits};
 ghost use Rattle.handles.specs.Snapshots.{Snapshots, Checks};
-ghost use Rattle.handles.specs.Queries.{Queries, SnapshotQueries, RowsFrom};
+ghost use Rattle.handles.specs.Queries.{Queries, SnapshotQueries, ReadQueries, RowsFrom};
 ghost use Rattle.handles.specs.Writes.{Writes};
 
 use handles::{
@@ -107,6 +107,28 @@ pub extern "C" fn cagzhomul_read(alloc: Global, session: &mut Handle, txn: &mut 
     ensures same { session.new.place.value ≡ session.old.place.value }
 {
     session.read(alloc, txn)
+}
+
+/// `Handle::query_read`.
+#[unsafe(no_mangle)]
+pub extern "C" fn cagzhomul_query_read(
+    alloc: Global,
+    txn: &mut Handle,
+    query: &[u8],
+    rows: &mut Handle,
+) -> QueryOutcome
+    ensures queries { ReadQueries txn.old.place.value query.now rows.old.place.value result rows.new.place.value }
+    ensures same { txn.new.place.value ≡ txn.old.place.value }
+{
+    txn.query_read(alloc, query, rows)
+}
+
+/// `Handle::operations`.
+#[unsafe(no_mangle)]
+pub extern "C" fn cagzhomul_operations(alloc: Global, txn: &mut Handle, operations: &[u8]) -> i32
+    ensures { GivesOperations txn.old.place.value operations.now result txn.new.place.value }
+{
+    txn.operations(alloc, operations)
 }
 
 /// `Handle::prepare`.

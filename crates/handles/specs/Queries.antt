@@ -1,12 +1,14 @@
--- Cited by the contracts of cagzhomul_query, cagzhomul_snapshot_query, cagzhomul_rows_from and of what they call.
+-- Cited by the contracts of cagzhomul_query, cagzhomul_snapshot_query, cagzhomul_query_read, cagzhomul_rows_from and of what they call.
 -- The rows that a query answers, by their code, in a handle of their own.
 use Rattle.std.specs.Prelude.{◌≡◌, ℕ, ℤ, List, drop, length, Option, Some, None, Result, Ok, Err}
 use Rattle.script_session.specs.Session.{Session}
 use Rattle.script_session.specs.declared.session.ServerLease.{ServerLease}
 use Rattle.world.specs.Snapshot.{Taken}
 use Rattle.typed_calls.specs.Queries.{query_alone, QueriesIn, QueriesSnapshot}
+use Rattle.typed_calls.specs.ReadQueries.{QueriesRead}
 use Rattle.typed_calls.specs.Statuses.{ok, closed, already_open, wrong_kind}
 use Rattle.typed_calls.specs.declared.queries.QueryOutcome.{QueryOutcome}
+use Rattle.typed_calls.specs.declared.txns.Txn.{Txn}
 use Rattle.handles.specs.declared.engine.Engine.{Engine}
 use Rattle.handles.specs.declared.engine.Engine.TheVariants as engine
 use Rattle.handles.specs.declared.outcome.Outcome.{Outcome}
@@ -57,6 +59,23 @@ TakenOf (Some other) query outcome rows = (outcome ≡ query_alone wrong_kind) �
 abbrev pub SnapshotQueries : Option Engine → List ℕ → Option Engine → QueryOutcome → Option Engine → Type 0
 SnapshotQueries snapshot query (Some e) outcome rows = (outcome ≡ query_alone already_open) × (rows ≡ Some e)
 SnapshotQueries snapshot query None outcome rows = TakenOf snapshot query outcome rows
+
+-- ---- query_read
+
+-- the row that a transaction read, or its refusal
+abbrev pub ReadInto : Txn → List ℕ → QueryOutcome → Option Engine → Type 0
+ReadInto txn query outcome rows =
+    (answer : Result (List ℕ) QueryOutcome) × QueriesRead txn query answer × Keeps answer outcome rows
+
+abbrev pub ReadOf : Option Engine → List ℕ → QueryOutcome → Option Engine → Type 0
+ReadOf None query outcome rows = (outcome ≡ query_alone closed) × (rows ≡ None)
+ReadOf (Some (engine.Txn txn)) query outcome rows = ReadInto txn query outcome rows
+ReadOf (Some other) query outcome rows = (outcome ≡ query_alone wrong_kind) × (rows ≡ None)
+
+-- into a closed handle
+abbrev pub ReadQueries : Option Engine → List ℕ → Option Engine → QueryOutcome → Option Engine → Type 0
+ReadQueries txn query (Some e) outcome rows = (outcome ≡ query_alone already_open) × (rows ≡ Some e)
+ReadQueries txn query None outcome rows = ReadOf txn query outcome rows
 
 -- ---- rows_from
 

@@ -1,9 +1,10 @@
--- Cited by the contracts of cagzhomul_transaction, cagzhomul_read, cagzhomul_prepare and of what they call.
+-- Cited by the contracts of cagzhomul_transaction, cagzhomul_read, cagzhomul_operations, cagzhomul_prepare and of what they call.
 -- A transaction in a handle of its own: its operations, what it reads, and its preparation.
 use Rattle.std.specs.Prelude.{◌≡◌, ℕ, ◌⊎◌, ℤ, List, Option, Some, None, Ok, Err}
 use Rattle.script_session.specs.Session.{Session}
 use Rattle.script_session.specs.declared.session.ServerLease.{ServerLease}
 use Rattle.typed_calls.specs.Txns.{Wants, ReadsIn}
+use Rattle.typed_calls.specs.Operations.{WantsAgain}
 use Rattle.typed_calls.specs.Prepare.{Prepares as PreparesTxn, prepare_alone}
 use Rattle.typed_calls.specs.Statuses.{ok, closed, already_open, wrong_kind}
 use Rattle.typed_calls.specs.declared.preparation.PrepareOutcome.{PrepareOutcome}
@@ -45,6 +46,19 @@ abbrev pub Reads : Option Engine → Option Engine → ℤ → Option Engine →
 Reads None txn status new = (status ≡ closed) × (new ≡ txn)
 Reads (Some (engine.Session c)) txn status new = ReadsFor c.session txn status new
 Reads (Some other) txn status new = (status ≡ wrong_kind) × (new ≡ txn)
+
+-- ---- operations
+
+-- what was read is kept with other operations; a transaction that is refused comes back as it was
+abbrev pub GivesEngine : Engine → List ℕ → ℤ → Engine → Type 0
+GivesEngine (engine.Txn txn) operations status new =
+    ((it : Txn) × WantsAgain txn operations (Ok it) × (status ≡ ok) × (new ≡ engine.Txn it))
+    ⊎ ((it : Txn) × WantsAgain txn operations (Err (status, it)) × (new ≡ engine.Txn it))
+GivesEngine other operations status new = (status ≡ wrong_kind) × (new ≡ other)
+
+abbrev pub GivesOperations : Option Engine → List ℕ → ℤ → Option Engine → Type 0
+GivesOperations None operations status new = (status ≡ closed) × (new ≡ None)
+GivesOperations (Some e) operations status new = (left : Engine) × GivesEngine e operations status left × (new ≡ Some left)
 
 -- ---- prepare
 

@@ -1,6 +1,6 @@
 //! Queries, whose rows are kept in handles of their own.
 ghost use Rattle.std.specs.Prelude.{◌≡◌, None};
-ghost use Rattle.handles.specs.Queries.{Keeps, QueriesInto, QueriesUnder, Queries, TakenInto, SnapshotQueries, RowsFrom};
+ghost use Rattle.handles.specs.Queries.{Keeps, QueriesInto, QueriesUnder, Queries, TakenInto, SnapshotQueries, ReadInto, ReadQueries, RowsFrom};
 
 use crate::engine::Engine;
 use crate::handle::Handle;
@@ -8,8 +8,8 @@ use crate::outcome::{Outcome, lay};
 use collections::List;
 use script_session::{ServerLease, Session};
 use std::alloc::Global;
-use typed_calls::QueryOutcome;
 use typed_calls::status::{ALREADY_OPEN, CLOSED, OK, WRONG_KIND};
+use typed_calls::{QueryOutcome, Txn};
 use world::Snapshot;
 
 impl Handle {
@@ -126,6 +126,40 @@ impl Handle {
             return QueryOutcome::of(WRONG_KIND);
         };
         let outcome = rows.query_taken(alloc, snapshot, query);
+        self.put(engine);
+        outcome
+    }
+
+    // Fills a closed handle with the row that the transaction read.
+    fn query_own(&mut self, alloc: Global, txn: &Txn, query: &[u8]) -> QueryOutcome
+        requires { self.old.place.value ≡ None }
+        ensures { ReadInto txn.now query.now result self.new.place.value }
+    {
+        let answer = typed_calls::query_read(alloc, txn, query);
+        self.keep_rows(alloc, answer)
+    }
+
+    /// Answers a query of a row that a transaction read, as it was read, under the schema of its
+    /// lease's version, into the closed handle `rows`; the query's only condition is a key. `OK`;
+    /// else `ALREADY_OPEN` (of `rows`), `CLOSED`, `WRONG_KIND`, `WRONG_STAGE`, `BAD_CODE`,
+    /// `NO_TABLE`, `NOT_PUBLIC` with the column, `WRONG_TYPE`, `VIEW_MISMATCH`, or `OUT_OF_MEMORY`,
+    /// which may come in place of the five before it. The transaction stays, and a refusal changes
+    /// nothing.
+    pub fn query_read(&mut self, alloc: Global, query: &[u8], rows: &mut Handle) -> QueryOutcome
+        ensures queries { ReadQueries self.old.place.value query.now rows.old.place.value result rows.new.place.value }
+        ensures same { self.new.place.value ≡ self.old.place.value }
+    {
+        if rows.is_open {
+            return QueryOutcome::of(ALREADY_OPEN);
+        }
+        let Some(engine) = self.take(alloc) else {
+            return QueryOutcome::of(CLOSED);
+        };
+        let Engine::Txn(txn) = &*engine else {
+            self.put(engine);
+            return QueryOutcome::of(WRONG_KIND);
+        };
+        let outcome = rows.query_own(alloc, txn, query);
         self.put(engine);
         outcome
     }

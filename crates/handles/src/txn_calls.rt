@@ -1,6 +1,6 @@
-//! Transactions: their operations, what they read, and their preparation and commit.
+//! Transactions: their operations, what they read, and their preparation.
 ghost use Rattle.std.specs.Prelude.{◌≡◌, None};
-ghost use Rattle.handles.specs.Txns.{Transacts, WantsIn, Reads, ReadsFor, ReadsEngine, Prepares, PreparesEngine};
+ghost use Rattle.handles.specs.Txns.{Transacts, WantsIn, Reads, ReadsFor, ReadsEngine, GivesOperations, GivesEngine, Prepares, PreparesEngine};
 
 use crate::boxes::{filled, taken_out};
 use crate::engine::Engine;
@@ -16,6 +16,19 @@ fn read_engine(alloc: Global, session: &Session, engine: Engine) -> (i32, Engine
 {
     match engine {
         Engine::Txn(txn) => match typed_calls::read(alloc, session, txn) {
+            Ok(txn) => (OK, Engine::Txn(txn)),
+            Err(refusal) => (refusal.0, Engine::Txn(refusal.1)),
+        },
+        other => (WRONG_KIND, other),
+    }
+}
+
+// The engine after it was given operations, if it is a transaction.
+fn give_engine(alloc: Global, engine: Engine, operations: &[u8]) -> (i32, Engine)
+    ensures { GivesEngine engine operations.now result.0 result.1 }
+{
+    match engine {
+        Engine::Txn(txn) => match typed_calls::with_operations(alloc, txn, operations) {
             Ok(txn) => (OK, Engine::Txn(txn)),
             Err(refusal) => (refusal.0, Engine::Txn(refusal.1)),
         },
@@ -100,6 +113,22 @@ impl Handle {
         };
         let status = txn.read_for(alloc, &conversation.session);
         self.put(engine);
+        status
+    }
+
+    /// Gives a transaction that was read other operations, whose code these bytes are: it is to be
+    /// read again, and keeps what it read first. `OK`; else `CLOSED`, `WRONG_KIND`, `WRONG_STAGE`,
+    /// `BAD_CODE`, or `OUT_OF_MEMORY`, which may come in place of the one before it. A refusal
+    /// changes nothing.
+    pub fn operations(&mut self, alloc: Global, operations: &[u8]) -> i32
+        ensures { GivesOperations self.old.place.value operations.now result self.new.place.value }
+    {
+        let Some(engine) = self.take(alloc) else {
+            return CLOSED;
+        };
+        let (held, room) = taken_out(alloc, engine);
+        let (status, left) = give_engine(alloc, held, operations);
+        self.put(filled(room, left));
         status
     }
 

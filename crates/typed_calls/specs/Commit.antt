@@ -29,7 +29,7 @@ CommitsPrepared old moment prepared (Err refusal) new =
 
 abbrev pub CommitsWorld : State → ℕ → Txn → Result Committed (ℤ × Txn) → State → Type 0
 CommitsWorld old moment (Prepared prepared) answer new = CommitsPrepared old moment prepared answer new
-CommitsWorld old moment (Wanted held ops keys) answer new = (answer ≡ Err (wrong_stage, Wanted held ops keys)) × (new ≡ old)
+CommitsWorld old moment (Wanted held ops keys pins) answer new = (answer ≡ Err (wrong_stage, Wanted held ops keys pins)) × (new ≡ old)
 CommitsWorld old moment (Read held ops view) answer new = (answer ≡ Err (wrong_stage, Read held ops view)) × (new ≡ old)
 
 abbrev pub CommitsIn : Session → ℕ → Txn → Result Committed (ℤ × Txn) → Session → Type 0

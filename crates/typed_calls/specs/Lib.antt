@@ -2,13 +2,17 @@ pub mod Statuses
 pub mod Sessions
 pub mod Opening
 pub mod Leases
+pub mod Pins
 pub mod Txns
+pub mod Operations
 pub mod Prepare
 pub mod Commit
 pub mod Snapshots
 pub mod Cuts
 pub mod Checkpoints
 pub mod Queries
+pub mod ReadQueries
+pub mod inner
 pub mod Changes
 pub mod Writes
 pub mod Plans

@@ -49,5 +49,5 @@ PreparesRead held ops view (Err refusal) = IsUnprepared held ops view refusal.0 
 
 abbrev pub Prepares : Txn → Result Txn (PrepareOutcome × Txn) → Type 0
 Prepares (Read held ops view) answer = PreparesRead held ops view answer
-Prepares (Wanted held ops keys) answer = answer ≡ Err (prepare_alone wrong_stage, Wanted held ops keys)
+Prepares (Wanted held ops keys pins) answer = answer ≡ Err (prepare_alone wrong_stage, Wanted held ops keys pins)
 Prepares (Prepared prepared) answer = answer ≡ Err (prepare_alone wrong_stage, Prepared prepared)

@@ -49,7 +49,7 @@ pub(crate) fn prepare_outcome(fault: PrepareFault) -> PrepareOutcome
 }
 
 // A further owner of a value, if there is one.
-fn value_again(value: &Option<Bytes>) -> Result<Option<Bytes>, AllocError>
+pub(crate) fn value_again(value: &Option<Bytes>) -> Result<Option<Bytes>, AllocError>
     ensures { IfOk result (λ copy. copy ≡ value.now) }
 {
     match value {

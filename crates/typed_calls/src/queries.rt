@@ -34,7 +34,7 @@ impl QueryOutcome {
 }
 
 // What a fault of the query is reported as.
-fn fault_outcome(fault: QueryFault) -> QueryOutcome
+pub(crate) fn fault_outcome(fault: QueryFault) -> QueryOutcome
     ensures { result ≡ fault_outcome fault }
 {
     match fault {

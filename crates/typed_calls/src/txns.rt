@@ -1,8 +1,10 @@
 //! A transaction between its calls: its operations, and what they read.
 ghost use Rattle.std.specs.Prelude.{◌≡◌, IfOk};
-ghost use Rattle.typed_calls.specs.Txns.{IsWanted, Wants, ReadsWorld, ReadsIn};
+ghost use Rattle.typed_calls.specs.Txns.{AreCoded, Wants, ReadsWorld, ReadsIn};
 
+use crate::pins::read_pinned;
 use crate::status::{BAD_CODE, NOT_OPENED, OUT_OF_MEMORY, WRONG_STAGE};
+use byte_map::KeyMap;
 use entry_code::{CodeFault, ops_of};
 use row_map::{ReadSet, ReadView};
 use row_write::{Prepared, RowOps, reads_of};
@@ -21,6 +23,8 @@ pub enum Txn {
         ops: RowOps,
         /// The keys.
         keys: ReadSet,
+        /// What it read before it was given these operations; nothing at first.
+        pins: ReadView,
     },
     /// Its operations, and what was read.
     Read {
@@ -45,13 +49,22 @@ fn held_again(held: &ServerLease) -> Result<ServerLease, AllocError>
     })
 }
 
-// A transaction of these operations that is to be read.
-fn wanted(alloc: Global, held: &ServerLease, ops: RowOps) -> Result<Txn, AllocError>
-    ensures { IfOk result (λ txn. IsWanted held.now ops txn) }
+// The operations whose code these bytes are, and the keys that they read.
+pub(crate) fn coded(
+    alloc: Global,
+    held: &ServerLease,
+    code: &[u8],
+) -> Result<(RowOps, ReadSet), i32>
+    ensures { AreCoded held.now code.now result }
 {
-    let keys = reads_of(alloc, held.schema.get(), ops.as_slice())?;
-    let held = held_again(held)?;
-    Ok(Txn::Wanted { held, ops, keys })
+    match ops_of(alloc, code) {
+        Ok(ops) => match reads_of(alloc, held.schema.get(), ops.as_slice()) {
+            Ok(keys) => Ok((ops, keys)),
+            Err(_) => Err(OUT_OF_MEMORY),
+        },
+        Err(CodeFault::Memory) => Err(OUT_OF_MEMORY),
+        Err(_) => Err(BAD_CODE),
+    }
 }
 
 /// A transaction under a lease, which is to be read next. It takes no world.
@@ -64,13 +77,17 @@ fn wanted(alloc: Global, held: &ServerLease, ops: RowOps) -> Result<Txn, AllocEr
 pub fn transaction(alloc: Global, held: &ServerLease, code: &[u8]) -> Result<Txn, i32>
     ensures { Wants held.now code.now result }
 {
-    match ops_of(alloc, code) {
-        Ok(ops) => match wanted(alloc, held, ops) {
-            Ok(txn) => Ok(txn),
+    match coded(alloc, held, code) {
+        Ok((ops, keys)) => match held_again(held) {
+            Ok(held) => Ok(Txn::Wanted {
+                held,
+                ops,
+                keys,
+                pins: KeyMap::new(alloc),
+            }),
             Err(_) => Err(OUT_OF_MEMORY),
         },
-        Err(CodeFault::Memory) => Err(OUT_OF_MEMORY),
-        Err(_) => Err(BAD_CODE),
+        Err(status) => Err(status),
     }
 }
 
@@ -79,15 +96,29 @@ fn read_world(alloc: Global, world: &World, txn: Txn) -> Result<Txn, (i32, Txn)>
     ensures { ReadsWorld world.now txn result }
 {
     match txn {
-        Txn::Wanted { held, ops, keys } => match world.read(alloc, &keys) {
+        Txn::Wanted {
+            held,
+            ops,
+            keys,
+            pins,
+        } => match read_pinned(alloc, world, &keys, &pins) {
             Ok(view) => Ok(Txn::Read { held, ops, view }),
-            Err(_) => Err((OUT_OF_MEMORY, Txn::Wanted { held, ops, keys })),
+            Err(_) => {
+                let txn = Txn::Wanted {
+                    held,
+                    ops,
+                    keys,
+                    pins,
+                };
+                Err((OUT_OF_MEMORY, txn))
+            }
         },
         other => Err((WRONG_STAGE, other)),
     }
 }
 
-/// Reads what a transaction wants, of the session's world, which does not change.
+/// Reads what a transaction wants, of the session's world, which does not change. Of a key that it
+/// read before `with_operations` it keeps what it read then.
 ///
 /// Refused, in this order, and then the transaction comes back: `NOT_OPENED` if the session has no
 /// world yet; `WRONG_STAGE` if it was read already; `OUT_OF_MEMORY`.
