@@ -205,7 +205,13 @@ static void go_on(cagzhomul_handle *session, size_t length, uint64_t moment) {
     check(cagzhomul_save(session, &lease) == CAGZHOMUL_ALREADY_OPEN && cagzhomul_checkpoint(&taken, &lease) == CAGZHOMUL_ALREADY_OPEN, "the lease is there");
     check(cagzhomul_close(&lease) == CAGZHOMUL_OK && cagzhomul_save(session, &lease) == CAGZHOMUL_WRONG_KIND, "a session is no checkpoint");
     check(cagzhomul_checkpoint(&taken, &lease) == CAGZHOMUL_WRONG_KIND && cagzhomul_close(&later) == CAGZHOMUL_OK, "nor the other way round");
+    check(cagzhomul_open_checkpoint(session) == CAGZHOMUL_WRONG_KIND && cagzhomul_open_checkpoint(&written) == CAGZHOMUL_WRONG_KIND, "neither is one");
+    check(cagzhomul_open_checkpoint(&taken) == CAGZHOMUL_OK && cagzhomul_open_checkpoint(&taken) == CAGZHOMUL_WRONG_KIND, "it becomes a session");
+    check(is_log(&taken, length) && is_check(&taken, 2, 0, 0), "which has the rows, too");
+    check(take_lease(&taken, moment, &lease).place == length + 1 && is_log(session, length), "and goes on apart");
+    check(cagzhomul_close(&lease) == CAGZHOMUL_OK, "with a lease of its own");
     check(cagzhomul_close(&taken) == CAGZHOMUL_OK && cagzhomul_close(&written) == CAGZHOMUL_OK, "both are closed");
+    check(cagzhomul_open_checkpoint(&taken) == CAGZHOMUL_CLOSED && cagzhomul_version() == CAGZHOMUL_VERSION, "a closed one is none");
     check(cagzhomul_save(&taken, &written) == CAGZHOMUL_CLOSED && cagzhomul_checkpoint(&later, &taken) == CAGZHOMUL_CLOSED, "and stay so");
 }
 
