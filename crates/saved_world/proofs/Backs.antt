@@ -2,6 +2,7 @@
 use Rattle.std.proofs.Common.{◌≡◌, ◌⊎◌, inl, inr, ℕ, List, [], ◌++◌, Result, Ok, Err, refl, sym, ap, subst, ◌∙◌}
 use Rattle.std.specs.FinMap as map
 use Rattle.byte_map.proofs.Maps.{map_entries}
+use Rattle.byte_map.specs.Sorted.{IsSorted}
 use Rattle.collections.specs.Refusal.{IsRefusal}
 use Rattle.checkpoint.specs.Checkpoint.{Checkpoint, IsWhole}
 use Rattle.checkpoint.specs.Sound.{IsSound, WholeIsSound}
@@ -9,7 +10,8 @@ use Rattle.checkpoint_check.specs.Refusals.{Condition, rank}
 use Rattle.checkpoint_check.specs.declared.fault.CheckpointFault.{CheckpointFault}
 use Rattle.checkpoint_check.specs.declared.fault.CheckpointFault.TheVariants as checkpoint
 use Rattle.entry_code.specs.Code.{bytes_code}
-use Rattle.checkpoint_code.specs.Head.{head_code, IsHeadRead, IsHeadAccepted}
+use Rattle.keycode.specs.Valid.{IsStorable}
+use Rattle.checkpoint_code.specs.Head.{head_code, IsKnown, IsHeadRead, IsHeadAccepted}
 use Rattle.checkpoint_code.specs.Page.{Page}
 use Rattle.checkpoint_code.specs.declared.head.Head.{Head}
 use Rattle.checkpoint_code.specs.declared.fault.HeadFault.{HeadFault}
@@ -54,6 +56,8 @@ module _ (bytes part more : List ℕ) (at : IsPartAt bytes part more) where
           at.code
           ∙ (λ i. bytes_code (head.0 i) ++ read.code i)
           ∙ ap (λ (h : Head). head_part h ++ (pages_code read.pages ++ rest)) (sym (ap (λ (l : Loaded). l.head) read.is));
+      known = subst (λ (l : Loaded). IsKnown IsStorable l.head) (sym read.is) head.1;
+      sorted = read.sorted (subst IsSorted (sym none) tt);
     }
 
     -- what was saved is still to be read

@@ -19,10 +19,10 @@ use Rattle.saved_world.proofs.Joins.{joined_one, code_one}
 -- ---- what was read so far
 
 pub read_start : (old : Loaded) (bytes : List ℕ) → AreReadTo old bytes old bytes
-read_start old bytes = record { pages = []; is = λ i. record { head = old.head; pairs = sym (append-nil old.pairs) i }; code = refl }
+read_start old bytes = record { pages = []; is = λ i. record { head = old.head; pairs = sym (append-nil old.pairs) i }; code = refl; sorted = λ sorted. sorted }
 
-pub read_more : (old now next : Loaded) (bytes rest part more : List ℕ) (page : Page) → AreReadTo old bytes now rest → rest ≡ bytes_code part ++ more → part ≡ pairs_code page → next ≡ with_page now page → AreReadTo old bytes next more
-read_more old now next bytes rest part more page so_far at is more_is =
+pub read_more : (old now next : Loaded) (bytes rest part more : List ℕ) (page : Page) → AreReadTo old bytes now rest → rest ≡ bytes_code part ++ more → part ≡ pairs_code page → IsSorted (now.pairs ++ page) → next ≡ with_page now page → AreReadTo old bytes next more
+read_more old now next bytes rest part more page so_far at is goes_on more_is =
     record {
       pages = so_far.pages ++ page ∷ [];
       is =
@@ -34,6 +34,7 @@ read_more old now next bytes rest part more page so_far at is more_is =
           ∙ ap (λ (l : List ℕ). pages_code so_far.pages ++ l) (at ∙ ap (λ (p : List ℕ). bytes_code p ++ more) is)
           ∙ sym (append_assoc (pages_code so_far.pages) (page_part page) more)
           ∙ ap (λ (l : List ℕ). l ++ more) (sym (code_one so_far.pages page));
+      sorted = λ sorted. subst (λ (l : Loaded). IsSorted l.pairs) (sym more_is) goes_on;
     }
 
 pub read_at : (old now : Loaded) (bytes rest other : List ℕ) → AreReadTo old bytes now rest → rest ≡ other → AreReadTo old bytes now other

@@ -6,7 +6,9 @@ use Rattle.checkpoint.specs.Sound.{IsSound}
 use Rattle.checkpoint_check.specs.Refusals.{Condition, rank}
 use Rattle.checkpoint_check.specs.declared.fault.CheckpointFault.TheVariants as checkpoint
 use Rattle.collections.specs.Refusal.{IsRefusal}
-use Rattle.checkpoint_code.specs.Head.{IsHeadRead}
+use Rattle.byte_map.specs.Sorted.{IsSorted}
+use Rattle.keycode.specs.Valid.{IsStorable}
+use Rattle.checkpoint_code.specs.Head.{IsKnown, IsHeadRead}
 use Rattle.checkpoint_code.specs.Page.{Page}
 use Rattle.checkpoint_code.specs.declared.fault.HeadFault.TheVariants as head
 use Rattle.entry_code.specs.Code.{bytes_code}
@@ -16,11 +18,13 @@ use Rattle.saved_world.specs.Saved.{IsSaved, head_part, pages_code, end_part, jo
 use Rattle.saved_world.specs.declared.fault.LoadedFault.{LoadedFault}
 use Rattle.saved_world.specs.declared.fault.LoadedFault.TheVariants.{Cut, Trailing, Head as OfHead, Page as OfPage, Checkpoint as OfCheckpoint}
 
--- the bytes begin with a head and pages, which are these, and others follow
+-- the bytes begin with a head and pages, which are these and are read, and others follow
 pub record IsReadTo (bytes : List ℕ) (loaded : Loaded) (rest : List ℕ) : Type 0 where
   pub pages : List Page
   pub all : loaded.pairs ≡ joined pages
   pub code : bytes ≡ head_part loaded.head ++ (pages_code pages ++ rest)
+  pub known : IsKnown IsStorable loaded.head
+  pub sorted : IsSorted loaded.pairs
 
 -- a part after those that were read, and what follows it
 abbrev pub HasPartAt : List ℕ → Loaded → List ℕ → List ℕ → Type 0

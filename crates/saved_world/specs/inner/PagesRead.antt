@@ -20,6 +20,7 @@ pub record AreReadTo (old : Loaded) (bytes : List ℕ) (now : Loaded) (rest : Li
   pub pages : List Page
   pub is : now ≡ with_pages old pages
   pub code : bytes ≡ pages_code pages ++ rest
+  pub sorted : IsSorted old.pairs → IsSorted now.pairs
 
 -- what reading them answers
 abbrev pub ArePagesRead : Loaded → List ℕ → Result (Unit {0}) LoadedFault → Loaded → Type 0

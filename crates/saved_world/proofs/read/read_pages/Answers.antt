@@ -32,7 +32,7 @@ loop-part-preserved c =
     let some : c.in-Some.part.now ≢ [] = λ e. (search rules) in
     let added = c.in_ok-add.ensures.read in
     record {
-      read = read_more c.args.loading.now c.loop-part.loading c.add.new.self c.args.bytes.now c.loop-part.rest.now c.in-Some.part.now c.in-Some.more.now added.0 c.loop-part.invariant.read c.in-Some.ensures.found.code added.1.0 added.3;
+      read = read_more c.args.loading.now c.loop-part.loading c.add.new.self c.args.bytes.now c.loop-part.rest.now c.in-Some.part.now c.in-Some.more.now added.0 c.loop-part.invariant.read c.in-Some.ensures.found.code added.1.0 added.2 added.3;
       left = λ limit all sorted todo.
           let next = next_page limit c.loop-part.loading c.loop-part.rest.now c.in-Some.part.now c.in-Some.more.now all c.in-Some.ensures.found (c.loop-part.invariant.left limit all sorted todo) some in
           let fits = page_fits limit c.loop-part.loading c.in-Some.part.now c.in-Some.more.now all next sorted in
