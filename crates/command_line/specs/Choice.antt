@@ -4,8 +4,9 @@ use Rattle.std.specs.Prelude.{ℕ, List, [], ◌∷◌, Bool, false, IsTrue, Str
 use Rattle.std.specs.Str.{bytes_eq}
 use Rattle.std.specs.declared.alloc.Global.{Global}
 use Rattle.command_line.specs.declared.choice.Chosen.{Chosen}
-use Rattle.command_line.specs.declared.choice.Chosen.TheVariants.{Run, Prompt, Load, Rollout}
+use Rattle.command_line.specs.declared.choice.Chosen.TheVariants.{Run, Prompt, Load, Soak, Rollout}
 use Rattle.command_line.specs.LoadSize.{IsLoadSize}
+use Rattle.command_line.specs.SoakSize.{IsSoakSize}
 
 -- whether the word after the program's own name is this one
 abbrev pub is_named : List (String Global) → List ℕ → Bool
@@ -18,11 +19,21 @@ abbrev pub IsLoad : Chosen → Type 0
 IsLoad (Run file stops) = ⊥
 IsLoad (Prompt file at) = ⊥
 IsLoad (Load size timed) = IsLoadSize size
+IsLoad (Soak size) = ⊥
 IsLoad Rollout = ⊥
 
--- Each is chosen only by its word, and each number of a load's size is in its range.
+-- a soak with each number of its size in its range
+abbrev pub IsSoak : Chosen → Type 0
+IsSoak (Run file stops) = ⊥
+IsSoak (Prompt file at) = ⊥
+IsSoak (Load size timed) = ⊥
+IsSoak (Soak size) = IsSoakSize size
+IsSoak Rollout = ⊥
+
+-- Each is chosen only by its word, and each number of a load's or a soak's size is in its range.
 abbrev pub IsChoiceOf : List (String Global) → Chosen → Type 0
 IsChoiceOf words (Run file stops) = IsTrue (is_named words (codes "run"))
 IsChoiceOf words (Prompt file at) = IsTrue (is_named words (codes "prompt"))
 IsChoiceOf words (Load size timed) = IsTrue (is_named words (codes "load")) × IsLoadSize size
+IsChoiceOf words (Soak size) = IsTrue (is_named words (codes "soak")) × IsSoakSize size
 IsChoiceOf words Rollout = IsTrue (is_named words (codes "rollout"))

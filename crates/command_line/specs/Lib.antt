@@ -1,3 +1,4 @@
 pub mod LoadSize
+pub mod SoakSize
 pub mod Choice
 pub mod Status

@@ -1,13 +1,15 @@
 //! What the words of a command line choose.
 ghost use Rattle.std.specs.Prelude.{◌≡◌, ◌≤◌, IfOk};
 ghost use Rattle.clap.specs.Words.{kind_of};
-ghost use Rattle.command_line.specs.Choice.{IsChoiceOf, IsLoad, is_named};
+ghost use Rattle.command_line.specs.Choice.{IsChoiceOf, IsLoad, IsSoak, is_named};
 ghost use Rattle.command_line.specs.LoadSize.{IsLoadSize};
+ghost use Rattle.command_line.specs.SoakSize.{IsSoakSize};
 ghost use Rattle.command_line.specs.Status.{status_after};
 
 use crate::help;
 use crate::load_size::{LoadSize, MAX_LIMIT, MAX_PIECES, MAX_ROWS, MAX_SERVERS, MAX_WORKERS};
 use crate::number::count_in;
+use crate::soak_size::{MAX_UPDATES, SoakSize};
 use clap::error::ErrorKind;
 use clap::{Arg, ArgAction, ArgMatches, Command, Error, value_parser};
 use std::alloc::{AllocError, Global};
@@ -35,6 +37,11 @@ pub enum Chosen<'a> {
         size: LoadSize,
         /// Whether standard error is to have the time and the rate.
         is_timed: bool,
+    },
+    /// Let threads update rows for long.
+    Soak {
+        /// How many updates, rows and servers.
+        size: SoakSize,
     },
     /// Let threads write rows while an operator carries three changes to their end.
     Rollout,
@@ -95,9 +102,11 @@ fn number<'a>(
         .help(about)
 }
 
-// The options of `load` that are numbers: long and short name, the greatest number, the default, and
-// the help.
-const NUMBERS: [(&str, char, u32, &str, &str); 5] = [
+// An option that is a number: long and short name, the greatest number, the default, and the help.
+type NumberOption = (&'static str, char, u32, &'static str, &'static str);
+
+// Those of `load`.
+const LOAD_NUMBERS: [NumberOption; 5] = [
     ("servers", 's', MAX_SERVERS, "4", help::SERVERS),
     ("rows", 'r', MAX_ROWS, "1000", help::ROWS),
     ("pieces", 'p', MAX_PIECES, "6", help::PIECES),
@@ -105,14 +114,38 @@ const NUMBERS: [(&str, char, u32, &str, &str); 5] = [
     ("limit", 'l', MAX_LIMIT, "50", help::LIMIT),
 ];
 
+// Those of `soak`.
+const SOAK_NUMBERS: [NumberOption; 3] = [
+    ("updates", 'u', MAX_UPDATES, "10000000", help::UPDATES),
+    ("rows", 'r', MAX_ROWS, "1000", help::SOAKED_ROWS),
+    ("servers", 's', MAX_SERVERS, "4", help::UPDATERS),
+];
+
+// The command with these options.
+fn with_numbers<'a>(
+    alloc: Global,
+    command: Command<'a>,
+    numbers: &[NumberOption],
+) -> Result<Command<'a>, AllocError> {
+    let mut command = command;
+    for (name, short, most, default, about) in numbers {
+        command = command.arg(number(alloc, name, *short, *most, default, about))?;
+    }
+    Ok(command)
+}
+
 fn load_command<'a>(alloc: Global) -> Result<Command<'a>, AllocError> {
-    let mut command = Command::new(alloc, "load")
+    let load = Command::new(alloc, "load")
         .about(help::ABOUT_LOAD)
         .after_help(help::LOADS);
-    for (name, short, most, default, about) in NUMBERS {
-        command = command.arg(number(alloc, name, short, most, default, about))?;
-    }
-    command.arg(flag(alloc, "time", 't', help::TIME))
+    with_numbers(alloc, load, &LOAD_NUMBERS)?.arg(flag(alloc, "time", 't', help::TIME))
+}
+
+fn soak_command<'a>(alloc: Global) -> Result<Command<'a>, AllocError> {
+    let soak = Command::new(alloc, "soak")
+        .about(help::ABOUT_SOAK)
+        .after_help(help::SOAKS);
+    with_numbers(alloc, soak, &SOAK_NUMBERS)
 }
 
 fn rollout_command<'a>(alloc: Global) -> Command<'a> {
@@ -146,14 +179,29 @@ fn load_size(matches: &ArgMatches<'_>) -> Result<LoadSize, &'static str>
     })
 }
 
+// The same of a `soak`.
+fn soak_size(matches: &ArgMatches<'_>) -> Result<SoakSize, &'static str>
+    ensures { IfOk result IsSoakSize }
+{
+    Ok(SoakSize {
+        updates: number_of(matches, "updates", MAX_UPDATES)?,
+        rows: number_of(matches, "rows", MAX_ROWS)?,
+        servers: number_of(matches, "servers", MAX_SERVERS)?,
+    })
+}
+
 // The refusal of an option's text that is no number in digits alone.
-fn refusal(alloc: Global, matches: &ArgMatches<'_>, name: &str) -> Result<Error, AllocError> {
+fn refusal(
+    alloc: Global,
+    mut subcommand: Command<'_>,
+    matches: &ArgMatches<'_>,
+    name: &str,
+) -> Result<Error, AllocError> {
     let text = matches.get_str(name).unwrap_or("");
     let message = format!(in alloc;
         "invalid value '{text}' for '--{name} <N>': a number is written in digits alone"
     )?;
-    let mut load = load_command(alloc)?.bin_name("shell load")?;
-    load.error(ErrorKind::ValueValidation, message.as_str())
+    subcommand.error(ErrorKind::ValueValidation, message.as_str())
 }
 
 // Whether the word after the program's own name is this one.
@@ -172,6 +220,7 @@ enum Task {
     Run,
     Prompt,
     Load,
+    Soak,
     Rollout,
 }
 
@@ -180,6 +229,7 @@ fn subcommand_of<'a>(alloc: Global, task: Task) -> Result<Command<'a>, AllocErro
         Task::Run => run_command(alloc),
         Task::Prompt => prompt_command(alloc),
         Task::Load => load_command(alloc),
+        Task::Soak => soak_command(alloc),
         Task::Rollout => Ok(rollout_command(alloc)),
     }
 }
@@ -191,7 +241,13 @@ fn command_of<'a>(alloc: Global) -> Result<Command<'a>, AllocError> {
         .about(help::ABOUT)
         .after_help(help::STATUSES)
         .subcommand_required(true);
-    for task in [Task::Run, Task::Prompt, Task::Load, Task::Rollout] {
+    for task in [
+        Task::Run,
+        Task::Prompt,
+        Task::Load,
+        Task::Soak,
+        Task::Rollout,
+    ] {
         let subcommand = subcommand_of(alloc, task)?;
         command = command.subcommand(subcommand)?;
     }
@@ -224,7 +280,23 @@ fn load_choice<'a>(
 {
     match load_size(matches) {
         Ok(size) => Ok(Chosen::Load { size, is_timed }),
-        Err(name) => Err(refusal(alloc, matches, name)?),
+        Err(name) => {
+            let load = load_command(alloc)?.bin_name("shell load")?;
+            Err(refusal(alloc, load, matches, name)?)
+        }
+    }
+}
+
+// What `soak` chooses.
+fn soak_choice<'a>(alloc: Global, matches: &ArgMatches<'a>) -> Result<Chosen<'a>, Error>
+    ensures { IfOk result IsSoak }
+{
+    match soak_size(matches) {
+        Ok(size) => Ok(Chosen::Soak { size }),
+        Err(name) => {
+            let soak = soak_command(alloc)?.bin_name("shell soak")?;
+            Err(refusal(alloc, soak, matches, name)?)
+        }
     }
 }
 
@@ -250,12 +322,17 @@ fn choice_of<'a>(
     if names(words, "rollout") {
         return Ok(Chosen::Rollout);
     }
+    if let Some(soak) = matches.subcommand_matches("soak")
+        && names(words, "soak")
+    {
+        return soak_choice(alloc, soak);
+    }
     let is_timed = has_flag(matches, "load", "time");
     match matches.subcommand_matches("load") {
         Some(load) if names(words, "load") => load_choice(alloc, load, is_timed),
         _ => Err(command.error(
             ErrorKind::InvalidSubcommand,
-            "none of 'run', 'prompt', 'load' and 'rollout'",
+            "none of 'run', 'prompt', 'load', 'soak' and 'rollout'",
         )?),
     }
 }

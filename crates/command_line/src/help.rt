@@ -62,6 +62,9 @@ Exit status:
 pub(crate) const ABOUT_LOAD: &str =
     "Inserts rows on many threads while an index is added, and checks what came of it";
 
+pub(crate) const ABOUT_SOAK: &str =
+    "Updates rows on many threads for long, and checks what came of it";
+
 /// What is printed if an argument is not UTF-8.
 pub const NOT_UTF8: &str = "\
 error: an argument is not valid UTF-8
@@ -72,7 +75,7 @@ For more information, try '--help'.
 /// The exit statuses of the program as a whole.
 pub(crate) const STATUSES: &str = "\
 `shell run --help` explains the script language, `shell prompt --help` its use line by line, and
-`shell load --help` and `shell rollout --help` what these do and print.
+`shell load --help`, `shell soak --help` and `shell rollout --help` what these do and print.
 
 For example
   shell prompt
@@ -84,10 +87,10 @@ Exit status:
   1  `run`, `prompt`: a line was bad
   2  a wrong command line
   3  `run`, `prompt`: a line could not be read; `run`: it is longer than 16 MiB, or is not UTF-8
-  4  a reply, or a line of `load` or `rollout`, could not be written
+  4  a reply, or a line of `load`, `soak` or `rollout`, could not be written
   5  out of memory
-  6  `load`: a difference was found, a step was refused, or a thread came to another end than a
-     committed row or a finished piece; `rollout`: a call was refused
+  6  `load`, `soak`: a difference was found, a step was refused, or a thread came to another end
+     than a committed row or a finished piece; `rollout`: a call was refused
   7  `run --stop`: a line was refused";
 
 /// The script language in short, and the exit statuses of `run`.
@@ -170,3 +173,35 @@ Exit status (of several the first of 5, 4, 6):
   5  out of memory, of any call or thread; none of the five lines is printed
   6  a difference was found, a step was refused, or a thread came to another end than a committed row or
      a finished piece";
+
+pub(crate) const UPDATES: &str = "Updates, 1 to 1000000000";
+
+pub(crate) const SOAKED_ROWS: &str = "Rows that are updated in turn, 1 to 100000";
+
+pub(crate) const UPDATERS: &str = "Threads that update rows, 1 to 16";
+
+/// What a soak does and prints, and the exit statuses of `soak`.
+pub(crate) const SOAKS: &str = "\
+It shows that a store that lives for long takes the memory of its rows. It opens one with the table
+t (id int key, a int), and inserts --rows rows. Then the threads of --servers update them: update i, from 0 on, is
+of row 7 i mod --rows. After each 10000 updates the log is cut; and while the first of each 100000 are made,
+another thread adds the index i on (a), or drops it again. In the end the store is audited.
+
+It prints a line at each tenth of the updates, at once, so that the memory of the process can be read then:
+  done N                               updates that were made
+
+In the end it prints three lines:
+  updates N                            updates that were made
+  entries N                            entries that the log ever had
+  audit rows N missing M extra E       rows in the store, pairs that they want and the store lacks,
+                                       and pairs that no row wants
+
+Numbers are written in digits alone. For example, `shell soak --updates 300000 --servers 8`.
+
+Exit status (of several the first of 5, 4, 6):
+  0  nothing is missing or extra, and each insert and update has an entry in the log
+  2  a wrong command line
+  4  a line could not be written
+  5  out of memory, of any call or thread; none of the three lines is printed
+  6  a difference was found; or a step was refused, or a thread came to another end than a committed row:
+     then none of the three lines is printed";

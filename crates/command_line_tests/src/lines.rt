@@ -1,7 +1,7 @@
 //! Command lines that are taken, and what each chooses; what is refused, and what is printed then,
 //! the gate tries with the program (.ci/load_runs).
 
-use command_line::{Chosen, LoadSize, options};
+use command_line::{Chosen, LoadSize, SoakSize, options};
 use std::alloc::{AllocError, Global};
 
 // Lines after the program's name, and the size of load that each chooses: servers, rows, pieces,
@@ -79,6 +79,19 @@ const OTHERS: [(&str, Chosen<'static>); 5] = [
     ("rollout", Chosen::Rollout),
 ];
 
+// Lines that choose a soak, and its size: updates, rows, servers.
+const SOAKS: [(&str, [u32; 3]); 9] = [
+    ("soak", [10_000_000, 1_000, 4]),
+    ("soak --updates 1", [1, 1_000, 4]),
+    ("soak --updates 1000000000", [1_000_000_000, 1_000, 4]),
+    ("soak --rows 1", [10_000_000, 1, 4]),
+    ("soak --rows 100000", [10_000_000, 100_000, 4]),
+    ("soak --servers 1", [10_000_000, 1_000, 1]),
+    ("soak --servers 16", [10_000_000, 1_000, 16]),
+    ("soak -u 007 -r 6 -s 5", [7, 6, 5]),
+    ("soak --servers=2 --rows=3 --updates=4", [4, 3, 2]),
+];
+
 // Whether the line is taken and chooses this.
 fn chooses(alloc: Global, line: &str, wanted: Chosen<'_>) -> Result<bool, AllocError> {
     let mut words = Vec::new(alloc);
@@ -127,4 +140,20 @@ fn what_lines_choose(rt: HostRuntime) {
     let timed = load([4, 5, 6, 3, 50], true);
     assert!(rt; matches!(chooses(rt.alloc(), "load --time -r 5", timed), Ok(true)));
     assert!(rt; matches!(chooses(rt.alloc(), "load -r 5 -t", timed), Ok(true)));
+}
+
+#[test]
+fn what_soaks_choose(rt: HostRuntime) {
+    for (line, [updates, rows, servers]) in SOAKS {
+        let size = SoakSize {
+            updates,
+            rows,
+            servers,
+        };
+        let chosen = Chosen::Soak { size };
+        assert!(rt;
+            matches!(chooses(rt.alloc(), line, chosen), Ok(true)),
+            "{line}"
+        );
+    }
 }

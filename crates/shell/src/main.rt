@@ -1,4 +1,4 @@
-//! The program: it runs the script on standard input, or a load, as the command line chooses.
+//! The program: it runs the script on standard input, a load or a soak, as the command line chooses.
 #![tactic(auto)]
 
 mod checkpoints;
@@ -12,6 +12,7 @@ use load::run_load_shown;
 use prompt::{Streams, converse, prompt_status};
 use rollout_example::rollout_report;
 use script::{Watch, run_watched, watched_status};
+use soak::run_soak;
 use std::fs::File;
 use std::io;
 use std::io::{BufRead, BufReader, ErrorKind, IsTerminal, Read};
@@ -118,7 +119,7 @@ fn answer_from(rt: &HostRuntime, file: Option<&str>, at: Option<&str>) -> u8 {
     }
 }
 
-/// Reports on standard error why a load of this status was not reported, or why the command line
+/// Reports on standard error why a load or a soak of this status was not reported, or why the command line
 /// was not read.
 fn report_fault(rt: &HostRuntime, status: u8) {
     let fault = match status {
@@ -212,6 +213,11 @@ fn main(rt: HostRuntime) -> ExitCode {
             let mut output = io::writer(&rt);
             let status = run_load_shown(&rt, alloc, size, is_shown, &mut output);
             ExitCode::from(end_load(&rt, status, size.rows, started))
+        }
+        Ok(Chosen::Soak { size }) => {
+            let status = run_soak(&rt, alloc, size, &mut io::writer(&rt));
+            report_fault(&rt, status);
+            ExitCode::from(status)
         }
         Ok(Chosen::Rollout) => {
             let text = rollout_report(&rt, alloc);
