@@ -1,4 +1,5 @@
 use Rattle.std.proofs.Common.{◌≡◌, refl, ap, ◌∙◌}
+use Rattle.checkpoint.specs.Checkpoint.{Checkpoint}
 use Rattle.world.specs.State.{opened}
 use Rattle.typed_calls.specs.Opening.{session_over}
 use Rattle.typed_calls.specs.Statuses.{out_of_memory}
@@ -6,11 +7,11 @@ use Rattle.typed_calls.proofs.Loads.{out_of_memory_alone}
 use Rattle.typed_calls.proofs.checkpoints.open_at.Goals as goal
 
 pub returns-in-Ok-clause-opens : goal.returns-in-Ok-clause-opens
-returns-in-Ok-clause-opens c = (c.in-Ok.checkpoint, c.in-Ok.ensures.read, c.session_over.ensures ∙ ap session_over c.open_at.ensures)
+returns-in-Ok-clause-opens c = (c.in-Ok.checkpoint, c.in-Ok.ensures.read, c.session_at.ensures)
 
 pub returns-in-Ok-clause-saved : goal.returns-in-Ok-clause-saved
 returns-in-Ok-clause-saved c limit checkpoint saved =
-    c.session_over.ensures ∙ ap session_over (c.open_at.ensures ∙ ap opened (c.in-Ok.ensures.accepted limit checkpoint saved))
+    c.session_at.ensures ∙ ap (λ (d : Checkpoint). session_over (opened d)) (c.in-Ok.ensures.accepted limit checkpoint saved)
 
 pub returns-in-Err-clause-saved : goal.returns-in-Err-clause-saved
 returns-in-Err-clause-saved c limit checkpoint saved =
