@@ -132,6 +132,13 @@ class CagzhomulError(Exception):
         super().__init__(text or text_of(status))
         self.status = status
 
+    def _parts(self) -> Tuple[Any, ...]:
+        """What one of its kind is made of."""
+        return self.status, str(self)
+
+    def __reduce__(self) -> Tuple[Any, ...]:
+        return type(self), self._parts(), vars(self)
+
 
 class NotPublic(CagzhomulError):
     """A named column is not a public column of its table in the lease's version: `column` is its
@@ -141,11 +148,17 @@ class NotPublic(CagzhomulError):
         super().__init__(_NOT_PUBLIC, text_of(_NOT_PUBLIC) + (f": {column}" if column else ""))
         self.column = column
 
+    def _parts(self) -> Tuple[Any, ...]:
+        return (self.column,)
+
 
 class _RowRefusal(CagzhomulError):
     def __init__(self, status: int, operation: int) -> None:
         super().__init__(status, f"{text_of(status)}: operation {operation}")
         self.operation = operation
+
+    def _parts(self) -> Tuple[Any, ...]:
+        return self.status, self.operation
 
 
 class _Numbered(CagzhomulError):
@@ -154,6 +167,9 @@ class _Numbered(CagzhomulError):
     def __init__(self, status: int, number: int) -> None:
         super().__init__(status, f"{text_of(status)}: {number}")
         self.number = number
+
+    def _parts(self) -> Tuple[Any, ...]:
+        return self.status, self.number
 
 
 class TooEarly(_Numbered): """The newest version has not been it for a lease length: at the moment `number` it will have been."""
@@ -204,6 +220,9 @@ class StillWaiting(CagzhomulError):
     def __init__(self, change: str) -> None:
         super().__init__(-1, f"another change still waits for its first step: {change}")
         self.change = change
+
+    def _parts(self) -> Tuple[Any, ...]:
+        return (self.change,)
 
 
 class UnexpectedReply(CagzhomulError): """A reply of the language that this module does not know; its text has the reply."""
@@ -1207,17 +1226,11 @@ class Txn(_Owner):
         """A row as the store holds it, a dict of its key columns and all public columns, or None if it is
         not there; what this transaction writes is not in it. From then on the row is pinned: the commit
         is refused as Conflict if another call has changed it since, whether or not this transaction
-        writes it. So a value may be computed from it, and written:
+        writes it. So what it writes may be computed from it, as `retry` shows.
 
-            def add_one() -> cagzhomul.Receipt:
-                txn = lease.txn()
-                row = txn.get("counters", 1)
-                return txn.update("counters", 1, n=row["n"] + 1).commit()
-
-            cagzhomul.retry(100, add_one)
-
-        A row that is got and not written counts as an operation, or as two if it is not there. A second
-        call gives the same answer.
+        Rows are read one after the other: that they are all of one moment is sure only once the commit is
+        accepted. A second call for a row gives the same answer. A row that is got and not written counts
+        as an operation, or as two if it is not there.
 
         Raises WrongStage if it is prepared, or has got rows and has ended; Closed; NoTable or WrongType,
         but a text that is too long is WrongType before all; OutOfMemory.
@@ -1413,8 +1426,17 @@ def retry(attempts: int, attempt: Callable[[], _Result]) -> _Result:
     """Makes an attempt up to so many times, at least once: again as long as it raises Conflict.
 
     No update is lost if the attempt begins its transaction, and computes from nothing but what the
-    transaction's `get` gives, as the counter there. What it reads by a query, or before it, is no part
-    of the transaction, and may have changed. `Lease.modify` does this for one row.
+    transaction's `get` gives:
+
+        def add_one() -> cagzhomul.Receipt:
+            txn = lease.txn()
+            row = txn.get("counters", 1)
+            return txn.update("counters", 1, n=row["n"] + 1).commit()
+
+        cagzhomul.retry(100, add_one)
+
+    What it reads by a query, or before it, is no part of the transaction, and may have changed.
+    `Lease.modify` does all this for one row.
     """
     for _ in range(attempts - 1):
         try:

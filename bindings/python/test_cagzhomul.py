@@ -1,6 +1,8 @@
 """Run by `python3 -m unittest` in this folder, with CAGZHOMUL_LIBRARY set."""
 
+import copy
 import os
+import pickle
 import re
 import threading
 import unittest
@@ -85,6 +87,15 @@ class Sessions(unittest.TestCase):
         with self.assertRaises(cagzhomul.Closed):
             session.reply_to("check")
         self.assertTrue(issubclass(cagzhomul.OutOfMemory, MemoryError))
+
+    def test_errors_are_pickled(self) -> None:
+        errors = [kind(status) for status, kind in cagzhomul._ERRORS.items()]
+        errors += [cagzhomul.NotPublic("town"), cagzhomul.NotPublic(None), cagzhomul.NoRow(30, 2), cagzhomul.TooEarly(31, 10), cagzhomul.StillWaiting("drop index i on t")]
+        for error in errors:
+            for again in [pickle.loads(pickle.dumps(error, protocol)) for protocol in range(pickle.HIGHEST_PROTOCOL + 1)] + [copy.copy(error)]:
+                self.assertIs(type(again), type(error))
+                self.assertEqual((str(again), again.args, vars(again)), (str(error), error.args, vars(error)))
+        self.assertEqual(str(pickle.loads(pickle.dumps(cagzhomul.NoRow(30, 2)))), "no row of this key is there: operation 2")
 
     def test_every_number_has_a_text(self) -> None:
         self.assertEqual([cagzhomul.text_of(status) for status in range(47)], TEXTS)

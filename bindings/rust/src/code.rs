@@ -2,9 +2,9 @@
 
 use crate::plan::SchemaChange;
 use crate::query::Condition;
+use crate::rows::Reader;
 use crate::table::{Table, Type};
 use crate::value::{Cells, Key, Value};
-use std::ops::Range;
 
 /// The first byte of a code.
 const VERSION: u8 = 1;
@@ -220,34 +220,28 @@ pub(crate) fn row(table: u32, key: &Key) -> Vec<u8> {
 #[derive(Debug)]
 pub(crate) struct Operations {
     code: Code,
-    /// Where in the code the rows are, one of each operation.
-    rows: Vec<Range<usize>>,
+    count: usize,
 }
 
 impl Operations {
     pub(crate) fn new() -> Operations {
         let mut code = Code::new();
         code.count(0);
-        Operations {
-            code,
-            rows: Vec::new(),
-        }
+        Operations { code, count: 0 }
     }
 
     /// Adds an operation on the row of this key, up to its cells.
     pub(crate) fn push(&mut self, kind: Kind, table: u32, key: &Key) {
+        self.count += 1;
         self.code.byte(kind as u8);
-        let start = self.code.0.len();
         self.code.row(table, key);
-        self.rows.push(start..self.code.0.len());
     }
 
     /// Adds an operation without cells on the row of this code.
     pub(crate) fn push_row(&mut self, kind: Kind, row: &[u8]) {
+        self.count += 1;
         self.code.byte(kind as u8);
-        let start = self.code.0.len();
         self.code.0.extend_from_slice(row);
-        self.rows.push(start..self.code.0.len());
         if !matches!(kind, Kind::Delete) {
             self.code.count(0);
         }
@@ -255,7 +249,8 @@ impl Operations {
 
     /// Whether an operation is on the row of this code.
     pub(crate) fn names(&self, row: &[u8]) -> bool {
-        self.rows.iter().any(|it| &self.code.0[it.clone()] == row)
+        let mut rest = Reader(&self.code.0[9..]);
+        std::iter::from_fn(|| rest.operation()).any(|named| named == row)
     }
 
     /// Adds the cells of the operation that was pushed last, each with its column's number.
@@ -269,7 +264,7 @@ impl Operations {
 
     /// The code of the whole list.
     pub(crate) fn finish(mut self) -> Code {
-        self.code.0[1..9].copy_from_slice(&(self.rows.len() as u64).to_be_bytes());
+        self.code.0[1..9].copy_from_slice(&(self.count as u64).to_be_bytes());
         self.code
     }
 }

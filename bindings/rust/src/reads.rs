@@ -22,11 +22,6 @@ pub(crate) struct Reads {
 }
 
 impl Reads {
-    /// Whether no row was got.
-    pub(crate) fn is_empty(&self) -> bool {
-        self.rows.is_empty()
-    }
-
     /// The row of this code and key, as it was read first.
     pub(crate) fn get(
         &mut self,
@@ -106,5 +101,36 @@ fn taken(status: i32) -> Result<(), Error> {
     match status {
         ffi::BAD_CODE => Err(Error::WrongType),
         status => done(status),
+    }
+}
+
+#[cfg(test)]
+mod tests {
+    use super::*;
+    use crate::code::row;
+    use crate::value::Cells;
+
+    /// Rows are found by their codes, after operations with and without cells.
+    #[test]
+    fn the_rows_of_operations() {
+        let rows = [1, 2, 3].map(|key| row(7, &Key::from(key)));
+        let mut operations = Operations::new();
+        assert!(!operations.names(&rows[0]));
+        operations.push(Kind::Insert, 7, &Key::from(1));
+        operations.push_cells(&Cells::from([("c", "a\0"), ("d", "")]), |_| 1);
+        operations.push_row(Kind::Delete, &rows[1]);
+        operations.push_row(Kind::Update, &rows[0]);
+        operations.push(Kind::Delete, 7, &Key::from(3));
+        assert!(rows.iter().all(|row| operations.names(row)));
+        let others = [
+            row(7, &Key::from(4)),
+            row(8, &Key::from(1)),
+            row(7, &Key::from((1, 2))),
+        ];
+        assert!(!others.iter().any(|row| operations.names(row)));
+        assert_eq!(
+            operations.finish().as_bytes()[..9],
+            *b"\x01\0\0\0\0\0\0\0\x04"
+        );
     }
 }

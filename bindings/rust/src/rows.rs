@@ -1,5 +1,6 @@
 //! Rows as bytes, as `crates/entry_code` describes them.
 
+use crate::code::Kind;
 use crate::error::Error;
 use crate::names::Names;
 use crate::reply::Row;
@@ -57,6 +58,19 @@ impl<'a> Reader<'a> {
         mut item: impl FnMut(&mut Self) -> Option<T>,
     ) -> Option<Vec<T>> {
         (0..self.number()?).map(|_| item(self)).collect()
+    }
+
+    /// Takes an operation; the answer is the code of its row.
+    pub(crate) fn operation(&mut self) -> Option<&'a [u8]> {
+        let kind = self.byte()?;
+        let from = self.0;
+        self.small_number()?;
+        self.list(Reader::value)?;
+        let row = &from[..from.len() - self.0.len()];
+        if kind != Kind::Delete as u8 {
+            self.list(|it| Some((it.small_number()?, it.value()?)))?;
+        }
+        Some(row)
     }
 
     /// Takes a row, whose cells are those with a value: the others of `blank` stay.

@@ -46,7 +46,8 @@ pub struct Receipt {
 pub struct Txn<'a> {
     lease: &'a Lease<'a>,
     operations: Operations,
-    reads: Reads,
+    /// What it got, if it got anything.
+    reads: Option<Box<Reads>>,
     /// The first name of a column that its table does not have.
     unknown: Option<String>,
 }
@@ -56,7 +57,7 @@ impl<'a> Txn<'a> {
         Txn {
             lease,
             operations: Operations::new(),
-            reads: Reads::default(),
+            reads: None,
             unknown: None,
         }
     }
@@ -64,38 +65,32 @@ impl<'a> Txn<'a> {
     /// A row as the store holds it, with all public columns, or `None` if it is not there; what
     /// this transaction writes is not in it. From then on the row is pinned: the commit is refused
     /// as [`Error::Conflict`] if another call has changed it since, whether or not this transaction
-    /// writes it. So a value may be computed from it, and written.
+    /// writes it. So what it writes may be computed from it, as [`retry`] shows.
     ///
-    /// A row that is got and not written counts as an operation, or as two if it is not there. A
-    /// second call gives the same answer.
+    /// Rows are read one after the other: that they are all of one moment is sure only once the
+    /// commit is accepted. A second call for a row gives the same answer. A row that is got and not
+    /// written counts as an operation, or as two if it is not there.
     ///
     /// Refusals: [`Error::Closed`]; [`Error::NoTable`] or [`Error::WrongType`], but a text that is
     /// too long is [`Error::WrongType`] before all; [`Error::OutOfMemory`].
     ///
     /// ```
-    /// # use cagzhomul::{retry, Db, Error, Receipt, Table, Type, Value};
-    /// # let db = Db::open([Table::new("counters").key("id", Type::Int).column("n", Type::Int)])?;
+    /// # use cagzhomul::{Db, Error, Table, Type};
+    /// # let db = Db::open([Table::new("t").key("id", Type::Int).column("a", Type::Int)])?;
     /// # let lease = db.lease(0)?;
-    /// lease.txn().insert("counters", 1, [("n", 5)]).commit(0)?;
-    /// let add_one = || {
-    ///     let mut txn = lease.txn();
-    ///     match txn.get("counters", 1)?.as_ref().and_then(|row| row.get("n")) {
-    ///         Some(Value::Int(n)) => txn.update("counters", 1, [("n", n + 1)]).commit(0),
-    ///         _ => Err(Error::NoRow { operation: 0 }),
-    ///     }
-    /// };
-    /// assert_eq!(retry(100, add_one)?, Receipt { place: 3 });
-    ///
-    /// let mut late = lease.txn();
-    /// assert_eq!(late.get("counters", 2)?, None);
-    /// lease.txn().insert("counters", 2, ()).commit(0)?;
-    /// assert_eq!(late.commit(0), Err(Error::Conflict));
+    /// lease.txn().insert("t", 1, [("a", 5)]).commit(0)?;
+    /// let mut txn = lease.txn();
+    /// assert_eq!(txn.get("t", 1)?.unwrap().get("a"), Some(&5.into()));
+    /// assert_eq!(txn.get("t", 2)?, None);
+    /// lease.txn().insert("t", 2, ()).commit(0)?;
+    /// assert_eq!(txn.update("t", 1, [("a", 6)]).commit(0), Err(Error::Conflict));
     /// # Ok::<(), Error>(())
     /// ```
     pub fn get(&mut self, table: &str, key: impl Into<Key>) -> Result<Option<Row>, Error> {
         let key = key.into();
         let row = code::row(self.lease.names().table(table), &key);
-        self.reads.get(self.lease, row, table, key)
+        let reads = self.reads.get_or_insert_with(Box::default);
+        reads.get(self.lease, row, table, key)
     }
 
     /// Adds the insertion of a row: its key, and values by column. `()` is no values.
@@ -159,7 +154,8 @@ impl<'a> Txn<'a> {
     /// ```
     pub fn prepare(self) -> Result<Prepared<'a>, Error> {
         let (lease, unknown) = (self.lease, self.unknown);
-        let mut handle = self.reads.finish(lease, self.operations)?;
+        let reads = self.reads.map_or_else(Reads::default, |reads| *reads);
+        let mut handle = reads.finish(lease, self.operations)?;
         let prepared = handle.prepare();
         accepted(lease, unknown, prepared.status, prepared.column)
             .map(|()| Prepared { lease, handle })
@@ -185,7 +181,7 @@ impl<'a> Txn<'a> {
     /// # Ok::<(), Error>(())
     /// ```
     pub fn write(self, now: u64) -> Result<Receipt, Error> {
-        if !self.reads.is_empty() {
+        if self.reads.is_some() {
             return self.commit(now);
         }
         let (lease, unknown) = (self.lease, self.unknown);
@@ -293,17 +289,24 @@ impl fmt::Debug for Prepared<'_> {
 /// [`Error::Conflict`].
 ///
 /// No update is lost if the attempt begins its transaction, and computes from nothing but what
-/// [`Txn::get`] gives, as the counter there. What it reads by a query, or before it, is no part of
-/// the transaction, and may have changed. [`Lease::modify`] does this for one row.
+/// [`Txn::get`] gives. What it reads by a query, or before it, is no part of the transaction, and may
+/// have changed. [`Lease::modify`] does all this for one row.
 ///
 /// ```
-/// # use cagzhomul::{retry, Db, Table, Type};
-/// # let db = Db::open([Table::new("t").key("id", Type::Int).column("a", Type::Int)])?;
+/// # use cagzhomul::{retry, Db, Error, Receipt, Table, Type, Value};
+/// # let db = Db::open([Table::new("counters").key("id", Type::Int).column("n", Type::Int)])?;
 /// # let lease = db.lease(0)?;
-/// # lease.txn().insert("t", 1, ()).commit(0)?;
-/// let receipt = retry(5, || lease.txn().update("t", 1, [("a", 5)]).commit(0))?;
-/// assert_eq!(receipt.place, 3);
-/// # Ok::<(), cagzhomul::Error>(())
+/// # lease.txn().insert("counters", 1, [("n", 5)]).commit(0)?;
+/// let add_one = || {
+///     let mut txn = lease.txn();
+///     let row = txn.get("counters", 1)?;
+///     let Some(Value::Int(n)) = row.as_ref().and_then(|row| row.get("n")) else {
+///         return Err(Error::NoRow { operation: 0 });
+///     };
+///     txn.update("counters", 1, [("n", n + 1)]).commit(0)
+/// };
+/// assert_eq!(retry(100, add_one)?, Receipt { place: 3 });
+/// # Ok::<(), Error>(())
 /// ```
 pub fn retry<T>(
     attempts: usize,

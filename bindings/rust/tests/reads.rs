@@ -140,7 +140,7 @@ fn the_insertion_of_a_row_that_was_not_there_is_a_conflict() -> Result<(), Error
         let mut txn = lease.txn();
         assert_eq!(txn.get("people", 1)?, None);
         lease.txn().insert("people", 1, ()).commit(5)?;
-        assert_eq!(write(txn).commit(5), Err(Error::Conflict));
+        assert_eq!(write(txn).write(5), Err(Error::Conflict)); // as by commit
         lease.txn().delete("people", 1).commit(5)?;
     }
     assert_eq!((db.session().log_length()?, db.check()?), (7, rows(0)));
