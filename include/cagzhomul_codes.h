@@ -158,26 +158,19 @@ static inline void cagzhomul_put_operations(cagzhomul_writer *to, size_t count) 
     cagzhomul_put_count(to, count);
 }
 
-/* An operation on the row of a key of so many values, which follow; after them the count of its cells,
- * and these. */
-static inline void cagzhomul_put_insert(cagzhomul_writer *to, uint32_t table, size_t values) {
-    cagzhomul_put_byte(to, 0);
+/* An operation, 0 to insert, 1 to update or 2 to delete, on the row of a key of so many values, which
+ * follow; after those of an insert or an update come the count of its cells, and these. */
+static inline void cagzhomul_put_operation(cagzhomul_writer *to, uint8_t operation, uint32_t table, size_t values) {
+    cagzhomul_put_byte(to, operation);
     cagzhomul_put_u32(to, table);
     cagzhomul_put_count(to, values);
 }
 
-static inline void cagzhomul_put_update(cagzhomul_writer *to, uint32_t table, size_t values) {
-    cagzhomul_put_byte(to, 1);
-    cagzhomul_put_u32(to, table);
-    cagzhomul_put_count(to, values);
-}
+static inline void cagzhomul_put_insert(cagzhomul_writer *to, uint32_t table, size_t values) { cagzhomul_put_operation(to, 0, table, values); }
 
-/* The deletion of the row of a key of so many values, which follow; it has no cells. */
-static inline void cagzhomul_put_delete(cagzhomul_writer *to, uint32_t table, size_t values) {
-    cagzhomul_put_byte(to, 2);
-    cagzhomul_put_u32(to, table);
-    cagzhomul_put_count(to, values);
-}
+static inline void cagzhomul_put_update(cagzhomul_writer *to, uint32_t table, size_t values) { cagzhomul_put_operation(to, 1, table, values); }
+
+static inline void cagzhomul_put_delete(cagzhomul_writer *to, uint32_t table, size_t values) { cagzhomul_put_operation(to, 2, table, values); }
 
 /* ---- writing: queries */
 

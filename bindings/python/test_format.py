@@ -32,7 +32,7 @@ class Format(unittest.TestCase):
         for handle in (self.lease, self.session):
             _library.cagzhomul_close(handle)
 
-    def told(self, call: Any, *words: Any) -> bytes:
+    def written_by(self, call: Any, *words: Any) -> bytes:
         """What a call writes that says how long it is."""
         room = ctypes.create_string_buffer(ROOM)
         outcome = call(*words, room, ROOM)
@@ -41,7 +41,7 @@ class Format(unittest.TestCase):
 
     def held(self, rows: _Handle) -> bytes:
         """The bytes of a handle, which is closed."""
-        code = self.told(_library.cagzhomul_rows_from, rows, 0)
+        code = self.written_by(_library.cagzhomul_rows_from, rows, 0)
         _library.cagzhomul_close(rows)
         return code
 
@@ -52,11 +52,11 @@ class Format(unittest.TestCase):
 
     def test_changes_their_plan_and_all_entries(self) -> None:
         changes, step = self.codes["changes"], self.codes["step"]
-        self.assertEqual(self.told(_library.cagzhomul_plan, self.session, changes, len(changes)), self.codes["plan"])
+        self.assertEqual(self.written_by(_library.cagzhomul_plan, self.session, changes, len(changes)), self.codes["plan"])
         self.assertEqual(_library.cagzhomul_publish(self.session, 20, step, len(step)).status, 0)
         for moment in (30, 40, 40):
             self.assertEqual(_library.cagzhomul_advance(self.session, moment, 1, 10).status, 0)
-        entries = [self.told(_library.cagzhomul_entry, self.session, place) for place in range(1, 7)]
+        entries = [self.written_by(_library.cagzhomul_entry, self.session, place) for place in range(1, 7)]
         self.assertEqual(entries, [self.codes[f"entry {place}"] for place in range(1, 7)])
         self.assertEqual(_library.cagzhomul_log_length(self.session).length, 6)
 

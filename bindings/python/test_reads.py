@@ -241,14 +241,14 @@ class Reads(unittest.TestCase):
 class Modifies(unittest.TestCase):
     def test_a_row_is_inserted_updated_or_left(self) -> None:
         with cagzhomul.open(COUNTERS) as db, db.lease(5) as lease:
-            told: List[Optional[Row]] = []
+            seen: List[Optional[Row]] = []
 
             def leave(row: Optional[Row]) -> None:
-                told.append(row)
+                seen.append(row)
 
             self.assertEqual([lease.modify("counters", 1, one_more) for _ in range(3)], [Receipt(2), Receipt(3), Receipt(4)])
             self.assertEqual([lease.modify("counters", key, leave) for key in (1, 2)], [None, None])
-            self.assertEqual((told, db.log_length()), ([{"id": 1, "n": 3}, None], 4))
+            self.assertEqual((seen, db.log_length()), ([{"id": 1, "n": 3}, None], 4))
             self.assertEqual(lease.modify("counters", 1, one_more, now=14), Receipt(5))
             with self.assertRaises(cagzhomul.LeaseEnded):
                 lease.modify("counters", 1, one_more, now=15)
@@ -260,19 +260,19 @@ class Modifies(unittest.TestCase):
 
     def test_what_changed_meanwhile_is_read_again(self) -> None:
         with cagzhomul.open(COUNTERS) as db, db.lease(5) as lease:
-            told: List[Optional[Row]] = []
+            seen: List[Optional[Row]] = []
 
             def meet(row: Optional[Row]) -> Dict[str, Value]:
                 """Meets another's write the first two times: an insertion, and a deletion."""
-                told.append(row)
+                seen.append(row)
                 if row:
                     lease.delete("counters", 1)
-                elif len(told) < 3:
+                elif len(seen) < 3:
                     lease.insert("counters", 1)
-                return {"n": len(told)}
+                return {"n": len(seen)}
 
             self.assertEqual(lease.modify("counters", 1, meet), Receipt(4))
-            self.assertEqual((told, lease.find(cagzhomul.Query("counters"))), ([None, {"id": 1, "n": None}, None], [{"id": 1, "n": 3}]))
+            self.assertEqual((seen, lease.find(cagzhomul.Query("counters"))), ([None, {"id": 1, "n": None}, None], [{"id": 1, "n": 3}]))
 
     def test_no_addition_of_eight_threads_is_lost(self) -> None:
         with cagzhomul.open(COUNTERS) as db, db.lease(5) as lease, ThreadPoolExecutor(THREADS) as pool:

@@ -286,15 +286,15 @@ fn a_row_is_inserted_updated_or_left() -> Result<(), Error> {
             Some(Receipt { place })
         );
     }
-    let mut told = Vec::new();
+    let mut seen = Vec::new();
     for id in [1, 2] {
         let leave = |row: Option<&Row>| -> Option<()> {
-            told.push(row.map(|row| number(Some(row))));
+            seen.push(row.map(|row| number(Some(row))));
             None
         };
         assert_eq!(lease.modify("counters", id, leave, 5)?, None);
     }
-    assert_eq!((told, db.session().log_length()?), (vec![Some(3), None], 4));
+    assert_eq!((seen, db.session().log_length()?), (vec![Some(3), None], 4));
     assert_eq!(
         lease.modify("counters", 1, one_more, 15),
         Err(Error::LeaseEnded)
@@ -309,11 +309,11 @@ fn a_row_is_inserted_updated_or_left() -> Result<(), Error> {
 fn what_changed_meanwhile_is_read_again() -> Result<(), Error> {
     let db = counters();
     let lease = db.lease(5)?;
-    let mut told = Vec::new();
+    let mut seen = Vec::new();
     // Meets another's write the first two times: an insertion, and a deletion.
     let meet = |row: Option<&Row>| {
-        told.push(row.is_some());
-        match told.len() {
+        seen.push(row.is_some());
+        match seen.len() {
             1 => lease
                 .txn()
                 .insert("counters", 1, ())
@@ -328,13 +328,13 @@ fn what_changed_meanwhile_is_read_again() -> Result<(), Error> {
                 .unwrap(),
             _ => {}
         }
-        Some([("n", told.len() as i64)])
+        Some([("n", seen.len() as i64)])
     };
     assert_eq!(
         lease.modify("counters", 1, meet, 5)?,
         Some(Receipt { place: 4 })
     );
-    assert_eq!(told, [false, true, false]);
+    assert_eq!(seen, [false, true, false]);
     assert_eq!(number(lease.txn().get("counters", 1)?.as_ref()), 3);
     Ok(())
 }
