@@ -10,3 +10,4 @@ mod restore;
 pub use fault::{HeadFault, PageFault};
 pub use head::{Head, head_bytes, head_of};
 pub use page::{page_bytes, page_of};
+pub use restore::parts_of_schema;

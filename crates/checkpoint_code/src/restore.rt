@@ -32,7 +32,7 @@ fn copy_elements(alloc: Global, elements: &[ElementDef]) -> Result<Vec<ElementDe
 }
 
 /// The parts of a version, copied. Refused only when out of memory.
-pub(crate) fn parts_of_schema(alloc: Global, schema: &Schema) -> Result<SchemaParts, AllocError>
+pub fn parts_of_schema(alloc: Global, schema: &Schema) -> Result<SchemaParts, AllocError>
     ensures { IfOk result (λ parts. parts ≡ schema_parts schema.now) }
 {
     let tables = schema.tables()?;

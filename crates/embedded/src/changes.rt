@@ -1,5 +1,6 @@
 //! Schema changes of a session's world, step by step and piece by piece.
 ghost use Rattle.std.specs.Prelude.{◌≡◌};
+ghost use Rattle.handles.specs.Schemas.{SchemaTo};
 ghost use Rattle.operator_calls.specs.Changes.{Publishes, Begins};
 ghost use Rattle.operator_calls.specs.Plans.{Plans};
 ghost use Rattle.operator_calls.specs.Pieces.{ReadsPiece, PreparesPiece, CommitsPiece};
@@ -22,6 +23,15 @@ pub extern "C" fn cagzhomul_advance(
     ensures { Advances handle.old.place.value moment pieces limit result handle.new.place.value }
 {
     operator_calls::advance(alloc, handle, moment, pieces, limit)
+}
+
+/// `Handle::schema`.
+#[unsafe(no_mangle)]
+pub extern "C" fn cagzhomul_schema(alloc: Global, handle: &mut Handle, schema: &mut Handle) -> i32
+    ensures schema { SchemaTo handle.old.place.value schema.old.place.value result schema.new.place.value }
+    ensures same { handle.new.place.value ≡ handle.old.place.value }
+{
+    handle.schema(alloc, schema)
 }
 
 /// `operator_calls::publish`.

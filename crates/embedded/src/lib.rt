@@ -4,6 +4,7 @@
 #![tactic(auto)]
 
 mod changes;
+mod layer;
 mod logs;
 
 ghost use Rattle.std.specs.Prelude.{◌≡◌};
@@ -25,9 +26,9 @@ use typed_calls::{PrepareOutcome, QueryOutcome};
 /// one.
 #[unsafe(no_mangle)]
 pub extern "C" fn cagzhomul_version() -> u32
-    ensures { result ≡ 1000 }
+    ensures { result ≡ 1001 }
 {
-    1000
+    1001
 }
 
 /// `Handle::open`.

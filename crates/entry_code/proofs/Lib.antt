@@ -6,3 +6,4 @@ pub mod Readers
 pub mod Reports
 pub mod Types
 pub mod PartReaders
+pub mod RecordReaders

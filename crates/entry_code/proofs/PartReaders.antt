@@ -37,7 +37,7 @@ unfolding way_at byte_at
 way_again Adding rest known = refl
 way_again Dropping rest known = refl
 
-way_reader : IsReader IsAny way_code way_at
+pub way_reader : IsReader IsAny way_code way_at
 way_reader = record { takes = way_takes; again = way_again }
 
 work_takes : (bytes : List ℕ) (x : Work × List ℕ) → IsBytes bytes → work_at bytes ≡ Ok x → Takes IsAny work_code bytes x
@@ -57,10 +57,10 @@ unfolding work_at byte_at
 work_again Fill rest known = refl
 work_again Clear rest known = refl
 
-work_reader : IsReader IsAny work_code work_at
+pub work_reader : IsReader IsAny work_code work_at
 work_reader = record { takes = work_takes; again = work_again }
 
-element_reader : IsReader (IsElement IsStorable) element_code element_at
+pub element_reader : IsReader (IsElement IsStorable) element_code element_at
 unfolding element_at
 element_reader =
     map_reader _ (λ (e : ElementDef). (e.number, (e.table, (e.name, (e.kind, (e.state, e.way)))))) (λ _. refl) (λ _. refl)
@@ -74,7 +74,7 @@ progress_reader : IsReader (IsProgress IsStorable) progress_code progress_at
 unfolding progress_at
 progress_reader = map_reader _ (λ (p : Progress). (p.element, (p.kind, p.pieces))) (λ _. refl) (λ _. refl) (pair_reader element_reader (pair_reader work_reader (list_reader span_reader)))
 
-schema_reader : IsReader (IsSchema IsStorable) schema_code schema_at
+pub schema_reader : IsReader (IsSchema IsStorable) schema_code schema_at
 unfolding schema_at
 schema_reader =
     let columns = list_reader (pair_reader text_reader type_reader) in

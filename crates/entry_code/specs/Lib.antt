@@ -4,3 +4,4 @@ pub mod Read
 pub mod Worked
 pub mod inner
 pub mod Parts
+pub mod Records

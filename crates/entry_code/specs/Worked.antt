@@ -1,17 +1,20 @@
 -- Cited by the contracts of codes_say.
--- The codes of an entry of each kind, of an opening, of a query, of rows, of changes of each kind and of a plan, worked out by hand.
+-- The codes of an entry of each kind, of an opening, of a query, of rows, of changes of each kind, of a plan, of control records, points and a draft, worked out by hand.
 use Rattle.std.specs.Prelude.{◌≡◌, ℕ, pos, List, [], ◌∷◌, ◌++◌, Some, None}
 use Rattle.change_plan.specs.declared.change.Change.TheVariants.{AddIndex, DropIndex, AddColumn, DropColumn, Abandon}
 use Rattle.change_plan.specs.declared.least_plan.Reorg.TheVariants.{Fill, Clear}
 use Rattle.keycode.specs.declared.value.Value.TheVariants.{Null, Int, Text}
 use Rattle.row_query.specs.declared.query.Cond.TheVariants.{Key, Equal, Between}
 use Rattle.row_map.specs.declared.shape.ColumnType.TheVariants as column
-use Rattle.schema_version.specs.declared.element.ElementState.TheVariants.{Absent, Public}
-use Rattle.schema_version.specs.declared.element.Kind.TheVariants.{Optional, Required}
+use Rattle.schema_version.specs.declared.element.ElementState.TheVariants.{Absent, DeleteOnly, Public}
+use Rattle.schema_version.specs.declared.element.Kind.TheVariants.{Index, Optional, Required}
+use Rattle.schema_version.specs.declared.element.Way.TheVariants.{Adding}
+use Rattle.schema_version.specs.declared.element.Work.TheVariants as work
 use Rattle.schema_version.specs.declared.step.Move.TheVariants.{Go, Turn}
 use Rattle.replay.specs.declared.entry.What.TheVariants as what
 use Rattle.replay.specs.Worked.{table_t, first_lease, insertion, to_delete_only, end_of_t}
 use Rattle.entry_code.specs.Code.{entry_code, ops_code, step_code, opening_code, query_code, rows_code, changes_code, plan_code}
+use Rattle.entry_code.specs.Records.{schema_parts_code, reorg_parts_code, points_code, draft_parts_code}
 
 -- a small number in eight bytes, and in four
 abbrev pub eight : ℕ → List ℕ
@@ -63,6 +66,24 @@ planned_bytes =
     ++ eight 0 ++ entering_bytes
     ++ eight 2 ++ 0 ∷ four 2 ++ 1 ∷ four 3 ++ eight 2 ++ 1 ∷ four 2 ++ 3 ∷ 1 ∷ four 3 ++ 0 ∷ []
 
+-- table t (id int key) with the optional whole number column a, element 1, public
+abbrev pub version_bytes : List ℕ
+version_bytes =
+    eight 1 ++ eight 1 ++ 0x74 ∷ eight 1 ++ eight 2 ++ 0x69 ∷ 0x64 ∷ 0
+    ∷ eight 1 ++ four 1 ++ four 1 ++ eight 1 ++ 0x61 ∷ 1 ∷ 0 ∷ 3 ∷ 0
+    ∷ four 2
+
+-- the fill of index i on column 1 of table 1, element 2 and delete-only, in one piece from X to Y
+abbrev pub fill_bytes : List ℕ
+fill_bytes = four 2 ++ four 1 ++ eight 1 ++ 0x69 ∷ 0 ∷ eight 1 ++ four 1 ++ 1 ∷ 0 ∷ 0 ∷ eight 1 ++ eight 1 ++ 0x58 ∷ eight 1 ++ 0x59 ∷ []
+
+-- there is no a, from b to c there is b 01 with x alone, and a is put with no byte
+abbrev pub draft_bytes : List ℕ
+draft_bytes =
+    eight 1 ++ eight 1 ++ 0x61 ∷ 0
+    ∷ eight 1 ++ eight 1 ++ 0x62 ∷ eight 1 ++ 0x63 ∷ eight 1 ++ eight 2 ++ 0x62 ∷ 1 ∷ eight 1 ++ 0x78
+    ∷ eight 1 ++ eight 1 ++ 0x61 ∷ 1 ∷ eight 0
+
 pub record CodesSay : Type 0 where
   pub lease : entry_code (record { moment = 0; what = what.Lease first_lease }) ≡ 1 ∷ eight 0 ++ 0 ∷ lease_bytes
   pub transaction : entry_code (record { moment = 1; what = what.Txn first_lease insertion }) ≡ 1 ∷ eight 1 ++ 1 ∷ lease_bytes ++ insertion_bytes
@@ -76,3 +97,13 @@ pub record CodesSay : Type 0 where
   pub rows : rows_code (record { key = Int (pos 7) ∷ []; cells = (1, Int (pos 5)) ∷ [] } ∷ []) ≡ 1 ∷ eight 1 ++ eight 1 ++ int 7 ++ eight 1 ++ four 1 ++ int 5
   pub changes : changes_code (AddIndex 1 (0x69 ∷ []) ((0x61 ∷ []) ∷ (0x62 ∷ []) ∷ []) ∷ DropIndex 1 (0x6A ∷ []) ∷ AddColumn 1 (0x63 ∷ []) (Optional column.Text) ∷ AddColumn 1 (0x64 ∷ []) (Required column.Int (Int (pos 5))) ∷ DropColumn 1 (0x65 ∷ []) ∷ Abandon 1 (0x6B ∷ []) ∷ []) ≡ 1 ∷ batch_bytes
   pub plan : plan_code (record { before = []; step = to_delete_only } ∷ record { before = Fill 2 ∷ Clear 3 ∷ []; step = Go 2 Public ∷ Go 3 Absent ∷ [] } ∷ []) ≡ 1 ∷ planned_bytes
+  pub version :
+      schema_parts_code (record { tables = (0x74 ∷ [], (0x69 ∷ 0x64 ∷ [], column.Int) ∷ []) ∷ []; elements = record { number = 1; table = 1; name = 0x61 ∷ []; kind = Optional column.Int; state = Public; way = Adding } ∷ []; next = 2 })
+      ≡ 1 ∷ version_bytes
+  pub fill :
+      reorg_parts_code (record { element = record { number = 2; table = 1; name = 0x69 ∷ []; kind = Index (1 ∷ []); state = DeleteOnly; way = Adding }; work = work.Fill; bounds = (0x58 ∷ [], 0x59 ∷ []) ∷ [] })
+      ≡ 1 ∷ fill_bytes
+  pub points : points_code ((0x61 ∷ [], None) ∷ (0x62 ∷ [], Some (0x78 ∷ [])) ∷ []) ≡ 1 ∷ eight 2 ++ eight 1 ++ 0x61 ∷ 0 ∷ eight 1 ++ 0x62 ∷ 1 ∷ eight 1 ++ 0x78 ∷ []
+  pub draft :
+      draft_parts_code (record { compare = (0x61 ∷ [], None) ∷ []; ranges = record { low = 0x62 ∷ []; high = 0x63 ∷ []; pairs = (0x62 ∷ 1 ∷ [], 0x78 ∷ []) ∷ [] } ∷ []; write = (0x61 ∷ [], Some []) ∷ [] })
+      ≡ 1 ∷ draft_bytes

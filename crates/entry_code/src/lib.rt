@@ -15,6 +15,7 @@ mod numbers;
 mod ops;
 mod parts;
 mod queries;
+mod records;
 mod steps;
 mod tables;
 mod texts;
@@ -28,4 +29,8 @@ pub use calls::{
 pub use checkpoints::{head_parts_bytes, head_parts_of, pairs_bytes, pairs_of};
 pub use fault::CodeFault;
 pub use laws::{codes_say, one_code};
-pub use parts::{HeadParts, SchemaParts};
+pub use parts::{DraftParts, HeadParts, Points, RangeParts, ReorgParts, SchemaParts};
+pub use records::{
+    draft_parts_bytes, draft_parts_of, points_bytes, points_of, reorg_parts_bytes, reorg_parts_of,
+    schema_parts_bytes, schema_parts_of,
+};

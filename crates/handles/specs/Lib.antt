@@ -10,3 +10,4 @@ pub mod Cuts
 pub mod Checkpoints
 pub mod Queries
 pub mod Writes
+pub mod Schemas

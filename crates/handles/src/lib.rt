@@ -14,6 +14,7 @@ mod outcome;
 mod place;
 mod query_calls;
 mod replica_calls;
+mod schema_calls;
 mod session_calls;
 mod snapshot_calls;
 mod txn_calls;

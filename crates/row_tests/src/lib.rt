@@ -9,8 +9,12 @@ mod element_checks;
 #[cfg(test)]
 mod fixtures;
 #[cfg(test)]
+mod operations;
+#[cfg(test)]
 mod reorganisations;
 #[cfg(test)]
 mod row_queries;
+#[cfg(test)]
+mod row_reads;
 #[cfg(test)]
 mod row_writes;

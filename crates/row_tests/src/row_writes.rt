@@ -1,19 +1,19 @@
-//! What transactions read, and what their preparation gives.
+//! What the preparation of transactions gives.
 use crate::fixtures::{
     A_1, A_2, EMPTY, FIVE, I_5_1, I_6_1, I_NULL_1, Plain, Points, ROW_1, ROW_2, SIX, are_writes,
-    bytes, declared, key, mark, value,
+    bytes, declared, mark,
 };
+use crate::operations::{ONE, Op, TWO, Verb, operations};
 use Plain::{Bool, Int, Null};
 use PrepareFault::{NoTable, NotPublic, ViewMismatch, WrongType};
 use RowOutcome::{Done, Refused};
 use Verb::{Delete, Insert, Update};
 use byte_map::{Bytes, KeyMap};
 use collections::{ArcValue, List};
-use keycode::Value;
 use lease::Lease;
-use row_map::{ReadSet, ReadView};
+use row_map::ReadView;
 use row_write::{
-    PrepareFault, Prepared, RowFault, RowOp, RowOps, RowOutcome, prepare, prepare_shared, reads_of,
+    PrepareFault, Prepared, RowFault, RowOp, RowOps, RowOutcome, prepare, prepare_shared,
 };
 use std::alloc::{AllocError, Global};
 
@@ -22,43 +22,6 @@ const LEASE: Lease = Lease {
     granted: 0,
     until: 10,
 };
-
-/// What an operation does.
-#[derive(Clone, Copy)]
-enum Verb {
-    Insert,
-    Update,
-    Delete,
-}
-
-/// An operation as a literal: what it does, the table, the key and the cells.
-type Op<'a> = (Verb, u32, Plain, &'a [(u32, Plain)]);
-
-fn cells(alloc: Global, plain: &[(u32, Plain)]) -> Result<List<(u32, Value)>, AllocError> {
-    let mut cells = Vec::new(alloc);
-    for (column, content) in plain {
-        cells.push((*column, value(alloc, *content)?))?;
-    }
-    Ok(List::new(cells))
-}
-
-fn operation(alloc: Global, (verb, table, id, plain): Op) -> Result<RowOp, AllocError> {
-    let key = key(alloc, id)?;
-    let cells = cells(alloc, plain)?;
-    Ok(match verb {
-        Insert => RowOp::Insert { table, key, cells },
-        Update => RowOp::Update { table, key, cells },
-        Delete => RowOp::Delete { table, key },
-    })
-}
-
-fn operations(alloc: Global, plain: &[Op]) -> Result<Vec<RowOp>, AllocError> {
-    let mut ops = Vec::new(alloc);
-    for op in plain {
-        ops.push(operation(alloc, *op)?)?;
-    }
-    Ok(ops)
-}
 
 fn point(alloc: Global, value: Option<&[u8]>) -> Result<Option<Bytes>, AllocError> {
     match value {
@@ -74,11 +37,6 @@ fn view(alloc: Global, points: Points) -> Result<ReadView, AllocError> {
         view.insert(bytes(alloc, key)?, point(alloc, *value)?)?;
     }
     Ok(view)
-}
-
-fn read_set(alloc: Global, ops: &[RowOp]) -> Result<ReadSet, AllocError> {
-    let schema = declared(alloc)?;
-    reads_of(alloc, &schema, ops)
 }
 
 /// What is prepared; of no table if the operations did not come back with a refusal.
@@ -234,10 +192,6 @@ fn under_refusal_accepted_operations_write_pairs(rt: HostRuntime) {
     }
 }
 
-const ONE: Op<'static> = (Insert, 1, Int(1), &[]);
-
-const TWO: Op<'static> = (Insert, 1, Int(2), &[]);
-
 /// Operations, what is read, and what is reported if nothing is written.
 static TOLD: [(
     &str,
@@ -386,38 +340,4 @@ fn under_refusal_what_writes_nothing_is_reported(rt: HostRuntime) {
             "{name}, shared"
         );
     }
-}
-
-fn are_keys(entries: &[(Bytes, ())], wanted: &[&[u8]]) -> bool {
-    for ((key, _), wanted) in entries.iter().zip(wanted) {
-        if key.as_slice() != *wanted {
-            return false;
-        }
-    }
-    entries.len() == wanted.len()
-}
-
-/// Whether operations read just these keys in this order.
-fn are_read(alloc: Global, plain: &[Op], wanted: &[&[u8]]) -> Result<bool, AllocError> {
-    let ops = operations(alloc, plain)?;
-    let reads = read_set(alloc, ops.as_slice())?;
-    Ok(are_keys(reads.entries(), wanted))
-}
-
-/// The table 2 is not there.
-const READING: &[Op] = &[TWO, ONE, ONE, (Delete, 2, Int(1), &[])];
-
-/// The same, asked once more if memory was short.
-fn are_read_at_last(alloc: Global, plain: &[Op], wanted: &[&[u8]]) -> Result<bool, AllocError> {
-    match are_read(alloc, plain, wanted) {
-        Err(AllocError) => are_read(alloc, plain, wanted),
-        reported => reported,
-    }
-}
-
-#[test]
-fn under_refusal_keys_that_are_read(rt: HostRuntime) {
-    assert!(rt; mark(&rt));
-    let wanted = [ROW_1, A_1, ROW_2, A_2];
-    assert!(rt; are_read_at_last(rt.alloc(), READING, &wanted) == Ok(true));
 }

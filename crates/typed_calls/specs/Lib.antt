@@ -18,3 +18,4 @@ pub mod Writes
 pub mod Plans
 pub mod Pieces
 pub mod Progress
+pub mod Schemas

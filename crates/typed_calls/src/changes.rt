@@ -32,8 +32,8 @@ impl ChangeRefusal {
     }
 }
 
-// What a step that is not allowed is reported as.
-fn step_refusal(fault: StepFault) -> ChangeRefusal
+/// What a step that is not allowed is reported as.
+pub fn step_refusal(fault: StepFault) -> ChangeRefusal
     ensures { result ≡ step_refusal fault }
 {
     match fault {

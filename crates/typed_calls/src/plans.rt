@@ -39,8 +39,9 @@ fn plan_from(alloc: Global, schema: &Schema, changes: &[Change]) -> Result<List<
     }
 }
 
-// The same of the changes whose code these bytes are.
-fn plan_coded(alloc: Global, schema: &Schema, code: &[u8]) -> Result<List<u8>, i32>
+/// The code of the least plan of the changes whose code these bytes are, from this version, or the
+/// status of its refusal, as `plan` gives it.
+pub fn plan_coded(alloc: Global, schema: &Schema, code: &[u8]) -> Result<List<u8>, i32>
     ensures { PlansCode schema.now code.now result }
 {
     match changes_of(alloc, code) {

@@ -31,8 +31,8 @@ impl PrepareOutcome {
     }
 }
 
-// What a refusal is reported as.
-pub(crate) fn prepare_outcome(fault: PrepareFault) -> PrepareOutcome
+/// What a refused preparation is reported as.
+pub fn prepare_outcome(fault: PrepareFault) -> PrepareOutcome
     ensures { result ≡ prepare_outcome fault }
 {
     match fault {

@@ -33,8 +33,8 @@ impl QueryOutcome {
     }
 }
 
-// What a fault of the query is reported as.
-pub(crate) fn fault_outcome(fault: QueryFault) -> QueryOutcome
+/// What a fault of a query is reported as.
+pub fn fault_outcome(fault: QueryFault) -> QueryOutcome
     ensures { result ≡ fault_outcome fault }
 {
     match fault {

@@ -18,4 +18,8 @@ returns c =
       rows = refl;
       changes = refl;
       plan = refl;
+      version = refl;
+      fill = refl;
+      points = refl;
+      draft = refl;
     }

@@ -1,0 +1,16 @@
+pub mod Records
+pub mod Opens
+pub mod Txns
+pub mod Closes
+pub mod Begins
+pub mod Divides
+pub mod Divided
+pub mod ItemKeys
+pub mod Pieces
+pub mod StepRecords
+pub mod Publications
+pub mod Runs
+pub mod Given
+pub mod Marks
+pub mod Ready
+pub mod Coded

@@ -1,0 +1,13 @@
+pub mod KeyNumbers
+pub mod Store
+pub mod Given
+pub mod Calls
+pub mod Mirror
+pub mod Laws
+pub mod Made
+pub mod Begin
+pub mod Divide
+pub mod Publish
+pub mod Txn
+pub mod Marked
+pub mod Coded

@@ -1,0 +1,3 @@
+pub mod Records
+pub mod Spans
+pub mod LastPart

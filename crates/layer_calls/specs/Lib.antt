@@ -1,0 +1,8 @@
+pub mod Given
+pub mod Keep
+pub mod Opening
+pub mod Txns
+pub mod Queries
+pub mod Changes
+pub mod Pieces
+pub mod Audits

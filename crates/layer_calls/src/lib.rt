@@ -1,0 +1,22 @@
+//! The calls of the engine over a store of one's own, by codes in bytes: what a program in another
+//! language makes of what it read, with a status for each refusal. No call keeps anything.
+#![tactic(auto)]
+
+mod audits;
+mod changes;
+mod given;
+mod kept;
+mod opening;
+mod outcome;
+mod pieces;
+mod queries;
+mod txns;
+
+pub use audits::check;
+pub use changes::{begin, close, plan, publish};
+pub use kept::keep;
+pub use opening::open;
+pub use outcome::{LayerOutcome, LayerReply};
+pub use pieces::piece;
+pub use queries::{ranges, row_ranges, rows};
+pub use txns::{reads, txn};

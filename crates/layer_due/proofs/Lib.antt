@@ -1,0 +1,4 @@
+pub mod Searches
+pub mod Applied
+pub mod Lowered
+pub mod Onward

@@ -1,0 +1,5 @@
+pub mod Records
+pub mod Due
+pub mod Applies
+pub mod Lowers
+pub mod GoesOn

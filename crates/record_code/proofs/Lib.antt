@@ -1,0 +1,6 @@
+pub mod KeyCodes
+pub mod Records
+pub mod RecordReads
+pub mod Noted
+pub mod Suits
+pub mod Runs

@@ -1,0 +1,5 @@
+use Rattle.record_code.proofs.KeyCodes.{reorg_only}
+use Rattle.record_code.proofs.keys.reorg_key_from.Goals as goal
+
+pub returns-in-None : goal.returns-in-None
+returns-in-None c = λ key is e. let one = reorg_only key c.args.rest.now is e in c.in-None.ensures one.0 one.1 one.2

@@ -1,0 +1,3 @@
+pub mod Remaining
+pub mod Pages
+pub mod Whole
