@@ -40,7 +40,7 @@ extern "C" {
 
 /* The version of this header: a thousand times the major one, and the minor one. A program that was
  * compiled with it works with each library of the same major version that has no lower minor one. */
-#define CAGZHOMUL_VERSION 1000
+#define CAGZHOMUL_VERSION 1001
 
 /* The library's version. */
 uint32_t cagzhomul_version(void);
@@ -452,6 +452,15 @@ cagzhomul_changed cagzhomul_publish(cagzhomul_handle *session, uint64_t moment,
  * CAGZHOMUL_BEGUN; CAGZHOMUL_BAD_COUNT; CAGZHOMUL_OUT_OF_MEMORY. */
 cagzhomul_changed cagzhomul_begin_reorg(cagzhomul_handle *session, uint64_t moment,
                                         uint32_t element, uint32_t pieces);
+
+/* Writes the code of a version of the schema into the closed handle `schema`, from which
+ * cagzhomul_rows_from gives it: of a session the newest version, of a lease its own. It has the
+ * tables with their key columns, the columns and indexes with their numbers, names, types, defaults,
+ * states and ways, and the next free number (docs/FORMAT.md). The session or the lease stays.
+ * CAGZHOMUL_OK. Refusals: CAGZHOMUL_ALREADY_OPEN, of `schema`; CAGZHOMUL_CLOSED;
+ * CAGZHOMUL_WRONG_KIND; CAGZHOMUL_NOT_OPENED, of a session; CAGZHOMUL_OUT_OF_MEMORY. A refusal
+ * leaves `schema` as it was. */
+int32_t cagzhomul_schema(cagzhomul_handle *held, cagzhomul_handle *schema);
 
 /* Plans a batch of changes, by its code, from the newest version of the session's world: writes the
  * code of the least plan, as much of it as fits in `out`. A step of the plan has the

@@ -376,6 +376,12 @@ static inline size_t cagzhomul_get_rows(cagzhomul_reader *from) {
  * it and these, and the count of its moves and these. */
 static inline size_t cagzhomul_get_plan(cagzhomul_reader *from) { return cagzhomul_get_rows(from); }
 
+/* A version of the schema: how many tables follow. Each is its name, and the count of its key columns
+ * and these: the name and the type. After them come the count of the elements and these: the number
+ * and the table, each a u32, the name, the kind, the state and whether it is being dropped; and at the
+ * end the next number, a u32. */
+static inline size_t cagzhomul_get_schema(cagzhomul_reader *from) { return cagzhomul_get_rows(from); }
+
 /* A reorganisation that must have ended: whether it is a clear, and not a fill, and of which element. */
 static inline bool cagzhomul_get_reorganisation(cagzhomul_reader *from, uint32_t *element) {
     bool is_clear = cagzhomul_get_below(from, 2) == 1;

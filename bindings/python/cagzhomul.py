@@ -38,7 +38,8 @@ __all__ = [
     "BadTable", "Begun", "CagzhomulError", "Change", "Clock", "Closed", "Conflict", "Db", "Dependent", "DropColumn", "DropIndex", "Duplicate", "InChange",
     "Key", "Kind", "Lease", "LeaseEnded", "Moment", "MomentTooLarge", "Move", "Moved", "NameTaken", "NoEntry", "NoRow", "NoTable", "NotAdjacent",
     "NotOpened", "NotPublic", "NotUtf8", "NotWanted", "OutOfMemory", "OverLimit", "Piece", "PlannedStep", "Progress", "Query", "Receipt",
-    "Reorganisation", "Row", "Session", "Snapshot", "Spent", "Step", "StillIndexed", "StillUsed", "StillWaiting", "Table", "Tables", "TooEarly", "TooManyOps", "Txn",
+    "Reorganisation", "Row", "Schema", "SchemaColumn", "SchemaElement", "SchemaIndex", "SchemaTable", "Session", "Snapshot", "Spent", "Step", "StillIndexed",
+    "StillUsed", "StillWaiting", "Table", "Tables", "TooEarly", "TooManyOps", "Txn",
     "UnexpectedReply", "Unfinished", "Unknown", "Value", "VersionsSpent", "Waiting", "Worked", "WrongElement", "WrongSchema", "WrongStage",
     "WrongType", "WrongWay", "literal", "open", "retry", "text_of",
 ]
@@ -48,7 +49,7 @@ _MAJOR = 1
 # how many seconds pass between two looks at a clock that is waited for
 _PAUSE = 0.001
 _ROOM, _OK, _BAD_LINE, _CLOSED, _NOT_NEXT, _WAITING, _FINISHED = 4096, 0, 1, 2, 9, 10, 11
-_WRONG_STAGE, _BAD_CODE, _NOT_PUBLIC, _WRONG_TYPE, _DUPLICATE, _NO_ROW, _DEPENDENT = 16, 17, 21, 22, 29, 30, 35
+_WRONG_STAGE, _BAD_CODE, _BAD_TABLE, _NOT_PUBLIC, _WRONG_TYPE, _DUPLICATE, _NO_ROW, _DEPENDENT, _OVER_LIMIT = 16, 17, 18, 21, 22, 29, 30, 35, 37
 
 Value = Union[None, bool, int, str]
 Key = Union[Value, Sequence[Value]]
@@ -93,7 +94,7 @@ _FUNCTIONS: Dict[str, Tuple[Any, List[Any]]] = {
     "publish": (_Changed, [_HANDLE, _NUMBER, _BYTES, _SIZE]), "begin_reorg": (_Changed, [_HANDLE, _NUMBER, _SMALL, _SMALL]),
     "write": (_Written, [_HANDLE, _NUMBER, _HANDLE, _BYTES, _SIZE]), "plan": (_Outcome, [_HANDLE, _BYTES, _SIZE, _BYTES, _SIZE]),
     "read_piece": (_STATUS, [_HANDLE, _SMALL, _SMALL, _SMALL, _HANDLE]), "prepare_piece": (_STATUS, [_HANDLE]),
-    "commit_piece": (_Pieced, [_HANDLE, _NUMBER, _HANDLE]), "progress": (_Progressed, [_HANDLE, _SMALL]),
+    "commit_piece": (_Pieced, [_HANDLE, _NUMBER, _HANDLE]), "progress": (_Progressed, [_HANDLE, _SMALL]), "schema": (_STATUS, [_HANDLE, _HANDLE]),
     "status": (_Outcome, [_HANDLE, _BYTES, _SIZE]), "text_of": (_SIZE, [_STATUS, _BYTES, _SIZE]),
 }
 
@@ -141,8 +142,7 @@ class CagzhomulError(Exception):
 
 
 class NotPublic(CagzhomulError):
-    """A named column is not a public column of its table in the lease's version: `column` is its
-    name, or None if a line's query names something that its table does not have."""
+    """A named column is not a public column of its table in the lease's version: `column` is its name."""
 
     def __init__(self, column: Optional[str]) -> None:
         super().__init__(_NOT_PUBLIC, text_of(_NOT_PUBLIC) + (f": {column}" if column else ""))
@@ -225,7 +225,7 @@ class StillWaiting(CagzhomulError):
         return (self.change,)
 
 
-class UnexpectedReply(CagzhomulError): """A reply of the language that this module does not know; its text has the reply."""
+class UnexpectedReply(CagzhomulError): """Bytes of the library in a code that this module does not know."""
 
 
 _ERRORS: Dict[int, Type[CagzhomulError]] = {
@@ -235,9 +235,6 @@ _ERRORS: Dict[int, Type[CagzhomulError]] = {
     37: OverLimit, 39: NotWanted, 41: Begun, 42: BadPiece, 43: Spent, 44: WrongElement, 45: Moved, 46: InChange,
 }
 _NUMBERED: Dict[int, Type[_Numbered]] = {31: TooEarly, _DEPENDENT: Dependent, 38: Unfinished, 40: StillUsed}
-# The language's refusals by name, each with its status and text; the text is the status's own if it is empty.
-_REFUSALS: Dict[str, Tuple[Type[CagzhomulError], int, str]] = {kind.__name__: (kind, status, "") for status, kind in _ERRORS.items()}
-_REFUSALS.update(Memory=(OutOfMemory, 5, ""), Limit=(OverLimit, 37, ""), StillIndexed=(StillIndexed, _DEPENDENT, "an index is on the column"))
 
 
 def _check(status: int) -> None:
@@ -251,23 +248,6 @@ def _number_of(done: Any) -> int:
         raise _NUMBERED[done.status](done.status, done.number)
     _check(done.status)
     return int(done.number)
-
-
-def _refusal(reply: str, names: Optional[_Names] = None) -> CagzhomulError:
-    """Why a reply refuses; `names` are those of the version that it is about."""
-    found = re.match(r"refused (\w+)(?: (\d+))?", reply)
-    if found and found[1] == "NotPublic":
-        return NotPublic(names.by_number.get(int(found[2])) if names else None)
-    other = (UnexpectedReply, -1, f"a reply that is not expected: {reply.rstrip()}")
-    kind, status, said = _REFUSALS.get(found[1] if found else "", other)
-    return kind(status, said)
-
-
-def _accepted(reply: str) -> str:
-    """The reply, unless it refuses."""
-    if reply.startswith("refused "):
-        raise _refusal(reply)
-    return reply
 
 
 @dataclass(frozen=True)
@@ -365,6 +345,51 @@ class PlannedStep:
     code: bytes
 
 
+@dataclass(frozen=True)
+class SchemaTable:
+    """A table of a schema: the number that codes name it by, from 1 on, its name, and its key columns in
+    their order, by name with their types. Tables never change."""
+    number: int
+    name: str
+    key: Mapping[str, Kind]
+
+
+@dataclass(frozen=True)
+class SchemaIndex:
+    """What an index is: over these columns of its table, by name and in this order."""
+    columns: Tuple[str, ...]
+
+
+@dataclass(frozen=True)
+class SchemaColumn:
+    """What a column outside the key is: its values are of this type, and a row that has none in it has
+    the default, or no value if that is None."""
+    kind: Kind
+    default: Value = None
+
+
+@dataclass(frozen=True)
+class SchemaElement:
+    """An index or a column of a schema. Its number never comes back; its table and itself are given by
+    name. Its state is "delete_only", "write_only" or "public", of which transactions read the last
+    alone, and `is_dropped` says whether it is on its way out. One that is absent is in no schema."""
+    number: int
+    table: str
+    name: str
+    what: Union[SchemaIndex, SchemaColumn]
+    state: str
+    is_dropped: bool
+
+
+@dataclass(frozen=True)
+class Schema:
+    """A version of the schema: its tables, its indexes and columns, each by rising number, and the number
+    of the element that enters next."""
+    tables: Tuple[SchemaTable, ...]
+    elements: Tuple[SchemaElement, ...]
+    next: int
+
+
 # Codes, as crates/entry_code has them.
 def _number(number: int, size: int = 8) -> bytes:
     return number.to_bytes(size, "big")
@@ -405,31 +430,75 @@ def _key(key: Key) -> bytes:
     return _list([_value(value) for value in (key if isinstance(key, (tuple, list)) else (key,))])
 
 
-def _query(query: Query, columns: Iterable[int], names: _Names) -> bytes:
-    def column(name: str) -> bytes:
-        return _number(names.number(query.table, name), 4)
+class _Condition(NamedTuple):
+    """What a row meets: its kind, the column that it is on, or None for the key, and the rest of its code."""
+    kind: bytes
+    column: Optional[str]
+    rest: bytes
 
-    def bound(value: Value) -> bytes:
-        return b"\0" if value is None else b"\1" + _value(value)
 
-    conditions = [] if query.key is None else [b"\0" + _key(query.key)]
-    conditions += [b"\1" + column(name) + _value(value) for name, value in query.equal.items()]
-    conditions += [b"\2" + column(name) + bound(low) + bound(high) for name, (low, high) in query.between.items()]
-    return b"\1" + _number(names.tables.get(query.table, 0), 4) + _list([_number(it, 4) for it in columns]) + _list(conditions)
+class _Asked(NamedTuple):
+    """A query with its conditions in their order; its columns are None for all public ones."""
+    table: str
+    columns: Optional[Sequence[str]]
+    conditions: List[_Condition]
+
+
+def _bounds(column: str, low: Optional[bytes], high: Optional[bytes]) -> _Condition:
+    """That a column is between two values, by their codes, of which None is no bound."""
+    return _Condition(b"\2", column, b"".join(b"\0" if bound is None else b"\1" + bound for bound in (low, high)))
+
+
+def _asked(query: Query) -> _Asked:
+    """The query with its conditions in the order of the class."""
+    conditions = [] if query.key is None else [_Condition(b"\0", None, _key(query.key))]
+    conditions += [_Condition(b"\1", name, _value(value)) for name, value in query.equal.items()]
+    for name, bounds in query.between.items():
+        low, high = (None if bound is None else _value(bound) for bound in bounds)
+        conditions.append(_bounds(name, low, high))
+    return _Asked(query.table, query.columns, conditions)
+
+
+def _query(asked: _Asked, columns: Iterable[int], names: _Names) -> bytes:
+    conditions = [it.kind + (b"" if it.column is None else _number(names.number(asked.table, it.column), 4)) + it.rest for it in asked.conditions]
+    return b"\1" + _number(names.tables.get(asked.table, 0), 4) + _list([_number(it, 4) for it in columns]) + _list(conditions)
+
+
+_TYPES: Tuple[Kind, ...] = (int, str, bool)
 
 
 def _type(kind: Kind) -> bytes:
-    return bytes([[int, str, bool].index(kind)])
+    return bytes([_TYPES.index(kind)])
 
 
-def _change(change: Change, names: _Names) -> bytes:
-    acts = [AddIndex, DropIndex, AddColumn, DropColumn, Abandon]
-    code = bytes([acts.index(type(change))]) + _number(names.tables.get(change.table, 0), 4) + _name(change.name)
+class _Parts(NamedTuple):
+    """What the code of a change has: which it is, its table and its name, and the rest."""
+    act: int
+    table: str
+    name: str
+    rest: bytes = b""
+
+    def code(self, names: _Names) -> bytes:
+        return bytes([self.act]) + _number(names.tables.get(self.table, 0), 4) + _name(self.name) + self.rest
+
+
+def _names_of(columns: Iterable[str]) -> bytes:
+    return _list([_name(column) for column in columns])
+
+
+def _column_kind(kind: Kind, default: Optional[bytes]) -> bytes:
+    """The kind of a column: one with a default, by its code, or without."""
+    return b"\1" + _type(kind) if default is None else b"\2" + _type(kind) + default
+
+
+def _change(change: Change) -> _Parts:
+    act = [AddIndex, DropIndex, AddColumn, DropColumn, Abandon].index(type(change))
     if isinstance(change, AddIndex):
-        return code + _list([_name(column) for column in change.columns])
+        return _Parts(act, change.table, change.name, _names_of(change.columns))
     if isinstance(change, AddColumn):
-        return code + (b"\1" + _type(change.kind) if change.default is None else b"\2" + _type(change.kind) + _value(change.default))
-    return code
+        default = None if change.default is None else _value(change.default)
+        return _Parts(act, change.table, change.name, _column_kind(change.kind, default))
+    return _Parts(act, change.table, change.name)
 
 
 _number_at, _small_at = struct.Struct(">Q").unpack_from, struct.Struct(">I").unpack_from
@@ -469,19 +538,64 @@ def _coded_rows(code: bytes, key: Sequence[str], columns: Iterable[int], names: 
 _STATES = ("absent", "delete_only", "write_only", "public")
 
 
-def _kind_end(code: bytes, at: int) -> int:
-    """Where the kind of an element that begins there ends."""
+def _name_at(code: bytes, at: int) -> Tuple[str, int]:
+    """The name that begins there, and where it ends."""
+    end = at + 8 + int(_number_at(code, at)[0])
+    return code[at + 8:end].decode(), end
+
+
+def _kind_at(code: bytes, at: int) -> Tuple[Union[Tuple[int, ...], SchemaColumn], int]:
+    """The kind of an element that begins there, of an index the numbers of its columns, and where it ends."""
     if code[at] == 0:
-        return at + 9 + 4 * int(_number_at(code, at + 1)[0])
-    return at + 2 if code[at] == 1 else _value_at(code, at + 2)[1]
+        end = at + 9 + 4 * int(_number_at(code, at + 1)[0])
+        return tuple(int(_small_at(code, column)[0]) for column in range(at + 9, end, 4)), end
+    default, end = (None, at + 2) if code[at] == 1 else _value_at(code, at + 2)
+    return SchemaColumn(_TYPES[code[at + 1]], default), end
+
+
+def _table_at(code: bytes, at: int, number: int) -> Tuple[SchemaTable, int]:
+    """The table of this number that begins there, and where it ends."""
+    name, at = _name_at(code, at)
+    columns, at = int(_number_at(code, at)[0]), at + 8
+    key: Dict[str, Kind] = {}
+    for _ in range(columns):
+        column, at = _name_at(code, at)
+        key[column], at = _TYPES[code[at]], at + 1
+    return SchemaTable(number, name, key), at
+
+
+def _schema(code: bytes) -> Schema:
+    """The schema of a version's code."""
+    if code[0] != 1:
+        raise UnexpectedReply(text="a schema in another code")
+    tables: List[SchemaTable] = []
+    at = 9
+    for number in range(1, 1 + _number_at(code, 1)[0]):
+        table, at = _table_at(code, at, number)
+        tables.append(table)
+    names: Dict[int, str] = {}
+    parts: List[Tuple[int, str, Union[Tuple[int, ...], SchemaColumn], str, bool]] = []
+    count, at = int(_number_at(code, at)[0]), at + 8
+    for _ in range(count):
+        number, of = int(_small_at(code, at)[0]), int(_small_at(code, at + 4)[0])
+        names[number], at = _name_at(code, at + 8)
+        what, at = _kind_at(code, at)
+        parts.append((number, tables[of - 1].name, what, _STATES[code[at]], code[at + 1] == 1))
+        at += 2
+
+    def named(what: Union[Tuple[int, ...], SchemaColumn]) -> Union[SchemaIndex, SchemaColumn]:
+        return what if isinstance(what, SchemaColumn) else SchemaIndex(tuple(names[column] for column in what))
+
+    elements = tuple(SchemaElement(number, name, names[number], named(what), state, is_dropped) for number, name, what, state, is_dropped in parts)
+    return Schema(tuple(tables), elements, int(_small_at(code, at)[0]))
 
 
 def _move_at(code: bytes, at: int) -> Tuple[Move, int]:
     """The move that begins there, and where it ends."""
     if code[at] == 0:
-        name = at + 13 + int(_number_at(code, at + 5)[0])
-        end = _kind_end(code, name)
-        return Move("enter", 0, int(_small_at(code, at + 1)[0]), code[at + 13:name].decode(), _STATES[code[end]]), end + 1
+        name, end = _name_at(code, at + 5)
+        _, end = _kind_at(code, end)
+        return Move("enter", 0, int(_small_at(code, at + 1)[0]), name, _STATES[code[end]]), end + 1
     element = int(_small_at(code, at + 1)[0])
     return (Move("go", element, state=_STATES[code[at + 5]]), at + 6) if code[at] == 1 else (Move("turn", element), at + 5)
 
@@ -513,77 +627,183 @@ def literal(value: Value) -> str:
     return str(int(value)) if isinstance(value, int) else "'" + value.replace("'", "''") + "'"
 
 
-_VALUE = r"(?:null|true|false|-?[0-9]+|'[^']*(?:''[^']*)*')"
-_CELL = re.compile(rf"(?:(\w+) = )?({_VALUE})(?:, )?")
-_ROW = re.compile(rf"row \(({_VALUE}(?:, {_VALUE})*)\)(?: (\w+ = {_VALUE}(?:, \w+ = {_VALUE})*))?\n")
-_TABLE_OF = re.compile(r" *select *(?:\* *|\w+ *(?:, *\w+ *)*)from +(\w+)")
+# no token can be two, so that a match takes time in proportion to the words
+_TOKEN = r" *([A-Za-z]\w*(?!\w)|-?[0-9]+(?!\w)|'[^']*(?:''[^']*)*'(?!')|>=|<=|[(),.=*])"
+_TOKENS, _EACH_TOKEN = re.compile(rf"(?:{_TOKEN})*", re.ASCII), re.compile(_TOKEN, re.ASCII)
+_FIXED: Dict[str, Value] = {"null": None, "true": True, "false": False}
 
 
-def _cells(words: str) -> List[Tuple[str, Value]]:
-    """Cells, or the values of a key, which have no names."""
-    fixed: Dict[str, Value] = {"null": None, "true": True, "false": False}
-    texts = _CELL.findall(words)
-    return [(name, it[1:-1].replace("''", "'") if it[0] == "'" else fixed[it] if it in fixed else int(it)) for name, it in texts]
+class _Words:
+    """What is left to read of a query or a change in the language's words; it raises BadLine if they are
+    not of its grammar."""
+
+    def __init__(self, words: str) -> None:
+        words = words.rstrip(" ")
+        if not _TOKENS.fullmatch(words):
+            raise BadLine(_BAD_LINE)
+        # the next one is the last, and "" is the end
+        self._tokens: List[str] = ["", *reversed(_EACH_TOKEN.findall(words))]
+
+    def take(self, token: str) -> bool:
+        """Whether this token comes next, which then is read."""
+        if self._tokens[-1] != token:
+            return False
+        self._tokens.pop()
+        return True
+
+    def expect(self, *tokens: str) -> None:
+        """Reads these tokens."""
+        for token in tokens:
+            if not self.take(token):
+                raise BadLine(_BAD_LINE)
+
+    def end(self) -> None:
+        self.expect("")
+
+    def next(self) -> str:
+        """Reads any token."""
+        if not self._tokens[-1]:
+            raise BadLine(_BAD_LINE)
+        return self._tokens.pop()
+
+    def name(self) -> str:
+        token = self.next()
+        if not token[0].isalpha():
+            raise BadLine(_BAD_LINE)
+        return token
+
+    def value(self) -> bytes:
+        """The code of a value."""
+        token = self.next()
+        if token[0] == "'":
+            return _value(token[1:-1].replace("''", "'"))
+        if token in _FIXED:
+            return _value(_FIXED[token])
+        if token.lstrip("-").isdigit() and -2**63 <= int(token) < 2**63:
+            return _value(int(token))
+        raise BadLine(_BAD_LINE)
+
+    def all(self, item: Callable[[], _Result]) -> List[_Result]:
+        """Reads items with a comma between each two."""
+        items = [item()]
+        while self.take(","):
+            items.append(item())
+        return items
+
+    def tuple(self, item: Callable[[], _Result]) -> List[_Result]:
+        """Reads items in brackets."""
+        self.expect("(")
+        items = self.all(item)
+        self.expect(")")
+        return items
+
+    def named(self) -> Tuple[str, str]:
+        """The name of an element and that of its table: `NAME on TABLE`."""
+        name = self.name()
+        self.expect("on")
+        return self.name(), name
+
+    def condition(self) -> _Condition:
+        if self.take("key"):
+            self.expect("=")
+            return _Condition(b"\0", None, _list(self.tuple(self.value)))
+        column = self.name()
+        if self.take("between"):
+            low = self.value()
+            self.expect("and")
+            return _bounds(column, low, self.value())
+        if self.take(">="):
+            return _bounds(column, self.value(), None)
+        if self.take("<="):
+            return _bounds(column, None, self.value())
+        self.expect("=")
+        return _Condition(b"\1", column, self.value())
+
+    def column(self) -> _Parts:
+        """A column that is added: `NAME TYPE [default VALUE] on TABLE`."""
+        name, kind = self.name(), self.name()
+        if kind not in ("int", "text", "bool"):
+            raise BadLine(_BAD_LINE)
+        default = self.value() if self.take("default") else None
+        self.expect("on")
+        return _Parts(2, self.name(), name, _column_kind(_KINDS[kind], default))
 
 
-def _rows(reply: str, key: Sequence[str], names: _Names) -> List[Row]:
-    """The rows of a reply to a query, by the names of the key columns and those of the version."""
-    rows: List[Row] = []
-    at = 0
-    while found := _ROW.match(reply, at):
-        rows.append({**dict(zip(key, (value for _, value in _cells(found[1])))), **dict(_cells(found[2] or ""))})
-        at = found.end()
-    if reply[at:] != f"ok rows {len(rows)}\n":
-        raise _refusal(reply, names)
-    return rows
+def _query_in(selection: str) -> _Asked:
+    """The query of words: `select COLUMNS from TABLE [where CONDITION {and CONDITION}]`."""
+    words = _Words(selection)
+    words.expect("select")
+    columns = None if words.take("*") else words.all(words.name)
+    words.expect("from")
+    asked = _Asked(words.name(), columns, [])
+    if words.take("where"):
+        asked.conditions.append(words.condition())
+        while words.take("and"):
+            asked.conditions.append(words.condition())
+    words.end()
+    return asked
+
+
+def _change_in(change: str) -> _Parts:
+    """The change of words: `add index`, `add column`, `drop index`, `drop column` or `abandon`."""
+    words = _Words(change)
+    act = (words.next(), words.next()) if not words.take("abandon") else ("abandon", "")
+    if act == ("add", "index"):
+        table, name = words.named()
+        parts = _Parts(0, table, name, _names_of(words.tuple(words.name)))
+    elif act == ("add", "column"):
+        parts = words.column()
+    elif act in (("drop", "index"), ("drop", "column")):
+        parts = _Parts(1 if act[1] == "index" else 3, *words.named())
+    elif act[0] == "abandon":
+        table = words.name()
+        words.expect(".")
+        parts = _Parts(4, table, words.name())
+    else:
+        raise BadLine(_BAD_LINE)
+    words.end()
+    return parts
 
 
 class _Names:
-    """The tables of a store, and the columns and indexes of one version, by a reply to `status`: so
-    they are right whoever published it."""
+    """The tables, columns and indexes of one version, by its schema: so they are right whoever published
+    it. The version's number is 0 if no lease is on it yet."""
 
-    def __init__(self, status: str, tables: Sequence[Table]) -> None:
-        told = json.loads(_accepted(status))
-        self.version: int = told["version"]
-        self.tables = {table.name: number for number, table in enumerate(tables, 1)}
-        self.keys = {table.name: list(table.key) for table in tables}
-        self.numbers: Dict[Tuple[str, str], int] = {(it["table"], it["name"]): it["number"] for it in told["elements"]}
-        self.by_number: Dict[int, str] = {it["number"]: it["name"] for it in told["elements"]}
-        # `status` does not tell columns from indexes: `_found` takes out what is refused as no public column
-        self.public = {name: [it["number"] for it in told["elements"] if it["table"] == name] for name in self.tables}
+    def __init__(self, version: int, schema: Schema) -> None:
+        self.version, self.schema = version, schema
+        self.tables = {table.name: table.number for table in schema.tables}
+        self.keys = {table.name: list(table.key) for table in schema.tables}
+        self.numbers = {(it.table, it.name): it.number for it in schema.elements}
+        self.by_number = {it.number: it.name for it in schema.elements}
+        self.public: Dict[str, List[int]] = {name: [] for name in self.tables}
+        for it in schema.elements:
+            if isinstance(it.what, SchemaColumn) and it.state == "public":
+                self.public[it.table].append(it.number)
 
     def number(self, table: str, name: str) -> int:
         """The number of a column, or 0, which is none."""
         return self.numbers.get((table, name), 0)
 
-    def columns(self, query: Query) -> List[int]:
-        """The numbers of the columns that a query names, or of all."""
-        return self.public.get(query.table, []) if query.columns is None else [self.number(query.table, name) for name in query.columns]
+    def columns(self, asked: _Asked) -> List[int]:
+        """The numbers of the columns that a query names, or of all public ones."""
+        return self.public.get(asked.table, []) if asked.columns is None else [self.number(asked.table, name) for name in asked.columns]
 
-    def unknown(self, query: Query) -> Optional[str]:
+    def unknown(self, asked: _Asked) -> Optional[str]:
         """The first name in a query that its table does not have."""
-        named = (*(query.columns or ()), *query.equal, *query.between)
-        return next((name for name in named if not self.number(query.table, name)), None)
+        named = (*(asked.columns or ()), *(it.column for it in asked.conditions if it.column is not None))
+        return next((name for name in named if not self.number(asked.table, name)), None)
 
 
-class _Held(NamedTuple):
-    """A lease as the language has it: the names of its version, and from which moment until which it is in force."""
-    names: _Names
-    granted: int
-    until: int
-
-
-def _found(query: Query, names: _Names, ask: Callable[[bytes, _Handle], Any]) -> List[Row]:
+def _found(asked: _Asked, names: _Names, ask: Callable[[bytes, _Handle], Any]) -> List[Row]:
     """The rows of a query, by a call that answers its code into a closed handle."""
-    columns, rows = names.columns(query), _Handle()
+    columns, rows = names.columns(asked), _Handle()
     try:
-        while (queried := ask(_query(query, columns, names), rows)).status == _NOT_PUBLIC:
-            if query.columns is not None or queried.column not in columns:
-                raise NotPublic(names.by_number[queried.column] if queried.column else names.unknown(query))
-            names.public[query.table] = columns = [it for it in columns if it != queried.column]
+        queried = ask(_query(asked, columns, names), rows)
+        if queried.status == _NOT_PUBLIC:
+            raise NotPublic(names.by_number[queried.column] if queried.column else names.unknown(asked))
         # only a text over 1,024 bytes makes a bad code of what this module writes
         _check(_WRONG_TYPE if queried.status == _BAD_CODE else queried.status)
-        return _coded_rows(_code_of(rows), names.keys[query.table], columns, names.by_number)
+        return _coded_rows(_code_of(rows), names.keys[asked.table], columns, names.by_number)
     finally:
         _library.cagzhomul_close(rows)
 
@@ -596,6 +816,16 @@ def _code_of(rows: _Handle) -> bytes:
         out = ctypes.create_string_buffer(length)
         _library.cagzhomul_rows_from(rows, 0, out, length)
     return ctypes.string_at(out, length)
+
+
+def _schema_code(held: _Handle) -> bytes:
+    """The code of the version that a session or a lease is on, for a caller who has its lock."""
+    schema = _Handle()
+    _check(_library.cagzhomul_schema(held, schema))
+    try:
+        return _code_of(schema)
+    finally:
+        _library.cagzhomul_close(schema)
 
 
 def _small(number: int) -> int:
@@ -722,7 +952,7 @@ class Snapshot(_Audited):
         def ask(code: bytes, rows: _Handle) -> Any:
             with self._lock:
                 return _library.cagzhomul_snapshot_query(self._handle, code, len(code), rows)
-        return _found(query, self._names, ask)
+        return _found(_asked(query), self._names, ask)
 
 
 class Session(_Audited):
@@ -734,8 +964,6 @@ class Session(_Audited):
         self._start = 0
         # whether a version may have been published that the kept lease of a Db is not on
         self._is_newer = False
-        # the change that waits for its first step
-        self._waiting: Optional[str] = None
         self._out = ctypes.create_string_buffer(_ROOM)
         code = _opening_code
         if _forked is not None:
@@ -756,32 +984,32 @@ class Session(_Audited):
         Raises BadLine, Closed, NotUtf8 (for bytes alone) or OutOfMemory. A refusal of the language,
         as `refused NoServer`, is a reply.
         """
-        with self._lock:
-            return self._reply_to(line)
-
-    def _reply_to(self, line: Union[str, bytes]) -> str:
-        """The reply, for a caller who has the lock."""
         words = line.encode() if isinstance(line, str) else line
-        outcome = _library.cagzhomul_reply_to(self._handle, words, len(words), self._out, _ROOM)
-        _check(outcome.status)
-        if outcome.length <= _ROOM:
-            reply = ctypes.string_at(self._out, outcome.length).decode()
-            self._is_newer |= reply.startswith("ok version ")
-            return reply
-        out = ctypes.create_string_buffer(outcome.length)
-        _check(_library.cagzhomul_reply_from(self._handle, 0, out, outcome.length).status)
-        return out.raw.decode()
+        with self._lock:
+            outcome = _library.cagzhomul_reply_to(self._handle, words, len(words), self._out, _ROOM)
+            _check(outcome.status)
+            if outcome.length <= _ROOM:
+                reply = ctypes.string_at(self._out, outcome.length).decode()
+                self._is_newer |= reply.startswith("ok version ")
+                return reply
+            out = ctypes.create_string_buffer(outcome.length)
+            _check(_library.cagzhomul_reply_from(self._handle, 0, out, outcome.length).status)
+            return out.raw.decode()
 
     def _told(self, call: Callable[[Any, int], Any]) -> bytes:
         """What a call writes: it is asked once more with more room if all did not fit."""
         with self._lock:
-            outcome = call(self._out, _ROOM)
-            _check(outcome.status)
-            if outcome.length <= _ROOM:
-                return ctypes.string_at(self._out, outcome.length)
-            out = ctypes.create_string_buffer(outcome.length)
-            _check(call(out, outcome.length).status)
-            return out.raw
+            return self._written(call)
+
+    def _written(self, call: Callable[[Any, int], Any]) -> bytes:
+        """The same, for a caller who has the lock."""
+        outcome = call(self._out, _ROOM)
+        _check(outcome.status)
+        if outcome.length <= _ROOM:
+            return ctypes.string_at(self._out, outcome.length)
+        out = ctypes.create_string_buffer(outcome.length)
+        _check(call(out, outcome.length).status)
+        return out.raw
 
     def status(self) -> Dict[str, Any]:
         """How the world stands, as docs/SCRIPT.md has it of the line `status`: `elements`, `log`,
@@ -789,12 +1017,18 @@ class Session(_Audited):
         told: Dict[str, Any] = json.loads(self._told(lambda out, room: _library.cagzhomul_status(self._handle, out, room)))
         return told
 
+    def schema(self) -> Schema:
+        """The newest version: its tables, columns and indexes. Raises Closed, NotOpened or OutOfMemory."""
+        with self._lock:
+            code = _schema_code(self._handle)
+        return _schema(code)
+
     def element(self, table: str, name: str) -> int:
-        """The number of an index or a column of the newest version. Raises Unknown, and what `status`
+        """The number of an index or a column of the newest version. Raises Unknown, and what `schema`
         does."""
-        for element in self.status()["elements"]:
-            if (element["table"], element["name"]) == (table, name):
-                return int(element["number"])
+        for element in self.schema().elements:
+            if (element.table, element.name) == (table, name):
+                return element.number
         raise Unknown(32)
 
     def publish(self, now: Moment, step: bytes) -> int:
@@ -806,9 +1040,13 @@ class Session(_Audited):
         """
         moment = _at(now)
         with self._lock:
-            version = _number_of(_library.cagzhomul_publish(self._handle, moment, step, len(step)))
-            self._is_newer = True
-            return version
+            return self._publish(moment, step)
+
+    def _publish(self, moment: int, step: bytes) -> int:
+        """The same, for a caller who has the lock."""
+        version = _number_of(_library.cagzhomul_publish(self._handle, moment, step, len(step)))
+        self._is_newer = True
+        return version
 
     def begin_reorg(self, now: Moment, element: int, pieces: int = 8) -> int:
         """Begins the fill or the clear that an element wants, in 1 to 64 pieces; the answer is the
@@ -943,34 +1181,15 @@ class Session(_Audited):
         _check(done.status)
         return Acted()
 
-    def _begin_waiting(self, moment: int) -> Optional[Step]:
+    def _begin_waiting(self, _moment: int) -> Optional[Step]:
         """Publishes the first step of the change that waits, for a caller who has the lock; None if none
-        waits."""
-        if self._waiting is None:
-            return None
-        try:
-            step = self._publish_first(self._waiting, moment)
-        except (Unknown, NameTaken, StillIndexed, InChange, OverLimit, VersionsSpent):
-            self._waiting = None
-            raise
-        if isinstance(step, Acted):
-            self._waiting = None
-        return step
-
-    def _publish_first(self, change: str, moment: int) -> Step:
-        """Publishes the first step of a change's plan, unless it is too early, for a caller who has the
-        lock: both lines are answered under it, so that the plan is of the newest version."""
-        _accepted(self._reply_to(f"plan: {change}"))
-        reply = self._reply_to(f"next at {moment}")
-        early = re.fullmatch(r"refused TooEarly (\d+)\n", reply)
-        if early is None:
-            _accepted(reply)
-        return Waiting(int(early[1])) if early else Acted()
+        waits, as in a session that is no store."""
+        return None
 
 
 class Db(Session):
     """A store of tables in memory, whose indexes and columns come and go while transactions run. It
-    is a session, too, whose server `python_binding` is the module's own.
+    is a session, too.
 
     A moment (`now`) is a number of the caller's clock, or a function that gives it; one that is
     below that of the log's last entry counts as that.
@@ -985,10 +1204,20 @@ class Db(Session):
         declared = [_table(*it) for it in tables.items()] if isinstance(tables, Mapping) else list(tables)
         super().__init__(_opening(lease_length, declared), at)
         self._keep = keep
-        self._declared = declared
-        self._kept: Optional[_Held] = None
+        # the change that waits for its first step
+        self._waiting: Optional[str] = None
+        self._kept: Optional[_Grant] = None
         self._keeping = threading.Lock()
-        self._names = _Names(self._reply_to("status"), declared)
+        self._names = _Names(0, self.schema())
+        if [(it.name, list(it.key.items())) for it in declared] != [(it.name, list(it.key.items())) for it in self._names.schema.tables]:
+            self.close()
+            raise BadTable(_BAD_TABLE)
+
+    def close(self) -> None:
+        super().close()
+        with self._keeping:
+            if self._kept is not None:
+                self._kept.close()
 
     def lease(self, now: Moment) -> Lease:
         """A lease on the newest version, whose columns and indexes transactions and queries under it
@@ -1007,39 +1236,31 @@ class Db(Session):
         LeaseEnded only if the lease that it took has ended meanwhile, too.
         """
         moment = _at(now)
-        held = self._kept_lease(moment)
+        kept = self._kept_lease(moment)
+        asked = _query_in(selection)
         try:
-            return self._rows_under(held, moment, selection)
+            return kept.rows(self, moment, asked)
         except (BadLease, LeaseEnded):
-            return self._rows_under(self._kept_lease(moment, held), moment, selection)
+            return self._kept_lease(moment, kept).rows(self, moment, asked)
 
-    def _kept_lease(self, moment: int, refused: Optional[_Held] = None) -> _Held:
+    def _kept_lease(self, moment: int, refused: Optional[_Grant] = None) -> _Grant:
         """The kept lease; or a new one, if that is the refused one, or is on an older version."""
         with self._keeping:
-            if self._kept is not None and (self._kept is refused or not self._is_newest(self._kept.names.version)):
-                self._kept = None
+            if self._kept is not None and (self._kept is refused or not self._is_newest(self._kept._names)):
+                self._kept = None  # another thread may still ask under it
             if self._kept is None:
-                with self.lease(moment) as lease:
-                    self._kept = lease._held
+                self._kept = _Grant(self, moment)
             return self._kept
 
-    def _is_newest(self, version: int) -> bool:
-        """Whether this version is the newest, which `status` is asked for if another may have been
-        published since it was."""
+    def _is_newest(self, names: _Names) -> bool:
+        """Whether the version of these names is the newest, of which the schema is asked for if another may
+        have been published since it was."""
         with self._lock:
             if not self._is_newer:
                 return True
-            newest: int = json.loads(_accepted(self._reply_to("status")))["version"]
+            newest = _schema_code(self._handle)
             self._is_newer = False
-            return newest == version
-
-    def _rows_under(self, held: _Held, moment: int, selection: str) -> List[Row]:
-        """The rows of a query under a lease, which the server of this module is given."""
-        with self._lock:
-            _accepted(self._reply_to(f"forge python_binding version {held.names.version} granted {held.granted} until {held.until}"))
-            reply = self._reply_to(f"query python_binding at {moment}: {selection}")
-        table = _TABLE_OF.match(selection)
-        return _rows(reply, held.names.keys.get(table[1], []) if table else [], held.names)
+        return _schema(newest) == names.schema
 
     def snapshot(self, lease: Lease, now: Moment) -> Snapshot:
         """What the store holds, under a lease; it is to be closed.
@@ -1059,9 +1280,15 @@ class Db(Session):
         StillIndexed, InChange and OverLimit, but a text that is too long is BadCode before all but
         Closed; OutOfMemory.
         """
-        code = b"\1" + _list([_change(change, self._names) for change in changes])
+        parts = [_change(change) for change in changes]
+        with self._lock:
+            return self._plan(parts)
+
+    def _plan(self, changes: Sequence[_Parts]) -> List[PlannedStep]:
+        """The same, for a caller who has the lock."""
+        code = b"\1" + _list([change.code(self._names) for change in changes])
         try:
-            return _planned(self._told(lambda out, room: _library.cagzhomul_plan(self._handle, code, len(code), out, room)))
+            return _planned(self._written(lambda out, room: _library.cagzhomul_plan(self._handle, code, len(code), out, room)))
         except CagzhomulError as refusal:
             if refusal.status == _DEPENDENT:
                 raise StillIndexed(_DEPENDENT, "an index is on the column") from None
@@ -1069,7 +1296,7 @@ class Db(Session):
 
     def change(self, change: str, clock: Clock, *, pieces: int = 8, limit: int = 1000) -> Iterator[Step]:
         """Begins a schema change, and gives the steps that complete it. The change is one that the
-        language's `plan` takes, as `add index by_town on people (town)`; the kept plan is lost.
+        language's `plan` takes, as `add index by_town on people (town)`.
 
         When the call returns, the first of the steps is Acted, and the change is under way; or it is
         Waiting, since the newest version is not old enough. Then the store keeps the change, and the
@@ -1097,6 +1324,31 @@ class Db(Session):
                 self._waiting = change
         return itertools.chain([first], self._steps_after(first, clock, pieces, limit))
 
+    def _begin_waiting(self, moment: int) -> Optional[Step]:
+        if self._waiting is None:
+            return None
+        try:
+            step = self._publish_first(self._waiting, moment)
+        except (Unknown, NameTaken, StillIndexed, InChange, OverLimit, VersionsSpent):
+            self._waiting = None
+            raise
+        if isinstance(step, Acted):
+            self._waiting = None
+        return step
+
+    def _publish_first(self, change: str, moment: int) -> Step:
+        """Publishes the first step of a change's plan, unless it is too early, for a caller who has the
+        lock: so the plan is of the newest version."""
+        if not self.is_open:
+            raise Closed(_CLOSED)
+        try:
+            self._publish(moment, self._plan([_change_in(change)])[0].code)
+        except TooEarly as early:
+            return Waiting(early.number)
+        except BadCode:  # only a default over 1,024 bytes makes a bad code of what this module writes
+            raise OverLimit(_OVER_LIMIT) from None
+        return Acted()
+
     def complete(self, change: str, clock: Clock, *, pieces: int = 8, limit: int = 1000) -> None:
         """Begins a schema change as `change` does, and takes its steps to their end: when the call
         returns, no change is under way. The thread sleeps while nothing can be done.
@@ -1118,25 +1370,42 @@ class Db(Session):
             last = step
 
 
-class Lease(_Owner):
+class _Grant(_Owner):
+    """A lease as it was granted, with the names of its version."""
+
+    def __init__(self, db: Db, moment: int) -> None:
+        super().__init__()
+        with db._lock:
+            granted = _library.cagzhomul_lease(db._handle, moment, self._handle)
+            _check(granted.status)
+            db._grown(int(granted.place))
+            if db._names.version != granted.version:
+                db._names = _Names(int(granted.version), _schema(_schema_code(self._handle)))
+            self._names = db._names
+        self.version, self.granted, self.until, self.place = map(int, (granted.version, granted.granted, granted.until, granted.place))
+
+    def rows(self, db: Db, moment: int, asked: _Asked) -> List[Row]:
+        """The rows of a query of the store under it."""
+        def ask(code: bytes, rows: _Handle) -> Any:
+            with self._lock, db._lock:
+                return _library.cagzhomul_query(db._handle, moment, self._handle, code, len(code), rows)
+        return _found(asked, self._names, ask)
+
+
+class Lease(_Grant):
     """A lease on a version, by `Db.lease`: until it ends, transactions and queries may run under it,
     from any thread. Columns have the names that they have in this version, whose number is `version`.
     It is in force from the moment `granted` on and before the moment `until`; the place of its entry
     in the log is `place`."""
 
     def __init__(self, db: Db, now: Moment) -> None:
-        super().__init__()
-        moment = _at(now)
-        with db._lock:
-            granted = _library.cagzhomul_lease(db._handle, moment, self._handle)
-            _check(granted.status)
-            db._grown(int(granted.place))
-            if db._names.version != granted.version:
-                db._names = _Names(db._reply_to("status"), db._declared)
-            self._names = db._names
+        super().__init__(db, _at(now))
         self._db, self._now = db, now
-        self.version, self.granted, self.until, self.place = map(int, (granted.version, granted.granted, granted.until, granted.place))
-        self._held = _Held(self._names, self.granted, self.until)
+
+    @property
+    def schema(self) -> Schema:
+        """The schema of its version, also once it is closed."""
+        return self._names.schema
 
     def txn(self, now: Optional[Moment] = None) -> Txn:
         """A transaction without operations yet, at this moment or that of the lease."""
@@ -1178,12 +1447,11 @@ class Lease(_Owner):
         that are selected: `select COLUMNS from TABLE [where CONDITION {and CONDITION}]`, as
         docs/SCRIPT.md has it. `literal` writes values for it.
 
-        Raises Closed, BadLine, MomentTooLarge, BadLease, LeaseEnded, NoTable; of the first faulty
-        column or condition NotPublic or WrongType; OutOfMemory.
+        Raises Closed, BadLine, and what `find` does.
         """
         if not self.is_open:
             raise Closed(_CLOSED)
-        return self._db._rows_under(self._held, _at(now), selection)
+        return self.rows(self._db, _at(now), _query_in(selection))
 
     def find(self, query: Query, now: Optional[Moment] = None) -> List[Row]:
         """The rows of a query as `Snapshot.query` gives them, at this moment or that of the lease.
@@ -1192,12 +1460,7 @@ class Lease(_Owner):
         condition NotPublic or WrongType, but a text that is too long is WrongType before all but
         Closed; OutOfMemory.
         """
-        moment, db = _at(self._now if now is None else now), self._db
-
-        def ask(code: bytes, rows: _Handle) -> Any:
-            with self._lock, db._lock:
-                return _library.cagzhomul_query(db._handle, moment, self._handle, code, len(code), rows)
-        return _found(query, self._names, ask)
+        return self.rows(self._db, _at(self._now if now is None else now), _asked(query))
 
 
 class Txn(_Owner):
@@ -1240,7 +1503,7 @@ class Txn(_Owner):
             self._check_stage()
             if row not in self._got:
                 self._read([b"\1" + it + _list([]) for it in (*self._got, row)])
-                rows = _found(Query(table, key=key), names, lambda code, rows: _library.cagzhomul_query_read(self._handle, code, len(code), rows))
+                rows = _found(_asked(Query(table, key=key)), names, lambda code, rows: _library.cagzhomul_query_read(self._handle, code, len(code), rows))
                 self._got[row] = rows[0] if rows else None
             found = self._got[row]
         return None if found is None else dict(found)
@@ -1458,8 +1721,9 @@ def open(tables: Optional[Tables] = None, lease_length: int = 10, keep: Optional
     for as long. A store keeps the last `keep` entries of its log in memory and gives the older ones
     back once there are as many of them, or never if that is None.
 
-    With `at`, the bytes of a `checkpoint`, it goes on from there: the tables are those that were opened
-    then, and the lease length is the checkpoint's. Raises BadCode if no world may open from the bytes.
+    With `at`, the bytes of a `checkpoint`, it goes on from there: the tables, of which the names and the
+    keys count, are to be those that were opened then, and the lease length is the checkpoint's. Raises
+    BadCode if no world may open from the bytes, then BadTable if its tables are others.
 
     Raises BadTable, BadLength or OutOfMemory, and ValueError for another type.
     """

@@ -147,9 +147,9 @@ class KeptLeases(unittest.TestCase):
             db.query(16, ALL)
 
     def test_a_lease_that_is_refused_is_replaced_once(self) -> None:
-        with cagzhomul.open(PEOPLE) as db:
+        with cagzhomul.open(PEOPLE) as db, cagzhomul.open(PEOPLE, lease_length=23) as other:
             self.assertEqual(db.query(5, ALL), [])
-            db._kept = cagzhomul._Held(db._names, 7, 30)  # none that lasts 23 moments is granted
+            db._kept = cagzhomul._Grant(other, 7)  # none that lasts 23 moments is granted here
             self.assertEqual((db.query(8, ALL), db.log_length()), ([], 2))
             self.assertEqual((db.query(17, ALL), db.log_length()), ([], 2))
 
@@ -177,7 +177,7 @@ class KeptLeases(unittest.TestCase):
                 db.query(moment - 3, ALL)  # under a lease until moment + 7
                 call(moment)
                 seen.append(sorted(db.query(moment, ALL)[0]))
-                self.assertEqual(db._kept and db._kept[1:], (moment, moment + 10))
+                self.assertEqual(db._kept and (db._kept.granted, db._kept.until), (moment, moment + 10))
             self.assertEqual(seen, [["id", "town"], ["age", "id", "town"], ["age", "id"], ["id"]])
             # the lease and the row, and then a lease, a publication and another lease each time
             places = range(1, 2 + 3 * 4 + 1)

@@ -54,6 +54,9 @@ class Format(unittest.TestCase):
         changes, step = self.codes["changes"], self.codes["step"]
         self.assertEqual(self.written_by(_library.cagzhomul_plan, self.session, changes, len(changes)), self.codes["plan"])
         self.assertEqual(_library.cagzhomul_publish(self.session, 20, step, len(step)).status, 0)
+        schema = _Handle()
+        self.assertEqual(_library.cagzhomul_schema(self.session, schema), 0)
+        self.assertEqual(self.held(schema), self.codes["schema"])
         for moment in (30, 40, 40):
             self.assertEqual(_library.cagzhomul_advance(self.session, moment, 1, 10).status, 0)
         entries = [self.written_by(_library.cagzhomul_entry, self.session, place) for place in range(1, 7)]

@@ -164,9 +164,6 @@ class Stores(unittest.TestCase):
             self.assertEqual(lease.query(0, "select s from rows where s = 'a from first'"), [{"a": 2, "b": "", "s": "a from first"}])
             self.assertEqual(lease.query(0, f"select c from first where key = ({literal(1)})"), [{"id": 1, "c": None}])
         self.assertEqual([literal(value) for value in (None, True, False, -5, "", "''")], ["null", "true", "false", "-5", "''", "'" * 6])
-        names = cagzhomul._Names('{"elements":[],"version":1}', [])
-        for reply in ("", "ok rows 1\n", "ok rows 0", "ok rows 0\n\n", "row (1) a = 'b\nok rows 1\n", "row ()\nok rows 1\n", "row (1)\nok rows 2\n"):
-            self.refused(cagzhomul.UnexpectedReply, lambda: cagzhomul._rows(reply, ["id"], names))
 
     def test_a_prepared_transaction_meets_a_conflict(self) -> None:
         with cagzhomul.open(PEOPLE) as db, db.lease(5) as lease:

@@ -102,19 +102,14 @@ static void print_rows(cagzhomul_reader *from) {
     }
 }
 
-static void print_move(cagzhomul_reader *from) {
+static void print_name(cagzhomul_reader *from) {
     const uint8_t *name;
-    uint32_t number;
-    uint8_t move = cagzhomul_get_below(from, 3);
-    if (move) {
-        number = cagzhomul_get_u32(from);
-        if (move == 1) printf(" go %u %u", number, cagzhomul_get_below(from, 4));
-        else printf(" turn %u", number);
-        return;
-    }
-    number = cagzhomul_get_u32(from);
     size_t length = cagzhomul_get_bytes(from, &name);
-    printf(" enter %u %.*s", number, (int)length, (const char *)name);
+    printf(" %.*s", (int)length, (const char *)name);
+}
+
+/* The kind of an element, and its state. */
+static void print_kind(cagzhomul_reader *from) {
     uint8_t kind = cagzhomul_get_below(from, 3);
     if (kind == 0) {
         printf(" index");
@@ -124,6 +119,34 @@ static void print_move(cagzhomul_reader *from) {
         if (kind == 2) print_value(from);
     }
     printf(" state %u", cagzhomul_get_below(from, 4));
+}
+
+static void print_schema(cagzhomul_reader *from) {
+    for (size_t tables = cagzhomul_get_schema(from); tables > 0; tables--) {
+        printf(" table"), print_name(from);
+        for (size_t columns = cagzhomul_get_count(from); columns > 0; columns--) {
+            printf(" key"), print_name(from);
+            printf(" %u", cagzhomul_get_below(from, 3));
+        }
+    }
+    for (size_t elements = cagzhomul_get_count(from); elements > 0; elements--) {
+        uint32_t number = cagzhomul_get_u32(from), table = cagzhomul_get_u32(from);
+        printf(" element %u of %u", number, table), print_name(from), print_kind(from);
+        printf("%s", cagzhomul_get_option(from) ? " dropped" : "");
+    }
+    printf(" next %u", cagzhomul_get_u32(from));
+}
+
+static void print_move(cagzhomul_reader *from) {
+    uint32_t number;
+    uint8_t move = cagzhomul_get_below(from, 3);
+    if (move) {
+        number = cagzhomul_get_u32(from);
+        if (move == 1) printf(" go %u %u", number, cagzhomul_get_below(from, 4));
+        else printf(" turn %u", number);
+        return;
+    }
+    printf(" enter %u", cagzhomul_get_u32(from)), print_name(from), print_kind(from);
 }
 
 static void print_plan(cagzhomul_reader *from) {
@@ -148,8 +171,9 @@ static int read_example(const char *name, const char *hex) {
     }
     cagzhomul_reader from = cagzhomul_read_from(bytes, length);
     printf("%s", name);
-    if (strcmp(name, "plan")) print_rows(&from);
-    else print_plan(&from);
+    if (!strcmp(name, "plan")) print_plan(&from);
+    else if (!strcmp(name, "schema")) print_schema(&from);
+    else print_rows(&from);
     printf(" %s\n", cagzhomul_is_over(&from) ? "over" : "bad");
     free(bytes);
     return 0;
@@ -171,17 +195,18 @@ static int read_any(long count) {
         /* small bytes are the likely ones, so that counts and tags come true */
         for (size_t at = 0; at < length; at++) bytes[at] = (uint8_t)(next_number(&state) % 4 ? next_number(&state) % 5 : next_number(&state));
         if (length > 9) bytes[0] = 1, memset(bytes + 1, 0, 7);
-        for (int way = 0; way < 2; way++) {
+        for (int way = 0; way < 3; way++) {
             cagzhomul_reader from = cagzhomul_read_from(bytes, length);
-            if (way) print_plan(&from);
-            else print_rows(&from);
+            if (way == 0) print_rows(&from);
+            else if (way == 1) print_plan(&from);
+            else print_schema(&from);
             if (from.at > length) return 1;
             bad += from.is_bad;
         }
         free(bytes);
     }
-    fprintf(stderr, "%ld of %ld are no code\n", bad, 2 * count);
-    return bad == 0 || bad == 2 * count;
+    fprintf(stderr, "%ld of %ld are no code\n", bad, 3 * count);
+    return bad == 0 || bad == 3 * count;
 }
 
 int main(int count, char **words) {

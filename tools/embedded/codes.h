@@ -109,6 +109,24 @@ static inline code go_code(uint32_t element, uint8_t state) {
     return it;
 }
 
+/* The version with the table and its column and, unless it is absent, the index by_town in this state. */
+static inline code schema_code(uint8_t state) {
+    code it = step_code(1); /* one table */
+    put_name(&it, "people");
+    put_number(&it, 1, 8); /* one key column */
+    put_name(&it, "id"), put_byte(&it, 0);
+    put_number(&it, state ? 2 : 1, 8);
+    put_number(&it, TOWN, 4), put_number(&it, PEOPLE, 4), put_name(&it, "town");
+    put_byte(&it, 1), put_byte(&it, 1), put_byte(&it, PUBLIC), put_byte(&it, 0); /* an optional text */
+    if (state) {
+        put_number(&it, 2, 4), put_number(&it, PEOPLE, 4), put_name(&it, "by_town");
+        put_byte(&it, 0), put_number(&it, 1, 8), put_number(&it, TOWN, 4);
+        put_byte(&it, state), put_byte(&it, 0);
+    }
+    put_number(&it, state ? 3 : 2, 4);
+    return it;
+}
+
 /* So many changes, which follow. */
 static inline code changes_code(uint64_t many) { return ops_code(many); }
 

@@ -215,6 +215,22 @@ static void go_on(cagzhomul_handle *session, size_t length, uint64_t moment) {
     check(cagzhomul_save(&taken, &written) == CAGZHOMUL_CLOSED && cagzhomul_checkpoint(&later, &taken) == CAGZHOMUL_CLOSED, "and stay so");
 }
 
+/* Whether a session or a lease is on the version with by_town in this state; it stays. */
+static int is_on(cagzhomul_handle *held, uint8_t state) {
+    cagzhomul_handle schema = {0};
+    uint8_t out[ROOM];
+    code wanted = schema_code(state);
+    int32_t status = cagzhomul_schema(held, &schema);
+    if (is_short(status)) {
+        check(!schema.is_open && held->is_open, "no schema was written");
+        status = cagzhomul_schema(held, &schema);
+    }
+    if (status != CAGZHOMUL_OK) return 0;
+    cagzhomul_outcome it = cagzhomul_rows_from(&schema, 0, out, ROOM);
+    check(cagzhomul_schema(held, &schema) == CAGZHOMUL_ALREADY_OPEN && cagzhomul_close(&schema) == CAGZHOMUL_OK, "it is not overwritten");
+    return it.status == CAGZHOMUL_OK && it.length == wanted.length && !memcmp(out, wanted.bytes, it.length);
+}
+
 /* The index by_town, which is element 2, enters until its fill has begun; a snapshot from before it stays. */
 static void add_index(cagzhomul_handle *session, cagzhomul_handle *lease) {
     cagzhomul_handle snapshot = {0};
@@ -224,9 +240,10 @@ static void add_index(cagzhomul_handle *session, cagzhomul_handle *lease) {
     check(status == CAGZHOMUL_OK && is_check(&snapshot, 2, 0, 0), "a snapshot of two rows");
     check(is_change(publish(session, 9, &enter), CAGZHOMUL_TOO_EARLY, 10), "version 1 is the newest until 10");
     check(is_change(publish(session, 10, &write_only), CAGZHOMUL_UNKNOWN, 0), "there is no element 2");
-    check(is_change(publish(session, 10, &enter), CAGZHOMUL_OK, 2), "version 2 has the index");
+    check(is_on(session, ABSENT) && is_change(publish(session, 10, &enter), CAGZHOMUL_OK, 2), "version 2 has the index");
+    check(is_on(session, DELETE_ONLY) && is_on(lease, ABSENT), "and the lease has none");
     check(is_change(publish(session, 20, &public), CAGZHOMUL_NOT_ADJACENT, 0), "it is delete-only");
-    check(is_change(publish(session, 20, &write_only), CAGZHOMUL_OK, 3), "version 3 writes it");
+    check(is_change(publish(session, 20, &write_only), CAGZHOMUL_OK, 3) && is_on(session, WRITE_ONLY), "version 3 writes it");
     check(is_change(begin_reorg(session, 29, 2, 1), CAGZHOMUL_STILL_USED, 30), "version 2 may be used until 30");
     check(is_change(publish(session, 30, &public), CAGZHOMUL_UNFINISHED, 2), "its fill is to be finished");
     check(is_change(begin_reorg(session, 30, 1, 1), CAGZHOMUL_NOT_WANTED, 0), "a public column wants nothing");
@@ -310,6 +327,7 @@ static void query_by_index(cagzhomul_handle *session) {
     carry_on(session, 30);
     cagzhomul_granted it = take_lease(session, 31, &lease);
     check(it.status == CAGZHOMUL_OK && it.version == 4 && it.until == 41, "version 4 has the index");
+    check(is_on(session, PUBLIC) && is_on(&lease, PUBLIC), "which is public");
     check(answers(session, 31, &lease, &asked, &before), "one row is in Ulm");
     int32_t status = cagzhomul_snapshot(session, 31, &lease, &snapshot);
     if (is_short(status)) status = cagzhomul_snapshot(session, 31, &lease, &snapshot);
@@ -706,11 +724,27 @@ static void look_at_reads(void) {
     cagzhomul_close(&lease), cagzhomul_close(&session);
 }
 
+/* Schemas of what is closed, of another kind, or has no world, and into a handle that is open. */
+static void look_at_schemas(void) {
+    cagzhomul_handle session = {0}, lease = {0}, snapshot = {0}, blank = {0}, schema = {0};
+    code opening = opening_code(10, "town");
+    check(cagzhomul_schema(&session, &schema) == CAGZHOMUL_CLOSED, "no session");
+    check(open_tables(&session, &opening) == CAGZHOMUL_OK && cagzhomul_open(&blank) == CAGZHOMUL_OK, "sessions");
+    check(cagzhomul_lease(&session, 5, &lease).status == CAGZHOMUL_OK && cagzhomul_snapshot(&session, 5, &lease, &snapshot) == CAGZHOMUL_OK, "a lease");
+    check(cagzhomul_schema(&snapshot, &schema) == CAGZHOMUL_WRONG_KIND && cagzhomul_schema(&blank, &schema) == CAGZHOMUL_NOT_OPENED, "kinds");
+    check(cagzhomul_schema(&schema, &lease) == CAGZHOMUL_ALREADY_OPEN && cagzhomul_schema(&blank, &lease) == CAGZHOMUL_ALREADY_OPEN, "not over a lease");
+    check(!schema.is_open && is_on(&session, ABSENT) && is_on(&lease, ABSENT) && is_on(&lease, ABSENT), "as often as is asked");
+    check(cagzhomul_schema(&lease, &schema) == CAGZHOMUL_OK && cagzhomul_schema(&schema, &blank) == CAGZHOMUL_ALREADY_OPEN, "a schema");
+    check(cagzhomul_close(&blank) == CAGZHOMUL_OK && cagzhomul_schema(&schema, &blank) == CAGZHOMUL_WRONG_KIND && !blank.is_open, "has none");
+    cagzhomul_close(&schema), cagzhomul_close(&snapshot), cagzhomul_close(&lease), cagzhomul_close(&session);
+}
+
 int main(void) {
     is_ample = 1;
     look_at_codes();
     look_at_kinds();
     look_at_queries();
     look_at_reads();
+    look_at_schemas();
     return refuse_each(play) | refuse_each(play_reads);
 }

@@ -5,9 +5,11 @@ use crate::code;
 use crate::error::Error;
 use crate::ffi::Handle;
 use crate::lease::{Held, Lease};
+use crate::library::check_library;
 use crate::names::Names;
 use crate::reply::Row;
-use crate::session::{done, status_of, Session, Step};
+use crate::schema::schema_of;
+use crate::session::{done, Session, Step};
 use crate::snapshot::Check;
 use crate::table::Table;
 use std::sync::{Arc, Mutex, PoisonError};
@@ -76,14 +78,20 @@ impl Db {
         lease_length: u64,
         tables: impl IntoIterator<Item = Table>,
     ) -> Result<Db, Error> {
+        check_library()?;
         let tables: Vec<Table> = tables.into_iter().collect();
         let mut handle = Handle::closed();
         done(handle.open_tables(code::opening(lease_length, &tables).as_bytes()))?;
         Db::over(Session::over(handle), &tables)
     }
 
+    /// A store over a session, whose tables are to be these: their names and their keys count.
     fn over(session: Session, tables: &[Table]) -> Result<Db, Error> {
-        let names = Names::new(tables).at(&status_of(&mut session.lock())?)?;
+        let names = Names::new(0, session.schema()?);
+        let opened = names.schema().tables.iter().map(|it| (&it.name, &it.key));
+        if !opened.eq(tables.iter().map(|it| (&it.name, &it.key))) {
+            return Err(Error::BadTable);
+        }
         session.keep(DEFAULT_KEEP);
         Ok(Db {
             session,
@@ -93,9 +101,10 @@ impl Db {
     }
 
     /// Opens a store that goes on from a checkpoint, as [`Session::checkpoint`] gives its bytes: the
-    /// tables are those that were opened then.
+    /// tables, of which the names and the keys count, are those that were opened then.
     ///
-    /// Refusals: [`Error::BadCheckpoint`] if no world may open from these bytes, [`Error::OutOfMemory`].
+    /// Refusals: [`Error::BadCheckpoint`] if no world may open from these bytes, [`Error::BadTable`] if
+    /// its tables are others, [`Error::OutOfMemory`].
     ///
     /// ```
     /// # use cagzhomul::{Db, Table, Type};
@@ -162,7 +171,7 @@ impl Db {
         self.session.grown(&mut session, granted.place);
         let mut names = self.names.lock().unwrap_or_else(PoisonError::into_inner);
         if names.version() != granted.version {
-            *names = Arc::new(names.at(&status_of(&mut session)?)?);
+            *names = Arc::new(Names::new(granted.version, schema_of(lease)?));
         }
         Ok(Held::new(granted, Arc::clone(&names)))
     }
@@ -205,7 +214,7 @@ impl Db {
         let mut kept = self.kept.lock().unwrap_or_else(PoisonError::into_inner);
         if let Some(held) = kept.take() {
             let is_refused = refused.is_some_and(|lease| lease.place() == held.place());
-            if !is_refused && self.session.is_newest(held.version())? {
+            if !is_refused && self.session.is_newest(held.schema())? {
                 return Ok(kept.insert(held).clone());
             }
         }

@@ -119,6 +119,11 @@ pub enum Error {
     WrongElement,
     /// The piece has gone on since it was read: it is to be read again.
     Moved,
+    /// The library is of another major version than this crate calls, or of a lower minor one.
+    LibraryVersion {
+        /// The library's version: a thousand times its major one, and its minor one.
+        version: u32,
+    },
     /// A status that no call of this crate should meet, by its number.
     Status(i32),
     /// A reply that this crate does not know.
@@ -221,6 +226,7 @@ impl Error {
             Error::Spent => "the piece has ended",
             Error::WrongElement => "the piece is not one of the element's reorganisation",
             Error::Moved => "the piece has moved since it was read",
+            Error::LibraryVersion { .. } => "the library is of another version",
             Error::Status(_) => "a status that is not expected",
             Error::Reply(_) => "a reply that is not expected",
         }
@@ -242,6 +248,7 @@ impl fmt::Display for Error {
                 write!(f, ": element {element}")
             }
             Error::StillWaiting { change } => write!(f, ": {change}"),
+            Error::LibraryVersion { version } => write!(f, ": {version}"),
             Error::Status(status) => write!(f, ": {status}, {}", ffi::text_of(*status)),
             Error::Reply(reply) => write!(f, ": {}", reply.trim_end()),
             _ => Ok(()),

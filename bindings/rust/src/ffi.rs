@@ -132,8 +132,10 @@ unsafe extern "C" {
         -> Pieced;
     fn cagzhomul_progress(session: *mut RawHandle, element: u32) -> Progressed;
     fn cagzhomul_status(session: *mut RawHandle, out: *mut u8, out_length: usize) -> Outcome;
+    fn cagzhomul_schema(held: *mut RawHandle, schema: *mut RawHandle) -> i32;
     fn cagzhomul_close(handle: *mut RawHandle) -> i32;
     fn cagzhomul_text_of(status: i32, out: *mut u8, out_length: usize) -> usize;
+    fn cagzhomul_version() -> u32;
 }
 
 /// What the library keeps of a session, a lease, a transaction, a snapshot, a query's rows or the
@@ -388,6 +390,12 @@ impl Handle {
         // SAFETY: the handle and the slice, as at the top of this file.
         unsafe { cagzhomul_status(self.raw(), out.as_mut_ptr(), out.len()) }
     }
+
+    /// Writes the code of the version that this session or lease is on, into a closed handle.
+    pub(crate) fn schema(&mut self, schema: &mut Handle) -> i32 {
+        // SAFETY: both handles, as at the top of this file.
+        unsafe { cagzhomul_schema(self.raw(), schema.raw()) }
+    }
 }
 
 impl Drop for Handle {
@@ -395,6 +403,12 @@ impl Drop for Handle {
         // SAFETY: the handle, as at the top of this file. One that is closed already stays so.
         unsafe { cagzhomul_close(self.raw()) };
     }
+}
+
+/// The library's version.
+pub(crate) fn version() -> u32 {
+    // SAFETY: it takes nothing.
+    unsafe { cagzhomul_version() }
 }
 
 /// The library's text for a status; any number has one.

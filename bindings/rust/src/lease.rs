@@ -6,6 +6,7 @@ use crate::ffi::{Granted, Handle};
 use crate::names::Names;
 use crate::query::{find, Query};
 use crate::reply::{refusal_of, rows_of, Row};
+use crate::schema::Schema;
 use crate::session::{done, reply_to, Session};
 use crate::snapshot::Snapshot;
 use crate::txn::{Receipt, Txn};
@@ -31,6 +32,11 @@ impl Held {
 
     pub(crate) fn version(&self) -> u64 {
         self.granted.version
+    }
+
+    /// The schema of its version.
+    pub(crate) fn schema(&self) -> &Schema {
+        self.names.schema()
     }
 
     /// The place of its entry in the log.
@@ -87,6 +93,20 @@ impl<'db> Lease<'db> {
     /// The number of the version that it is on.
     pub fn version(&self) -> u64 {
         self.held.version()
+    }
+
+    /// The schema of that version.
+    ///
+    /// ```
+    /// # use cagzhomul::{Db, Table, Type};
+    /// # let db = Db::open([Table::new("t").key("id", Type::Int)])?;
+    /// let lease = db.lease(10)?;
+    /// db.line("publish at 10: add column a int on t")?;
+    /// assert_eq!((lease.schema().next, db.lease(10)?.schema().next), (1, 2));
+    /// # Ok::<(), cagzhomul::Error>(())
+    /// ```
+    pub fn schema(&self) -> &Schema {
+        self.held.schema()
     }
 
     /// The moment from which on it is in force.

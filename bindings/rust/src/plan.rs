@@ -291,10 +291,11 @@ impl Db {
     /// # Ok::<(), Error>(())
     /// ```
     pub fn element(&self, table: &str, name: &str) -> Result<u32, Error> {
-        let names = self.names().at(&self.status()?)?;
-        match names.element(table, name) {
-            0 => Err(Error::Unknown),
-            number => Ok(number),
+        let schema = self.session().schema()?;
+        let mut elements = schema.elements.iter();
+        match elements.find(|it| it.table == table && it.name == name) {
+            None => Err(Error::Unknown),
+            Some(element) => Ok(element.number),
         }
     }
 

@@ -118,38 +118,30 @@ impl Query {
 pub(crate) fn find(
     query: &Query,
     names: &Names,
-    mut ask: impl FnMut(&[u8], &mut Handle) -> Queried,
+    ask: impl FnOnce(&[u8], &mut Handle) -> Queried,
 ) -> Result<Vec<Row>, Error> {
     let number = |column: &str| names.element(&query.table, column);
-    let mut columns: Vec<u32> = match &query.columns {
+    let columns: Vec<u32> = match &query.columns {
         None => names.public(&query.table),
         Some(columns) => columns.iter().map(|column| number(column)).collect(),
     };
     let mut rows = Handle::closed();
-    loop {
-        let table = names.table(&query.table);
-        let code = code::query(table, &columns, &query.conditions, number);
-        let queried = ask(code.as_bytes(), &mut rows);
-        match (queried.status, queried.column) {
-            (ffi::NOT_PUBLIC, met) if query.columns.is_none() && columns.contains(&met) => {
-                names.refuse(met);
-                columns.retain(|column| *column != met);
-            }
-            (ffi::NOT_PUBLIC, 0) => {
-                let column = query.unknown(names);
-                return Err(Error::NotPublic { column });
-            }
-            (ffi::NOT_PUBLIC, met) => {
-                let column = names.name_of(met).map(str::to_string);
-                return Err(Error::NotPublic { column });
-            }
-            // Only a text over 1,024 bytes makes a bad code of what this crate writes.
-            (ffi::BAD_CODE, _) => return Err(Error::WrongType),
-            (status, _) => {
-                done(status)?;
-                let code = fetch(|_, out| rows.rows_from(0, out))?;
-                return rows_of(&code, &columns, names);
-            }
+    let table = names.table(&query.table);
+    let code = code::query(table, &columns, &query.conditions, number);
+    let queried = ask(code.as_bytes(), &mut rows);
+    match (queried.status, queried.column) {
+        (ffi::NOT_PUBLIC, met) => Err(Error::NotPublic {
+            column: match met {
+                0 => query.unknown(names),
+                met => names.name_of(met).map(str::to_string),
+            },
+        }),
+        // Only a text over 1,024 bytes makes a bad code of what this crate writes.
+        (ffi::BAD_CODE, _) => Err(Error::WrongType),
+        (status, _) => {
+            done(status)?;
+            let code = fetch(|_, out| rows.rows_from(0, out))?;
+            rows_of(&code, &columns, names)
         }
     }
 }

@@ -192,9 +192,10 @@ pub(crate) fn refusal_of(reply: &str) -> Error {
 #[cfg(test)]
 mod tests {
     use super::*;
+    use crate::schema::Schema;
 
     fn rows(reply: &str) -> Result<Vec<Row>, Error> {
-        rows_of(reply, &Names::new(&[]))
+        rows_of(reply, &Names::new(1, Schema::of(&[], &[])))
     }
 
     #[test]

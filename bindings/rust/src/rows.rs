@@ -105,18 +105,11 @@ pub(crate) fn rows_of(code: &[u8], columns: &[u32], names: &Names) -> Result<Vec
 #[cfg(test)]
 mod tests {
     use super::*;
-    use crate::table::Table;
+    use crate::schema::Schema;
 
     /// The version of table t with the columns a, b and c.
     fn names() -> Names {
-        let element = |(number, name)| {
-            format!("{{\"name\":\"{name}\",\"number\":{number},\"state\":\"public\",\"table\":\"t\",\"way\":\"adding\"}}")
-        };
-        let elements = [(1, "a"), (2, "b"), (3, "c")].map(element).join(",");
-        let status = format!(
-            "{{\"elements\":[{elements}],\"log\":0,\"moment\":0,\"usable\":[1],\"version\":1}}"
-        );
-        Names::new(&[Table::new("t")]).at(&status).unwrap()
+        Names::new(1, Schema::of(&["t"], &["a", "b", "c"]))
     }
 
     /// The row 7, with true in b, a text with zeros in c and nothing in a; and the row "" with

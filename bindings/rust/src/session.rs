@@ -2,7 +2,8 @@
 
 use crate::error::Error;
 use crate::ffi::{self, Handle, Outcome};
-use crate::names::version_of;
+use crate::library::check_library;
+use crate::schema::{schema_of, Schema};
 use std::fmt;
 use std::sync::atomic::{AtomicBool, AtomicU64, Ordering};
 use std::sync::{Mutex, MutexGuard, PoisonError};
@@ -53,8 +54,9 @@ pub struct Session {
 impl Session {
     /// Opens a session at its start: before its line `open`.
     ///
-    /// Refusal: [`Error::OutOfMemory`].
+    /// Refusals: [`Error::LibraryVersion`], as each opening has, [`Error::OutOfMemory`].
     pub fn open() -> Result<Session, Error> {
+        check_library()?;
         let mut handle = Handle::closed();
         done(handle.open())?;
         Ok(Session::over(handle))
@@ -66,6 +68,7 @@ impl Session {
     ///
     /// Refusals: [`Error::BadCheckpoint`] if no world may open from these bytes, [`Error::OutOfMemory`].
     pub fn open_at(checkpoint: &[u8]) -> Result<Session, Error> {
+        check_library()?;
         let mut handle = Handle::closed();
         match handle.open_at(checkpoint) {
             ffi::BAD_CODE => return Err(Error::BadCheckpoint),
@@ -104,16 +107,16 @@ impl Session {
         self.is_newer.store(true, Ordering::Relaxed);
     }
 
-    /// Whether this version is the newest, which `status` is asked for if another may have been
-    /// published since it was.
-    pub(crate) fn is_newest(&self, version: u64) -> Result<bool, Error> {
+    /// Whether this schema, which was the newest, still is; the library is asked if another version may
+    /// have been published since.
+    pub(crate) fn is_newest(&self, schema: &Schema) -> Result<bool, Error> {
         let mut handle = self.lock();
         if !self.is_newer.load(Ordering::Relaxed) {
             return Ok(true);
         }
-        let is_newest = version_of(&status_of(&mut handle)?)? == version;
+        let newest = schema_of(&mut handle)?;
         self.is_newer.store(false, Ordering::Relaxed);
-        Ok(is_newest)
+        Ok(newest == *schema)
     }
 
     /// The log has an entry of this place: it is cut if it has grown long enough.
@@ -165,6 +168,27 @@ impl Session {
         let place = usize::try_from(place).map_err(|_| Error::NoEntry)?;
         let mut handle = self.lock();
         fetch(|_, out| handle.entry(place, out))
+    }
+
+    /// The newest version of the schema: its tables, columns and indexes.
+    ///
+    /// Refusals: [`Error::Closed`], [`Error::NotOpened`], [`Error::OutOfMemory`].
+    ///
+    /// ```
+    /// # fn main() -> Result<(), cagzhomul::Error> {
+    /// # use cagzhomul::{SchemaKind, Session, State};
+    /// let session = Session::open()?;
+    /// for line in ["table t (id int key, a text)", "index i on t (a)", "open"] {
+    ///     session.line(line)?;
+    /// }
+    /// let index = &session.schema()?.elements[1];
+    /// assert_eq!((index.number, index.name.as_str(), index.state), (2, "i", State::Public));
+    /// assert_eq!(index.what, SchemaKind::Index { columns: vec!["a".to_string()] });
+    /// # Ok(())
+    /// # }
+    /// ```
+    pub fn schema(&self) -> Result<Schema, Error> {
+        schema_of(&mut self.lock())
     }
 
     /// How many entries the log had ever, those that were cut off among them: the last one's place.

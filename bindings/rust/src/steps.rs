@@ -59,12 +59,12 @@ fn a_move(reader: &mut Reader<'_>, names: &Names) -> Option<Move> {
     }
 }
 
-fn name(reader: &mut Reader<'_>) -> Option<String> {
+pub(crate) fn name(reader: &mut Reader<'_>) -> Option<String> {
     let length = usize::try_from(reader.number()?).ok()?;
     String::from_utf8(reader.bytes(length)?.to_vec()).ok()
 }
 
-fn entering(reader: &mut Reader<'_>) -> Option<Entering> {
+pub(crate) fn entering(reader: &mut Reader<'_>) -> Option<Entering> {
     match reader.byte()? {
         0 => Some(Entering::Index {
             columns: reader.list(Reader::small_number)?,
@@ -81,7 +81,7 @@ fn entering(reader: &mut Reader<'_>) -> Option<Entering> {
     }
 }
 
-fn kind(reader: &mut Reader<'_>) -> Option<Type> {
+pub(crate) fn kind(reader: &mut Reader<'_>) -> Option<Type> {
     match reader.byte()? {
         0 => Some(Type::Int),
         1 => Some(Type::Text),
@@ -90,7 +90,7 @@ fn kind(reader: &mut Reader<'_>) -> Option<Type> {
     }
 }
 
-fn state(reader: &mut Reader<'_>) -> Option<State> {
+pub(crate) fn state(reader: &mut Reader<'_>) -> Option<State> {
     match reader.byte()? {
         0 => Some(State::Absent),
         1 => Some(State::DeleteOnly),
@@ -103,7 +103,7 @@ fn state(reader: &mut Reader<'_>) -> Option<State> {
 #[cfg(test)]
 mod tests {
     use super::*;
-    use crate::table::Table;
+    use crate::schema::Schema;
 
     /// Two steps by hand: an index, and columns without and with a default, enter; once element 3
     /// is filled and 4 is cleared, 3 goes public and 5 turns.
@@ -127,7 +127,7 @@ mod tests {
 
     /// The steps of a code, where t is table 1.
     fn steps(code: &[u8]) -> Result<Vec<PlannedStep>, Error> {
-        steps_of(code, &Names::new(&[Table::new("t")]))
+        steps_of(code, &Names::new(1, Schema::of(&["t"], &[])))
     }
 
     #[test]
@@ -169,7 +169,7 @@ mod tests {
         assert!(steps(&[CODE, b"\0"].concat()).is_err());
         assert!(steps(b"\x02\0\0\0\0\0\0\0\0").is_err());
         assert!(
-            steps_of(CODE, &Names::new(&[])).is_err(),
+            steps_of(CODE, &Names::new(1, Schema::of(&[], &[]))).is_err(),
             "there is no table 1"
         );
     }

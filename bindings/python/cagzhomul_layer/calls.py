@@ -1,0 +1,219 @@
+"""The calls of the library for the layer (include/cagzhomul_layer.h), by bytes, and what they give, read.
+
+Each is a function of what was read, and keeps nothing. docs/FORMAT.md has the codes. Importing this needs the
+library, as importing cagzhomul does."""
+
+from __future__ import annotations
+
+import contextlib
+import ctypes
+import struct
+from typing import Any, Dict, Iterable, Iterator, List, Mapping, NamedTuple, Optional, Tuple
+
+import cagzhomul
+from cagzhomul import _BYTES, _HANDLE, _NUMBER, _SIZE, _SMALL, _STATUS, _Checked, _code_of, _Handle, _library, _list, _number, _number_at
+
+from .store import BadAnswer, Draft, Pair
+
+OK, BAD_COUNT, NOT_PUBLIC, DUPLICATE, NO_ROW, DEPENDENT, UNFINISHED, BAD_PIECE = 0, 12, 21, 29, 30, 35, 38, 42
+
+
+class _Layered(ctypes.Structure): _fields_ = [("status", _STATUS), ("column", _SMALL), ("number", _NUMBER)]
+
+
+_CODE: List[Any] = [_BYTES, _SIZE]
+_PARAMETERS: Dict[str, List[Any]] = {
+    "open": _CODE, "reads": 2 * _CODE, "txn": [_NUMBER, *4 * _CODE], "ranges": 2 * _CODE, "row_ranges": 3 * _CODE, "rows": 3 * _CODE, "plan": 2 * _CODE,
+    "publish": [_SMALL, *3 * _CODE], "close": [_SMALL, *_CODE], "begin": [_SMALL, *_CODE, _SMALL, *_CODE], "piece": [*_CODE, _SMALL, *3 * _CODE],
+}
+
+
+def _declared() -> None:
+    """Gives the functions of the library their types."""
+    for name, parameters in _PARAMETERS.items():
+        function = getattr(_library, f"cagzhomul_layer_{name}", None)
+        if function is None:
+            raise ImportError(f"the library has no cagzhomul_layer_{name}: it is older than this module")
+        function.restype, function.argtypes = _Layered, [*parameters, _HANDLE]
+    _library.cagzhomul_layer_check.restype, _library.cagzhomul_layer_check.argtypes = _Checked, 2 * _CODE
+
+
+_declared()
+
+
+class Answered(NamedTuple):
+    """What a call gave: its bytes, and the number beside them."""
+
+    code: bytes
+    number: int
+
+
+class Refusal(Exception):
+    """A call of the library that was refused: its status, and what comes with it."""
+
+    def __init__(self, status: int, column: int, number: int) -> None:
+        super().__init__(cagzhomul.text_of(status))
+        self.status, self.column, self.number = status, column, number
+
+
+def asked(name: str, *given: Any) -> Answered:
+    """Calls a function: each of `given` is bytes, which go with their length, or a number. Raises Refusal."""
+    out, words = _Handle(), []
+    for it in given:
+        words += [it, len(it)] if isinstance(it, bytes) else [it]
+    try:
+        done = getattr(_library, f"cagzhomul_layer_{name}")(*words, out)
+        if done.status != OK:
+            raise Refusal(int(done.status), int(done.column), int(done.number))
+        return Answered(_code_of(out), int(done.number))
+    finally:
+        _library.cagzhomul_close(out)
+
+
+def check(version: bytes, pairs: Iterable[Pair]) -> cagzhomul.Audit:
+    """Audits all pairs of rows and indexes by a version's record. Raises Refusal."""
+    code = pairs_code(pairs)
+    done = _library.cagzhomul_layer_check(version, len(version), code, len(code))
+    if done.status != OK:
+        raise Refusal(int(done.status), 0, 0)
+    return cagzhomul.Audit(int(done.rows), int(done.missing), int(done.extra))
+
+
+# ---- codes that are written
+
+
+def _bytes(data: bytes) -> bytes:
+    return _number(len(data)) + data
+
+
+def _option(data: Optional[bytes]) -> bytes:
+    return b"\0" if data is None else b"\1" + _bytes(data)
+
+
+def points_code(points: Mapping[bytes, Optional[bytes]]) -> bytes:
+    """The code of keys with their values or none, by rising key."""
+    return b"\1" + _list([_bytes(key) + _option(value) for key, value in sorted(points.items())])
+
+
+def pairs_code(pairs: Iterable[Pair]) -> bytes:
+    """The code of pairs by rising key, as they are given."""
+    return b"\1" + _list([_bytes(key) + _bytes(value) for key, value in pairs])
+
+
+# ---- codes that are read
+
+
+def _pairs_at(code: bytes, at: int) -> Tuple[List[Pair], int]:
+    """The pairs of a list that begins there, and where it ends."""
+    pairs: List[Pair] = []
+    count, at = _number_at(code, at)[0], at + 8
+    for _ in range(count):
+        middle = at + 8 + _number_at(code, at)[0]
+        end = middle + 8 + _number_at(code, middle)[0]
+        pairs.append((code[at + 8 : middle], code[middle + 8 : end]))
+        at = end
+    return pairs, at
+
+
+def _points_at(code: bytes, at: int) -> Tuple[Dict[bytes, Optional[bytes]], int]:
+    """The keys, with their values or none, of a list that begins there, and where it ends."""
+    points: Dict[bytes, Optional[bytes]] = {}
+    count, at = _number_at(code, at)[0], at + 8
+    for _ in range(count):
+        end = at + 8 + _number_at(code, at)[0]
+        key, at = code[at + 8 : end], end + 1
+        if code[end]:
+            end = at + 8 + _number_at(code, at)[0]
+            points[key], at = code[at + 8 : end], end
+        else:
+            points[key] = None
+    return points, at
+
+
+def _ranges_at(code: bytes, at: int) -> Tuple[List[Tuple[bytes, bytes, List[Pair]]], int]:
+    """The ranges of a list that begins there, with their pairs, and where it ends."""
+    ranges: List[Tuple[bytes, bytes, List[Pair]]] = []
+    count, at = _number_at(code, at)[0], at + 8
+    for _ in range(count):
+        middle = at + 8 + _number_at(code, at)[0]
+        end = middle + 8 + _number_at(code, middle)[0]
+        pairs, after = _pairs_at(code, end)
+        ranges.append((code[at + 8 : middle], code[middle + 8 : end], pairs))
+        at = after
+    return ranges, at
+
+
+@contextlib.contextmanager
+def _whole(code: bytes) -> Iterator[List[int]]:
+    """Reads a code: where it has been read to is put in the list. BadAnswer if it is of another form, or more or less than that is there."""
+    ends = [0]
+    try:
+        if code[:1] != b"\1":
+            raise BadAnswer("bytes in another code")
+        yield ends
+    except (struct.error, IndexError) as fault:
+        raise BadAnswer("a code that is cut off") from fault
+    if ends[0] != len(code):
+        raise BadAnswer("a code that is cut off, or goes on")
+
+
+def points_of(code: bytes) -> Dict[bytes, Optional[bytes]]:
+    """The keys of a code, with their values or none."""
+    with _whole(code) as ends:
+        points, ends[0] = _points_at(code, 1)
+    return points
+
+
+def pairs_of(code: bytes) -> List[Pair]:
+    """The pairs of a code."""
+    with _whole(code) as ends:
+        pairs, ends[0] = _pairs_at(code, 1)
+    return pairs
+
+
+def draft_of(code: bytes) -> Draft:
+    """The draft of a code."""
+    with _whole(code) as ends:
+        compare, at = _points_at(code, 1)
+        ranges, at = _ranges_at(code, at)
+        write, ends[0] = _points_at(code, at)
+    return Draft(compare, ranges, write)
+
+
+def bounds_of(record: bytes) -> List[Tuple[bytes, bytes]]:
+    """The bounds of the pieces of a reorganisation, by its record."""
+    at = cagzhomul._name_at(record, 9)[1]  # after the code's version, the element's number, its table and its name
+    at = cagzhomul._kind_at(record, at)[1] + 3  # and its state, its way and the work
+    return pairs_of(b"\1" + record[at:])
+
+
+# ---- keys of control records
+
+VERSIONS, REORGS, CURSORS, MARKS, PAIRS, END = b"\0", b"\1", b"\2", b"\3", b"\4", b"\xff"
+
+
+def version_key(number: int) -> bytes:
+    """The key of a version."""
+    return VERSIONS + _number(number)
+
+
+def reorg_key(element: int) -> bytes:
+    """The key of an element's reorganisation."""
+    return REORGS + _number(element)
+
+
+def cursor_key(element: int, piece: int) -> bytes:
+    """The key of a piece's cursor."""
+    return CURSORS + _number(element) + _number(piece)
+
+
+def mark_key(mark: bytes) -> bytes:
+    """The key of a mark."""
+    return MARKS + mark
+
+
+def number_of(key: bytes, place: int = 0) -> int:
+    """A number in a key of a control record. BadAnswer if it has none at this place."""
+    if len(key) < 9 + 8 * place:
+        raise BadAnswer("a key of no control record")
+    return int(_number_at(key, 1 + 8 * place)[0])

@@ -1,0 +1,115 @@
+"""A store in a file of SQLite, which several processes of one machine share."""
+
+from __future__ import annotations
+
+import contextlib
+import random
+import sqlite3
+import time
+from typing import Iterable, Iterator, List, Sequence, Type
+
+from .store import Draft, Found, Page, Pair, Range, Refused, StoreError, TooLarge, Unknown, Unreachable, page_of, values_of
+
+
+class SqliteStore:
+    """A table of a file. `path` is the file, which is made if it is missing, `table` is a name of letters,
+    digits and `_`, and `seconds` is how long a call waits for other processes.
+
+    `Unreachable` if the file cannot be opened."""
+
+    def __init__(self, path: str, table: str = "cagzhomul", seconds: float = 10) -> None:
+        if not table.isidentifier() or not table.isascii():
+            raise ValueError(f"no name of a table: {table!r}")
+        self._table, self._seconds = table, seconds
+        with self._faults(Unreachable):
+            self._connection = sqlite3.connect(path, timeout=seconds, isolation_level=None, check_same_thread=False)
+            self._prepare(time.monotonic() + seconds)
+
+    def _prepare(self, end: float) -> None:
+        """Makes the table if it is missing. SQLite does not wait where two processes turn the file to WAL at once, so this does."""
+        while True:
+            try:
+                self._connection.execute("PRAGMA journal_mode = WAL")
+                # a commit that was answered stays even if the machine loses its power
+                self._connection.execute("PRAGMA synchronous = FULL")
+                self._connection.execute(f"CREATE TABLE IF NOT EXISTS {self._table} (key BLOB NOT NULL PRIMARY KEY, value BLOB NOT NULL) WITHOUT ROWID")
+                return
+            except sqlite3.OperationalError:
+                if time.monotonic() >= end:
+                    raise
+                time.sleep(0.02)
+
+    @contextlib.contextmanager
+    def _faults(self, lost: Type[StoreError]) -> Iterator[None]:
+        """Raises SQLite's errors as the store's; `lost` is for those that it has no better name for."""
+        try:
+            yield
+        except (sqlite3.DataError, OverflowError) as fault:
+            raise TooLarge(str(fault)) from fault
+        except sqlite3.Error as fault:
+            raise lost(str(fault)) from fault
+
+    def _begin(self, is_write: bool) -> None:
+        """Begins a transaction, with the lock for writers if it is to write. SQLite's own wait for that sleeps for up to 100 ms at a time,
+        so that those who come later go first; here all sleep alike."""
+        if not is_write:
+            self._connection.execute("BEGIN DEFERRED")
+            return
+        end = time.monotonic() + self._seconds
+        self._connection.execute("PRAGMA busy_timeout = 0")
+        try:
+            while True:
+                try:
+                    self._connection.execute("BEGIN IMMEDIATE")
+                    return
+                except sqlite3.OperationalError:
+                    if time.monotonic() >= end:
+                        raise
+                    time.sleep(random.uniform(0.001, 0.01))
+        finally:
+            self._connection.execute(f"PRAGMA busy_timeout = {int(1000 * self._seconds)}")
+
+    @contextlib.contextmanager
+    def _transaction(self, is_write: bool) -> Iterator[None]:
+        """Begins, commits if all went well, and rolls back otherwise."""
+        with self._faults(Unreachable):
+            self._begin(is_write)
+        try:
+            with self._faults(Unreachable):
+                yield
+            # a disk that fails in a commit may have it or not
+            with self._faults(Unknown if is_write else Unreachable):
+                self._connection.execute("COMMIT")
+        finally:
+            if self._connection.in_transaction:
+                with contextlib.suppress(sqlite3.Error):
+                    self._connection.execute("ROLLBACK")
+
+    def _page(self, of: Range) -> Page:
+        query = f"SELECT key, value FROM {self._table} WHERE key >= ? AND key < ? ORDER BY key LIMIT ?"
+        return page_of(self._connection.execute(query, (of.low, of.high, of.limit)), of)
+
+    def _found(self, points: Iterable[bytes], ranges: Sequence[Range]) -> Found:
+        wanted = list(dict.fromkeys(points))
+        pairs: List[Pair] = []
+        for key in wanted:
+            pairs += self._connection.execute(f"SELECT key, value FROM {self._table} WHERE key = ?", (key,))
+        return Found(values_of(pairs, wanted), [self._page(it) for it in ranges])
+
+    def read(self, points: Iterable[bytes], ranges: Sequence[Range] = ()) -> Found:
+        """See `Store`. The moment is that of the first statement: a transaction of WAL reads one snapshot."""
+        with self._transaction(is_write=False):
+            return self._found(points, ranges)
+
+    def apply(self, draft: Draft) -> None:
+        """See `Store`. `IMMEDIATE` takes the file's one lock for writers before anything is compared, so
+        nobody writes between; `Unreachable` if others held it for too long."""
+        with self._transaction(is_write=True):
+            draft.check(self._found(draft.compare, draft.compared_ranges()))
+            put = [(key, value) for key, value in draft.write.items() if value is not None]
+            self._connection.executemany(f"INSERT INTO {self._table} VALUES (?, ?) ON CONFLICT (key) DO UPDATE SET value = excluded.value", put)
+            self._connection.executemany(f"DELETE FROM {self._table} WHERE key = ?", [(key,) for key, value in draft.write.items() if value is None])
+
+    def close(self) -> None:
+        """See `Store`."""
+        self._connection.close()

@@ -1,0 +1,294 @@
+"""Transactions over a store, and what a server keeps between them: which version is the newest."""
+
+from __future__ import annotations
+
+import random
+import time
+import uuid
+from typing import Dict, List, Mapping, NamedTuple, Optional, Sequence, Tuple
+
+import cagzhomul
+from cagzhomul import Conflict, Key, Query, Row, Value
+
+from . import calls
+from .calls import VERSIONS, Refusal, asked, mark_key, version_key
+from .changes import versions_of
+from .store import BadAnswer, Draft, Refused, Store, StoreError, Unknown, Unreachable
+
+# the code of no operations, and of no keys
+_NOTHING = b"\1" + bytes(8)
+# how many seconds at most pass before a draft that was refused is made again
+_PAUSE = 0.005
+
+
+def pause() -> None:
+    """Waits for a moment, so that those who met do not meet again."""
+    time.sleep(random.random() * _PAUSE)
+
+
+class Version(NamedTuple):
+    """An open version: its number, its record, and the names in it."""
+
+    number: int
+    record: bytes
+    names: cagzhomul._Names
+
+
+class _Op(NamedTuple):
+    """An operation: 0 inserts, 1 updates, 2 deletes. Columns are by name, as their numbers are of a version."""
+
+    kind: int
+    table: str
+    key: bytes
+    cells: Mapping[str, Value]
+
+    def code(self, names: cagzhomul._Names) -> bytes:
+        """Its code in a version."""
+        code = bytes([self.kind]) + cagzhomul._number(names.tables.get(self.table, 0), 4) + self.key
+        if self.kind == 2:
+            return code
+        cells = [cagzhomul._number(names.number(self.table, name), 4) + cagzhomul._value(value) for name, value in self.cells.items()]
+        return code + cagzhomul._list(cells)
+
+
+def _ops_code(ops: Sequence[_Op], names: cagzhomul._Names) -> bytes:
+    return b"\1" + cagzhomul._list([it.code(names) for it in ops])
+
+
+def error_of(refusal: Refusal, names: cagzhomul._Names, unknown: Optional[str]) -> cagzhomul.CagzhomulError:
+    """The exception of a refused transaction or query; `unknown` is the first name in it that its table does not have."""
+    if refusal.status == calls.NOT_PUBLIC:
+        return cagzhomul.NotPublic(names.by_number.get(refusal.column) if refusal.column else unknown)
+    if refusal.status in (calls.DUPLICATE, calls.NO_ROW):
+        return (cagzhomul.Duplicate if refusal.status == calls.DUPLICATE else cagzhomul.NoRow)(refusal.status, refusal.number)
+    # only a text over 1,024 bytes makes a bad code of what this module writes
+    status = cagzhomul._WRONG_TYPE if refusal.status == cagzhomul._BAD_CODE else refusal.status
+    return cagzhomul._ERRORS.get(status, cagzhomul.CagzhomulError)(status)
+
+
+class Server:
+    """A store, and the newest version that is known of it. `seconds` is as for `Layer`.
+
+    Raises NotOpened if there is no database in the store; what reads of the store do."""
+
+    def __init__(self, store: Store, seconds: float) -> None:
+        self.store, self.seconds = store, seconds
+        self._newest: Optional[Version] = None
+        self.refresh()
+
+    def refresh(self) -> bool:
+        """Reads which version is the newest, and says whether it is another than was known."""
+        versions = versions_of(self.store)
+        if not versions:
+            raise cagzhomul.NotOpened(6)
+        number = max(versions)
+        if self._newest is not None and (self._newest.number, self._newest.record) == (number, versions[number]):
+            return False
+        self._newest = Version(number, versions[number], cagzhomul._Names(number, cagzhomul._schema(versions[number])))
+        return True
+
+    def version(self) -> Version:
+        """The newest version that is known, which may be closed by now."""
+        assert self._newest is not None
+        return self._newest
+
+    def is_settled(self, mark: bytes) -> bool:
+        """Whether the transaction of this mark was applied, after its answer was lost. If it was not, it never will be: a transaction
+        without operations has put the mark.
+
+        Raises Unknown if the answer to that is lost, too, and the mark is there, or if no answer comes in time."""
+        is_mine, end = False, time.monotonic() + self.seconds
+        while time.monotonic() < end:
+            version = self.version()
+            try:
+                self.store.apply(calls.draft_of(asked("txn", version.number, version.record, _NOTHING, _NOTHING, mark).code))
+                return False
+            except Refused as refused:
+                if refused.key == mark_key(mark):
+                    if is_mine:
+                        break
+                    return True
+                self.refresh()
+            except (Unknown, BadAnswer):
+                is_mine = True
+            except Unreachable:
+                pass
+            pause()
+        raise Unknown("whether the transaction was applied")
+
+
+class Txn:
+    """Operations of which all are committed or none, at most 64, by `Layer.txn`. At the end of a `with` block it is committed, unless
+    the block raised an exception.
+
+    Tables and columns are given by name, and a row by its primary key: one value, or a tuple or list of them. None is no value, and in
+    a column with a default the default.
+
+    It is serializable in all rows that it gets or writes. `mark` is its name in the store, under which it is applied at most once."""
+
+    def __init__(self, server: Server) -> None:
+        self._server, self._ops = server, list[_Op]()
+        # the version under which rows were got, these rows by table and key, and what was read for them
+        self._version: Optional[Version] = None
+        self._got: Dict[Tuple[str, bytes], Optional[Row]] = {}
+        self._view: Dict[bytes, Optional[bytes]] = {}
+        # whether a draft of it may be applied yet, or is
+        self._is_unsure = False
+        self._has_ended = False
+        self.mark = uuid.uuid4().bytes
+
+    def _check_stage(self) -> None:
+        if self._has_ended:
+            raise cagzhomul.WrongStage(cagzhomul._WRONG_STAGE)
+
+    def get(self, table: str, key: Key, /) -> Optional[Row]:
+        """A row as the store holds it, a dict of its key columns and all public columns, or None if it is not there; what this
+        transaction writes is not in it. From then on the row is pinned, as by `cagzhomul.Txn.get`: the commit is refused as Conflict if
+        it has changed. A second call for a row gives the same answer. A row that is got and not written counts as an operation, or
+        as two if it is not there.
+
+        Raises WrongStage if it has ended; NoTable or WrongType; Conflict if the version under which it got rows is closed; what reads
+        of the store do."""
+        self._check_stage()
+        row = table, cagzhomul._key(key)
+        if row not in self._got:
+            while not self._is_got(row, cagzhomul._asked(Query(table, key=key))):
+                if self._version is not None:
+                    raise Conflict(28)
+                self._server.refresh()
+        found = self._got[row]
+        return None if found is None else dict(found)
+
+    def _is_got(self, row: Tuple[str, bytes], wanted: cagzhomul._Asked) -> bool:
+        """Reads a row; False if the version is closed."""
+        version = self._version or self._server.version()
+        names = version.names
+        keys = calls.points_of(asked("reads", version.record, _ops_code([_Op(1, *row, {})], names)).code) if row[0] in names.tables else {}
+        found = self._server.store.read([version_key(version.number), *keys]).values
+        if found.pop(version_key(version.number)) != version.record:
+            return False
+        pairs = sorted((it, value) for it, value in found.items() if value is not None)
+        columns = names.columns(wanted)
+        try:
+            code = asked("rows", version.record, cagzhomul._query(wanted, columns, names), calls.pairs_code(pairs)).code
+        except Refusal as refusal:
+            raise error_of(refusal, names, None) from None
+        rows = cagzhomul._coded_rows(code, names.keys[row[0]], columns, names.by_number)
+        self._version = version
+        self._got[row] = rows[0] if rows else None
+        self._view.update(found)
+        return True
+
+    def insert(self, table: str, key: Key, /, **cells: Value) -> Txn:
+        """Adds the insertion of a row: its key, and values by column. Raises WrongStage, as all three do, if it has ended."""
+        return self._add(0, table, key, cells)
+
+    def update(self, table: str, key: Key, /, **cells: Value) -> Txn:
+        """Adds new values for columns of a row that is there. Raises WrongStage."""
+        return self._add(1, table, key, cells)
+
+    def delete(self, table: str, key: Key, /) -> Txn:
+        """Adds the deletion of a row that is there. Raises WrongStage."""
+        return self._add(2, table, key, {})
+
+    def _add(self, kind: int, table: str, key: Key, cells: Mapping[str, Value]) -> Txn:
+        self._check_stage()
+        self._ops.append(_Op(kind, table, cagzhomul._key(key), cells))
+        return self
+
+    def _all_ops(self) -> List[_Op]:
+        """The operations, and some that change nothing on the rows that it got and does not write: an update without cells of one that
+        is there, and an insertion and a deletion of one that is not."""
+        written = {(it.table, it.key) for it in self._ops}
+        pins: List[_Op] = []
+        for row, found in self._got.items():
+            if row not in written:
+                pins += [_Op(0, *row, {}), _Op(2, *row, {})] if found is None else [_Op(1, *row, {})]
+        return self._ops + pins
+
+    def commit(self) -> bytes:
+        """Commits it, and gives its mark. If rows have changed meanwhile it is made again, by itself if it has got none; one that has got
+        rows has ended then. If an answer is lost, its draft is handed in again until it is known to be applied, or not.
+
+        Raises WrongStage if it has ended; of the first faulty operation NoTable, NotPublic or WrongType, but a text that is too long
+        is WrongType before all; TooManyOps; Duplicate or NoRow; Conflict if it has got rows and one of them has changed;
+        TooLarge or Unreachable, by which nothing is committed; and Unknown, at which nobody knows."""
+        self._check_stage()
+        self._has_ended = True
+        if not self._ops and len(self._got) < 2:
+            return self.mark  # what it read is of one moment
+        try:
+            self._commit()
+        except StoreError as fault:
+            if not self._is_unsure or isinstance(fault, Unknown):
+                raise
+            raise Unknown("whether the transaction was applied") from fault
+        return self.mark
+
+    def _commit(self) -> None:
+        """Makes drafts of it until one is applied, or it is refused for good."""
+        try:
+            while not self._is_committed():
+                pause()
+        except cagzhomul.CagzhomulError:
+            if not (self._is_unsure and self._server.is_settled(self.mark)):
+                raise
+
+    def _is_committed(self) -> bool:
+        """Makes its draft and hands it in; False if it is to be made again."""
+        version = self._version or self._server.version()
+        try:
+            draft = self._draft(version)
+        except Refusal as refusal:
+            # a column may have come, or gone, in a newer version
+            if refusal.status not in (calls.DUPLICATE, calls.NO_ROW) and self._version is None and self._server.refresh():
+                return False
+            raise error_of(refusal, version.names, self._unknown(version.names)) from None
+        if draft is None or self._is_applied(draft):
+            return True
+        if self._got:
+            raise Conflict(28)
+        return False
+
+    def _unknown(self, names: cagzhomul._Names) -> Optional[str]:
+        """The first name of a column in it that its table does not have."""
+        return next((name for it in self._ops for name in it.cells if not names.number(it.table, name)), None)
+
+    def _draft(self, version: Version) -> Optional[Draft]:
+        """Its draft, from what it got and what it reads for the rest; None if a draft of it is applied."""
+        code = _ops_code(self._all_ops(), version.names)
+        keys = calls.points_of(asked("reads", version.record, code).code)
+        wanted = [key for key in keys if key not in self._view] + [mark_key(self.mark)] * self._is_unsure
+        found = self._server.store.read(wanted).values if wanted else {}
+        if found.pop(mark_key(self.mark), None) is not None:
+            return None
+        view = {key: self._view[key] if key in self._view else found[key] for key in keys}
+        return calls.draft_of(asked("txn", version.number, version.record, code, calls.points_code(view), self.mark).code)
+
+    def _is_applied(self, draft: Draft) -> bool:
+        """Hands a draft in, the same again while answers are lost; False if it is refused, and reads the version if that is why."""
+        end = time.monotonic() + self._server.seconds
+        while True:
+            try:
+                self._server.store.apply(draft)
+                return True
+            except Refused as refused:
+                if self._is_unsure and refused.key == mark_key(self.mark):
+                    return True
+                if refused.key is not None and refused.key[:1] == VERSIONS:
+                    self._server.refresh()
+                return False
+            except (Unknown, BadAnswer, Unreachable) as fault:
+                if isinstance(fault, Unreachable) and not self._is_unsure:
+                    raise
+                self._is_unsure = True
+                if time.monotonic() >= end:
+                    raise Unknown("whether the transaction was applied") from fault
+            pause()
+
+    def __enter__(self) -> Txn:
+        return self
+
+    def __exit__(self, kind: Optional[type[BaseException]], _fault: object, _trace: object) -> None:
+        if kind is None and not self._has_ended:
+            self.commit()

@@ -1,0 +1,332 @@
+/* The engine over a store of this program's own, which does nothing but compare and write: rows are inserted while an
+   index enters, under two versions at once; a stale server, a draft that is handed in twice and a piece that was read too
+   long ago are refused; queries find the rows by key, by index and by a walk.
+   Each allocation is refused in turn, one in each run: the call that met it answers CAGZHOMUL_OUT_OF_MEMORY, gave
+   nothing, and is made again. It prints how many allocations were refused, and ends with 0 if all was as
+   include/cagzhomul_layer.h says. */
+#define CODE_ROOM 4096
+#include "calls.h"
+#include "codes.h"
+
+#include "cagzhomul_layer.h"
+
+enum { PAIRS = 64, SIZE = 400, BY_TOWN = 2 };
+
+/* ---- a store that compares and writes */
+
+typedef struct bytes {
+    uint8_t at[SIZE];
+    size_t length;
+} bytes;
+
+typedef struct pair {
+    bytes key, value;
+} pair;
+
+typedef struct store {
+    pair pairs[PAIRS]; /* by rising key */
+    size_t count;
+} store;
+
+static int compare(const bytes *one, const bytes *other) {
+    size_t least = one->length < other->length ? one->length : other->length;
+    int order = memcmp(one->at, other->at, least);
+    return order ? order : (one->length > other->length) - (one->length < other->length);
+}
+
+static size_t place_of(const store *of, const bytes *key) {
+    size_t at = 0;
+    while (at < of->count && compare(&of->pairs[at].key, key) < 0) at++;
+    return at;
+}
+
+static const bytes *value_of(const store *of, const bytes *key) {
+    size_t at = place_of(of, key);
+    return at < of->count && !compare(&of->pairs[at].key, key) ? &of->pairs[at].value : NULL;
+}
+
+static void put(store *to, const bytes *key, const bytes *value) {
+    size_t at = place_of(to, key);
+    if (at == to->count || compare(&to->pairs[at].key, key)) {
+        memmove(&to->pairs[at + 1], &to->pairs[at], (to->count++ - at) * sizeof(pair));
+        to->pairs[at].key = *key;
+    }
+    to->pairs[at].value = *value;
+}
+
+static void take(store *from, const bytes *key) {
+    size_t at = place_of(from, key);
+    if (at == from->count || compare(&from->pairs[at].key, key)) return;
+    memmove(&from->pairs[at], &from->pairs[at + 1], (--from->count - at) * sizeof(pair));
+}
+
+/* ---- drafts, as docs/FORMAT.md has them */
+
+typedef struct reader {
+    const uint8_t *at;
+    size_t left;
+} reader;
+
+static uint64_t get_number(reader *from, int count) {
+    uint64_t number = 0;
+    while (count-- > 0 && from->left) number = number << 8 | *from->at++, from->left--;
+    return number;
+}
+
+static bytes get_bytes(reader *from) {
+    bytes it = {{0}, (size_t)get_number(from, 8)};
+    check(it.length <= SIZE && it.length <= from->left, "the code is whole");
+    if (it.length > SIZE || it.length > from->left) return (bytes){{0}, 0};
+    memcpy(it.at, from->at, it.length);
+    from->at += it.length, from->left -= it.length;
+    return it;
+}
+
+static int get_value(reader *from, bytes *value) {
+    int is_there = (int)get_number(from, 1);
+    if (is_there) *value = get_bytes(from);
+    return is_there;
+}
+
+/* Whether a range of the store has just the pairs that follow. */
+static int holds_range(const store *of, reader *draft) {
+    bytes low = get_bytes(draft), high = get_bytes(draft);
+    size_t at = place_of(of, &low), end = place_of(of, &high), same = 1;
+    for (uint64_t many = get_number(draft, 8); many--; at++) {
+        bytes key = get_bytes(draft), value = get_bytes(draft);
+        same = same && at < end && !compare(&of->pairs[at].key, &key) && !compare(&of->pairs[at].value, &value);
+    }
+    return same && at == end;
+}
+
+/* Applies a draft if all that it compares is so. */
+static int applies(store *to, const code *draft) {
+    reader from = {draft->bytes + 1, draft->length - 1};
+    int same = 1;
+    for (uint64_t many = get_number(&from, 8); many--;) {
+        bytes key = get_bytes(&from), value;
+        const bytes *there = value_of(to, &key);
+        int wanted = get_value(&from, &value);
+        same = same && (wanted ? there && !compare(there, &value) : !there);
+    }
+    for (uint64_t many = get_number(&from, 8); many--;) same = holds_range(to, &from) && same;
+    if (!same) return 0;
+    for (uint64_t many = get_number(&from, 8); many--;) {
+        bytes key = get_bytes(&from), value;
+        if (get_value(&from, &value)) put(to, &key, &value);
+        else take(to, &key);
+    }
+    check(from.left == 0, "the draft ends");
+    return 1;
+}
+
+/* ---- keys and what is read */
+
+static bytes key_of(uint8_t kind, uint64_t number) {
+    code it = {{kind}, 1};
+    put_number(&it, number, 8);
+    bytes key = {{0}, it.length};
+    memcpy(key.at, it.bytes, it.length);
+    return key;
+}
+
+static bytes cursor_of(uint64_t element, uint64_t piece) {
+    bytes key = key_of(2, element);
+    for (int at = 7; at >= 0; at--) key.at[key.length++] = (uint8_t)(piece >> (8 * at));
+    return key;
+}
+
+static bytes record_of(const store *of, bytes key) {
+    const bytes *there = value_of(of, &key);
+    check(there != NULL, "the record is there");
+    return there ? *there : (bytes){{0}, 0};
+}
+
+static void put_bytes(code *to, const bytes *from) {
+    put_number(to, from->length, 8);
+    for (size_t at = 0; at < from->length; at++) put_byte(to, from->at[at]);
+}
+
+/* The code of all pairs whose keys begin with a byte from `first` up to `last`. */
+static code pairs_code(const store *of, uint8_t first, uint8_t last) {
+    code it = {{1}, 1};
+    uint64_t many = 0;
+    for (size_t at = 0; at < of->count; at++) many += of->pairs[at].key.at[0] >= first && of->pairs[at].key.at[0] <= last;
+    put_number(&it, many, 8);
+    for (size_t at = 0; at < of->count; at++)
+        if (of->pairs[at].key.at[0] >= first && of->pairs[at].key.at[0] <= last) put_bytes(&it, &of->pairs[at].key), put_bytes(&it, &of->pairs[at].value);
+    return it;
+}
+
+/* What the store has at keys that are given by the code of points. */
+static code view_code(const store *of, const code *keys) {
+    reader from = {keys->bytes + 1, keys->length - 1};
+    uint64_t many = get_number(&from, 8);
+    code it = {{1}, 1};
+    for (put_number(&it, many, 8); many--;) {
+        bytes key = get_bytes(&from), none;
+        const bytes *there = value_of(of, &key);
+        check(!get_value(&from, &none), "a key that is to be read has no value");
+        put_bytes(&it, &key), put_byte(&it, there ? 1 : 0);
+        if (there) put_bytes(&it, there);
+    }
+    return it;
+}
+
+/* ---- calls, made again if memory runs out */
+
+static code held(cagzhomul_handle *handle) {
+    code it = {{0}, 0};
+    it.length = cagzhomul_rows_from(handle, 0, it.bytes, CODE_ROOM).length;
+    check(it.length <= CODE_ROOM, "the bytes fit");
+    cagzhomul_close(handle);
+    return it;
+}
+
+/* The bytes that a call gives, which is to come to this status and number. */
+#define GIVES(status_due, number_due, call)                                                                        \
+    ({                                                                                                              \
+        cagzhomul_handle handle = {0};                                                                              \
+        cagzhomul_layered it = call;                                                                                \
+        if (is_short(it.status)) {                                                                                  \
+            check(!handle.is_open && it.column == 0 && it.number == 0, "nothing was given");                        \
+            it = call;                                                                                              \
+        }                                                                                                           \
+        check(it.status == (status_due) && it.number == (number_due), #call);                                       \
+        check(handle.is_open == (it.status == CAGZHOMUL_OK), "a handle is open if and only if bytes were given");   \
+        it.status == CAGZHOMUL_OK ? held(&handle) : (code){{0}, 0};                                                 \
+    })
+
+static code transact(const store *of, uint64_t number, const bytes *version, code ops, const char *mark, int32_t status, uint64_t at) {
+    code keys = GIVES(CAGZHOMUL_OK, 0, cagzhomul_layer_reads(version->at, version->length, ops.bytes, ops.length, &handle));
+    code view = view_code(of, &keys);
+    return GIVES(status, at, cagzhomul_layer_txn(number, version->at, version->length, ops.bytes, ops.length, view.bytes, view.length, (const uint8_t *)mark, strlen(mark), &handle));
+}
+
+static code insert_code(int64_t id, const char *town) {
+    code ops = ops_code(1);
+    put_op(&ops, INSERT, PEOPLE, id, TOWN, town);
+    return ops;
+}
+
+static code publish(const store *of, uint32_t before, code step, int32_t status, uint64_t number) {
+    bytes version = record_of(of, key_of(0, before + 1));
+    code found = pairs_code(of, 1, 1);
+    return GIVES(status, number, cagzhomul_layer_publish(before, version.at, version.length, step.bytes, step.length, found.bytes, found.length, &handle));
+}
+
+/* A query of the table with one condition, or none. */
+static code ask_code(int condition, int64_t id, const char *town) {
+    code it = {{1}, 1};
+    put_number(&it, PEOPLE, 4), put_number(&it, 1, 8), put_number(&it, TOWN, 4), put_number(&it, condition ? 1 : 0, 8);
+    if (condition == 1) put_byte(&it, 0), put_number(&it, 1, 8), put_int(&it, id);
+    if (condition == 2) put_byte(&it, 1), put_number(&it, TOWN, 4), put_text(&it, town);
+    return it;
+}
+
+/* How many rows a query finds by this path, of a store that is read whole. */
+static uint64_t rows_found(const store *of, const bytes *version, code query, uint64_t path) {
+    code all = pairs_code(of, 'R', 'X');
+    GIVES(CAGZHOMUL_OK, path, cagzhomul_layer_ranges(version->at, version->length, query.bytes, query.length, &handle));
+    GIVES(CAGZHOMUL_OK, path == 2 ? 2 : 0, cagzhomul_layer_row_ranges(version->at, version->length, query.bytes, query.length, all.bytes, all.length, &handle));
+    code rows = GIVES(CAGZHOMUL_OK, 0, cagzhomul_layer_rows(version->at, version->length, query.bytes, query.length, all.bytes, all.length, &handle));
+    reader from = {rows.bytes + 1, rows.length ? rows.length - 1 : 0};
+    return get_number(&from, 8);
+}
+
+static int is_clean(const store *of, const bytes *version, uint64_t rows) {
+    code all = pairs_code(of, 'R', 'X');
+    cagzhomul_checked it = cagzhomul_layer_check(version->at, version->length, all.bytes, all.length);
+    if (is_short(it.status)) it = cagzhomul_layer_check(version->at, version->length, all.bytes, all.length);
+    return it.status == CAGZHOMUL_OK && it.rows == rows && it.missing == 0 && it.extra == 0;
+}
+
+/* ---- the story */
+
+static void open_store(store *to) {
+    code opening = opening_code(10, "town"), none = {{1}, 1};
+    code draft = GIVES(CAGZHOMUL_OK, 0, cagzhomul_layer_open(opening.bytes, opening.length, &handle));
+    check(applies(to, &draft), "the store is opened");
+    check(!applies(to, &draft), "and not a second time");
+    GIVES(CAGZHOMUL_BAD_CODE, 0, cagzhomul_layer_open(none.bytes, none.length, &handle));
+}
+
+static void write_rows(store *to) {
+    bytes first = record_of(to, key_of(0, 1));
+    code draft = transact(to, 1, &first, insert_code(1, "Ulm"), "a", CAGZHOMUL_OK, 0);
+    check(applies(to, &draft), "a row is inserted");
+    check(!applies(to, &draft), "a draft with a mark is applied once");
+    transact(to, 1, &first, insert_code(1, "Bonn"), "", CAGZHOMUL_DUPLICATE, 0);
+    check(rows_found(to, &first, ask_code(0, 0, ""), 2) == 1, "a walk finds it");
+}
+
+/* An index enters, while a server goes on under the version before. */
+static void add_index(store *to) {
+    bytes first = record_of(to, key_of(0, 1));
+    code changes = changes_code(1), late = transact(to, 1, &first, insert_code(2, "Ulm"), "b", CAGZHOMUL_OK, 0);
+    put_add_index(&changes, "by_town", "town");
+    code plan = GIVES(CAGZHOMUL_OK, 0, cagzhomul_layer_plan(first.at, first.length, changes.bytes, changes.length, &handle));
+    check(plan.length > 9 && plan.bytes[8] == 3, "the plan has three steps");
+    code step = publish(to, 0, enter_code(), CAGZHOMUL_OK, 0), stale = transact(to, 1, &first, insert_code(3, "Rome"), "c", CAGZHOMUL_OK, 0);
+    check(applies(to, &step) && applies(to, &late), "version 2 is open beside version 1");
+    publish(to, 1, go_code(BY_TOWN, PUBLIC), CAGZHOMUL_NOT_ADJACENT, 0);
+    step = publish(to, 1, go_code(BY_TOWN, WRITE_ONLY), CAGZHOMUL_OK, 0);
+    check(applies(to, &step), "version 3 is open");
+    check(!applies(to, &stale), "version 1 is closed: a server that is too late is refused");
+    publish(to, 2, go_code(BY_TOWN, PUBLIC), CAGZHOMUL_UNFINISHED, BY_TOWN);
+}
+
+static code begin(const bytes *version, uint32_t element, int32_t status) {
+    code keys = {{1}, 1};
+    put_number(&keys, 0, 8);
+    return GIVES(status, 0, cagzhomul_layer_begin(2, version->at, version->length, element, keys.bytes, keys.length, &handle));
+}
+
+static code piece(const store *of, const char *to, size_t length, int32_t status) {
+    bytes reorg = record_of(of, key_of(1, BY_TOWN)), cursor = record_of(of, cursor_of(BY_TOWN, 0));
+    code rows = pairs_code(of, 'R', 'R');
+    return GIVES(status, 0, cagzhomul_layer_piece(reorg.at, reorg.length, 0, cursor.at, cursor.length, (const uint8_t *)to, length, rows.bytes, rows.length, &handle));
+}
+
+/* The index is filled in two parts, the first as far as the last row that was read. */
+static void fill_index(store *to) {
+    bytes third = record_of(to, key_of(0, 3));
+    begin(&third, TOWN, CAGZHOMUL_NOT_WANTED);
+    code draft = begin(&third, BY_TOWN, CAGZHOMUL_OK);
+    check(!applies(to, &draft), "no reorganisation begins while version 2 is open");
+    code close = GIVES(CAGZHOMUL_OK, 0, cagzhomul_layer_close(2, third.at, third.length, &handle));
+    check(applies(to, &close) && applies(to, &draft) && !applies(to, &draft), "version 2 is closed, and the fill begins, once");
+    code part = piece(to, "R\0\0\0\1\3", 6, CAGZHOMUL_OK), row = transact(to, 3, &third, insert_code(0, "Rome"), "d", CAGZHOMUL_OK, 0);
+    check(applies(to, &row) && !applies(to, &part), "a row came into the range: the piece is to be read again");
+    part = piece(to, "R\0\0\0\1\3", 6, CAGZHOMUL_OK);
+    check(applies(to, &part) && !applies(to, &part), "a part of the piece is done, once");
+    code step = publish(to, 2, go_code(BY_TOWN, PUBLIC), CAGZHOMUL_OK, 0);
+    check(!applies(to, &step), "the index is not public before its fill has ended");
+    bytes cursor = record_of(to, cursor_of(BY_TOWN, 0)), reorg = record_of(to, key_of(1, BY_TOWN));
+    code rest = {{1}, 1};
+    uint64_t many = 0;
+    bytes from = {{0}, cursor.length - 1};
+    memcpy(from.at, cursor.at + 1, from.length);
+    for (size_t at = place_of(to, &from); at < to->count && to->pairs[at].key.at[0] == 'R'; at++) many++;
+    put_number(&rest, many, 8);
+    for (size_t at = place_of(to, &from); at < to->count && to->pairs[at].key.at[0] == 'R'; at++) put_bytes(&rest, &to->pairs[at].key), put_bytes(&rest, &to->pairs[at].value);
+    part = GIVES(CAGZHOMUL_OK, 0, cagzhomul_layer_piece(reorg.at, reorg.length, 0, cursor.at, cursor.length, (const uint8_t *)"S", 1, rest.bytes, rest.length, &handle));
+    check(applies(to, &part), "and the rest");
+    piece(to, "S", 1, CAGZHOMUL_SPENT);
+    check(applies(to, &step), "the index is public");
+}
+
+static void play(void) {
+    static store kept;
+    kept.count = 0;
+    open_store(&kept);
+    write_rows(&kept);
+    add_index(&kept);
+    fill_index(&kept);
+    bytes fourth = record_of(&kept, key_of(0, 4));
+    check(rows_found(&kept, &fourth, ask_code(2, 0, "Ulm"), 1) == 2, "the index finds two rows");
+    check(rows_found(&kept, &fourth, ask_code(1, 0, ""), 0) == 1 && rows_found(&kept, &fourth, ask_code(1, 9, ""), 0) == 0, "a key finds one row, or none");
+    check(is_clean(&kept, &fourth, 3), "nothing is missing, and nothing extra");
+}
+
+int main(void) { return refuse_each(play); }
