@@ -2,6 +2,7 @@
 //! words that are refused.
 #![tactic(auto)]
 
+mod built;
 mod choice;
 mod help;
 mod load_size;

@@ -21,12 +21,22 @@ use txn_store::Store;
 use world::{Checkpoint, CheckpointFault, CheckpointParts};
 
 /// What has been read of a checkpoint so far: its head, and pairs by rising keys.
-#[derive(Drop)]
 pub struct Loading {
     head: Head,
     store: Store,
     /// The greatest key of the store.
     last: Option<Bytes>,
+}
+
+// By hand, so that a caller's proof sees one call and not each field's.
+impl Drop for Loading {
+    fn drop(self) {
+        let Loading {
+            head: _,
+            store: _,
+            last: _,
+        } = self;
+    }
 }
 
 impl Model for Loading {

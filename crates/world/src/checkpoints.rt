@@ -18,7 +18,6 @@ use txn_store::Store;
 /// All that a later call needs of the log up to here: how many entries came before, the moment of the
 /// last one, the timeline, the versions in use, the begun reorganisations and the pairs. Its memory
 /// is that of the data and of the publications, whatever else happened before.
-#[derive(Drop)]
 pub struct Checkpoint {
     /// How many entries came before.
     pub(crate) place: u64,
@@ -31,6 +30,21 @@ pub struct Checkpoint {
     /// The reorganisations that have begun and are not over.
     pub(crate) begun: Vec<Progress>,
     pub(crate) store: Store,
+}
+
+// By hand, so that a caller's proof sees one call and not each field's.
+impl Drop for Checkpoint {
+    fn drop(self) {
+        let Checkpoint {
+            place: _,
+            moment: _,
+            line: _,
+            newest: _,
+            before: _,
+            begun: _,
+            store: _,
+        } = self;
+    }
 }
 
 impl Model for Checkpoint {
@@ -85,14 +99,12 @@ fn copy_begun(begun: &[Progress], alloc: Global) -> Result<Vec<Progress>, AllocE
     Ok(copy)
 }
 
-impl World {
-    /// A world that goes on from a checkpoint: each later call may answer there what it may answer
-    /// in the world of which that is the checkpoint. Its log begins after the entries before the
-    /// checkpoint.
-    pub fn open_at(alloc: Global, checkpoint: Checkpoint) -> World
-        ensures { result ≡ opened checkpoint }
+impl Checkpoint {
+    // The world of `World::open_at`.
+    fn into_world(self, alloc: Global) -> World
+        ensures { result ≡ opened self }
     {
-        let from = Origin::of(&checkpoint);
+        let from = Origin::of(&self);
         let Checkpoint {
             place,
             moment,
@@ -101,7 +113,7 @@ impl World {
             before,
             begun,
             store,
-        } = checkpoint;
+        } = self;
         World {
             before,
             newest,
@@ -110,6 +122,17 @@ impl World {
             store,
             log: Log::new(alloc, from, place, moment),
         }
+    }
+}
+
+impl World {
+    /// A world that goes on from a checkpoint: each later call may answer there what it may answer
+    /// in the world of which that is the checkpoint. Its log begins after the entries before the
+    /// checkpoint.
+    pub fn open_at(alloc: Global, checkpoint: Checkpoint) -> World
+        ensures { result ≡ opened checkpoint }
+    {
+        checkpoint.into_world(alloc)
     }
 
     /// The checkpoint of this world, which goes on. The pairs are shared, as a snapshot's, and none is

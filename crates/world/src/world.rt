@@ -23,7 +23,6 @@ use txn_store::Store;
 /// The core: the schema versions in use, the store of pairs, and the log of all accepted calls.
 /// Contracts see it as its state: the checkpoint that it opened at, its whole log, how much of that
 /// is no longer in memory, and its pairs.
-#[derive(Drop)]
 pub struct World {
     /// The version before the newest.
     pub(crate) before: Option<ArcValue<Schema>>,
@@ -33,6 +32,20 @@ pub struct World {
     pub(crate) begun: Vec<Progress>,
     pub(crate) store: Store,
     pub(crate) log: Log,
+}
+
+// By hand, so that a caller's proof sees one call and not each field's.
+impl Drop for World {
+    fn drop(self) {
+        let World {
+            before: _,
+            newest: _,
+            line: _,
+            begun: _,
+            store: _,
+            log: _,
+        } = self;
+    }
 }
 
 impl Model for World {
