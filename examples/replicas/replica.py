@@ -136,7 +136,7 @@ class Process:
 
     def __init__(self, options: argparse.Namespace) -> None:
         self.name, self.options = options.name, options
-        self.slots = Slots(options.endpoints.split(","), self.say)
+        self.slots = Slots(options.endpoints.split(","), self.say, options.cluster)
         self.replica = Replica(self.slots, options.began)
         self.acknowledged = 0
         self.is_stopped = threading.Event()
@@ -270,6 +270,7 @@ def main() -> None:
     words = argparse.ArgumentParser()
     words.add_argument("--name", required=True)
     words.add_argument("--endpoints", required=True, help="HOST:PORT,HOST:PORT,..")
+    words.add_argument("--cluster", required=True, help="its number in etcd")
     words.add_argument("--began", type=float, required=True, help="the time of moment 0, in seconds since 1970")
     words.add_argument("--operates", action="store_true", help="add the index and the column, and write no rows")
     words.add_argument("--batch", type=int, default=50, help="transactions a slot")

@@ -88,8 +88,8 @@ class Cluster:
 class Servers:
     """The processes with a world, and what they print."""
 
-    def __init__(self, endpoints: List[str], options: argparse.Namespace) -> None:
-        self.words = ["--endpoints", ",".join(endpoints), "--began", str(time.time())]
+    def __init__(self, endpoints: List[str], cluster: str, options: argparse.Namespace) -> None:
+        self.words = ["--endpoints", ",".join(endpoints), "--cluster", cluster, "--began", str(time.time())]
         self.words += ["--batch", str(options.batch), "--pause", str(options.pause), "--seed", str(options.seed)]
         self.running: Dict[str, subprocess.Popen] = {}
         self.lines: "queue.Queue[str]" = queue.Queue()
@@ -141,8 +141,8 @@ class Servers:
 class Archive:
     """What was in slots that are deleted: how often each transaction was. It deletes those before the newest checkpoint."""
 
-    def __init__(self, endpoints: List[str]) -> None:
-        self.slots = Slots(endpoints, lambda text: None)
+    def __init__(self, endpoints: List[str], cluster: str) -> None:
+        self.slots = Slots(endpoints, lambda text: None, cluster)
         self.logged: collections.Counter = collections.Counter()
         self.next, self.is_stopped = 0, threading.Event()
         self.thread = threading.Thread(target=self.run, daemon=True)
@@ -234,7 +234,7 @@ def run(options: argparse.Namespace, cluster: Cluster) -> Optional[str]:
     slots = Slots(cluster.endpoints, lambda text: print(f"example: {text}", flush=True))
     list(slots.read(0))
     print(cluster.leader(), flush=True)
-    servers, archive = Servers(cluster.endpoints, options), Archive(cluster.endpoints)
+    servers, archive = Servers(cluster.endpoints, slots.cluster, options), Archive(cluster.endpoints, slots.cluster)
     began = time.monotonic()
     names = [f"server {it + 1}" for it in range(options.servers)]
     for name in names:

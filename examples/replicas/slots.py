@@ -24,8 +24,9 @@ def _key(slot: int) -> bytes:
 class Slots:
     """The slots, numbered from 0, by whichever of the endpoints answers."""
 
-    def __init__(self, endpoints: Sequence[str], say: Callable[[str], None]) -> None:
+    def __init__(self, endpoints: Sequence[str], say: Callable[[str], None], cluster: str = "") -> None:
         self._endpoints, self._at, self._say = list(endpoints), 0, say
+        self.cluster = cluster  # its number in etcd; if none is given, that of the first answer
         self._connection: Optional[http.client.HTTPConnection] = None
 
     def _ask(self, path: str, body: dict) -> dict:
@@ -38,9 +39,9 @@ class Slots:
                 self._connection.request("POST", path, text, {"Content-Type": "application/json"})
                 answer = self._connection.getresponse()
                 found = json.loads(answer.read())
-                if answer.status == 200:
+                if answer.status == 200 and self._is_own(found):
                     return found
-            except (OSError, http.client.HTTPException, ValueError):
+            except (OSError, http.client.HTTPException, ValueError, KeyError, TypeError):
                 pass
             if self._connection is not None:
                 self._connection.close()
@@ -49,6 +50,12 @@ class Slots:
                 self._say("no etcd node answers; waiting")
                 is_said = True
             time.sleep(0.05)
+
+    def _is_own(self, found: dict) -> bool:
+        """Whether the cluster itself answered: while one of its nodes is down, a node of another may get that one's port."""
+        answered = found["header"]["cluster_id"]
+        self.cluster = self.cluster or answered
+        return answered == self.cluster
 
     def write(self, slot: int, data: bytes) -> bool:
         """Writes a slot if nobody did. False: it has been written, perhaps by this very call's first try."""
