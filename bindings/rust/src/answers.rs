@@ -13,6 +13,7 @@ pub(crate) const FINISHED: i32 = 11;
 pub(crate) const BAD_COUNT: i32 = 12;
 pub(crate) const MOMENT_TOO_LARGE: i32 = 13;
 pub(crate) const VERSIONS_SPENT: i32 = 14;
+pub(crate) const WRONG_STAGE: i32 = 16;
 pub(crate) const BAD_CODE: i32 = 17;
 pub(crate) const BAD_TABLE: i32 = 18;
 pub(crate) const BAD_LENGTH: i32 = 19;

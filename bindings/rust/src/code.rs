@@ -1,10 +1,9 @@
-//! Tables, operations, queries, changes and values as bytes, as `crates/entry_code` describes them.
+//! Tables, queries, changes and values as bytes, as `crates/entry_code` describes them.
 
-use crate::plan::SchemaChange;
+use crate::plan::{SchemaChange, State};
 use crate::query::Condition;
-use crate::rows::Reader;
 use crate::table::{Table, Type};
-use crate::value::{Cells, Key, Value};
+use crate::value::{Key, Value};
 
 /// The first byte of a code.
 const VERSION: u8 = 1;
@@ -13,7 +12,7 @@ const ROOM: usize = 128;
 
 /// Writes codes to bytes.
 #[derive(Debug, Clone, Default, PartialEq, Eq)]
-pub(crate) struct Code(Vec<u8>);
+pub(crate) struct Code(pub(crate) Vec<u8>);
 
 impl Code {
     /// The start of a code: its version.
@@ -27,7 +26,7 @@ impl Code {
         &self.0
     }
 
-    fn byte(&mut self, byte: u8) {
+    pub(crate) fn byte(&mut self, byte: u8) {
         self.0.push(byte);
     }
 
@@ -35,20 +34,25 @@ impl Code {
         self.0.extend_from_slice(&number.to_be_bytes());
     }
 
-    fn small_number(&mut self, number: u32) {
+    pub(crate) fn small_number(&mut self, number: u32) {
         self.0.extend_from_slice(&number.to_be_bytes());
     }
 
-    fn count(&mut self, items: usize) {
+    pub(crate) fn count(&mut self, items: usize) {
         self.number(items as u64);
     }
 
-    fn name(&mut self, name: &str) {
-        self.count(name.len());
-        self.0.extend_from_slice(name.as_bytes());
+    /// Bytes, after how many they are.
+    pub(crate) fn data(&mut self, data: &[u8]) {
+        self.count(data.len());
+        self.0.extend_from_slice(data);
     }
 
-    fn value(&mut self, value: &Value) {
+    fn name(&mut self, name: &str) {
+        self.data(name.as_bytes());
+    }
+
+    pub(crate) fn value(&mut self, value: &Value) {
         match value {
             Value::Null => self.byte(1),
             Value::Int(number) => {
@@ -79,7 +83,7 @@ impl Code {
         key.0.iter().for_each(|value| self.value(value));
     }
 
-    fn row(&mut self, table: u32, key: &Key) {
+    pub(crate) fn row(&mut self, table: u32, key: &Key) {
         self.small_number(table);
         self.key(key);
     }
@@ -201,72 +205,16 @@ pub(crate) fn changes(changes: &[SchemaChange], table: impl Fn(&str) -> u32) -> 
     code
 }
 
-/// What an operation does with its row.
-#[derive(Debug, Clone, Copy)]
-pub(crate) enum Kind {
-    Insert = 0,
-    Update = 1,
-    Delete = 2,
-}
-
-/// The code of a row: its table and its key.
-pub(crate) fn row(table: u32, key: &Key) -> Vec<u8> {
-    let mut code = Code::default();
-    code.row(table, key);
-    code.0
-}
-
-/// A list of operations that grows.
-#[derive(Debug)]
-pub(crate) struct Operations {
-    code: Code,
-    count: usize,
-}
-
-impl Operations {
-    pub(crate) fn new() -> Operations {
-        let mut code = Code::new();
-        code.count(0);
-        Operations { code, count: 0 }
+/// The code of a step in which these elements go on, each to a state.
+pub(crate) fn step(moves: &[(u32, State)]) -> Code {
+    let mut code = Code::new();
+    code.count(moves.len());
+    for (element, state) in moves {
+        code.byte(1);
+        code.small_number(*element);
+        code.byte(*state as u8);
     }
-
-    /// Adds an operation on the row of this key, up to its cells.
-    pub(crate) fn push(&mut self, kind: Kind, table: u32, key: &Key) {
-        self.count += 1;
-        self.code.byte(kind as u8);
-        self.code.row(table, key);
-    }
-
-    /// Adds an operation without cells on the row of this code.
-    pub(crate) fn push_row(&mut self, kind: Kind, row: &[u8]) {
-        self.count += 1;
-        self.code.byte(kind as u8);
-        self.code.0.extend_from_slice(row);
-        if !matches!(kind, Kind::Delete) {
-            self.code.count(0);
-        }
-    }
-
-    /// Whether an operation is on the row of this code.
-    pub(crate) fn names(&self, row: &[u8]) -> bool {
-        let mut rest = Reader(&self.code.0[9..]);
-        std::iter::from_fn(|| rest.operation()).any(|named| named == row)
-    }
-
-    /// Adds the cells of the operation that was pushed last, each with its column's number.
-    pub(crate) fn push_cells(&mut self, cells: &Cells<'_>, number: impl Fn(&str) -> u32) {
-        self.code.count(cells.0.len());
-        for (column, value) in &cells.0 {
-            self.code.small_number(number(column));
-            self.code.value(value);
-        }
-    }
-
-    /// The code of the whole list.
-    pub(crate) fn finish(mut self) -> Code {
-        self.code.0[1..9].copy_from_slice(&(self.count as u64).to_be_bytes());
-        self.code
-    }
+    code
 }
 
 #[cfg(test)]
@@ -312,22 +260,6 @@ mod tests {
         assert_eq!(opening(10, &[table]).as_bytes(), wanted);
     }
 
-    /// The operations of `crates/entry_code_tests`: insert into table 1 the key "a", true with
-    /// nothing in column 1; update it to have 5 there.
-    #[test]
-    fn operations() {
-        let key = Key::from(("a", true));
-        let mut operations = Operations::new();
-        operations.push(Kind::Insert, 1, &key);
-        operations.push_cells(&Cells::from([("c", Value::Null)]), |_| 1);
-        operations.push(Kind::Update, 1, &key);
-        operations.push_cells(&Cells::from([("c", 5)]), |_| 1);
-        let wanted = b"\x01\0\0\0\0\0\0\0\x02\0\0\0\0\x01\0\0\0\0\0\0\0\x02\x03a\0\x01\x04\x01\
-            \0\0\0\0\0\0\0\x01\0\0\0\x01\x01\x01\0\0\0\x01\0\0\0\0\0\0\0\x02\x03a\0\x01\x04\x01\
-            \0\0\0\0\0\0\0\x01\0\0\0\x01\x02\x80\0\0\0\0\0\0\x05";
-        assert_eq!(operations.finish().as_bytes(), wanted);
-    }
-
     /// The query of `crates/world_tests`: columns 2 and 3 of table 1, of row 7, if it has nothing
     /// in 2 and a text from "a" on in 3.
     #[test]
@@ -368,17 +300,11 @@ mod tests {
         assert_eq!(changes(&[], table).as_bytes(), b"\x01\0\0\0\0\0\0\0\0");
     }
 
-    /// The deletion of `crates/entry_code_tests`: row 7 of table 1 goes.
+    /// A step in which element 3 goes public and 4 is gone, by hand.
     #[test]
-    fn a_deletion() {
-        let mut operations = Operations::new();
-        operations.push(Kind::Delete, 1, &Key::from(7));
-        let wanted =
-            b"\x01\0\0\0\0\0\0\0\x01\x02\0\0\0\x01\0\0\0\0\0\0\0\x01\x02\x80\0\0\0\0\0\0\x07";
-        assert_eq!(operations.finish().as_bytes(), wanted);
-        assert_eq!(
-            Operations::new().finish().as_bytes(),
-            b"\x01\0\0\0\0\0\0\0\0"
-        );
+    fn a_step() {
+        let wanted = b"\x01\0\0\0\0\0\0\0\x02\x01\0\0\0\x03\x03\x01\0\0\0\x04\0";
+        let moves = [(3, State::Public), (4, State::Absent)];
+        assert_eq!(step(&moves).as_bytes(), wanted);
     }
 }

@@ -1,6 +1,7 @@
 //! Why a call was refused.
 
 use crate::ffi;
+use crate::layer::StoreError;
 use std::fmt;
 
 /// Why a call was refused. A refused call changed nothing, except that [`Error::OutOfMemory`] over
@@ -15,7 +16,8 @@ pub enum Error {
     /// The library ran out of memory. If it could not answer a line, a query or a change for it,
     /// the session is freed, and every later call is refused as [`Error::Closed`].
     OutOfMemory,
-    /// The session has no world yet: it is before its line `open`.
+    /// The session has no world yet: it is before its line `open`. A store of one's own has no
+    /// database.
     NotOpened,
     /// The log has no such place.
     NoEntry,
@@ -119,6 +121,15 @@ pub enum Error {
     WrongElement,
     /// The piece has gone on since it was read: it is to be read again.
     Moved,
+    /// The transaction of a [`Layer`](crate::layer::Layer) has ended.
+    WrongStage,
+    /// A query of a [`Layer`](crate::layer::Layer) would read more pairs than its limit in one range.
+    TooManyPairs {
+        /// The limit.
+        limit: usize,
+    },
+    /// A store of one's own did not carry out a call, or may not have.
+    Store(StoreError),
     /// The library is of another major version than this crate calls, or of a lower minor one.
     LibraryVersion {
         /// The library's version: a thousand times its major one, and its minor one.
@@ -144,6 +155,7 @@ impl Error {
             ffi::BAD_COUNT => Error::BadCount,
             ffi::MOMENT_TOO_LARGE => Error::MomentTooLarge,
             ffi::VERSIONS_SPENT => Error::VersionsSpent,
+            ffi::WRONG_STAGE => Error::WrongStage,
             ffi::BAD_TABLE => Error::BadTable,
             ffi::BAD_LENGTH => Error::BadLength,
             ffi::NO_TABLE => Error::NoTable,
@@ -226,6 +238,9 @@ impl Error {
             Error::Spent => "the piece has ended",
             Error::WrongElement => "the piece is not one of the element's reorganisation",
             Error::Moved => "the piece has moved since it was read",
+            Error::WrongStage => "the work is not at the stage that the call takes",
+            Error::TooManyPairs { .. } => "a range has more pairs than may be read",
+            Error::Store(_) => "a call of the store",
             Error::LibraryVersion { .. } => "the library is of another version",
             Error::Status(_) => "a status that is not expected",
             Error::Reply(_) => "a reply that is not expected",
@@ -249,6 +264,8 @@ impl fmt::Display for Error {
             }
             Error::StillWaiting { change } => write!(f, ": {change}"),
             Error::LibraryVersion { version } => write!(f, ": {version}"),
+            Error::TooManyPairs { limit } => write!(f, ": {limit}"),
+            Error::Store(error) => write!(f, ": {error}"),
             Error::Status(status) => write!(f, ": {status}, {}", ffi::text_of(*status)),
             Error::Reply(reply) => write!(f, ": {}", reply.trim_end()),
             _ => Ok(()),
@@ -257,6 +274,12 @@ impl fmt::Display for Error {
 }
 
 impl std::error::Error for Error {}
+
+impl From<StoreError> for Error {
+    fn from(error: StoreError) -> Error {
+        Error::Store(error)
+    }
+}
 
 #[cfg(test)]
 mod tests {

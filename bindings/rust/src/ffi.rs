@@ -1,4 +1,4 @@
-//! The functions of libcagzhomul behind safe calls: the only module with unsafe code.
+//! The functions of libcagzhomul behind safe calls; those of the layer are in `layer/ffi.rs`.
 //!
 //! What `include/cagzhomul.h` asks of a caller holds of every call here:
 //!
@@ -13,8 +13,9 @@ pub(crate) use crate::answers::*;
 use std::ffi::c_void;
 use std::ptr;
 
+/// `cagzhomul_handle`.
 #[repr(C)]
-struct RawHandle {
+pub(crate) struct RawHandle {
     at: *mut c_void,
     is_open: bool,
 }
@@ -155,7 +156,7 @@ impl Handle {
         }))
     }
 
-    fn raw(&mut self) -> *mut RawHandle {
+    pub(crate) fn raw(&mut self) -> *mut RawHandle {
         &mut *self.0
     }
 

@@ -1,5 +1,6 @@
 //! The names of tables, columns and indexes, with their numbers in one version.
 
+use crate::error::Error;
 use crate::schema::Schema;
 
 /// The names of one version, by its schema, so they are right whoever published it.
@@ -57,6 +58,16 @@ impl Names {
     pub(crate) fn name_of(&self, number: u32) -> Option<&str> {
         let mut elements = self.schema.elements.iter();
         Some(&elements.find(|element| element.number == number)?.name)
+    }
+
+    /// Why a call was refused that names the column or the index of this number, which is not a public
+    /// column; with 0 it is `unknown`, the first name in the call that its table does not have.
+    pub(crate) fn not_public(&self, number: u32, unknown: Option<String>) -> Error {
+        let column = match number {
+            0 => unknown,
+            number => self.name_of(number).map(str::to_string),
+        };
+        Error::NotPublic { column }
     }
 }
 

@@ -318,7 +318,7 @@ impl Db {
 
 /// Why a batch is not planned. Only a default over 1,024 bytes makes a bad code of what this crate
 /// writes, and no other element than an index stands against a change.
-fn plan_refusal(error: Error) -> Error {
+pub(crate) fn plan_refusal(error: Error) -> Error {
     match error {
         Error::Status(ffi::BAD_CODE) => Error::Limit,
         Error::Status(ffi::DEPENDENT) => Error::StillIndexed,

@@ -1,12 +1,12 @@
 //! Typed queries.
 
-use crate::code;
+use crate::code::{self, Code};
 use crate::error::Error;
 use crate::ffi::{self, Handle, Queried};
 use crate::names::Names;
 use crate::reply::Row;
 use crate::rows::rows_of;
-use crate::session::{done, fetch};
+use crate::session::fetch;
 use crate::value::{Key, Value};
 
 /// What a row meets.
@@ -103,6 +103,32 @@ impl Query {
         self
     }
 
+    /// The numbers of the columns that it selects, in a version.
+    pub(crate) fn selected(&self, names: &Names) -> Vec<u32> {
+        let number = |column: &String| names.element(&self.table, column);
+        match &self.columns {
+            None => names.public(&self.table),
+            Some(columns) => columns.iter().map(number).collect(),
+        }
+    }
+
+    /// Its code in a version.
+    pub(crate) fn code(&self, names: &Names) -> Code {
+        let number = |column: &str| names.element(&self.table, column);
+        let (table, columns) = (names.table(&self.table), self.selected(names));
+        code::query(table, &columns, &self.conditions, number)
+    }
+
+    /// Why it was refused, by the status and the number of a column beside it.
+    pub(crate) fn refusal(&self, names: &Names, status: i32, column: u32) -> Error {
+        match status {
+            ffi::NOT_PUBLIC => names.not_public(column, self.unknown(names)),
+            // Only a text over 1,024 bytes makes a bad code of what this crate writes.
+            ffi::BAD_CODE => Error::WrongType,
+            status => Error::of(status),
+        }
+    }
+
     /// The first name that its table does not have.
     fn unknown(&self, names: &Names) -> Option<String> {
         let columns = self.columns.iter().flatten();
@@ -120,28 +146,13 @@ pub(crate) fn find(
     names: &Names,
     ask: impl FnOnce(&[u8], &mut Handle) -> Queried,
 ) -> Result<Vec<Row>, Error> {
-    let number = |column: &str| names.element(&query.table, column);
-    let columns: Vec<u32> = match &query.columns {
-        None => names.public(&query.table),
-        Some(columns) => columns.iter().map(|column| number(column)).collect(),
-    };
     let mut rows = Handle::closed();
-    let table = names.table(&query.table);
-    let code = code::query(table, &columns, &query.conditions, number);
-    let queried = ask(code.as_bytes(), &mut rows);
-    match (queried.status, queried.column) {
-        (ffi::NOT_PUBLIC, met) => Err(Error::NotPublic {
-            column: match met {
-                0 => query.unknown(names),
-                met => names.name_of(met).map(str::to_string),
-            },
-        }),
-        // Only a text over 1,024 bytes makes a bad code of what this crate writes.
-        (ffi::BAD_CODE, _) => Err(Error::WrongType),
-        (status, _) => {
-            done(status)?;
+    let queried = ask(query.code(names).as_bytes(), &mut rows);
+    match queried.status {
+        ffi::OK => {
             let code = fetch(|_, out| rows.rows_from(0, out))?;
-            rows_of(&code, &columns, names)
+            rows_of(&code, &query.selected(names), names)
         }
+        status => Err(query.refusal(names, status, queried.column)),
     }
 }

@@ -1,9 +1,9 @@
 //! What a transaction has read.
 
-use crate::code::{Kind, Operations};
 use crate::error::Error;
 use crate::ffi::{self, Handle};
 use crate::lease::Lease;
+use crate::operations::{Kind, Operations};
 use crate::query::{find, Query};
 use crate::reply::Row;
 use crate::session::done;
@@ -54,16 +54,7 @@ impl Reads {
         mut operations: Operations,
     ) -> Result<Handle, Error> {
         for (row, found) in &self.rows {
-            if operations.names(row) {
-                continue;
-            }
-            match found {
-                Some(_) => operations.push_row(Kind::Update, row),
-                None => {
-                    operations.push_row(Kind::Insert, row);
-                    operations.push_row(Kind::Delete, row);
-                }
-            }
+            operations.pin(row, found.is_some());
         }
         self.read(lease, operations)?;
         let handle = self.handle.take().expect("what was read has a handle");
@@ -107,8 +98,7 @@ fn taken(status: i32) -> Result<(), Error> {
 #[cfg(test)]
 mod tests {
     use super::*;
-    use crate::code::row;
-    use crate::value::Cells;
+    use crate::operations::row;
 
     /// Rows are found by their codes, after operations with and without cells.
     #[test]
@@ -117,7 +107,7 @@ mod tests {
         let mut operations = Operations::new();
         assert!(!operations.names(&rows[0]));
         operations.push(Kind::Insert, 7, &Key::from(1));
-        operations.push_cells(&Cells::from([("c", "a\0"), ("d", "")]), |_| 1);
+        operations.push_cells(&[("c", "a\0".into()), ("d", "".into())], |_| 1);
         operations.push_row(Kind::Delete, &rows[1]);
         operations.push_row(Kind::Update, &rows[0]);
         operations.push(Kind::Delete, 7, &Key::from(3));

@@ -1,8 +1,8 @@
 //! Rows as bytes, as `crates/entry_code` describes them.
 
-use crate::code::Kind;
 use crate::error::Error;
 use crate::names::Names;
+use crate::operations::Kind;
 use crate::reply::Row;
 use crate::value::Value;
 
@@ -26,6 +26,12 @@ impl<'a> Reader<'a> {
 
     pub(crate) fn small_number(&mut self) -> Option<u32> {
         Some(u32::from_be_bytes(self.bytes(4)?.try_into().ok()?))
+    }
+
+    /// Takes bytes, after how many they are.
+    pub(crate) fn data(&mut self) -> Option<&'a [u8]> {
+        let length = usize::try_from(self.number()?).ok()?;
+        self.bytes(length)
     }
 
     /// Takes a text up to its end. A zero that is not the end is followed by 255.

@@ -84,7 +84,7 @@ pub(crate) fn schema_of(held: &mut Handle) -> Result<Schema, Error> {
 }
 
 /// The schema of a version's code.
-fn read(code: &[u8]) -> Result<Schema, Error> {
+pub(crate) fn read(code: &[u8]) -> Result<Schema, Error> {
     let unknown = || Error::Reply("a schema in another code".to_string());
     schema(&mut Reader(code)).ok_or_else(unknown)
 }
@@ -114,7 +114,7 @@ fn table(reader: &mut Reader<'_>) -> Option<(String, Vec<(String, Type)>)> {
 }
 
 /// An element as its code has it: other elements and its table by their numbers.
-struct Part {
+pub(crate) struct Part {
     number: u32,
     table: u32,
     name: String,
@@ -123,7 +123,7 @@ struct Part {
     is_dropped: bool,
 }
 
-fn part(reader: &mut Reader<'_>) -> Option<Part> {
+pub(crate) fn part(reader: &mut Reader<'_>) -> Option<Part> {
     Some(Part {
         number: reader.small_number()?,
         table: reader.small_number()?,

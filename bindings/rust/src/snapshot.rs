@@ -1,7 +1,7 @@
 //! Snapshots and audits.
 
 use crate::error::Error;
-use crate::ffi::Handle;
+use crate::ffi::{Checked, Handle};
 use crate::names::Names;
 use crate::query::{find, Query};
 use crate::reply::Row;
@@ -28,7 +28,11 @@ impl Check {
 
     /// The audit of the session or the snapshot behind this handle.
     pub(crate) fn of(handle: &mut Handle) -> Result<Check, Error> {
-        let found = handle.check();
+        Check::found(handle.check())
+    }
+
+    /// What an audit answered.
+    pub(crate) fn found(found: Checked) -> Result<Check, Error> {
         done(found.status)?;
         Ok(Check {
             rows: found.rows,

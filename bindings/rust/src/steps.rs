@@ -60,8 +60,7 @@ fn a_move(reader: &mut Reader<'_>, names: &Names) -> Option<Move> {
 }
 
 pub(crate) fn name(reader: &mut Reader<'_>) -> Option<String> {
-    let length = usize::try_from(reader.number()?).ok()?;
-    String::from_utf8(reader.bytes(length)?.to_vec()).ok()
+    String::from_utf8(reader.data()?.to_vec()).ok()
 }
 
 pub(crate) fn entering(reader: &mut Reader<'_>) -> Option<Entering> {

@@ -1,9 +1,9 @@
 //! Transactions.
 
-use crate::code::{self, Kind, Operations};
 use crate::error::Error;
 use crate::ffi::{self, Handle};
 use crate::lease::Lease;
+use crate::operations::{self, Kind, Operations};
 use crate::reads::Reads;
 use crate::reply::Row;
 use crate::session::done;
@@ -88,7 +88,7 @@ impl<'a> Txn<'a> {
     /// ```
     pub fn get(&mut self, table: &str, key: impl Into<Key>) -> Result<Option<Row>, Error> {
         let key = key.into();
-        let row = code::row(self.lease.names().table(table), &key);
+        let row = operations::row(self.lease.names().table(table), &key);
         let reads = self.reads.get_or_insert_with(Box::default);
         reads.get(self.lease, row, table, key)
     }
@@ -124,7 +124,7 @@ impl<'a> Txn<'a> {
         let names = self.lease.names();
         let number = |column: &str| names.element(table, column);
         self.operations.push(kind, names.table(table), key);
-        self.operations.push_cells(cells, number);
+        self.operations.push_cells(&cells.0, number);
         if self.unknown.is_none() && names.table(table) != 0 {
             let mut columns = cells.0.iter().map(|cell| cell.0);
             self.unknown = columns
@@ -221,13 +221,9 @@ fn accepted(
     status: i32,
     column: u32,
 ) -> Result<(), Error> {
-    match (status, column) {
-        (ffi::NOT_PUBLIC, 0) => Err(Error::NotPublic { column: unknown }),
-        (ffi::NOT_PUBLIC, number) => {
-            let column = lease.names().name_of(number).map(str::to_string);
-            Err(Error::NotPublic { column })
-        }
-        (status, _) => done(status),
+    match status {
+        ffi::NOT_PUBLIC => Err(lease.names().not_public(column, unknown)),
+        status => done(status),
     }
 }
 

@@ -295,7 +295,7 @@ fn threads_work_pieces_while_rows_change() -> Result<(), Error> {
             scope.spawn(|| loop {
                 match next.fetch_add(1, Ordering::Relaxed) {
                     piece @ 0..8 => work(piece as u32)?,
-                    _ => return Ok(()),
+                    _ => return Ok::<_, Error>(()),
                 }
             })
         });

@@ -1,0 +1,277 @@
+//! The functions of `include/cagzhomul_layer.h` behind safe calls: bytes in, bytes out, and nothing
+//! is kept. What `ffi.rs` says of handles and slices holds here.
+#![allow(unsafe_code)]
+
+use crate::error::Error;
+use crate::ffi::{Checked, Handle, RawHandle, CLOSED, OK};
+use crate::session::fetch;
+
+/// `cagzhomul_layered`.
+#[repr(C)]
+#[derive(Debug, Clone, Copy, PartialEq, Eq)]
+pub(super) struct Refusal {
+    pub(super) status: i32,
+    pub(super) column: u32,
+    pub(super) number: u64,
+}
+
+/// What a call gave: its bytes, and the number beside them.
+pub(super) struct Given {
+    pub(super) code: Vec<u8>,
+    pub(super) number: u64,
+}
+
+/// Why nothing came of what was asked of the library, or of the store for it.
+#[derive(Debug)]
+pub(super) enum Fault {
+    /// The library refused the call.
+    Refused(Refusal),
+    /// Anything else.
+    Error(Error),
+}
+
+impl From<Refusal> for Fault {
+    fn from(refusal: Refusal) -> Fault {
+        Fault::Refused(refusal)
+    }
+}
+
+impl<E: Into<Error>> From<E> for Fault {
+    fn from(error: E) -> Fault {
+        Fault::Error(error.into())
+    }
+}
+
+unsafe extern "C" {
+    fn cagzhomul_layer_open(
+        opening: *const u8,
+        opening_length: usize,
+        draft: *mut RawHandle,
+    ) -> Refusal;
+    fn cagzhomul_layer_reads(
+        version: *const u8,
+        version_length: usize,
+        operations: *const u8,
+        operations_length: usize,
+        keys: *mut RawHandle,
+    ) -> Refusal;
+    fn cagzhomul_layer_txn(
+        number: u64,
+        version: *const u8,
+        version_length: usize,
+        operations: *const u8,
+        operations_length: usize,
+        view: *const u8,
+        view_length: usize,
+        mark: *const u8,
+        mark_length: usize,
+        draft: *mut RawHandle,
+    ) -> Refusal;
+    fn cagzhomul_layer_ranges(
+        version: *const u8,
+        version_length: usize,
+        query: *const u8,
+        query_length: usize,
+        ranges: *mut RawHandle,
+    ) -> Refusal;
+    fn cagzhomul_layer_row_ranges(
+        version: *const u8,
+        version_length: usize,
+        query: *const u8,
+        query_length: usize,
+        pairs: *const u8,
+        pairs_length: usize,
+        ranges: *mut RawHandle,
+    ) -> Refusal;
+    fn cagzhomul_layer_rows(
+        version: *const u8,
+        version_length: usize,
+        query: *const u8,
+        query_length: usize,
+        pairs: *const u8,
+        pairs_length: usize,
+        rows: *mut RawHandle,
+    ) -> Refusal;
+    fn cagzhomul_layer_plan(
+        version: *const u8,
+        version_length: usize,
+        changes: *const u8,
+        changes_length: usize,
+        plan: *mut RawHandle,
+    ) -> Refusal;
+    fn cagzhomul_layer_publish(
+        before: u32,
+        version: *const u8,
+        version_length: usize,
+        step: *const u8,
+        step_length: usize,
+        found: *const u8,
+        found_length: usize,
+        draft: *mut RawHandle,
+    ) -> Refusal;
+    fn cagzhomul_layer_close(
+        before: u32,
+        version: *const u8,
+        version_length: usize,
+        draft: *mut RawHandle,
+    ) -> Refusal;
+    fn cagzhomul_layer_begin(
+        before: u32,
+        version: *const u8,
+        version_length: usize,
+        element: u32,
+        keys: *const u8,
+        keys_length: usize,
+        draft: *mut RawHandle,
+    ) -> Refusal;
+    fn cagzhomul_layer_piece(
+        reorg: *const u8,
+        reorg_length: usize,
+        piece: u32,
+        cursor: *const u8,
+        cursor_length: usize,
+        to: *const u8,
+        to_length: usize,
+        pairs: *const u8,
+        pairs_length: usize,
+        draft: *mut RawHandle,
+    ) -> Refusal;
+    fn cagzhomul_layer_check(
+        version: *const u8,
+        version_length: usize,
+        pairs: *const u8,
+        pairs_length: usize,
+    ) -> Checked;
+}
+
+/// Makes a call of the library: a function, numbers by their names, bytes in brackets, which go with
+/// their length, in the order of the header; the closed handle comes last.
+macro_rules! asked {
+    ($function:ident, $($given:tt),*) => {{
+        let mut out = Handle::closed();
+        // SAFETY: the handle and all slices, as at the top of `ffi.rs`.
+        let done = asked!(@call [$function, out] [] $($given)*);
+        given(done, out)
+    }};
+    (@call [$function:ident, $out:ident] [$($words:expr),*]) => {
+        unsafe { $function($($words,)* $out.raw()) }
+    };
+    (@call $head:tt [$($words:expr),*] [$bytes:ident] $($rest:tt)*) => {
+        asked!(@call $head [$($words,)* $bytes.as_ptr(), $bytes.len()] $($rest)*)
+    };
+    (@call $head:tt [$($words:expr),*] $number:ident $($rest:tt)*) => {
+        asked!(@call $head [$($words,)* $number] $($rest)*)
+    };
+}
+
+/// What a call came to that has written to this handle.
+fn given(done: Refusal, mut out: Handle) -> Result<Given, Refusal> {
+    if done.status != OK {
+        return Err(done);
+    }
+    let unread = |_| Refusal {
+        status: CLOSED,
+        ..done
+    };
+    let code = fetch(|_, room| out.rows_from(0, room)).map_err(unread)?;
+    let number = done.number;
+    Ok(Given { code, number })
+}
+
+/// The draft that opens a store, by the code of its opening.
+pub(super) fn open(opening: &[u8]) -> Result<Given, Refusal> {
+    asked!(cagzhomul_layer_open, [opening])
+}
+
+/// The keys that a transaction reads under a version.
+pub(super) fn reads(version: &[u8], operations: &[u8]) -> Result<Given, Refusal> {
+    asked!(cagzhomul_layer_reads, [version], [operations])
+}
+
+/// The draft of a transaction under a version, by what was read for it.
+pub(super) fn txn(
+    number: u64,
+    version: &[u8],
+    operations: &[u8],
+    view: &[u8],
+    mark: &[u8],
+) -> Result<Given, Refusal> {
+    asked!(
+        cagzhomul_layer_txn,
+        number,
+        [version],
+        [operations],
+        [view],
+        [mark]
+    )
+}
+
+/// The ranges that a query reads first.
+pub(super) fn ranges(version: &[u8], query: &[u8]) -> Result<Given, Refusal> {
+    asked!(cagzhomul_layer_ranges, [version], [query])
+}
+
+/// The ranges that it reads after these pairs of an index.
+pub(super) fn row_ranges(version: &[u8], query: &[u8], pairs: &[u8]) -> Result<Given, Refusal> {
+    asked!(cagzhomul_layer_row_ranges, [version], [query], [pairs])
+}
+
+/// The rows of a query whose ranges have these pairs.
+pub(super) fn rows(version: &[u8], query: &[u8], pairs: &[u8]) -> Result<Given, Refusal> {
+    asked!(cagzhomul_layer_rows, [version], [query], [pairs])
+}
+
+/// The least plan of a batch of changes.
+pub(super) fn plan(version: &[u8], changes: &[u8]) -> Result<Given, Refusal> {
+    asked!(cagzhomul_layer_plan, [version], [changes])
+}
+
+/// The draft of a step, by the reorganisations that were found.
+pub(super) fn publish(
+    before: u32,
+    version: &[u8],
+    step: &[u8],
+    found: &[u8],
+) -> Result<Given, Refusal> {
+    asked!(cagzhomul_layer_publish, before, [version], [step], [found])
+}
+
+/// The draft that closes the version before this one.
+pub(super) fn close(before: u32, version: &[u8]) -> Result<Given, Refusal> {
+    asked!(cagzhomul_layer_close, before, [version])
+}
+
+/// The draft that begins what an element wants, in pieces from these keys on.
+pub(super) fn begin(
+    before: u32,
+    version: &[u8],
+    element: u32,
+    keys: &[u8],
+) -> Result<Given, Refusal> {
+    asked!(cagzhomul_layer_begin, before, [version], element, [keys])
+}
+
+/// The draft of a piece, by the pairs from its cursor on up to a key.
+pub(super) fn piece(
+    reorg: &[u8],
+    piece: u32,
+    cursor: &[u8],
+    to: &[u8],
+    pairs: &[u8],
+) -> Result<Given, Refusal> {
+    asked!(
+        cagzhomul_layer_piece,
+        [reorg],
+        piece,
+        [cursor],
+        [to],
+        [pairs]
+    )
+}
+
+/// The audit of all pairs of rows and indexes by a version.
+pub(super) fn check(version: &[u8], pairs: &[u8]) -> Checked {
+    let (at, length) = (version.as_ptr(), version.len());
+    // SAFETY: both slices, as at the top of `ffi.rs`.
+    unsafe { cagzhomul_layer_check(at, length, pairs.as_ptr(), pairs.len()) }
+}
