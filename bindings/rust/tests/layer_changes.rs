@@ -102,28 +102,31 @@ fn operators_that_end_in_the_middle() {
 /// Operators act by turns at random, each loses answers, and all that they began is complete in the end.
 #[test]
 fn several_operators() {
-    for seed in 4..12 {
+    for seed in 0..12 {
         let (store, mut dice) = (MemoryStore::new(), Dice(seed));
         let db = opened(23, &store);
+        let note = SchemaChange::add_column("people", "note", Text);
         let batches = [
             vec![by_town(), rank()],
-            vec![
-                SchemaChange::add_column("people", "note", Text),
-                SchemaChange::drop_column("tags", "n"),
-            ],
+            vec![note, SchemaChange::drop_column("tags", "n")],
             vec![SchemaChange::add_index("people", "by_age", ["age"])],
         ];
+        let mut due = vec![vec!["by_town", "rank"], vec!["note"], vec!["by_age"]];
         let operators = [0, 1, 2].map(|_| {
             let script = (0..60).map(|_| [Plain, Plain, Lost, Gone, Late][dice.below(5)]);
             Layer::new(Scripted::new(&store, script.collect::<Vec<_>>())).unwrap()
         });
         let begun = operators.iter().zip(&batches);
         let begun = begun.map(|(it, batch)| it.change(batch).unwrap().pieces(3).limit(9));
-        let mut running: Vec<_> = begun.collect();
+        let mut running: Vec<_> = begun.enumerate().collect();
         while !running.is_empty() {
             let at = dice.below(running.len());
-            match running[at].next() {
+            match running[at].1.next() {
                 Some(Ok(_)) => {}
+                // its answer was lost, and other operators have closed the version that would show it
+                Some(Err(Error::Store(StoreError::Unknown(_)))) => {
+                    due[running.remove(at).0].clear()
+                }
                 None => drop(running.remove(at)),
                 Some(Err(error)) => panic!("{seed}: {error}"),
             }
@@ -134,13 +137,33 @@ fn several_operators() {
         end(db.resume()).unwrap();
         let found = elements(&Layer::new(&store).unwrap().schema());
         assert!(found.iter().all(|it| it.2), "{seed}: {found:?}");
-        for name in ["by_town", "rank", "note", "by_age"] {
-            let is_there = found.contains(&("people".to_string(), name.to_string(), true));
-            assert!(is_there, "{seed}: {name}");
+        for name in due.concat() {
+            assert!(found.iter().any(|it| it.1 == name), "{seed}: {name}");
         }
-        assert!(found.iter().all(|it| it.1 != "n"), "{seed}");
         sound(&db);
     }
+}
+
+/// An operator that is overtaken, and whose answers all come, knows what of its list has not begun, and
+/// begins it.
+#[test]
+fn an_operator_that_is_overtaken() {
+    let store = MemoryStore::new();
+    let db = opened(23, &store);
+    let slow = Layer::new(&store).unwrap();
+    let by_rank = SchemaChange::add_index("people", "by_rank", ["rank"]);
+    let mut acts = slow.change(&[rank(), by_rank]).unwrap();
+    for _ in 0..3 {
+        let note = SchemaChange::add_column("people", "note", Text);
+        db.complete(&[note]).unwrap();
+        db.complete(&[drop_column("note")]).unwrap();
+    }
+    let mut due = elements(&Layer::new(&store).unwrap().schema());
+    assert!(due.iter().all(|it| it.1 != "by_rank"));
+    acts.try_for_each(|act| act.map(drop)).unwrap();
+    due.insert(("people".to_string(), "by_rank".to_string(), true));
+    assert_eq!(elements(&Layer::new(&store).unwrap().schema()), due);
+    sound(&db);
 }
 
 #[test]
@@ -177,10 +200,7 @@ fn pieces_are_as_many_as_keys_allow() {
     }
     let db = opened(3, MemoryStore::new());
     let refused = end(db.change(&[by_town()]).unwrap().pieces(65));
-    assert!(
-        matches!(refused, Ok(()) | Err(Error::BadCount)),
-        "{refused:?}"
-    );
+    assert_eq!(refused, Err(Error::BadCount));
 }
 
 /// Pieces become as small as the store and the rows want.

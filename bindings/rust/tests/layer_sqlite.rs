@@ -317,3 +317,18 @@ fn programs_that_are_killed() {
     assert_eq!((rows.len(), balances.sum::<i64>()), (8, 800));
     sound(&db);
 }
+
+/// The program of the page is the example, without the remark at its top.
+#[test]
+fn the_page_shows_the_example() {
+    let page = include_str!("../../../docs/LAYER.md");
+    let example = include_str!("../examples/layer_writers.rs");
+    let (_, shown) = page.split_once("```rust\n").unwrap();
+    let (shown, _) = shown.split_once("```").unwrap();
+    let (remark, program) = example.split_once("\n\n").unwrap();
+    assert!(
+        remark.lines().all(|line| line.starts_with("//!")),
+        "{remark}"
+    );
+    assert_eq!(shown, program);
+}

@@ -48,7 +48,8 @@ fn last_place<S: Store>(
     high: &[u8],
 ) -> Result<u128, StoreError> {
     let (mut last, mut end) = (begin, BEYOND);
-    while end - last > 1 {
+    // others may put a key beyond the end meanwhile
+    while end.saturating_sub(last) > 1 {
         let places = (1..PARTS).map(|it| last + (end - last) * it / PARTS);
         let places: BTreeSet<u128> = places.filter(|it| *it > last).collect();
         let found = first_keys(store, &places, low, high)?;

@@ -15,6 +15,8 @@ use crate::layer::store::{bad_answer, read_page, Range, Store, StoreError, Value
 use std::sync::Arc;
 use std::time::Duration;
 
+/// In how many pieces a reorganisation may begin.
+const MOST_PIECES: usize = 64;
 /// How long at most a pause is after a draft that was refused.
 const PAUSE: Duration = Duration::from_millis(10);
 
@@ -107,6 +109,9 @@ impl<'a, S: Store> Operator<'a, S> {
 
     /// The draft that begins the fill or the clear of an element, divided where keys are.
     fn begin(&mut self, element: u32) -> Result<Draft, Error> {
+        if self.pieces > MOST_PIECES {
+            return Err(Error::BadCount);
+        }
         let whole = self.divided(element, Vec::new())?;
         if self.pieces <= 1 {
             return Ok(whole);
