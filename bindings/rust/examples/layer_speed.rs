@@ -79,6 +79,39 @@ fn by_layer(
     })
 }
 
+/// The key of a row's pair: 0 that it is there, 1 its column.
+fn pair(row: u64, column: u8) -> Vec<u8> {
+    let number = (row ^ (1 << 63)).to_be_bytes();
+    [b"R\0\0\0\x01\x02", &number[..], &[0, 0, 0, column]].concat()
+}
+
+/// The draft of a transaction under a version, whose key and record are given, from what the store holds.
+fn bare_draft(
+    store: &SqliteStore,
+    dice: &mut Dice,
+    version: (&[u8], &[u8]),
+) -> Result<Draft, Error> {
+    let rows = dice.rows();
+    let points = rows.map(|it| [pair(it, 0), pair(it, 1)]).concat();
+    let found = store.read(&points, &[])?.pairs.into_iter();
+    let mark = [
+        vec![3],
+        (0..2).flat_map(|_| dice.next().to_be_bytes()).collect(),
+    ]
+    .concat();
+    let mut compare: Values = points.into_iter().map(|it| (it, None)).collect();
+    compare.extend(found.map(|(key, value)| (key, Some(value))));
+    compare.insert(version.0.to_vec(), Some(version.1.to_vec()));
+    compare.insert(mark.clone(), None);
+    let value = |text: String| Some([b"\x03", text.as_bytes(), b"\0\x01"].concat());
+    let write = rows.map(|it| (pair(it, 1), value(dice.text())));
+    Ok(Draft {
+        compare,
+        ranges: Vec::new(),
+        write: write.into_iter().chain([(mark, Some(vec![1]))]).collect(),
+    })
+}
+
 fn bare(
     store: SqliteStore,
     dice: &mut Dice,
@@ -93,40 +126,7 @@ fn bare(
     let mut page = store.read(&[], &[versions])?.pages.remove(0);
     let (version, record) = page.pairs.pop().ok_or(Error::NotOpened)?;
     count(barrier, time, || {
-        let pair = |row: u64, column: u8| {
-            let number = (row ^ (1 << 63)).to_be_bytes();
-            [b"R\0\0\0\x01\x02", &number[..], &[0, 0, 0, column]].concat()
-        };
-        let rows = dice.rows();
-        let points: Vec<_> = rows
-            .iter()
-            .flat_map(|it| [pair(*it, 0), pair(*it, 1)])
-            .collect();
-        let mut compare: Values = points.iter().map(|it| (it.clone(), None)).collect();
-        let found = store.read(&points, &[])?.pairs;
-        compare.extend(found.into_iter().map(|(key, value)| (key, Some(value))));
-        let mark = [
-            &[3][..],
-            &dice.next().to_be_bytes(),
-            &dice.next().to_be_bytes(),
-        ]
-        .concat();
-        compare.extend([
-            (version.clone(), Some(record.clone())),
-            (mark.clone(), None),
-        ]);
-        let value = |text: String| Some([b"\x03", text.as_bytes(), b"\0\x01"].concat());
-        let mut write: Values = rows
-            .iter()
-            .map(|it| (pair(*it, 1), value(dice.text())))
-            .collect();
-        write.insert(mark, Some(vec![1]));
-        let ranges = Vec::new();
-        let draft = Draft {
-            compare,
-            ranges,
-            write,
-        };
+        let draft = bare_draft(&store, dice, (&version, &record))?;
         match store.apply(&draft) {
             Err(StoreError::Refused(_)) => Ok(false),
             applied => Ok(applied.map(|()| true)?),

@@ -5,7 +5,7 @@ use crate::layer::StoreError;
 use std::fmt;
 
 /// Why a call was refused. A refused call changed nothing, except that [`Error::OutOfMemory`] over
-/// a line may close the session.
+/// a line may close the session, and that after [`StoreError::Unknown`] nobody knows.
 #[derive(Debug, Clone, PartialEq, Eq)]
 #[non_exhaustive]
 pub enum Error {

@@ -4,7 +4,7 @@ mod layer_shared;
 
 use cagzhomul::layer::{Draft, Layer, MemoryStore, Store, StoreError};
 use cagzhomul::Type::Int;
-use cagzhomul::{Error, Query, SchemaChange, Table, Value};
+use cagzhomul::{Error, Key, Query, SchemaChange, Table, Value};
 use layer_shared::How::{Gone, Late, Lost};
 use layer_shared::{number, opened, row, sound, tables, Dice, Scripted, TOWNS};
 use std::cell::Cell;
@@ -20,9 +20,54 @@ fn add_index(table: &str, name: &str, column: &str) -> [SchemaChange; 1] {
     [SchemaChange::add_index(table, name, [column])]
 }
 
-#[test]
-fn refusals() {
+type Call<'a> = &'a dyn Fn(&Db) -> Result<(), Error>;
+
+/// Each call is refused so, by a database with the people 0 to 4, and changes nothing.
+fn refuse<const N: usize>(cases: [(Call<'_>, Error); N]) {
     let db = opened(5, MemoryStore::new());
+    for (at, (call, due)) in cases.into_iter().enumerate() {
+        assert_eq!(call(&db), Err(due), "case {at}");
+    }
+    assert_eq!(db.query(&Query::of("people")).unwrap().len(), 5);
+    sound(&db);
+}
+
+#[test]
+fn refusals_of_operations() {
+    let long = "x".repeat(1025);
+    let update = |db: &Db, column: &str| db.update("people", 3, [(column, &long)]).map(drop);
+    let second = |db: &Db| {
+        let mut txn = db.txn();
+        txn.update("people", 3, [("age", 1)]).delete("people", 9);
+        txn.commit().map(drop)
+    };
+    let insert = |db: &Db, table: &str, key: Key| db.insert(table, key, ()).map(drop);
+    let (operation, wrong) = (0, Error::WrongType);
+    refuse([
+        (
+            &|db| insert(db, "people", 3.into()),
+            Error::Duplicate { operation },
+        ),
+        (
+            &|db| db.delete("people", 9).map(drop),
+            Error::NoRow { operation },
+        ),
+        (&second, Error::NoRow { operation: 1 }),
+        (&|db| insert(db, "nobody", 3.into()), Error::NoTable),
+        (&|db| insert(db, "people", "a".into()), wrong.clone()),
+        (&|db| insert(db, "people", (1, 2).into()), wrong.clone()),
+        (&|db| update(db, "town"), wrong),
+        (
+            &|db| db.update("people", 3, [("nothing", 1)]).map(drop),
+            not_public("nothing"),
+        ),
+    ]);
+}
+
+#[test]
+fn refusals_of_transactions() {
+    let long = "x".repeat(1025);
+    let get = |db: &Db, table: &str, key: Key| db.txn().get(table, key).map(drop);
     let many = |db: &Db| {
         let mut txn = db.txn();
         for id in 100..165 {
@@ -32,93 +77,41 @@ fn refusals() {
     };
     let ended = |db: &Db| {
         let mut txn = db.txn();
-        txn.insert("people", 50, ()).commit()?;
-        let again = txn.commit();
-        assert_eq!(again, Err(Error::WrongStage));
+        txn.update("people", 1, [("age", 3)]).commit()?;
+        assert_eq!(txn.commit(), Err(Error::WrongStage));
         txn.get("people", 1).map(drop)
     };
-    let long = "x".repeat(1025);
-    type Case<'a> = (&'a dyn Fn(&Db) -> Result<(), Error>, Error);
-    let cases: [Case<'_>; 19] = [
-        (
-            &|db| db.insert("people", 3, ()).map(drop),
-            Error::Duplicate { operation: 0 },
-        ),
-        (
-            &|db| {
-                db.txn()
-                    .update("people", 3, [("age", 1)])
-                    .delete("people", 9)
-                    .commit()
-                    .map(drop)
-            },
-            Error::NoRow { operation: 1 },
-        ),
-        (&|db| db.insert("nobody", 3, ()).map(drop), Error::NoTable),
-        (
-            &|db| db.insert("people", "a", ()).map(drop),
-            Error::WrongType,
-        ),
-        (
-            &|db| db.insert("people", (1, 2), ()).map(drop),
-            Error::WrongType,
-        ),
-        (
-            &|db| db.update("people", 3, [("town", &long)]).map(drop),
-            Error::WrongType,
-        ),
-        (
-            &|db| db.update("people", 3, [("nothing", 1)]).map(drop),
-            not_public("nothing"),
-        ),
-        (&|db| db.txn().get("nobody", 1).map(drop), Error::NoTable),
-        (
-            &|db| db.txn().get("people", "a").map(drop),
-            Error::WrongType,
-        ),
-        (
-            &|db| db.txn().get("people", &long).map(drop),
-            Error::WrongType,
-        ),
+    refuse([
+        (&|db| get(db, "nobody", 1.into()), Error::NoTable),
+        (&|db| get(db, "people", "a".into()), Error::WrongType),
+        (&|db| get(db, "people", (&long).into()), Error::WrongType),
         (&ended, Error::WrongStage),
         (&many, Error::TooManyOps),
+    ]);
+}
+
+#[test]
+fn refusals_of_queries_and_changes() {
+    let query = |db: &Db, query: Query| db.query(&query).map(drop);
+    let people = || Query::of("people");
+    let add = |db: &Db, name: &str, column: &str| db.complete(&add_index("people", name, column));
+    let abandon = |db: &Db| db.complete(&[SchemaChange::abandon("people", "town")]);
+    let other = |db: &Db| Layer::open(db.store(), [Table::new("people").key("id", Int)]).map(drop);
+    refuse([
+        (&|db| query(db, Query::of("nobody")), Error::NoTable),
+        (&|db| query(db, people().columns(["no"])), not_public("no")),
         (
-            &|db| db.query(&Query::of("nobody")).map(drop),
-            Error::NoTable,
-        ),
-        (
-            &|db| db.query(&Query::of("people").columns(["no"])).map(drop),
-            not_public("no"),
-        ),
-        (
-            &|db| db.query(&Query::of("people").equal("age", "a")).map(drop),
+            &|db| query(db, people().equal("age", "a")),
             Error::WrongType,
         ),
-        (
-            &|db| db.complete(&add_index("people", "town", "age")),
-            Error::NameTaken,
-        ),
-        (
-            &|db| db.complete(&add_index("people", "i", "nothing")),
-            Error::Unknown,
-        ),
-        (
-            &|db| db.complete(&[SchemaChange::abandon("people", "town")]),
-            Error::Unknown,
-        ),
-        (
-            &|db| Layer::open(db.store(), [Table::new("people").key("id", Int)]).map(drop),
-            Error::BadTable,
-        ),
-    ];
-    for (at, (call, due)) in cases.into_iter().enumerate() {
-        assert_eq!(call(&db), Err(due), "case {at}");
-    }
+        (&|db| add(db, "town", "age"), Error::NameTaken),
+        (&|db| add(db, "i", "nothing"), Error::Unknown),
+        (&abandon, Error::Unknown),
+        (&other, Error::BadTable),
+    ]);
     let nameless = Layer::open(MemoryStore::new(), [Table::new("").key("id", Int)]);
     assert_eq!(nameless.err(), Some(Error::BadTable));
     assert_eq!(Layer::new(MemoryStore::new()).err(), Some(Error::NotOpened));
-    assert_eq!(db.query(&Query::of("people")).unwrap().len(), 6);
-    sound(&db);
 }
 
 #[test]

@@ -5,8 +5,7 @@ mod layer_shared;
 use cagzhomul::layer::{
     Answer, ComparedRange, Draft, Layer, MemoryStore, Page, Range, Store, StoreError, Values,
 };
-use cagzhomul::Type::Text;
-use cagzhomul::{Error, Query, SchemaChange};
+use cagzhomul::{Error, Query};
 use layer_shared::opened;
 use std::cell::Cell;
 
@@ -25,49 +24,42 @@ impl Store for Lying<'_> {
     }
 }
 
+type Lie = (&'static str, fn(&mut Answer));
+
+/// Ways to spoil an answer that has a point and pages of several pairs.
+const LIES: [Lie; 9] = [
+    ("out of order", |it| {
+        of_pages(it, |page| page.pairs.reverse())
+    }),
+    ("a pair of a range twice", |it| {
+        of_pages(it, |page| page.pairs.insert(0, page.pairs[0].clone()));
+    }),
+    ("a key after the range", |it| {
+        of_pages(it, |page| page.pairs.push((b"\xff".to_vec(), Vec::new())));
+    }),
+    ("a key before the range", |it| {
+        of_pages(it, |page| page.pairs.insert(0, Default::default()));
+    }),
+    ("a page that ends outside", |it| {
+        of_pages(it, |page| page.end.push(0))
+    }),
+    ("no page", |it| drop(it.pages.pop())),
+    ("a page more", |it| it.pages.push(it.pages[0].clone())),
+    ("a foreign point", |it| {
+        it.pairs.push((b"R\0".to_vec(), Vec::new()))
+    }),
+    ("a point twice", |it| it.pairs.push(it.pairs[0].clone())),
+];
+
+fn of_pages(answer: &mut Answer, spoil: impl Fn(&mut Page)) {
+    answer.pages.iter_mut().for_each(spoil);
+}
+
 #[test]
 fn bad_answers_are_refused() {
     let store = MemoryStore::new();
-    let db = opened(20, &store);
-    db.complete(&[SchemaChange::add_column("people", "note", Text)])
-        .unwrap();
-    let foreign = || (b"R\0\0\0\x09".to_vec(), Vec::new());
-    type Lie<'a> = (&'a str, &'a dyn Fn(&mut Answer));
-    let lies: [Lie<'_>; 9] = [
-        ("out of order", &|it| {
-            it.pages.iter_mut().for_each(|page| page.pairs.reverse())
-        }),
-        ("a pair of a range twice", &|it| {
-            for page in &mut it.pages {
-                let first = page.pairs.first().cloned();
-                page.pairs.splice(0..0, first);
-            }
-        }),
-        ("a key after the range", &|it| {
-            it.pages
-                .iter_mut()
-                .for_each(|page| page.pairs.push((b"\xff".to_vec(), Vec::new())));
-        }),
-        ("a key before the range", &|it| {
-            it.pages
-                .iter_mut()
-                .for_each(|page| page.pairs.insert(0, Default::default()));
-        }),
-        ("a foreign point", &|it| it.pairs.push(foreign())),
-        ("a point twice", &|it| {
-            let first = it.pairs.first().cloned();
-            it.pairs.extend(first);
-        }),
-        ("no page", &|it| drop(it.pages.pop())),
-        ("a page more", &|it| {
-            let (pairs, end) = Default::default();
-            it.pages.push(Page { pairs, end });
-        }),
-        ("a page that ends outside", &|it| {
-            it.pages.iter_mut().for_each(|page| page.end.push(0));
-        }),
-    ];
-    for (name, lie) in lies {
+    opened(20, &store);
+    for (name, lie) in LIES {
         let is_lying = Cell::new(false);
         let spoil = |answer: &mut Answer| {
             if is_lying.get() {
@@ -82,80 +74,77 @@ fn bad_answers_are_refused() {
     }
 }
 
-/// The store tells which key differs first, in the order of points, and then of ranges.
-#[test]
-fn drafts_are_applied_whole_or_refused() {
-    let bytes = |text: &str| text.as_bytes().to_vec();
-    let store = MemoryStore::new();
-    let values = |pairs: &[(&str, Option<&str>)]| -> Values {
-        pairs
-            .iter()
-            .map(|(key, value)| (bytes(key), value.map(bytes)))
-            .collect()
-    };
-    let range = |low, high, pairs: &[(&str, &str)]| ComparedRange {
+fn bytes(text: &str) -> Vec<u8> {
+    text.as_bytes().to_vec()
+}
+
+fn values(pairs: &[(&str, Option<&str>)]) -> Values {
+    let pairs = pairs.iter();
+    pairs
+        .map(|(key, value)| (bytes(key), value.map(bytes)))
+        .collect()
+}
+
+fn range(low: &str, high: &str, pairs: &[(&str, &str)]) -> ComparedRange {
+    let pairs = pairs.iter().map(|(key, value)| (bytes(key), bytes(value)));
+    ComparedRange {
         low: bytes(low),
         high: bytes(high),
-        pairs: pairs
-            .iter()
-            .map(|(key, value)| (bytes(key), bytes(value)))
-            .collect(),
+        pairs: pairs.collect(),
+    }
+}
+
+/// Tries a draft with these comparisons on a store with a, b and c, of which c is empty: it is applied, or
+/// refused with a key, and then nothing has changed.
+fn compare(compare: Values, ranges: Vec<ComparedRange>, refused: Option<&str>) {
+    let store = MemoryStore::new();
+    let first = Draft {
+        write: values(&[("a", Some("1")), ("b", Some("2")), ("c", Some(""))]),
+        ..Draft::default()
     };
+    store.apply(&first).unwrap();
+    let draft = Draft {
+        compare,
+        ranges,
+        write: values(&[("a", None), ("n", Some("new"))]),
+    };
+    let due = refused.map(|key| StoreError::Refused(Some(bytes(key))));
+    assert_eq!(store.apply(&draft).err(), due, "{draft:?}");
+    let found = store.read(&[bytes("a"), bytes("n")], &[]).unwrap().pairs;
+    let left = match refused {
+        None => (bytes("n"), bytes("new")),
+        Some(_) => (bytes("a"), bytes("1")),
+    };
+    assert_eq!(found, [left]);
+}
+
+/// The key that differs first is that of a point, and then of a range.
+#[test]
+fn drafts_are_applied_whole_or_refused() {
+    compare(
+        values(&[("a", Some("1")), ("c", Some("")), ("z", None)]),
+        vec![],
+        None,
+    );
+    for (key, value) in [("a", Some("2")), ("a", None), ("c", None), ("z", Some(""))] {
+        compare(values(&[(key, value)]), vec![], Some(key));
+    }
     let all = [("a", "1"), ("b", "2"), ("c", "")];
-    let cases = [
+    let ranges = [
+        (range("a", "d", &all), None),
+        (range("b", "a", &[]), None),
+        (range("b", "b", &[]), None),
+        (range("a", "c", &all), Some("c")),
+        (range("a", "d", &all[1..]), Some("a")),
+        (range("a", "d", &all[..2]), Some("c")),
+        (range("a", "d", &[all[0], ("b", ""), all[2]]), Some("b")),
         (
-            values(&[("a", Some("1")), ("c", Some("")), ("z", None)]),
-            vec![],
-            None,
-        ),
-        (values(&[("a", Some("2"))]), vec![], Some("a")),
-        (values(&[("a", None)]), vec![], Some("a")),
-        (values(&[("c", None)]), vec![], Some("c")),
-        (values(&[("z", Some(""))]), vec![], Some("z")),
-        (values(&[]), vec![range("a", "d", &all)], None),
-        (values(&[]), vec![range("a", "c", &all)], Some("c")),
-        (values(&[]), vec![range("a", "d", &all[1..])], Some("a")),
-        (values(&[]), vec![range("a", "d", &all[..2])], Some("c")),
-        (
-            values(&[]),
-            vec![range("", "d", &[("", ""), all[0], all[1], all[2]])],
+            range("", "d", &[("", ""), all[0], all[1], all[2]]),
             Some(""),
         ),
-        (
-            values(&[]),
-            vec![range("b", "a", &[]), range("b", "b", &[])],
-            None,
-        ),
-        (
-            values(&[("z", Some(""))]),
-            vec![range("a", "d", &[])],
-            Some("z"),
-        ),
     ];
-    for (compare, ranges, due) in cases {
-        let write = values(&[
-            ("a", Some("1")),
-            ("b", Some("2")),
-            ("c", Some("")),
-            ("n", None),
-        ]);
-        let first = Draft {
-            write: write.clone(),
-            ..Draft::default()
-        };
-        store.apply(&first).unwrap();
-        let draft = Draft {
-            compare,
-            ranges,
-            write: values(&[("a", None), ("n", Some("new"))]),
-        };
-        let refused = due.map(|key| StoreError::Refused(Some(bytes(key))));
-        assert_eq!(store.apply(&draft).err(), refused, "{draft:?}");
-        let found = store.read(&[bytes("a"), bytes("n")], &[]).unwrap().pairs;
-        let left = match refused {
-            None => (bytes("n"), bytes("new")),
-            Some(_) => (bytes("a"), bytes("1")),
-        };
-        assert_eq!(found, [left]);
+    for (range, refused) in ranges {
+        compare(values(&[]), vec![range.clone()], refused);
+        compare(values(&[("z", Some(""))]), vec![range], Some("z"));
     }
 }

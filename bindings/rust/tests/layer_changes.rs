@@ -7,7 +7,7 @@ use cagzhomul::layer::{Act, Acts, Layer, MemoryStore, Store, StoreError};
 use cagzhomul::Type::{Int, Text};
 use cagzhomul::{Error, Schema, SchemaChange, State};
 use layer_shared::How::{Gone, Late, Lost, Plain};
-use layer_shared::{change_beside_writers, opened, sound, Dice, Dropping, Scripted, Small};
+use layer_shared::{change_beside_writers, end, opened, sound, Dice, Dropping, Scripted, Small};
 use std::collections::BTreeSet;
 
 fn by_town() -> SchemaChange {
@@ -28,10 +28,6 @@ fn elements(schema: &Schema) -> BTreeSet<(String, String, bool)> {
     elements
         .map(|it| (it.table.clone(), it.name.clone(), it.state == State::Public))
         .collect()
-}
-
-fn end<S: Store>(mut acts: Acts<'_, S>) -> Result<(), Error> {
-    acts.try_for_each(|act| act.map(drop))
 }
 
 /// Takes so many acts, with writes between, and says how many there were.
@@ -111,7 +107,7 @@ fn several_operators() {
             vec![note, SchemaChange::drop_column("tags", "n")],
             vec![SchemaChange::add_index("people", "by_age", ["age"])],
         ];
-        let mut due = vec![vec!["by_town", "rank"], vec!["note"], vec!["by_age"]];
+        let mut due = [vec!["by_town", "rank"], vec!["note"], vec!["by_age"]];
         let operators = [0, 1, 2].map(|_| {
             let script = (0..60).map(|_| [Plain, Plain, Lost, Gone, Late][dice.below(5)]);
             Layer::new(Scripted::new(&store, script.collect::<Vec<_>>())).unwrap()

@@ -3,7 +3,7 @@
 
 mod layer_shared;
 
-use cagzhomul::layer::{Act, Draft, Layer, Page, Range, SqliteStore, Store, StoreError};
+use cagzhomul::layer::{Act, Draft, Layer, Page, Pair, Range, SqliteStore, Store, StoreError};
 use cagzhomul::Type::{Int, Text};
 use cagzhomul::{Query, SchemaChange, Table};
 use layer_shared::{change_beside_writers, number, opened, row, sound};
@@ -38,65 +38,70 @@ impl Drop for Folder {
     }
 }
 
-#[test]
-fn keys_and_pages() {
-    let folder = Folder::new("keys");
+const LONG: &[u8] = &[0xff; 2000];
+const KEYS: [&[u8]; 8] = [b"", b"\0", b"\0\xff", b"a", b"a\0", b"\x80", b"\xff", LONG];
+/// Above all keys.
+const END: &[u8] = &[0xff; 2001];
+
+/// A store with all these keys, of which each has its own first byte as its value, or none.
+fn filled(folder: &Folder) -> SqliteStore {
     let store = SqliteStore::open(folder.file()).unwrap();
-    let keys: [&[u8]; 8] = [
-        b"",
-        b"\0",
-        b"\0\xff",
-        b"a",
-        b"a\0",
-        b"\x80",
-        b"\xff",
-        &[0xff; 2000],
-    ];
-    let keys = keys.map(<[u8]>::to_vec);
-    let put = keys
-        .iter()
-        .map(|key| (key.clone(), Some(key[..key.len().min(1)].to_vec())));
+    let put = (0..KEYS.len()).map(|at| (pair(at).0, Some(pair(at).1)));
     let put = Draft {
         write: put.collect(),
         ..Draft::default()
     };
     store.apply(&put).unwrap();
-    let pair = |at: usize| (keys[at].clone(), put.write[&keys[at]].clone().unwrap());
+    store
+}
+
+fn pair(at: usize) -> Pair {
+    let key = KEYS[at];
+    (key.to_vec(), key.iter().copied().take(1).collect())
+}
+
+#[test]
+fn pages_of_a_file() {
+    let folder = Folder::new("pages");
+    let store = filled(&folder);
     // a range, its pairs, and the end of its page
-    let end = || vec![0xff; 2001];
-    let cases: [(Range, Vec<usize>, Vec<u8>); 6] = [
-        (range(b"", &end(), 99), (0..8).collect(), end()),
-        (
-            range(b"", &end(), 8),
-            (0..8).collect(),
-            [&keys[7][..], b"\0"].concat().min(end()),
-        ),
-        (range(b"", b"\0", 9), vec![0], b"\0".to_vec()),
-        (range(b"\0", b"b", 2), vec![1, 2], b"\0\xff\0".to_vec()),
-        (range(b"a\0", b"\xff", 9), vec![4, 5], b"\xff".to_vec()),
-        (range(b"b", b"a", 1), vec![], b"a".to_vec()),
+    let cases: [(Range, Vec<usize>, &[u8]); 6] = [
+        (range(b"", END, 99), (0..8).collect(), END),
+        (range(b"", END, 7), (0..7).collect(), b"\xff\0"),
+        (range(b"", b"\0", 9), vec![0], b"\0"),
+        (range(b"\0", b"b", 2), vec![1, 2], b"\0\xff\0"),
+        (range(b"a\0", b"\xff", 9), vec![4, 5], b"\xff"),
+        (range(b"b", b"a", 1), vec![], b"a"),
     ];
     for (range, due, end) in cases {
         let found = store.read(&[], std::slice::from_ref(&range)).unwrap();
-        let pairs = due.into_iter().map(pair).collect();
+        let (pairs, end) = (due.into_iter().map(pair).collect(), end.to_vec());
         assert_eq!(found.pages, [Page { pairs, end }], "{range:?}");
     }
-    let points = [keys[0].clone(), b"none".to_vec(), keys[1].clone()];
+}
+
+#[test]
+fn points_of_a_file() {
+    let folder = Folder::new("points");
+    let store = filled(&folder);
+    let points = [pair(0).0, b"none".to_vec(), pair(1).0];
     assert_eq!(store.read(&points, &[]).unwrap().pairs, [pair(0), pair(1)]);
-    let refused = Draft {
-        compare: [
-            (keys[3].clone(), Some(b"a".to_vec())),
-            (keys[0].clone(), None),
-        ]
-        .into(),
-        write: [(keys[3].clone(), None)].into(),
+    // an empty value is not a missing one
+    let mut draft = Draft {
+        compare: [(pair(3).0, Some(pair(3).1)), (pair(0).0, None)].into(),
+        write: [(pair(3).0, None), (pair(1).0, Some(Vec::new()))].into(),
         ..Draft::default()
     };
+    let refused = StoreError::Refused(Some(pair(0).0));
+    assert_eq!(store.apply(&draft), Err(refused));
+    let changed = [pair(1).0, pair(3).0];
+    assert_eq!(store.read(&changed, &[]).unwrap().pairs, [pair(1), pair(3)]);
+    draft.compare.insert(pair(0).0, Some(Vec::new()));
+    store.apply(&draft).unwrap();
     assert_eq!(
-        store.apply(&refused),
-        Err(StoreError::Refused(Some(Vec::new())))
+        store.read(&changed, &[]).unwrap().pairs,
+        [(pair(1).0, Vec::new())]
     );
-    assert_eq!(store.read(&keys[3..4], &[]).unwrap().pairs, [pair(3)]);
 }
 
 fn range(low: &[u8], high: &[u8], limit: usize) -> Range {
@@ -265,6 +270,24 @@ fn moves_of<S: Store>(db: &Layer<S>, name: &str) -> BTreeSet<i64> {
     rows.map(number).collect()
 }
 
+/// Kills a writer while an operator, which is left in the middle of its change, adds or drops an index.
+fn kill<S: Store>(db: &Layer<S>, mut writer: Writer, turn: usize) {
+    let mut done = writer.wait_for(2 + turn);
+    let change = match turn % 2 {
+        0 => SchemaChange::add_index("accounts", "by_balance", ["balance"]),
+        _ => SchemaChange::drop_index("accounts", "by_balance"),
+    };
+    let acts = db.change(&[change]).unwrap().pieces(2).limit(3);
+    let taken: Vec<Act> = acts.take(3).collect::<Result<_, _>>().unwrap();
+    assert!(!taken.is_empty());
+    writer.child.kill().unwrap();
+    writer.child.wait().unwrap();
+    done.extend(writer.wait_for(usize::MAX));
+    let (there, due) = (moves_of(db, &writer.name), done.iter().copied().collect());
+    assert!(there.is_superset(&due), "{done:?} {there:?}");
+    assert!(there.len() <= done.len() + 1, "{done:?} {there:?}");
+}
+
 /// Three programs are killed, and three end by themselves, while the schema changes: each move that was
 /// acknowledged is there once, and at most one more of each program that was killed.
 #[test]
@@ -280,28 +303,8 @@ fn programs_that_are_killed() {
         .each_ref()
         .map(|name| start(name, 1_000_000));
     let others = ["d", "e", "f"].each_ref().map(|name| start(name, MOVES));
-    let index = || SchemaChange::add_index("accounts", "by_balance", ["balance"]);
-    let leave = SchemaChange::drop_index("accounts", "by_balance");
-    for (turn, mut writer) in killed.into_iter().enumerate() {
-        let mut done = writer.wait_for(2 + turn);
-        // an operator is left in the middle, and another completes its change
-        let change = [if turn % 2 == 0 {
-            index()
-        } else {
-            leave.clone()
-        }];
-        let acts = db.change(&change).unwrap().pieces(2).limit(3);
-        let taken: Vec<Act> = acts.take(3).collect::<Result<_, _>>().unwrap();
-        assert!(!taken.is_empty());
-        writer.child.kill().unwrap();
-        writer.child.wait().unwrap();
-        done.extend(writer.wait_for(usize::MAX));
-        let there = moves_of(&db, &writer.name);
-        assert!(
-            there.is_superset(&done.iter().copied().collect()),
-            "{done:?} {there:?}"
-        );
-        assert!(there.len() <= done.len() + 1, "{done:?} {there:?}");
+    for (turn, writer) in killed.into_iter().enumerate() {
+        kill(&db, writer, turn);
         let other = Layer::new(store()).unwrap();
         other.resume().try_for_each(|act| act.map(drop)).unwrap();
     }

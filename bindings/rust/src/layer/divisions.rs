@@ -5,7 +5,7 @@ use std::collections::BTreeSet;
 
 /// Of how many parts one is chosen at each turn of a search for the last key.
 const PARTS: u128 = 16;
-/// How many bytes of keys, after those that the range's low key has, are told apart.
+/// How many bytes of keys, after those that the low key of the range has, make a place.
 const WIDTH: usize = 12;
 /// No place is from there on.
 const BEYOND: u128 = 1 << (8 * WIDTH);

@@ -2,11 +2,13 @@
 //! whole change beside writers.
 #![allow(dead_code)] // no test uses all of it
 
-use cagzhomul::layer::{Answer, Draft, Layer, MemoryStore, Range, Store, StoreError};
+use cagzhomul::layer::{
+    Act, Acts, Answer, Draft, Layer, Mark, MemoryStore, Range, Store, StoreError,
+};
 use cagzhomul::Type::{Int, Text};
 use cagzhomul::{Error, Query, Row, SchemaChange, Table, Value};
 use std::cell::RefCell;
-use std::collections::{BTreeMap, VecDeque};
+use std::collections::{BTreeSet, VecDeque};
 use std::sync::atomic::{AtomicBool, AtomicUsize, Ordering};
 use std::thread;
 
@@ -58,7 +60,7 @@ pub fn number(row: Option<&Row>, column: &str) -> i64 {
     }
 }
 
-/// What a store that is told so does with a draft.
+/// What a scripted store does with a draft.
 #[derive(Debug, Clone, Copy, PartialEq, Eq)]
 pub enum How {
     /// As the store below.
@@ -73,7 +75,7 @@ pub enum How {
     Down,
 }
 
-/// A store that does with drafts what it is told, in turn, and then as the store below.
+/// A store that does with drafts what its script says, in turn, and then as the store below.
 pub struct Scripted<'a> {
     pub store: &'a MemoryStore,
     script: RefCell<VecDeque<How>>,
@@ -182,8 +184,8 @@ impl Dice {
     }
 }
 
-/// Moves years from one person to another, and notes it under its own number.
-fn move_years<S: Store>(db: &Layer<S>, dice: &mut Dice, name: &str) -> Result<(), Error> {
+/// Moves years from one person to another, and notes it under its own name; the answer is its mark.
+fn move_years<S: Store>(db: &Layer<S>, dice: &mut Dice, name: &str) -> Result<Mark, Error> {
     let (one, other) = (dice.below(20), dice.below(20));
     db.run(|txn| {
         let ages = [one, other].map(|id| txn.get("people", id as i64));
@@ -194,7 +196,7 @@ fn move_years<S: Store>(db: &Layer<S>, dice: &mut Dice, name: &str) -> Result<()
             txn.update("people", other as i64, [("age", to + 1)]);
         }
         txn.insert("tags", name, [("n", 1)]);
-        Ok(())
+        Ok(txn.mark())
     })
 }
 
@@ -218,60 +220,72 @@ pub fn rounds() -> [Vec<SchemaChange>; 2] {
     ]
 }
 
+fn years<S: Store>(db: &Layer<S>) -> i64 {
+    let rows = db.query(&Query::of("people")).unwrap();
+    rows.iter().map(|row| number(Some(row), "age")).sum()
+}
+
+/// Moves years so many times, and looks whether any were lost; the answer is the marks.
+fn write<S: Store>(store: S, writer: usize, moves: usize) -> Vec<Mark> {
+    let (db, mut dice) = (Layer::new(store).unwrap(), Dice(writer as u64));
+    let before = years(&db);
+    let one = |it: usize| {
+        let mark = move_years(&db, &mut dice, &format!("{writer}/{it}")).unwrap();
+        assert_eq!(years(&db), before, "years of one moment");
+        mark
+    };
+    (0..moves).map(one).collect()
+}
+
 /// Four writers move years over stores of their own, while an operator makes changes in rounds, of which
 /// it leaves each in the middle to another. In the end each transaction that was acknowledged is there
-/// once, nothing else is, and no year was lost.
+/// once, with its mark, nothing else is, and no year was lost.
 pub fn change_beside_writers<S: Store + Send>(store: impl Fn() -> S + Sync, moves: usize) {
     let db = opened(20, store());
-    let years = |db: &Layer<S>| -> i64 {
-        let rows = db.query(&Query::of("people")).unwrap();
-        rows.iter().map(|row| number(Some(row), "age")).sum()
-    };
-    let (before, is_over) = (years(&db), AtomicBool::new(false));
-    let write = |writer: usize| {
-        let (db, mut dice) = (Layer::new(store()).unwrap(), Dice(writer as u64));
-        for it in 0..moves {
-            let name = format!("{writer}/{it}");
-            move_years(&db, &mut dice, &name).unwrap();
-            assert_eq!(years(&db), before, "years of one moment");
-        }
-    };
-    let published = thread::scope(|scope| {
-        let operator = scope.spawn(|| operate(&store, &is_over));
-        let writers = [0, 1, 2, 3].map(|writer| scope.spawn(move || write(writer)));
+    let (before, is_over, store) = (years(&db), AtomicBool::new(false), &store);
+    let (published, marks) = thread::scope(|scope| {
+        let operator = scope.spawn(|| operate(store, &is_over));
+        let writers = [0, 1, 2, 3].map(|it| scope.spawn(move || write(store(), it, moves)));
         let written = writers.map(|it| it.join());
         is_over.store(true, Ordering::Relaxed);
-        written.into_iter().for_each(|it| it.unwrap());
-        operator.join().unwrap()
+        let marks = written.map(|it| it.unwrap()).concat();
+        (operator.join().unwrap(), marks)
     });
-    assert!(published > 1, "the schema changed beside the writers");
-    db.resume().try_for_each(|act| act.map(drop)).unwrap();
+    assert!(published > 1, "the schema changed");
+    end(db.resume()).unwrap();
     let names = db.query(&Query::of("tags")).unwrap();
-    let mut names: BTreeMap<_, _> = names.iter().map(|row| (row.key()[0].clone(), ())).collect();
-    assert_eq!(names.len(), 4 * moves);
-    for (writer, it) in (0..4).flat_map(|writer| (0..moves).map(move |it| (writer, it))) {
-        let name = Value::from(format!("{writer}/{it}"));
-        assert!(names.remove(&name).is_some(), "{name} is lost");
-    }
+    let found: BTreeSet<Value> = names.iter().map(|row| row.key()[0].clone()).collect();
+    let due = (0..4).flat_map(|writer| (0..moves).map(move |it| format!("{writer}/{it}").into()));
+    assert_eq!((names.len(), found), (4 * moves, due.collect()));
+    let keys: Vec<_> = marks
+        .iter()
+        .map(|mark| [&[3], &mark[..]].concat())
+        .collect();
+    let there = db.store().read(&keys, &[]).unwrap().pairs;
+    assert_eq!(there.len(), 4 * moves, "each mark is there");
     assert_eq!(years(&db), before);
     sound(&db);
+}
+
+/// Does all acts.
+pub fn end<S: Store>(mut acts: Acts<'_, S>) -> Result<(), Error> {
+    acts.try_for_each(|act| act.map(drop))
 }
 
 /// Makes changes in rounds until the writers have ended, and says how many versions it published.
 fn operate<S: Store>(store: &(impl Fn() -> S + Sync), is_over: &AtomicBool) -> usize {
     let (mut dice, mut published) = (Dice(9), 0);
-    let mut count = |act: Result<cagzhomul::layer::Act, Error>| {
-        let is_publish = matches!(act.unwrap(), cagzhomul::layer::Act::Publish { .. });
-        published += usize::from(is_publish);
+    let mut count = |act: Result<Act, Error>| {
+        published += usize::from(matches!(act.unwrap(), Act::Publish { .. }));
     };
     for changes in rounds().iter().cycle() {
-        if is_over.load(Ordering::Relaxed) {
-            break;
-        }
         let (first, other) = (Layer::new(store()).unwrap(), Layer::new(store()).unwrap());
         let acts = first.change(changes).unwrap().pieces(3).limit(20);
         acts.take(2 + dice.below(9)).for_each(&mut count);
         other.resume().pieces(2).limit(30).for_each(&mut count);
+        if is_over.load(Ordering::Relaxed) {
+            break;
+        }
     }
     published
 }
