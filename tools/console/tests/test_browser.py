@@ -1,0 +1,220 @@
+"""The console in headless Chromium: each example is stepped through, in wide and narrow pages, light and dark. It takes Debian's chromium,
+chromium-driver and python3-selenium, and the shell program as test_console.py does. With CONSOLE_PICTURES=FOLDER it leaves pictures there."""
+
+from __future__ import annotations
+
+import os
+import pathlib
+import shutil
+import subprocess
+import sys
+import time
+import unittest
+from typing import List
+
+from selenium import webdriver
+from selenium.webdriver.chrome.options import Options
+from selenium.webdriver.chrome.service import Service
+from selenium.webdriver.common.by import By
+from selenium.webdriver.common.keys import Keys
+from selenium.webdriver.support.ui import Select, WebDriverWait
+
+HERE = pathlib.Path(__file__).resolve().parent.parent
+ROOT = HERE.parent.parent
+EXAMPLES = sorted((ROOT / "examples").glob("*.script"))
+PICTURES = os.environ.get("CONSOLE_PICTURES")
+
+
+class Browser(unittest.TestCase):
+    @classmethod
+    def setUpClass(cls) -> None:
+        cls.server = subprocess.Popen([sys.executable, str(HERE), "--port", "0"], stdout=subprocess.PIPE, text=True)
+        cls.addClassCleanup(cls.end_server)
+        cls.at = cls.server.stdout.readline().strip()
+        options = Options()
+        for word in ("--headless=new", "--no-sandbox", "--disable-dev-shm-usage", "--hide-scrollbars", "--window-size=1280,800"):
+            options.add_argument(word)
+        options.binary_location = shutil.which("chromium") or ""
+        options.set_capability("goog:loggingPrefs", {"browser": "ALL"})
+        cls.page = webdriver.Chrome(options=options, service=Service(shutil.which("chromedriver")))
+        cls.addClassCleanup(cls.page.quit)
+
+    @classmethod
+    def end_server(cls) -> None:
+        cls.server.terminate()
+        cls.server.wait(10)
+        cls.server.stdout.close()
+
+    def setUp(self) -> None:
+        self.open(1280, 800)
+
+    def tearDown(self) -> None:
+        self.assertEqual([], [it["message"] for it in self.page.get_log("browser")], "the browser's console has no error")
+
+    def open(self, width: int, height: int, dark: bool = False) -> None:
+        """Opens the page anew, in a window of this size."""
+        self.page.execute_cdp_cmd("Emulation.setDeviceMetricsOverride", {"width": width, "height": height, "deviceScaleFactor": 1, "mobile": width < 600})
+        self.page.execute_cdp_cmd("Emulation.setEmulatedMedia", {"features": [{"name": "prefers-color-scheme", "value": "dark" if dark else "light"}]})
+        self.page.get("about:blank")
+        self.page.get(self.at)
+        self.until("return document.body.dataset.ready === 'true'")
+
+    def until(self, script: str, seconds: float = 60) -> None:
+        WebDriverWait(self.page, seconds, 0.05).until(lambda page: page.execute_script(script), script)
+
+    def one(self, selector: str):
+        return self.page.find_element(By.CSS_SELECTOR, selector)
+
+    def all(self, selector: str):
+        return self.page.find_elements(By.CSS_SELECTOR, selector)
+
+    def texts(self, selector: str) -> List[str]:
+        return [it.text for it in self.all(selector)]
+
+    def sent(self) -> int:
+        return int(self.page.execute_script("return document.body.dataset.sent"))
+
+    def keep(self, name: str) -> None:
+        """Leaves a picture, once what has just changed has faded."""
+        if PICTURES:
+            time.sleep(1.4)
+            self.page.save_screenshot(str(pathlib.Path(PICTURES, f"{name}.png")))
+
+    def step(self) -> None:
+        before = self.sent()
+        self.one("#step").click()
+        self.until(f"return document.body.dataset.busy === 'false' && +document.body.dataset.sent > {before}")
+
+    def example(self, name: str, last: str = "") -> None:
+        """Chooses an example and steps up to the line that begins so; or runs all of it."""
+        Select(self.one("#example")).select_by_value(name)
+        if not last:
+            self.one("#all").click()
+            self.until("return document.body.dataset.busy === 'false' && document.getElementById('step').disabled && +document.body.dataset.sent > 0")
+            return
+        for _ in range(80):
+            self.step()
+            if self.texts("#lines li.sent .line")[-1].startswith(last):
+                return
+        self.fail(last)
+
+    def send(self, *lines: str) -> None:
+        for line in lines:
+            before = self.sent()
+            self.one("#line").send_keys(line, Keys.ENTER)
+            self.until(f"return document.body.dataset.busy === 'false' && +document.body.dataset.sent > {before}")
+
+    def test_each_example_is_stepped_through(self) -> None:
+        for path in EXAMPLES:
+            with self.subTest(path.stem):
+                self.example(path.stem)
+                self.assertEqual(path.with_suffix(".replies").read_text("utf-8").splitlines(), self.texts("#lines .reply"))
+                self.assertFalse(self.one("#fault").is_displayed())
+
+    def test_an_index_enters(self) -> None:
+        self.example("add_an_index")
+        labels = self.texts("#picture svg text")
+        for label in ("v4, newest", "v3, in use", "absent", "delete-only", "write-only", "public", "server a", "now 30"):
+            self.assertIn(label, labels)
+        self.assertEqual(["'Ulm'", "'Ulm'"], self.texts("#tables .pair.public"))
+        self.assertEqual("2 rows; pairs: 0 missing, 0 extra", self.one("#audit").text)
+        # back to the line by which a stale server deletes a row
+        self.all("#lines li.sent .line")[8].click()
+        self.assertTrue(self.one("#past").is_displayed())
+        self.assertIn("absent there, so a does not know it: 0 put, 0 removed", self.one("#did").text)
+        self.assertEqual(["2", "'Bonn'"], self.texts("#tables .removed"))
+        self.assertEqual("Version 1: used by a until 15. Version 2: used by b until 20.", self.one(".used").text)
+        self.one("#now").click()
+        self.assertFalse(self.one("#past").is_displayed())
+
+    def test_a_fill_has_its_pieces_and_a_write_its_pairs(self) -> None:
+        self.example("take_back_an_add", "commit first")
+        self.assertEqual(["done", "todo", "todo"], [it.get_attribute("class") for it in self.all(".pieces i")])
+        self.assertEqual(["'Ulm'"], self.texts("#tables .pair.added"))
+        self.example("take_back_an_add", "txn b at 32")
+        self.assertEqual((["'Bonn'"], ["'Ulm'"]), (self.texts("#tables .pair.added"), self.texts("#tables .pair.removed")))
+        self.keep("script")
+
+    def test_a_lease_that_has_ended_holds_no_version(self) -> None:
+        self.example("drop_an_index", "lease a at 20")
+        self.assertEqual("Version 2: no lease is in force. Version 3: used by a until 30.", self.one(".used").text)
+        self.assertEqual("its clear may begin at 30", self.one("#progress span").text.split(": ")[1])
+
+    def test_mistakes_are_marked(self) -> None:
+        self.send("table people (id int key, town text)", "open", "lease a at 5", "txn a: insert people (1) set town = 'Ü😀m'; inser people (2)", "plan: ad index i on people (town)")
+        self.assertEqual(["inser", "ad"], self.texts("#lines mark"))
+        self.one("#line").send_keys(Keys.ARROW_UP)
+        self.assertEqual("plan: ad index i on people (town)", self.one("#line").get_attribute("value"))
+
+    def test_what_is_typed_is_text(self) -> None:
+        markup = "<img src=x onerror=alert(1)><script>alert(2)</script>"
+        self.send("table t (id int key, s text)", "open", "lease a at 0", f"txn a: insert t (1) set s = '{markup}'", markup, f"lease {markup} at 0")
+        self.assertEqual((1, 6), (len(self.all("img")), len(self.all("script"))))
+        self.assertEqual([f"'{markup}'"], self.texts("#tables .added")[1:])
+
+    def test_pages_of_rows_are_turned(self) -> None:
+        self.send("table t (id int key, a int)", "open", "lease a at 0", "txn a: " + "; ".join(f"insert t ({n})" for n in range(60)))
+        self.assertEqual(50, len(self.all("#tables tbody tr")))
+        self.all(".pager button")[1].click()
+        self.until("return document.querySelectorAll('#tables tbody tr').length === 10")
+        self.assertEqual("50", self.one("#tables tbody td").text)
+        self.all(".pager button")[0].click()
+        self.until("return document.querySelectorAll('#tables tbody tr').length === 50")
+
+    def test_it_goes_by_the_keyboard(self) -> None:
+        self.send("table t (id int key)", "open")
+        self.one("#tab-script").send_keys(Keys.ARROW_RIGHT)
+        self.assertTrue(self.one("#view-load").is_displayed())
+        self.one("#tab-load").send_keys(Keys.ARROW_LEFT)
+        self.all("#lines .line")[0].send_keys(Keys.ENTER)
+        self.assertTrue(self.one("#past").is_displayed())
+        unnamed = self.page.execute_script("return [...document.querySelectorAll('button, input, select, textarea')].filter(it => it.offsetParent && !(it.textContent.trim() || it.labels?.length || it.ariaLabel)).map(it => it.outerHTML)")
+        self.assertEqual([], unnamed, "what a key reaches has a name for a screen reader")
+
+    def test_it_fits_a_phone_and_the_dark(self) -> None:
+        for width, height in ((1280, 800), (390, 844)):
+            for dark in (False, True):
+                self.open(width, height, dark)
+                self.example("plan_a_batch", "txn b")
+                for view in ("script", "load"):
+                    with self.subTest(width=width, dark=dark, view=view):
+                        self.one(f"#tab-{view}").click()
+                        self.assertLessEqual(self.page.execute_script("return document.documentElement.scrollWidth"), width)
+                        back, ink = self.page.execute_script("const it = getComputedStyle(document.body); return [it.backgroundColor, it.color]")
+                        light = [sum(map(int, it[4:-1].split(", ")[:3])) for it in (back, ink)]
+                        self.assertGreater((light[1] - light[0]) * (1 if dark else -1), 350, "text is far from what is behind it")
+                        self.keep(f"{view}-{width}-{'dark' if dark else 'light'}")
+
+    def test_a_load_goes_on_while_an_index_enters(self) -> None:
+        self.one("#tab-load").click()
+        if not self.one("#start").is_enabled():
+            self.skipTest("the library is not built")
+        for name, value in (("preload", 5000), ("lease", 400), ("rate", 1000), ("limit", 1000), ("writers", 3)):
+            box = self.one(f"[name={name}]")
+            box.clear()
+            box.send_keys(str(value))
+        self.one("#start").click()
+        self.until("return document.querySelector('#runs tbody tr')", 90)
+        self.assertIn("0 pairs missing, 0 extra", self.one("#stage").text)
+        self.assertEqual("no difference", self.one("#runs td.good").text)
+        marks = [it.split()[0] for it in self.texts("#rate svg text.soft")]
+        self.assertEqual(["v2", "v3", "v4"], marks)
+        self.keep("load")
+
+    def test_a_change_that_is_refused_is_said(self) -> None:
+        self.one("#tab-load").click()
+        if not self.one("#start").is_enabled():
+            self.skipTest("the library is not built")
+        for name, value in (("preload", "0"), ("rate", "100"), ("change", "drop index nothing on people")):
+            box = self.one(f"[name={name}]")
+            box.clear()
+            box.send_keys(value)
+        self.one("#start").click()
+        self.until("return document.getElementById('stage').textContent.startsWith('Refused')", 30)
+        self.assertIn("Unknown", self.one("#stage").text)
+        self.one("#start").click()
+        self.until("return document.getElementById('start').textContent === 'Start'", 30)
+
+
+if __name__ == "__main__":
+    unittest.main()
