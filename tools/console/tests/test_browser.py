@@ -150,7 +150,8 @@ class Browser(unittest.TestCase):
         markup = "<img src=x onerror=alert(1)><script>alert(2)</script>"
         self.send("table t (id int key, s text)", "open", "lease a at 0", f"txn a: insert t (1) set s = '{markup}'", markup, f"lease {markup} at 0")
         self.assertEqual((1, 6), (len(self.all("img")), len(self.all("script"))))
-        self.assertEqual([f"'{markup}'"], self.texts("#tables .added")[1:])
+        self.assertEqual(["1", f"'{markup}'"], self.texts("#tables tbody td"))
+        self.assertEqual([markup], self.texts("#lines .line")[4:5])
 
     def test_pages_of_rows_are_turned(self) -> None:
         self.send("table t (id int key, a int)", "open", "lease a at 0", "txn a: " + "; ".join(f"insert t ({n})" for n in range(60)))
