@@ -28,7 +28,9 @@ fn hand_in<'a>(
     let mut scripted = Scripted::new(store, script.iter().copied());
     scripted.between = Box::new(move || between(&other).unwrap());
     let db = Layer::new(scripted).unwrap();
-    let db = db.patience(Duration::from_millis(300));
+    // a store that does not answer at all is not waited for
+    let patience = if script.len() < 100 { 60_000 } else { 300 };
+    let db = db.patience(Duration::from_millis(patience));
     let done = act(&db);
     sound(&Layer::new(store).unwrap());
     (db, done)

@@ -115,7 +115,10 @@ fn range(low: &[u8], high: &[u8], limit: usize) -> Range {
 #[test]
 fn a_whole_change_beside_writers_over_a_file() {
     let folder = Folder::new("change");
-    change_beside_writers(|| SqliteStore::open(folder.file()).unwrap(), 25);
+    // on a busy machine a writer may hold the file for long
+    let patience = Duration::from_secs(100);
+    let store = || SqliteStore::with(folder.file(), "cagzhomul", patience).unwrap();
+    change_beside_writers(store, 25);
 }
 
 /// The Python module's program, with these words.

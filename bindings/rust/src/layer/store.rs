@@ -155,8 +155,9 @@ impl Answer {
 ///
 /// What `docs/LAYER.md` says of a new adapter holds of an implementation.
 pub trait Store {
-    /// What the store holds at these points and in these ranges, all of one moment, which is no
-    /// earlier than the end of each [`Store::apply`] that anyone had ended before this call began.
+    /// What the store holds at these points, which are all different, and in these ranges, all of one
+    /// moment, which is no earlier than the end of each [`Store::apply`] that anyone had ended before
+    /// this call began.
     ///
     /// [`StoreError::Unreachable`] if no server answers in time, [`StoreError::BadAnswer`] if an
     /// answer is none. Whether the keys are those that were asked for, in order, and each once, the
