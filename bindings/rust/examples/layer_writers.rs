@@ -7,6 +7,7 @@ use cagzhomul::layer::{Layer, SqliteStore};
 use cagzhomul::Type::{Int, Text};
 use cagzhomul::{Error, Query, Row, Table, Value};
 use std::env;
+use std::time::Duration;
 
 fn balance(row: Option<Row>) -> i64 {
     match row.as_ref().and_then(|row| row.get("balance")) {
@@ -19,7 +20,8 @@ fn main() -> Result<(), Error> {
     let [file, name, moves] = [1, 2, 3].map(|at| env::args().nth(at).unwrap_or_default());
     let accounts = Table::new("accounts").key("id", Int).column("balance", Int);
     let moved = Table::new("moves").key("name", Text).key("number", Int);
-    let db = Layer::open(SqliteStore::open(&file)?, [accounts, moved])?;
+    let store = SqliteStore::with(&file, "cagzhomul", Duration::from_secs(60))?;
+    let db = Layer::open(store, [accounts, moved])?;
     for id in 0..8 {
         db.modify("accounts", id, |row| {
             row.is_none().then_some([("balance", 100)])

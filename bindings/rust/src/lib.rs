@@ -30,6 +30,8 @@
 //! # }
 //! ```
 //!
+//! A [`Db`] has its rows in memory; over a store of your own, as an SQLite file, there is [`layer`].
+//!
 //! The engine is proved; this crate, which calls it through `include/cagzhomul.h`, is tested.
 //! `CAGZHOMUL_LIBRARY_DIR` names the folder with the library when the crate is built.
 

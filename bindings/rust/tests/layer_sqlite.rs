@@ -22,7 +22,14 @@ struct Folder(PathBuf);
 
 impl Folder {
     fn new(name: &str) -> Folder {
-        let folder = env::temp_dir().join(format!("cagzhomul-{name}-{}", std::process::id()));
+        // a disk that others keep busy makes no test slow
+        let memory = PathBuf::from("/dev/shm");
+        let root = if memory.is_dir() {
+            memory
+        } else {
+            env::temp_dir()
+        };
+        let folder = root.join(format!("cagzhomul-{name}-{}", std::process::id()));
         fs::create_dir_all(&folder).unwrap();
         Folder(folder)
     }
