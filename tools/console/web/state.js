@@ -48,7 +48,7 @@ function underWay(it) {
 const moves = (it) => Object.values(it.changed).flat().flatMap((row) => row.moves);
 
 /** How many pairs of an element were put and how many removed. */
-function counted(it, number) {
+function numbersOf(it, number) {
   const own = moves(it).filter((move) => move.element === number);
   return `${own.filter((move) => move.put !== null).length} put, ${own.filter((move) => move.removed !== null).length} removed`;
 }
@@ -71,7 +71,7 @@ function wrote(it, write) {
   for (const [n, name] of Object.entries(state.names)) {
     const now = newestStates[n]?.state || "absent", is = states[n]?.state || "absent", isOfTable = name.split(".")[0] in it.changed;
     if (!isOfTable || (now === is && (now === "public" || now === "absent"))) continue;
-    out.push(make("b", {}, name), ` is ${WORDS[is]} there, so ${write.server} ${CASE[is]}: `, make("b", {}, counted(it, +n)), ". ");
+    out.push(make("b", {}, name), ` is ${WORDS[is]} there, so ${write.server} ${CASE[is]}: `, make("b", {}, numbersOf(it, +n)), ". ");
   }
   return out;
 }
