@@ -9,7 +9,7 @@ import secrets
 import threading
 import time
 from http.server import BaseHTTPRequestHandler, ThreadingHTTPServer
-from typing import Any, Dict, List, Optional
+from typing import Any, Callable, Dict, List, Optional
 
 from load_run import LoadRun, can_load
 from prompt import PromptGone
@@ -56,22 +56,23 @@ class Console:
             it.close()
 
     def line(self, name: str, line: str) -> Dict[str, Any]:
-        """What a line in a session is answered, with the state after it. A session whose program has ended is over."""
+        """What a line in a session is answered, with the state after it."""
+        return self._ask(name, lambda session: session.line(line))
+
+    def page(self, name: str, table: str, start: Optional[List[str]]) -> Dict[str, Any]:
+        """A page of a table's rows in a session."""
+        return self._ask(name, lambda session: session.page(table, start))
+
+    def _ask(self, name: str, call: Callable[[Session], Dict[str, Any]]) -> Dict[str, Any]:
+        """What a call of a session gives. If its program has ended, so does the session."""
         session = self._session(name)
         with session.lock:
             session.used = time.monotonic()
             try:
-                return session.line(line)
+                return call(session)
             except PromptGone:
                 self.end(name)
                 raise
-
-    def page(self, name: str, table: str, start: Optional[List[str]]) -> Dict[str, Any]:
-        """A page of a table's rows in a session."""
-        session = self._session(name)
-        with session.lock:
-            session.used = time.monotonic()
-            return session.page(table, start)
 
     def end(self, name: str) -> None:
         """Ends a session, if it is there."""
@@ -176,11 +177,11 @@ class Handler(BaseHTTPRequestHandler):
 
     def _body(self) -> Dict[str, Any]:
         """The object that was sent. After a body that is not read the connection is closed."""
-        length = int(self.headers.get("Content-Length") or 0)
-        if not 0 <= length <= MOST_BODY:
+        length = self.headers.get("Content-Length") or "0"
+        if not length.isdecimal() or int(length) > MOST_BODY or "Transfer-Encoding" in self.headers:
             self.close_connection = True
-            raise ValueError("too long")
-        body = self.rfile.read(length)
+            raise ValueError("too long, or of no known length")
+        body = self.rfile.read(int(length))
         if self.headers.get_content_type() != "application/json":
             raise ValueError("JSON is expected")
         asked = json.loads(body or b"{}")

@@ -171,6 +171,10 @@ class Served(unittest.TestCase):
         self.assertEqual(200, self.ask("/api/session", {}, Origin=f"http://localhost:{self.port}")[0])
         self.assertEqual(400, self.ask("/api/session", {}, Content_Type="text/plain")[0])
 
+    def test_a_body_is_not_long(self) -> None:
+        for length in ("2000000", "-1", "x"):
+            self.assertEqual(400, self.ask("/api/session", {}, Content_Length=length)[0], length)
+
     def test_only_the_page_is_served(self) -> None:
         for path in ("/../server.py", "/%2e%2e/server.py", "/server.py", "/nothing.js", "//etc/passwd"):
             self.assertEqual(404, self.ask(path)[0], path)
