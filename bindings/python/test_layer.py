@@ -34,6 +34,7 @@ class Transactions(Base):
             (lambda: db.update("people", 3, nothing=1), cagzhomul.NotPublic, "nothing"),
             (lambda: db.txn().get("nobody", 1), cagzhomul.NoTable, ""),
             (lambda: db.txn().get("people", "a"), cagzhomul.WrongType, ""),
+            (lambda: db.txn().get("people", "x" * 1025), cagzhomul.WrongType, ""),
             (lambda: [it.commit() and it.commit() for it in [db.txn().insert("people", 50)]], cagzhomul.WrongStage, ""),
             (lambda: [it.commit() and it.get("people", 1) for it in [db.txn().insert("people", 51)]], cagzhomul.WrongStage, ""),
             (lambda: self.many(db, 65), cagzhomul.TooManyOps, ""),

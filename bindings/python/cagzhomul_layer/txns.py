@@ -163,13 +163,13 @@ class Txn:
         """Reads a row; False if the version is closed."""
         version = self._version or self._server.version()
         names = version.names
-        keys = calls.points_of(asked("reads", version.record, _ops_code([_Op(1, *row, {})], names)).code) if row[0] in names.tables else {}
-        found = self._server.store.read([version_key(version.number), *keys]).values
-        if found.pop(version_key(version.number)) != version.record:
-            return False
-        pairs = sorted((it, value) for it, value in found.items() if value is not None)
         columns = names.columns(wanted)
         try:
+            keys = calls.points_of(asked("reads", version.record, _ops_code([_Op(1, *row, {})], names)).code) if row[0] in names.tables else {}
+            found = self._server.store.read([version_key(version.number), *keys]).values
+            if found.pop(version_key(version.number)) != version.record:
+                return False
+            pairs = sorted((it, value) for it, value in found.items() if value is not None)
             code = asked("rows", version.record, cagzhomul._query(wanted, columns, names), calls.pairs_code(pairs)).code
         except Refusal as refusal:
             raise error_of(refusal, names, None) from None
