@@ -41,14 +41,14 @@ fn opened(alloc: Global) -> Option<Vec<u8>> {
 }
 
 /// The value of version 1, of 70 bytes.
-const VERSION: &[u8] = b"\x01\
+pub(crate) const VERSION: &[u8] = b"\x01\
 \0\0\0\0\0\0\0\x01\0\0\0\0\0\0\0\x01t\0\0\0\0\0\0\0\x01\0\0\0\0\0\0\0\x02id\0\
 \0\0\0\0\0\0\0\x01\
 \0\0\0\x01\0\0\0\x01\0\0\0\0\0\0\0\x01a\x01\0\x03\0\
 \0\0\0\x02";
 
 /// Version 1 is missing; it is put.
-const OPEN: &[u8] = b"\x01\
+pub(crate) const OPEN: &[u8] = b"\x01\
 \0\0\0\0\0\0\0\x01\
 \0\0\0\0\0\0\0\x09\0\0\0\0\0\0\0\0\x01\0\
 \0\0\0\0\0\0\0\0\
@@ -82,7 +82,7 @@ fn closed(alloc: Global) -> Option<Vec<u8>> {
 }
 
 /// Version 2 is there, and no version 3; version 1 is removed.
-const CLOSE: &[u8] = b"\x01\
+pub(crate) const CLOSE: &[u8] = b"\x01\
 \0\0\0\0\0\0\0\x02\
 \0\0\0\0\0\0\0\x09\0\0\0\0\0\0\0\0\x02\x01\0\0\0\0\0\0\0\x46\
 \x01\
@@ -101,11 +101,11 @@ fn deletion(alloc: Global) -> Result<RowOps, AllocError> {
     Ok(List::new(vec![in alloc; RowOp::Delete { table: 1, key }]?))
 }
 
-const EXISTS: &[u8] = b"R\0\0\0\x01\x02\x80\0\0\0\0\0\0\x07\0\0\0\0";
+pub(crate) const EXISTS: &[u8] = b"R\0\0\0\x01\x02\x80\0\0\0\0\0\0\x07\0\0\0\0";
 
-const COLUMN: &[u8] = b"R\0\0\0\x01\x02\x80\0\0\0\0\0\0\x07\0\0\0\x01";
+pub(crate) const COLUMN: &[u8] = b"R\0\0\0\x01\x02\x80\0\0\0\0\0\0\x07\0\0\0\x01";
 
-const FIVE: &[u8] = b"\x02\x80\0\0\0\0\0\0\x05";
+pub(crate) const FIVE: &[u8] = b"\x02\x80\0\0\0\0\0\0\x05";
 
 fn pair(alloc: Global, key: &[u8], value: &[u8]) -> Result<(Bytes, Bytes), AllocError> {
     let key = Bytes::from_slice(alloc, key)?;
@@ -153,7 +153,7 @@ fn transacted(alloc: Global) -> Option<Vec<u8>> {
 
 /// Version 1 is there, the mark is not, and the row is as it was read; the mark is put, and the row's
 /// pairs are removed.
-const TXN: &[u8] = b"\x01\
+pub(crate) const TXN: &[u8] = b"\x01\
 \0\0\0\0\0\0\0\x04\
 \0\0\0\0\0\0\0\x09\0\0\0\0\0\0\0\0\x01\x01\0\0\0\0\0\0\0\x46\
 \x01\
@@ -235,7 +235,7 @@ fn moved(alloc: Global) -> Option<Vec<u8>> {
 
 /// The reorganisation is there, its cursor at the lower bound, and from there to the upper bound the
 /// row's pairs alone; the cursor is put at the upper bound, and the index's pair is put.
-const PIECE: &[u8] = b"\x01\
+pub(crate) const PIECE: &[u8] = b"\x01\
 \0\0\0\0\0\0\0\x02\
 \0\0\0\0\0\0\0\x09\x01\0\0\0\0\0\0\0\x02\x01\0\0\0\0\0\0\0\x44\
 \x01\
