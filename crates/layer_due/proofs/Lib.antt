@@ -2,3 +2,10 @@ pub mod Searches
 pub mod Applied
 pub mod Lowered
 pub mod Onward
+pub mod Sums
+pub mod ReadsLeft
+pub mod Same
+pub mod Leads
+pub mod Published
+pub mod NextAct
+pub mod Courses

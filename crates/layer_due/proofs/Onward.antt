@@ -30,7 +30,7 @@ use Rattle.drafts.proofs.Opens.{none_some, some_one, newest_is}
 use Rattle.drafts.proofs.Pieces.{found_of}
 use Rattle.drafts.proofs.Runs.{all_end, opened_so, first_mirror}
 use Rattle.layer_due.specs.Records.{Records, Cursor, cursor_in, is_at, first_open, open_in, open_piece}
-use Rattle.layer_due.specs.Due.{NoneWants, NoneOpen, AreReady, IsStuck}
+use Rattle.layer_due.specs.Due.{HasEnded, NoneWants, NoneOpen, AreReady, IsStuck}
 use Rattle.layer_due.specs.Applies.{HasRecords}
 use Rattle.layer_due.specs.GoesOn.{IsNextAllowed, DuesGoOn}
 use Rattle.layer_due.specs.declared.act.DueFault.{DueFault}
@@ -65,12 +65,12 @@ wants_allowed e to work ne needs = let next = there_is (edge e.kind e.way e.stat
 
 -- ---- places
 
-at_place : {A : Type 0} (xs : List A) (p : ℕ) → p < length xs → (x : A) × (slice_get xs p ≡ Some x)
+pub at_place : {A : Type 0} (xs : List A) (p : ℕ) → p < length xs → (x : A) × (slice_get xs p ≡ Some x)
 at_place [] p below = absurd (omega (arith, below))
 at_place (x ∷ xs) zero below = (x, refl)
 at_place (x ∷ xs) (suc p) below = at_place xs p (omega (arith, below))
 
-first_below : (cursors : List Cursor) (number piece p : ℕ) (bounds : List (Bytes × Bytes)) → first_open cursors number piece bounds ≡ Some p → p < piece + length bounds
+pub first_below : (cursors : List Cursor) (number piece p : ℕ) (bounds : List (Bytes × Bytes)) → first_open cursors number piece bounds ≡ Some p → p < piece + length bounds
 first_below cursors number piece p [] e = none_some e
 first_below cursors number piece p (bound ∷ bounds) e =
     elim (is_at (cursor_in cursors number piece) bound.1) as (λ b. cond b (first_open cursors number (piece + 1) bounds) (Some piece) ≡ Some p → p < piece + length (bound ∷ bounds)) [
@@ -80,19 +80,30 @@ first_below cursors number piece p (bound ∷ bounds) e =
 
 -- ---- the records
 
+-- nothing is left of the reorganisations that a step takes on
+abbrev pub AllEnded : Records → List Move → Type 0
+AllEnded records [] = Unit {0}
+AllEnded records (move ∷ step) = HasEnded records move × AllEnded records step
+
+pub all_ended : (records : Records) → NoneOpen records → (step : List Move) → AllEnded records step
+all_ended records none [] = tt
+all_ended records none (Enter fresh to ∷ step) = (tt, all_ended records none step)
+all_ended records none (Go number to ∷ step) = (none number, all_ended records none step)
+all_ended records none (Turn number ∷ step) = (tt, all_ended records none step)
+
 module _ (facts : Facts) (store : Store) (records : Records) (k : IsKept facts) (m : Mirrors facts store) (has : HasRecords store records) where
-  newest : facts.newest ≡ records.newest.schema
+  pub newest : facts.newest ≡ records.newest.schema
   newest = (newest_is facts store records.newest k m (has.newest, (has.none_after, tt))).schema
 
   -- a reorganisation that was found is one that has begun
-  record IsBegunReorg (number : ℕ) (reorg : Reorg) : Type 0 where
-    progress : Progress
-    here : progress_of facts.progress number ≡ Some progress
-    same : reorg_of progress ≡ reorg
-    begun : IsBegun facts.newest progress
-    number_is : progress.element.number ≡ number
+  pub record IsBegunReorg (number : ℕ) (reorg : Reorg) : Type 0 where
+    pub progress : Progress
+    pub here : progress_of facts.progress number ≡ Some progress
+    pub same : reorg_of progress ≡ reorg
+    pub begun : IsBegun facts.newest progress
+    pub number_is : progress.element.number ≡ number
 
-  begun_reorg : (number : ℕ) (reorg : Reorg) → found_in records.reorgs number ≡ Some reorg → IsBegunReorg number reorg
+  pub begun_reorg : (number : ℕ) (reorg : Reorg) → found_in records.reorgs number ≡ Some reorg → IsBegunReorg number reorg
   begun_reorg number reorg is =
       let f = found_of (progress_of facts.progress number) reorg (sym (m.reorgs number) ∙ has.reorgs number ∙ ap (option_map OfReorg) is) in
       let b = found (IsBegun facts.newest) facts.progress number f.progress k.begun f.here in
@@ -119,7 +130,7 @@ module _ (facts : Facts) (store : Store) (records : Records) (k : IsKept facts) 
       ∙ ap (λ o. option_map (λ (s : Span). OfCursor s.cursor) (piece_of o p)) b.here
       ∙ ap (option_map (λ (s : Span). OfCursor s.cursor)) at.1)
 
-  module _ (none_wants : NoneWants records) (none_open : NoneOpen records) where
+  module _ (none_wants : NoneWants records) where
     work_found : (number : ℕ) (element : ElementDef) (work : Work) (found : Option Reorg) → found_in records.reorgs number ≡ found → element_at records.newest.schema number ≡ Some element → wanted_work element ≡ Some work → HasWork found (Some work)
     work_found number element work None is there wants = absurd (none_wants number (record { element = element; there = there; work = work; wants = wants; new = is }))
     work_found number element work (Some reorg) is there wants = its_work number reorg element work is there wants
@@ -135,12 +146,13 @@ module _ (facts : Facts) (store : Store) (records : Records) (k : IsKept facts) 
     go_ready number to None is allowed = tt
     go_ready number to (Some element) is allowed = needs_found number to element (needed_work element.kind to) refl is allowed
 
-    ready : (step earlier later : List Move) → IsAllowed records.newest.schema step → step ≡ earlier ++ later → AreReady records later
-    ready step earlier [] allowed is = tt
-    ready step earlier (Enter fresh to ∷ later) allowed is = ((tt, tt), ready step (earlier ++ Enter fresh to ∷ []) later allowed (is ∙ sym (append_assoc earlier (Enter fresh to ∷ []) later)))
-    ready step earlier (Turn number ∷ later) allowed is = ((tt, tt), ready step (earlier ++ Turn number ∷ []) later allowed (is ∙ sym (append_assoc earlier (Turn number ∷ []) later)))
-    ready step earlier (Go number to ∷ later) allowed is =
-        ((go_ready number to (element_at records.newest.schema number) refl (λ wrong. allowed earlier later (Go number to) WrongWay is (at_any wrong)), none_open number), ready step (earlier ++ Go number to ∷ []) later allowed (is ∙ sym (append_assoc earlier (Go number to ∷ []) later)))
+    -- a step is ready if nothing is left of the reorganisations that it takes on
+    pub ready : (step earlier later : List Move) → IsAllowed records.newest.schema step → step ≡ earlier ++ later → AllEnded records later → AreReady records later
+    ready step earlier [] allowed is ended = tt
+    ready step earlier (Enter fresh to ∷ later) allowed is ended = ((tt, tt), ready step (earlier ++ Enter fresh to ∷ []) later allowed (is ∙ sym (append_assoc earlier (Enter fresh to ∷ []) later)) ended.1)
+    ready step earlier (Turn number ∷ later) allowed is ended = ((tt, tt), ready step (earlier ++ Turn number ∷ []) later allowed (is ∙ sym (append_assoc earlier (Turn number ∷ []) later)) ended.1)
+    ready step earlier (Go number to ∷ later) allowed is ended =
+        ((go_ready number to (element_at records.newest.schema number) refl (λ wrong. allowed earlier later (Go number to) WrongWay is (at_any wrong)), ended.0), ready step (earlier ++ Go number to ∷ []) later allowed (is ∙ sym (append_assoc earlier (Go number to ∷ []) later)) ended.1)
       where
         at_any : GoFaultAt records.newest.schema [] [] number (element_at records.newest.schema number) to WrongWay → GoFaultAt records.newest.schema step earlier number (element_at records.newest.schema number) to WrongWay
         at_any = by (element_at records.newest.schema number)
@@ -152,7 +164,7 @@ module _ (facts : Facts) (store : Store) (records : Records) (k : IsKept facts) 
   goes_on : (steps : List (List Move)) (fault : DueFault) → IsNextAllowed records.newest.schema steps → IsStuck records steps fault → ⊥
   goes_on steps (fault.NoCursor number piece) allowed stuck = its_cursor number piece (found_in records.reorgs number) refl stuck.2 stuck.3
   goes_on [] fault.NotReady allowed stuck = stuck.2 refl
-  goes_on (step ∷ steps) fault.NotReady allowed stuck = stuck.1 (ready stuck.0 stuck.3 step [] step allowed refl)
+  goes_on (step ∷ steps) fault.NotReady allowed stuck = stuck.1 (ready stuck.0 step [] step allowed refl (all_ended records stuck.3 step))
 
 pub dues_go_on : DuesGoOn
 dues_go_on schema calls records steps fault sound made may has allowed stuck =

@@ -3,3 +3,5 @@ pub mod Due
 pub mod Applies
 pub mod Lowers
 pub mod GoesOn
+pub mod Left
+pub mod Course

@@ -8,5 +8,5 @@ mod records;
 mod search;
 
 pub use act::{Act, DueFault, due};
-pub use laws::{due_applies, dues_go_on, dues_lower};
+pub use laws::{courses_complete, due_applies, dues_go_on, dues_lower};
 pub use records::{Cursor, Records};
