@@ -1,4 +1,4 @@
--- Cited by the contracts of MemoryStore::apply.
+-- Cited by the contracts of MemoryStore::apply, and by the definitions of OneMap.
 -- What a draft compares of the pairs of a store, and what it then writes.
 use Rattle.std.specs.Prelude.{◌≡◌, ◌≢◌, List, [], ◌∷◌, Option, Result, Ok, Err, IsTrue, ◌⊎◌}
 use Rattle.std.specs.Ordering.{is_le}

@@ -6,7 +6,9 @@ mod apply;
 mod compare;
 mod copies;
 mod fault;
+mod laws;
 mod store;
 
 pub use fault::ApplyFault;
+pub use laws::{one_map, runs_agree_in_one_map};
 pub use store::MemoryStore;

@@ -1,4 +1,4 @@
-use Rattle.std.proofs.Common.{◌+◌, ◌<◌, length, take, get_or, Option, sym, subst, ◌∙◌, arith}
+use Rattle.std.proofs.Common.{◌+◌, ◌<◌, length, take, Option, sym, subst, ◌∙◌, arith}
 use Rattle.row_map.specs.Rows.{Bytes, Pairs}
 use Rattle.entry_code.specs.declared.parts.RangeParts.{RangeParts}
 use Rattle.draft_store.specs.Apply.{AnyIn, MissesRange}

@@ -1,4 +1,4 @@
-use Rattle.std.proofs.Common.{◌⊎◌, List, Option, sym, subst}
+use Rattle.std.proofs.Common.{List, Option, sym, subst}
 use Rattle.row_map.specs.Rows.{Bytes}
 use Rattle.entry_code.specs.declared.parts.RangeParts.{RangeParts}
 use Rattle.draft_store.specs.Apply.{AnyIn, MissesPoint, MissesRange, Misses}

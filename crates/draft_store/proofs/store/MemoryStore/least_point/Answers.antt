@@ -1,4 +1,4 @@
-use Rattle.std.proofs.Common.{◌+◌, ◌<◌, length, take, get_or, Option, sym, subst, arith}
+use Rattle.std.proofs.Common.{◌+◌, ◌<◌, length, take, Option, sym, subst, arith}
 use Rattle.row_map.specs.Rows.{Bytes}
 use Rattle.draft_store.specs.Apply.{AnyIn, MissesPoint}
 use Rattle.draft_store.specs.inner.Least.{IsLeastOf}

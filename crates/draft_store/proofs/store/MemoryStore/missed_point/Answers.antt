@@ -1,4 +1,4 @@
-use Rattle.std.proofs.Common.{◌≡◌, sym, ap, subst, ◌∙◌, option_map, true≢false}
+use Rattle.std.proofs.Common.{sym, subst, ◌∙◌, option_map, true≢false}
 use Rattle.std.specs.FinMap as map
 use Rattle.row_map.specs.Rows.{Bytes}
 use Rattle.draft_store.specs.Apply.{MissesPoint, IsLeast}
