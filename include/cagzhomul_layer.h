@@ -31,6 +31,20 @@ typedef struct cagzhomul_layered {
                         CAGZHOMUL_BAD_PIECE of cagzhomul_layer_begin the place of the key; else 0 */
 } cagzhomul_layered;
 
+/* What is due of a change: CAGZHOMUL_DUE_NOTHING, or the act that any server may do next. */
+#define CAGZHOMUL_DUE_NOTHING 0 /* no step is left, and each fill and clear that is wanted has ended */
+#define CAGZHOMUL_DUE_BEGIN 1   /* cagzhomul_layer_begin of the element */
+#define CAGZHOMUL_DUE_CLOSE 2   /* cagzhomul_layer_close, for which a begin waits */
+#define CAGZHOMUL_DUE_PUBLISH 3 /* cagzhomul_layer_publish of the next step of the plan */
+#define CAGZHOMUL_DUE_WORK 4    /* cagzhomul_layer_piece of the piece of the element */
+
+typedef struct cagzhomul_due {
+    int32_t status;
+    uint32_t act;     /* at CAGZHOMUL_OK one of the five above; else 0 */
+    uint32_t element; /* that begins, or has the piece; else 0 */
+    uint64_t piece;   /* from 0; 0 unless there is one */
+} cagzhomul_due;
+
 /* Drafts the opening of a store with the tables of an opening's code; its lease length is not used.
  * Version 1 is missing, and is then put. Whatever else is under the store's prefix is for the
  * program to compare.
@@ -131,6 +145,20 @@ cagzhomul_layered cagzhomul_layer_piece(const uint8_t *reorg, size_t reorg_lengt
                                         const uint8_t *cursor, size_t cursor_length,
                                         const uint8_t *to, size_t to_length, const uint8_t *pairs,
                                         size_t pairs_length, cagzhomul_handle *draft);
+
+/* Says what is due of a change, by the control records alone: a begin first, and before it the close that
+ * it waits for; then the next step, if all that it needs has ended; then a piece. No server keeps a plan's
+ * state: any may do the next act, and one finishes what another began. `before` is the number of the
+ * version before the newest, 0 if that is the first, and `version` the record of the newest; `found` has
+ * the keys and records of all versions, begun reorganisations and cursors, by rising key, as they were at
+ * one moment (of a version the key alone is read); `plan` is the code of a plan, of which so many steps
+ * have been published. A plan without steps leaves what has begun to be completed.
+ * CAGZHOMUL_OK. Refusals: CAGZHOMUL_BAD_CODE; CAGZHOMUL_BAD_PIECE if a piece has no cursor, since the
+ * records were not read at one moment; CAGZHOMUL_NOT_WANTED if the next step needs what no element wants;
+ * CAGZHOMUL_OUT_OF_MEMORY, which may come in place of any. */
+cagzhomul_due cagzhomul_layer_due(uint32_t before, const uint8_t *version, size_t version_length,
+                                  const uint8_t *found, size_t found_length, const uint8_t *plan,
+                                  size_t plan_length, uint64_t published);
 
 /* Counts the rows of a store that was read whole, the pairs that it lacks and those that it has too
  * much, by a version: `pairs` has all pairs of rows and indexes, by rising key.

@@ -1,6 +1,6 @@
 /* The engine over a store of this program's own, which does nothing but compare and write: rows are inserted while an
    index enters, under two versions at once; a stale server, a draft that is handed in twice and a piece that was read too
-   long ago are refused; queries find the rows by key, by index and by a walk.
+   long ago are refused; queries find the rows by key, by index and by a walk. Then the index leaves, by whatever is due.
    Each allocation is refused in turn, one in each run: the call that met it answers CAGZHOMUL_OUT_OF_MEMORY, gave
    nothing, and is made again. It prints how many allocations were refused, and ends with 0 if all was as
    include/cagzhomul_layer.h says. */
@@ -241,6 +241,25 @@ static int is_clean(const store *of, const bytes *version, uint64_t rows) {
     return it.status == CAGZHOMUL_OK && it.rows == rows && it.missing == 0 && it.extra == 0;
 }
 
+/* What is due, by the control records whose keys begin with a byte from 0 up to `last`, of a plan of which so many steps have been published. */
+static cagzhomul_due due(const store *of, uint32_t before, uint8_t last, const code *plan, uint64_t published) {
+    bytes version = record_of(of, key_of(0, before + 1));
+    code found = pairs_code(of, 0, last);
+    cagzhomul_due it = cagzhomul_layer_due(before, version.at, version.length, found.bytes, found.length, plan->bytes, plan->length, published);
+    if (is_short(it.status)) it = cagzhomul_layer_due(before, version.at, version.length, found.bytes, found.length, plan->bytes, plan->length, published);
+    check(it.status == CAGZHOMUL_OK || (it.act == 0 && it.element == 0 && it.piece == 0), "a refusal says nothing else");
+    return it;
+}
+
+static int is_due(const store *of, uint32_t before, const code *plan, uint64_t published, uint32_t act, uint32_t element) {
+    cagzhomul_due it = due(of, before, 2, plan, published);
+    return it.status == CAGZHOMUL_OK && it.act == act && it.element == element && it.piece == 0;
+}
+
+static code plan_of(const bytes *version, code changes) {
+    return GIVES(CAGZHOMUL_OK, 0, cagzhomul_layer_plan(version->at, version->length, changes.bytes, changes.length, &handle));
+}
+
 /* ---- the story */
 
 static void open_store(store *to) {
@@ -261,59 +280,105 @@ static void write_rows(store *to) {
 }
 
 /* An index enters, while a server goes on under the version before. */
-static void add_index(store *to) {
+static code add_index(store *to) {
     bytes first = record_of(to, key_of(0, 1));
     code changes = changes_code(1), late = transact(to, 1, &first, insert_code(2, "Ulm"), "b", CAGZHOMUL_OK, 0);
     put_add_index(&changes, "by_town", "town");
-    code plan = GIVES(CAGZHOMUL_OK, 0, cagzhomul_layer_plan(first.at, first.length, changes.bytes, changes.length, &handle));
+    code plan = plan_of(&first, changes), none = {{1, 0}, 2};
     check(plan.length > 9 && plan.bytes[8] == 3, "the plan has three steps");
+    check(is_due(to, 0, &plan, 0, CAGZHOMUL_DUE_PUBLISH, 0), "the first of them is due");
+    check(due(to, 0, 2, &none, 0).status == CAGZHOMUL_BAD_CODE && due(to, 0, 'R', &plan, 0).status == CAGZHOMUL_BAD_CODE, "no plan, and a row among the records");
     code step = publish(to, 0, enter_code(), CAGZHOMUL_OK, 0), stale = transact(to, 1, &first, insert_code(3, "Rome"), "c", CAGZHOMUL_OK, 0);
     check(applies(to, &step) && applies(to, &late), "version 2 is open beside version 1");
     publish(to, 1, go_code(BY_TOWN, PUBLIC), CAGZHOMUL_NOT_ADJACENT, 0);
+    check(is_due(to, 1, &plan, 1, CAGZHOMUL_DUE_PUBLISH, 0), "the second step is due");
     step = publish(to, 1, go_code(BY_TOWN, WRITE_ONLY), CAGZHOMUL_OK, 0);
     check(applies(to, &step), "version 3 is open");
     check(!applies(to, &stale), "version 1 is closed: a server that is too late is refused");
     publish(to, 2, go_code(BY_TOWN, PUBLIC), CAGZHOMUL_UNFINISHED, BY_TOWN);
+    return plan;
 }
 
-static code begin(const bytes *version, uint32_t element, int32_t status) {
+static code close_before(const store *of, uint32_t before) {
+    bytes version = record_of(of, key_of(0, before + 1));
+    return GIVES(CAGZHOMUL_OK, 0, cagzhomul_layer_close(before, version.at, version.length, &handle));
+}
+
+static code begin(const store *of, uint32_t before, uint32_t element, int32_t status) {
+    bytes version = record_of(of, key_of(0, before + 1));
     code keys = {{1}, 1};
     put_number(&keys, 0, 8);
-    return GIVES(status, 0, cagzhomul_layer_begin(2, version->at, version->length, element, keys.bytes, keys.length, &handle));
+    return GIVES(status, 0, cagzhomul_layer_begin(before, version.at, version.length, element, keys.bytes, keys.length, &handle));
 }
 
-static code piece(const store *of, const char *to, size_t length, int32_t status) {
+/* A piece of the reorganisation of the index, whose range has keys of this kind, read to a key. */
+static code piece(const store *of, uint8_t kind, const char *to, size_t length, int32_t status) {
     bytes reorg = record_of(of, key_of(1, BY_TOWN)), cursor = record_of(of, cursor_of(BY_TOWN, 0));
-    code rows = pairs_code(of, 'R', 'R');
-    return GIVES(status, 0, cagzhomul_layer_piece(reorg.at, reorg.length, 0, cursor.at, cursor.length, (const uint8_t *)to, length, rows.bytes, rows.length, &handle));
+    code pairs = pairs_code(of, kind, kind);
+    return GIVES(status, 0, cagzhomul_layer_piece(reorg.at, reorg.length, 0, cursor.at, cursor.length, (const uint8_t *)to, length, pairs.bytes, pairs.length, &handle));
+}
+
+/* The rest of a fill, from its cursor to the end. */
+static code last_part(const store *of) {
+    bytes cursor = record_of(of, cursor_of(BY_TOWN, 0)), reorg = record_of(of, key_of(1, BY_TOWN)), from = {{0}, cursor.length - 1};
+    code rest = {{1}, 1};
+    uint64_t many = 0;
+    memcpy(from.at, cursor.at + 1, from.length);
+    for (size_t at = place_of(of, &from); at < of->count && of->pairs[at].key.at[0] == 'R'; at++) many++;
+    put_number(&rest, many, 8);
+    for (size_t at = place_of(of, &from); at < of->count && of->pairs[at].key.at[0] == 'R'; at++) put_bytes(&rest, &of->pairs[at].key), put_bytes(&rest, &of->pairs[at].value);
+    return GIVES(CAGZHOMUL_OK, 0, cagzhomul_layer_piece(reorg.at, reorg.length, 0, cursor.at, cursor.length, (const uint8_t *)"S", 1, rest.bytes, rest.length, &handle));
 }
 
 /* The index is filled in two parts, the first as far as the last row that was read. */
-static void fill_index(store *to) {
+static void fill_index(store *to, const code *plan) {
     bytes third = record_of(to, key_of(0, 3));
-    begin(&third, TOWN, CAGZHOMUL_NOT_WANTED);
-    code draft = begin(&third, BY_TOWN, CAGZHOMUL_OK);
+    begin(to, 2, TOWN, CAGZHOMUL_NOT_WANTED);
+    check(is_due(to, 2, plan, 2, CAGZHOMUL_DUE_CLOSE, 0), "a fill is wanted, for which version 2 is to be closed");
+    code draft = begin(to, 2, BY_TOWN, CAGZHOMUL_OK);
     check(!applies(to, &draft), "no reorganisation begins while version 2 is open");
-    code close = GIVES(CAGZHOMUL_OK, 0, cagzhomul_layer_close(2, third.at, third.length, &handle));
-    check(applies(to, &close) && applies(to, &draft) && !applies(to, &draft), "version 2 is closed, and the fill begins, once");
-    code part = piece(to, "R\0\0\0\1\3", 6, CAGZHOMUL_OK), row = transact(to, 3, &third, insert_code(0, "Rome"), "d", CAGZHOMUL_OK, 0);
+    code close = close_before(to, 2);
+    check(applies(to, &close) && is_due(to, 2, plan, 2, CAGZHOMUL_DUE_BEGIN, BY_TOWN), "version 2 is closed, and the fill may begin");
+    check(applies(to, &draft) && !applies(to, &draft), "it begins, once");
+    check(is_due(to, 2, plan, 2, CAGZHOMUL_DUE_WORK, BY_TOWN), "its piece may be worked on");
+    check(due(to, 2, 1, plan, 2).status == CAGZHOMUL_BAD_PIECE, "no piece is without a cursor");
+    code part = piece(to, 'R', "R\0\0\0\1\3", 6, CAGZHOMUL_OK), row = transact(to, 3, &third, insert_code(0, "Rome"), "d", CAGZHOMUL_OK, 0);
     check(applies(to, &row) && !applies(to, &part), "a row came into the range: the piece is to be read again");
-    part = piece(to, "R\0\0\0\1\3", 6, CAGZHOMUL_OK);
+    part = piece(to, 'R', "R\0\0\0\1\3", 6, CAGZHOMUL_OK);
     check(applies(to, &part) && !applies(to, &part), "a part of the piece is done, once");
+    check(is_due(to, 2, plan, 2, CAGZHOMUL_DUE_WORK, BY_TOWN), "and there is more");
     code step = publish(to, 2, go_code(BY_TOWN, PUBLIC), CAGZHOMUL_OK, 0);
     check(!applies(to, &step), "the index is not public before its fill has ended");
-    bytes cursor = record_of(to, cursor_of(BY_TOWN, 0)), reorg = record_of(to, key_of(1, BY_TOWN));
-    code rest = {{1}, 1};
-    uint64_t many = 0;
-    bytes from = {{0}, cursor.length - 1};
-    memcpy(from.at, cursor.at + 1, from.length);
-    for (size_t at = place_of(to, &from); at < to->count && to->pairs[at].key.at[0] == 'R'; at++) many++;
-    put_number(&rest, many, 8);
-    for (size_t at = place_of(to, &from); at < to->count && to->pairs[at].key.at[0] == 'R'; at++) put_bytes(&rest, &to->pairs[at].key), put_bytes(&rest, &to->pairs[at].value);
-    part = GIVES(CAGZHOMUL_OK, 0, cagzhomul_layer_piece(reorg.at, reorg.length, 0, cursor.at, cursor.length, (const uint8_t *)"S", 1, rest.bytes, rest.length, &handle));
-    check(applies(to, &part), "and the rest");
-    piece(to, "S", 1, CAGZHOMUL_SPENT);
-    check(applies(to, &step), "the index is public");
+    part = last_part(to);
+    check(applies(to, &part), "the rest is done");
+    piece(to, 'R', "S", 1, CAGZHOMUL_SPENT);
+    check(is_due(to, 2, plan, 2, CAGZHOMUL_DUE_PUBLISH, 0) && applies(to, &step), "the last step is due, and the index is public");
+    check(is_due(to, 3, plan, 3, CAGZHOMUL_DUE_NOTHING, 0) && is_due(to, 3, plan, 9, CAGZHOMUL_DUE_NOTHING, 0), "nothing is due");
+    check(due(to, 3, 2, plan, 2).status == CAGZHOMUL_NOT_WANTED, "nor is the step a second time");
+}
+
+/* The draft of what is due; `step` is the next one of the plan. */
+static code draft_of(const store *of, uint32_t before, uint32_t act, code step) {
+    if (act == CAGZHOMUL_DUE_BEGIN) return begin(of, before, BY_TOWN, CAGZHOMUL_OK);
+    if (act == CAGZHOMUL_DUE_CLOSE) return close_before(of, before);
+    if (act == CAGZHOMUL_DUE_WORK) return piece(of, 'X', "Y", 1, CAGZHOMUL_OK);
+    return publish(of, before, step, CAGZHOMUL_OK, 0);
+}
+
+/* The index leaves: whatever is due is done, until nothing is. */
+static void drop_index(store *to) {
+    static const uint8_t states[] = {WRITE_ONLY, DELETE_ONLY, ABSENT, ABSENT};
+    bytes fourth = record_of(to, key_of(0, 4));
+    code changes = changes_code(1);
+    put_named(&changes, DROP_INDEX, "by_town");
+    code plan = plan_of(&fourth, changes);
+    uint32_t before = 3, published = 0, acts = 0;
+    for (cagzhomul_due it; acts < 9 && (it = due(to, before, 2, &plan, published)).act != CAGZHOMUL_DUE_NOTHING; acts++) {
+        code draft = draft_of(to, before, it.act, go_code(BY_TOWN, states[published]));
+        check(it.status == CAGZHOMUL_OK && applies(to, &draft), "what is due is applied");
+        if (it.act == CAGZHOMUL_DUE_PUBLISH) before++, published++;
+    }
+    check(published == 3 && acts == 6, "three steps, and before the last one a close, a begin and a piece");
 }
 
 static void play(void) {
@@ -321,12 +386,15 @@ static void play(void) {
     kept.count = 0;
     open_store(&kept);
     write_rows(&kept);
-    add_index(&kept);
-    fill_index(&kept);
+    code plan = add_index(&kept);
+    fill_index(&kept, &plan);
     bytes fourth = record_of(&kept, key_of(0, 4));
     check(rows_found(&kept, &fourth, ask_code(2, 0, "Ulm"), 1) == 2, "the index finds two rows");
     check(rows_found(&kept, &fourth, ask_code(1, 0, ""), 0) == 1 && rows_found(&kept, &fourth, ask_code(1, 9, ""), 0) == 0, "a key finds one row, or none");
     check(is_clean(&kept, &fourth, 3), "nothing is missing, and nothing extra");
+    drop_index(&kept);
+    bytes seventh = record_of(&kept, key_of(0, 7));
+    check(is_clean(&kept, &seventh, 3) && pairs_code(&kept, 'X', 'X').length == 9, "the index is gone, with all its pairs");
 }
 
 int main(void) { return refuse_each(play); }

@@ -9,9 +9,10 @@ ghost use Rattle.layer_calls.specs.Queries.{Asks, AsksRows, Answers};
 ghost use Rattle.layer_calls.specs.Changes.{newest_of, Plans, GivesReorgs, Publishes, Closes, Begins};
 ghost use Rattle.layer_calls.specs.Pieces.{PiecesAt};
 ghost use Rattle.layer_calls.specs.Audits.{Audits};
+ghost use Rattle.layer_calls.specs.Dues.{Dues};
 
 use handles::{CheckOutcome, Handle};
-use layer_calls::{LayerOutcome, keep};
+use layer_calls::{DueOutcome, LayerOutcome, keep};
 use std::alloc::Global;
 
 /// `layer_calls::open`.
@@ -174,6 +175,21 @@ pub extern "C" fn cagzhomul_layer_piece(
 {
     let answer = layer_calls::piece(alloc, reorg, piece, cursor, to, pairs);
     keep(alloc, draft, answer)
+}
+
+/// `layer_calls::due`.
+#[unsafe(no_mangle)]
+pub extern "C" fn cagzhomul_layer_due(
+    alloc: Global,
+    before: u32,
+    version: &[u8],
+    found: &[u8],
+    plan: &[u8],
+    published: u64,
+) -> DueOutcome
+    ensures { Dues before version.now found.now plan.now published result }
+{
+    layer_calls::due(alloc, before, version, found, plan, published)
 }
 
 /// `layer_calls::check`.

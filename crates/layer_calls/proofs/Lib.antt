@@ -1,3 +1,4 @@
 pub mod Records
 pub mod Spans
 pub mod LastPart
+pub mod Found

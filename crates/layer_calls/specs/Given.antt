@@ -117,7 +117,7 @@ abbrev pub Answer : Type 0
 Answer = Result LayerReply LayerOutcome
 
 -- the thing is given, and the call answers for it; or it is not
-abbrev pub With : {Y : Type 0} → (Bytes → Result Y LayerOutcome → Type 0) → (Y → Answer → Type 0) → Bytes → Answer → Type 0
+abbrev pub With : {Y Z : Type 0} → (Bytes → Result Y LayerOutcome → Type 0) → (Y → Result Z LayerOutcome → Type 0) → Bytes → Result Z LayerOutcome → Type 0
 With {Y} GivesIt Answers bytes answer =
     ((y : Y) × GivesIt bytes (Ok y) × Answers y answer)
     ⊎ ((outcome : LayerOutcome) × GivesIt bytes (Err outcome) × (answer ≡ Err outcome))

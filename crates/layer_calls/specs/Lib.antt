@@ -6,3 +6,4 @@ pub mod Queries
 pub mod Changes
 pub mod Pieces
 pub mod Audits
+pub mod Dues

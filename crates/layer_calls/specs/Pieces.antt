@@ -1,6 +1,6 @@
 -- Cited by the contracts of piece and of what it calls.
 -- The pieces of a reorganisation over a store that someone else runs: the draft of what was read of one.
-use Rattle.std.specs.Prelude.{◌≡◌, ◌≢◌, ℕ, ◌+◌, ◌==◌, ◌⊎◌, List, [], ◌∷◌, Bool, true, false, drop, Option, Some, None, MatchOption, Ok, Err, slice_get, if◌then◌else◌}
+use Rattle.std.specs.Prelude.{◌≡◌, ◌≢◌, ℕ, ◌+◌, ◌==◌, ◌⊎◌, List, [], ◌∷◌, true, false, drop, Option, Some, None, MatchOption, Ok, Err, slice_get, if◌then◌else◌}
 use Rattle.std.specs.declared.cmp.Ordering.TheVariants.{Less}
 use Rattle.std.specs.FinMap as map
 use Rattle.std.specs.List.{AllByRecursion}

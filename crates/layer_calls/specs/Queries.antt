@@ -1,6 +1,6 @@
 -- Cited by the contracts of ranges, row_ranges, rows and of what they call.
 -- Queries over a store of which only ranges are read.
-use Rattle.std.specs.Prelude.{◌≡◌, ℕ, ◌⊎◌, List, Ok, Err}
+use Rattle.std.specs.Prelude.{◌≡◌, ℕ, ◌⊎◌, Ok, Err}
 use Rattle.entry_code.specs.Code.{rows_code}
 use Rattle.entry_code.specs.Parts.{pairs_code}
 use Rattle.element_state.specs.Consistent.{IsConsistent}

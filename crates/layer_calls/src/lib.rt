@@ -4,6 +4,7 @@
 
 mod audits;
 mod changes;
+mod dues;
 mod given;
 mod kept;
 mod opening;
@@ -14,9 +15,10 @@ mod txns;
 
 pub use audits::check;
 pub use changes::{begin, close, plan, publish};
+pub use dues::due;
 pub use kept::keep;
 pub use opening::open;
-pub use outcome::{LayerOutcome, LayerReply};
+pub use outcome::{DueOutcome, LayerOutcome, LayerReply};
 pub use pieces::piece;
 pub use queries::{ranges, row_ranges, rows};
 pub use txns::{reads, txn};

@@ -1,11 +1,11 @@
 //! What a call of the layer comes to.
 ghost use Rattle.std.specs.Prelude.{◌≡◌};
-ghost use Rattle.typed_calls.specs.Statuses.{out_of_memory};
+ghost use Rattle.typed_calls.specs.Statuses.{ok, out_of_memory};
 ghost use Rattle.layer_calls.specs.Given.{alone};
 
 use collections::List;
 use std::alloc::{AllocError, AllocFailed};
-use typed_calls::status::OUT_OF_MEMORY;
+use typed_calls::status::{OK, OUT_OF_MEMORY};
 
 /// What a call of the layer came to.
 #[repr(C)]
@@ -40,6 +40,46 @@ impl LayerOutcome {
             status,
             column: 0,
             number,
+        }
+    }
+}
+
+/// What is due.
+#[repr(C)]
+#[derive(Clone, Copy, Drop)]
+pub struct DueOutcome {
+    /// The status. The other fields are 0 if it is not `OK`.
+    pub status: i32,
+    /// The act: 0 for nothing, 1 for a begin, 2 for a close, 3 for a publication, 4 for a piece.
+    pub act: u32,
+    /// The element that begins, or has the piece; else 0.
+    pub element: u32,
+    /// The number of the piece; else 0.
+    pub piece: u64,
+}
+
+impl DueOutcome {
+    /// A status alone.
+    pub(crate) fn of(status: i32) -> DueOutcome
+        ensures { result ≡ record { status = status; act = 0; element = 0; piece = 0 } }
+    {
+        DueOutcome {
+            status,
+            act: 0,
+            element: 0,
+            piece: 0,
+        }
+    }
+
+    /// An act that is due.
+    pub(crate) fn act(act: u32, element: u32, piece: u64) -> DueOutcome
+        ensures { result ≡ record { status = ok; act = act; element = element; piece = piece } }
+    {
+        DueOutcome {
+            status: OK,
+            act,
+            element,
+            piece,
         }
     }
 }

@@ -1,4 +1,4 @@
-use Rattle.std.proofs.Common.{subst, refl, Result, Ok, Err}
+use Rattle.std.proofs.Common.{subst, refl, Result}
 use Rattle.drafts.specs.declared.record.Record.{Record}
 use Rattle.drafts.specs.declared.record.Record.TheVariants.{Version as OfVersion}
 use Rattle.record_code.specs.Read.{IsRecordRead, IsRecordAccepted}
