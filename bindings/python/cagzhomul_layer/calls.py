@@ -19,13 +19,17 @@ OK, BAD_COUNT, NOT_PUBLIC, DUPLICATE, NO_ROW, DEPENDENT, UNFINISHED, BAD_PIECE =
 
 
 class _Layered(ctypes.Structure): _fields_ = [("status", _STATUS), ("column", _SMALL), ("number", _NUMBER)]
+class _Due(ctypes.Structure): _fields_ = [("status", _STATUS), ("act", _SMALL), ("element", _SMALL), ("piece", _NUMBER)]
 
 
 _CODE: List[Any] = [_BYTES, _SIZE]
 _PARAMETERS: Dict[str, List[Any]] = {
     "open": _CODE, "reads": 2 * _CODE, "txn": [_NUMBER, *4 * _CODE], "ranges": 2 * _CODE, "row_ranges": 3 * _CODE, "rows": 3 * _CODE, "plan": 2 * _CODE,
     "publish": [_SMALL, *3 * _CODE], "close": [_SMALL, *_CODE], "begin": [_SMALL, *_CODE, _SMALL, *_CODE], "piece": [*_CODE, _SMALL, *3 * _CODE],
+    "due": [_SMALL, *3 * _CODE, _NUMBER],
 }
+# what cagzhomul_layer_due says is due, by its number
+ACTS = "nothing", "begin", "close", "publish", "work"
 
 
 def _declared() -> None:
@@ -34,7 +38,7 @@ def _declared() -> None:
         function = getattr(_library, f"cagzhomul_layer_{name}", None)
         if function is None:
             raise ImportError(f"the library has no cagzhomul_layer_{name}: it is older than this module")
-        function.restype, function.argtypes = _Layered, [*parameters, _HANDLE]
+        function.restype, function.argtypes = (_Due, parameters) if name == "due" else (_Layered, [*parameters, _HANDLE])
     _library.cagzhomul_layer_check.restype, _library.cagzhomul_layer_check.argtypes = _Checked, 2 * _CODE
 
 
@@ -68,6 +72,17 @@ def asked(name: str, *given: Any) -> Answered:
         return Answered(_code_of(out), int(done.number))
     finally:
         _library.cagzhomul_close(out)
+
+
+def due(before: int, version: bytes, found: Iterable[Pair], steps: Iterable[bytes]) -> Tuple[str, int, int]:
+    """What is due by the control records that were found, of which marks are left out, and the codes of the steps that are left of a plan: an
+    act of `ACTS`, its element and its piece. Raises Refusal."""
+    code = pairs_code(found)
+    plan = b"\1" + _list([_list([]) + it[1:] for it in steps])
+    done = _library.cagzhomul_layer_due(before, version, len(version), code, len(code), plan, len(plan), 0)
+    if done.status != OK:
+        raise Refusal(int(done.status), int(done.element), int(done.piece))
+    return ACTS[done.act], int(done.element), int(done.piece)
 
 
 def check(version: bytes, pairs: Iterable[Pair]) -> cagzhomul.Audit:

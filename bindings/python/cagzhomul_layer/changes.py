@@ -1,6 +1,6 @@
 """Schema changes over a store: what is under way, from the control records alone, and the acts that complete it.
 
-The part `Records.due` says what is to be done next; the drafts of that are the library's."""
+What is to be done next, and the drafts of that, are the library's."""
 
 from __future__ import annotations
 
@@ -122,25 +122,18 @@ class Records:
         return moves
 
     def due(self, steps: Optional[Sequence[PlannedStep]], most: int) -> Tuple[str, int, int, bytes]:
-        """What is to be done: an act, its element and piece, and the step that it publishes; `nothing` if all is done. `steps` are those
-        that are left of a plan; None if up to `most` elements at once are to go their ways."""
-        wanting = [it.number for it in self.schema.elements if wants(it) and it.number not in self.bounds]
-        if wanting:
-            return ("close", 0, 0, b"") if self.is_before_open else ("begin", wanting[0], 0, b"")
-        if steps is None:
-            moves = self.ready_moves()[:most]
-            step = b"\1" + cagzhomul._list(moves) if moves else b""
-        else:
-            step = steps[0].code if steps and all(self.is_ended(it.element) for it in steps[0].before) else b""
-        if step:
-            return "publish", 0, 0, step
-        pieces = [(element, piece) for element in self.bounds for piece in self.open_pieces(element)]
-        if pieces:
-            # one of them, so that several programs are not all at the same
-            return ("work", *random.choice(pieces), b"")
-        if steps:
-            raise BadAnswer("a step needs what no element wants")
-        return "nothing", 0, 0, b""
+        """What the library says is to be done: an act, its element and piece, and the step that it publishes; `nothing` if all is done.
+        `steps` are those that are left of a plan; None if up to `most` elements at once are to go their ways."""
+        moves = self.ready_moves()[:most] if steps is None else []
+        codes = [b"\1" + cagzhomul._list(moves)] if moves else [it.code for it in (steps or [])[:1]]
+        try:
+            act, element, piece = calls.due(self.number - 1, self.version, sorted(self.pairs.items()), codes)
+        except Refusal as refusal:
+            raise BadAnswer(f"records that do not fit each other: {refusal}") from None
+        if act == "work":
+            # one of the open pieces, so that several programs are not all at the same
+            element, piece = random.choice([(element, piece) for element in self.bounds for piece in self.open_pieces(element)])
+        return act, element, piece, codes[0] if act == "publish" else b""
 
 
 def _place(key: bytes, low: bytes) -> int:
