@@ -77,6 +77,17 @@ where
     code
 }
 
+/// The code of a plan of at most one step, which is given by its own code.
+pub(super) fn plan_code(step: Option<&[u8]>) -> Code {
+    let mut code = Code::new();
+    code.count(usize::from(step.is_some()));
+    if let Some(step) = step {
+        code.count(0); // what must have ended before it, the library knows
+        step.iter().skip(1).for_each(|byte| code.byte(*byte));
+    }
+    code
+}
+
 /// A list of pairs as their code takes them.
 pub(super) fn both(pairs: &[Pair]) -> impl ExactSizeIterator<Item = (&Vec<u8>, &Vec<u8>)> {
     pairs.iter().map(|(key, value)| (key, value))

@@ -15,6 +15,22 @@ pub(super) struct Refusal {
     pub(super) number: u64,
 }
 
+/// What is due, by its number: nothing is 0.
+#[repr(C)]
+#[derive(Debug, Clone, Copy, PartialEq, Eq)]
+pub(super) struct DueAct {
+    status: i32,
+    pub(super) act: u32,
+    pub(super) element: u32,
+    piece: u64,
+}
+
+/// The numbers of acts.
+pub(super) const BEGIN: u32 = 1;
+pub(super) const CLOSE: u32 = 2;
+pub(super) const PUBLISH: u32 = 3;
+pub(super) const WORK: u32 = 4;
+
 /// What a call gave: its bytes, and the number beside them.
 pub(super) struct Given {
     pub(super) code: Vec<u8>,
@@ -136,6 +152,16 @@ unsafe extern "C" {
         pairs_length: usize,
         draft: *mut RawHandle,
     ) -> Refusal;
+    fn cagzhomul_layer_due(
+        before: u32,
+        version: *const u8,
+        version_length: usize,
+        found: *const u8,
+        found_length: usize,
+        plan: *const u8,
+        plan_length: usize,
+        published: u64,
+    ) -> DueAct;
     fn cagzhomul_layer_check(
         version: *const u8,
         version_length: usize,
@@ -267,6 +293,27 @@ pub(super) fn piece(
         [to],
         [pairs]
     )
+}
+
+/// What is due by the control records that were found, and the steps that are left of a plan; `None` if the
+/// records do not fit each other.
+pub(super) fn due(before: u32, version: &[u8], found: &[u8], plan: &[u8]) -> Option<DueAct> {
+    let (at, length) = (version.as_ptr(), version.len());
+    let (found, found_length) = (found.as_ptr(), found.len());
+    // SAFETY: all slices, as at the top of `ffi.rs`.
+    let due = unsafe {
+        cagzhomul_layer_due(
+            before,
+            at,
+            length,
+            found,
+            found_length,
+            plan.as_ptr(),
+            plan.len(),
+            0,
+        )
+    };
+    (due.status == OK).then_some(due)
 }
 
 /// The audit of all pairs of rows and indexes by a version.

@@ -4,14 +4,14 @@ use crate::code;
 use crate::error::Error;
 use crate::layer::chance;
 use crate::layer::codes::{
-    bounds_of, cursor_key, cursor_of, draft_of, number_of, pairs_code, version_key, CURSORS, MARKS,
-    REORGS, VERSIONS,
+    bounds_of, cursor_key, cursor_of, draft_of, number_of, pairs_code, plan_code, version_key,
+    CURSORS, MARKS, REORGS, VERSIONS,
 };
 use crate::layer::draft::Draft;
 use crate::layer::ffi;
 use crate::layer::server::{refused, Version};
 use crate::layer::store::{bad_answer, read, Pair, Range, Store, StoreError};
-use crate::plan::{PlannedStep, Reorganisation, State};
+use crate::plan::{PlannedStep, State};
 use crate::schema::{SchemaElement, SchemaKind};
 use std::collections::BTreeMap;
 
@@ -64,7 +64,6 @@ pub(super) struct Records {
     pairs: BTreeMap<Vec<u8>, Vec<u8>>,
     /// The newest version.
     pub(super) version: Version,
-    is_before_open: bool,
     /// The bounds of the pieces of each reorganisation that has begun, by its element.
     bounds: BTreeMap<u32, Vec<Pair>>,
 }
@@ -94,7 +93,6 @@ impl Records {
             return Err(Error::NotOpened);
         };
         let version = Version::of(number_of(key)?, record.clone())?;
-        let is_before_open = of_kind(VERSIONS).count() > 1;
         let bounds = of_kind(REORGS).map(|(key, record)| {
             let element = u32::try_from(number_of(key)?);
             let element = element.map_err(|_| bad_answer("a reorganisation of no element"))?;
@@ -104,7 +102,6 @@ impl Records {
         Ok(Records {
             pairs,
             version,
-            is_before_open,
             bounds,
         })
     }
@@ -190,57 +187,49 @@ impl Records {
         Ok(moves)
     }
 
-    /// The step that may be published: that of a plan, or else one in which up to `most` elements go
-    /// their ways.
-    fn ready_step(&self, step: Option<&PlannedStep>, most: usize) -> Result<Due, StoreError> {
-        let Some(step) = step else {
-            let moves = self.ready_moves(most)?;
-            let (step, count) = (code::step(&moves).as_bytes().to_vec(), moves.len());
-            return Ok(match count {
-                0 => Due::Nothing,
-                moves => Due::Publish { step, moves },
-            });
-        };
-        for it in &step.before {
-            let (Reorganisation::Fill { element } | Reorganisation::Clear { element }) = it;
-            if !self.is_ended(*element)? {
-                return Ok(Due::Nothing);
-            }
+    /// The code and the number of moves of the step that comes next: that of a plan, or else one in which
+    /// up to `most` elements that may go on go their ways, if there are any.
+    fn next_step(
+        &self,
+        step: Option<&PlannedStep>,
+        most: usize,
+    ) -> Result<Option<(Vec<u8>, usize)>, StoreError> {
+        if let Some(step) = step {
+            return Ok(Some((step.code.clone(), step.moves.len())));
         }
-        Ok(Due::Publish {
-            step: step.code.clone(),
-            moves: step.moves.len(),
-        })
+        let moves = self.ready_moves(most)?;
+        let step = code::step(&moves).as_bytes().to_vec();
+        Ok((!moves.is_empty()).then_some((step, moves.len())))
     }
 
-    /// What is to be done, by the next step of a plan; without one up to `most` elements at once are to go
-    /// their ways.
-    pub(super) fn due(&self, step: Option<&PlannedStep>, most: usize) -> Result<Due, StoreError> {
-        let mut elements = self.version.names.schema().elements.iter();
-        let is_wanting = |it: &&SchemaElement| wants(it) && !self.bounds.contains_key(&it.number);
-        if let Some(element) = elements.find(is_wanting) {
-            return Ok(match self.is_before_open {
-                true => Due::Close,
-                false => Due::Begin(element.number),
-            });
-        }
-        match self.ready_step(step, most)? {
-            Due::Nothing => {}
-            ready => return Ok(ready),
-        }
+    /// One of the pieces that have not ended, so that several programs are not all at the same.
+    fn open_piece(&self) -> Result<Due, StoreError> {
         let mut open = Vec::new();
         for element in self.bounds.keys() {
             let pieces = self.open_pieces(*element)?.into_iter();
             open.extend(pieces.map(|piece| (*element, piece)));
         }
-        match (open.len() as u64, step) {
-            (0, None) => Ok(Due::Nothing),
-            (0, Some(_)) => Err(bad_answer("a step needs what no element wants")),
-            (count, _) => {
-                // one of them, so that several programs are not all at the same
-                let (element, piece) = open[(chance::number() % count) as usize];
-                Ok(Due::Work { element, piece })
-            }
+        let place = chance::number().checked_rem(open.len() as u64);
+        let chosen = place.and_then(|place| open.get(place as usize));
+        let (element, piece) = *chosen.ok_or(bad_answer("no piece is open"))?;
+        Ok(Due::Work { element, piece })
+    }
+
+    /// What the library says is to be done, by the next step of a plan; without one up to `most` elements
+    /// at once are to go their ways.
+    pub(super) fn due(&self, step: Option<&PlannedStep>, most: usize) -> Result<Due, StoreError> {
+        let next = self.next_step(step, most)?;
+        let plan = plan_code(next.as_ref().map(|(step, _)| &step[..]));
+        let found = pairs_code(self.pairs.iter().collect::<Vec<_>>());
+        let (before, version) = (self.before(), &self.version.record);
+        let due = ffi::due(before, version, found.as_bytes(), plan.as_bytes());
+        let due = due.ok_or(bad_answer("records that do not fit each other"))?;
+        match (due.act, next) {
+            (ffi::BEGIN, _) => Ok(Due::Begin(due.element)),
+            (ffi::CLOSE, _) => Ok(Due::Close),
+            (ffi::PUBLISH, Some((step, moves))) => Ok(Due::Publish { step, moves }),
+            (ffi::WORK, _) => self.open_piece(),
+            _ => Ok(Due::Nothing),
         }
     }
 }
