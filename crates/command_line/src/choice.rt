@@ -6,13 +6,12 @@ ghost use Rattle.command_line.specs.LoadSize.{IsLoadSize};
 ghost use Rattle.command_line.specs.SoakSize.{IsSoakSize};
 ghost use Rattle.command_line.specs.Status.{status_after};
 
-use crate::built::Built;
 use crate::help;
 use crate::load_size::{LoadSize, MAX_LIMIT, MAX_PIECES, MAX_ROWS, MAX_SERVERS, MAX_WORKERS};
 use crate::number::count_in;
 use crate::soak_size::{MAX_UPDATES, SoakSize};
 use clap::error::ErrorKind;
-use clap::{Arg, ArgAction, ArgMatches, Error, value_parser};
+use clap::{Arg, ArgAction, ArgMatches, Command, Error, value_parser};
 use std::alloc::{AllocError, Global};
 
 /// What the program is to do. A file is that of the script; without one it is on standard input.
@@ -69,16 +68,20 @@ fn file_option<'a>(alloc: Global, name: &'a str, about: &'a str) -> Arg<'a> {
         .help(about)
 }
 
-fn run_command<'a>(alloc: Global) -> Result<Built<'a>, AllocError> {
-    Built::new(alloc, "run", help::ABOUT_RUN, help::SCRIPTS)
-        .with_arg(flag(alloc, "stop", 's', help::STOP))?
-        .with_arg(file_arg(alloc))
+fn run_command<'a>(alloc: Global) -> Result<Command<'a>, AllocError> {
+    Command::new(alloc, "run")
+        .about(help::ABOUT_RUN)
+        .after_help(help::SCRIPTS)
+        .arg(flag(alloc, "stop", 's', help::STOP))?
+        .arg(file_arg(alloc))
 }
 
-fn prompt_command<'a>(alloc: Global) -> Result<Built<'a>, AllocError> {
-    Built::new(alloc, "prompt", help::ABOUT_PROMPT, help::PROMPTS)
-        .with_arg(file_option(alloc, "at", help::AT))?
-        .with_arg(file_arg(alloc))
+fn prompt_command<'a>(alloc: Global) -> Result<Command<'a>, AllocError> {
+    Command::new(alloc, "prompt")
+        .about(help::ABOUT_PROMPT)
+        .after_help(help::PROMPTS)
+        .arg(file_option(alloc, "at", help::AT))?
+        .arg(file_arg(alloc))
 }
 
 // The option of a number from 1 to `most`.
@@ -121,28 +124,34 @@ const SOAK_NUMBERS: [NumberOption; 3] = [
 // The command with these options.
 fn with_numbers<'a>(
     alloc: Global,
-    command: Built<'a>,
+    command: Command<'a>,
     numbers: &[NumberOption],
-) -> Result<Built<'a>, AllocError> {
+) -> Result<Command<'a>, AllocError> {
     let mut command = command;
     for (name, short, most, default, about) in numbers {
-        command = command.with_arg(number(alloc, name, *short, *most, default, about))?;
+        command = command.arg(number(alloc, name, *short, *most, default, about))?;
     }
     Ok(command)
 }
 
-fn load_command<'a>(alloc: Global) -> Result<Built<'a>, AllocError> {
-    let load = Built::new(alloc, "load", help::ABOUT_LOAD, help::LOADS);
-    with_numbers(alloc, load, &LOAD_NUMBERS)?.with_arg(flag(alloc, "time", 't', help::TIME))
+fn load_command<'a>(alloc: Global) -> Result<Command<'a>, AllocError> {
+    let load = Command::new(alloc, "load")
+        .about(help::ABOUT_LOAD)
+        .after_help(help::LOADS);
+    with_numbers(alloc, load, &LOAD_NUMBERS)?.arg(flag(alloc, "time", 't', help::TIME))
 }
 
-fn soak_command<'a>(alloc: Global) -> Result<Built<'a>, AllocError> {
-    let soak = Built::new(alloc, "soak", help::ABOUT_SOAK, help::SOAKS);
+fn soak_command<'a>(alloc: Global) -> Result<Command<'a>, AllocError> {
+    let soak = Command::new(alloc, "soak")
+        .about(help::ABOUT_SOAK)
+        .after_help(help::SOAKS);
     with_numbers(alloc, soak, &SOAK_NUMBERS)
 }
 
-fn rollout_command<'a>(alloc: Global) -> Built<'a> {
-    Built::new(alloc, "rollout", help::ABOUT_ROLLOUT, help::ROLLOUTS)
+fn rollout_command<'a>(alloc: Global) -> Command<'a> {
+    Command::new(alloc, "rollout")
+        .about(help::ABOUT_ROLLOUT)
+        .after_help(help::ROLLOUTS)
 }
 
 // The number of an option, or else the name of that option.
@@ -181,6 +190,20 @@ fn soak_size(matches: &ArgMatches<'_>) -> Result<SoakSize, &'static str>
     })
 }
 
+// The refusal of an option's text that is no number in digits alone.
+fn refusal(
+    alloc: Global,
+    mut subcommand: Command<'_>,
+    matches: &ArgMatches<'_>,
+    name: &str,
+) -> Result<Error, AllocError> {
+    let text = matches.get_str(name).unwrap_or("");
+    let message = format!(in alloc;
+        "invalid value '{text}' for '--{name} <N>': a number is written in digits alone"
+    )?;
+    subcommand.error(ErrorKind::ValueValidation, message.as_str())
+}
+
 // Whether the word after the program's own name is this one.
 fn names(words: &[String], name: &str) -> bool
     ensures { result ≡ is_named words.now name.now }
@@ -201,7 +224,7 @@ enum Task {
     Rollout,
 }
 
-fn subcommand_of<'a>(alloc: Global, task: Task) -> Result<Built<'a>, AllocError> {
+fn subcommand_of<'a>(alloc: Global, task: Task) -> Result<Command<'a>, AllocError> {
     match task {
         Task::Run => run_command(alloc),
         Task::Prompt => prompt_command(alloc),
@@ -211,10 +234,13 @@ fn subcommand_of<'a>(alloc: Global, task: Task) -> Result<Built<'a>, AllocError>
     }
 }
 
-fn program_of<'a>(alloc: Global) -> Result<Built<'a>, AllocError> {
-    let mut program = Built::new(alloc, "shell", help::ABOUT, help::STATUSES)
-        .named("shell")?
-        .into_program(help::VERSION);
+fn command_of<'a>(alloc: Global) -> Result<Command<'a>, AllocError> {
+    let mut command = Command::new(alloc, "shell")
+        .bin_name("shell")?
+        .version(help::VERSION)
+        .about(help::ABOUT)
+        .after_help(help::STATUSES)
+        .subcommand_required(true);
     for task in [
         Task::Run,
         Task::Prompt,
@@ -222,26 +248,10 @@ fn program_of<'a>(alloc: Global) -> Result<Built<'a>, AllocError> {
         Task::Soak,
         Task::Rollout,
     ] {
-        program = program.with_subcommand(subcommand_of(alloc, task)?)?;
+        let subcommand = subcommand_of(alloc, task)?;
+        command = command.subcommand(subcommand)?;
     }
-    Ok(program)
-}
-
-// The refusal of an option's text that is no number in digits alone, by a subcommand and its name in
-// messages.
-fn refusal(
-    alloc: Global,
-    task: Task,
-    title: &str,
-    matches: &ArgMatches<'_>,
-    option: &str,
-) -> Result<Error, AllocError> {
-    let text = matches.get_str(option).unwrap_or("");
-    let message = format!(in alloc;
-        "invalid value '{text}' for '--{option} <N>': a number is written in digits alone"
-    )?;
-    let mut subcommand = subcommand_of(alloc, task)?.named(title)?;
-    subcommand.error(ErrorKind::ValueValidation, message.as_str())
+    Ok(command)
 }
 
 // The file that a subcommand names by this word, if it does.
@@ -270,7 +280,10 @@ fn load_choice<'a>(
 {
     match load_size(matches) {
         Ok(size) => Ok(Chosen::Load { size, is_timed }),
-        Err(option) => Err(refusal(alloc, Task::Load, "shell load", matches, option)?),
+        Err(name) => {
+            let load = load_command(alloc)?.bin_name("shell load")?;
+            Err(refusal(alloc, load, matches, name)?)
+        }
     }
 }
 
@@ -280,14 +293,17 @@ fn soak_choice<'a>(alloc: Global, matches: &ArgMatches<'a>) -> Result<Chosen<'a>
 {
     match soak_size(matches) {
         Ok(size) => Ok(Chosen::Soak { size }),
-        Err(option) => Err(refusal(alloc, Task::Soak, "shell soak", matches, option)?),
+        Err(name) => {
+            let soak = soak_command(alloc)?.bin_name("shell soak")?;
+            Err(refusal(alloc, soak, matches, name)?)
+        }
     }
 }
 
 // What words choose that clap took.
 fn choice_of<'a>(
     alloc: Global,
-    program: &mut Built<'a>,
+    command: &mut Command<'a>,
     matches: &ArgMatches<'a>,
     words: &[String],
 ) -> Result<Chosen<'a>, Error>
@@ -314,7 +330,7 @@ fn choice_of<'a>(
     let is_timed = has_flag(matches, "load", "time");
     match matches.subcommand_matches("load") {
         Some(load) if names(words, "load") => load_choice(alloc, load, is_timed),
-        _ => Err(program.error(
+        _ => Err(command.error(
             ErrorKind::InvalidSubcommand,
             "none of 'run', 'prompt', 'load', 'soak' and 'rollout'",
         )?),
@@ -328,9 +344,9 @@ fn choice_of<'a>(
 pub fn options<'a>(alloc: Global, words: &'a [String]) -> Result<Chosen<'a>, Error>
     ensures { IfOk result (IsChoiceOf words.now) }
 {
-    let mut program = program_of(alloc)?;
-    let matches = program.matches_of(words)?;
-    choice_of(alloc, &mut program, &matches, words)
+    let mut command = command_of(alloc)?;
+    let matches = command.try_get_matches_from_mut(words)?;
+    choice_of(alloc, &mut command, &matches, words)
 }
 
 /// The exit status after a command line that chooses nothing: 0 if help was asked for, 2 if

@@ -2,7 +2,6 @@
 //! words that are refused.
 #![tactic(auto)]
 
-mod built;
 mod choice;
 mod help;
 mod load_size;
