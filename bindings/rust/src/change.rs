@@ -1,11 +1,16 @@
 //! Schema changes, driven step by step.
 
+use crate::code::{self, Code};
 use crate::db::Db;
 use crate::error::Error;
-use crate::reply::{refusal_of, step_of};
-use crate::session::{reply_to, Session, Step};
+use crate::names::Names;
+use crate::plan::{number_of, plan_refusal, SchemaChange};
+use crate::session::{fetch, Session, Step};
+use crate::steps::steps_of;
+use crate::wanted::Wanted;
+use crate::words::is_list;
 use std::fmt;
-use std::sync::PoisonError;
+use std::sync::{Arc, PoisonError};
 use std::thread;
 use std::time::Duration;
 
@@ -43,11 +48,15 @@ impl<'db, C: FnMut() -> u64> Change<'db, C> {
     }
 
     /// A change whose first step was published, or waits.
-    pub(crate) fn begin(db: &'db Db, change: &str, mut clock: C) -> Result<Change<'db, C>, Error> {
-        if is_list(change) {
+    pub(crate) fn begin(
+        db: &'db Db,
+        change: &Wanted<'_, SchemaChange>,
+        mut clock: C,
+    ) -> Result<Change<'db, C>, Error> {
+        if matches!(change, Wanted::Words(words) if is_list(words)) {
             return Err(Error::BadLine);
         }
-        let first = db.session().begin_change(change, clock())?;
+        let first = db.begin_change(change, clock())?;
         Ok(Change::new(db, clock, Some(first)))
     }
 
@@ -125,20 +134,41 @@ impl<C: FnMut() -> u64> Iterator for Change<'_, C> {
 
 impl<C: FnMut() -> u64> std::iter::FusedIterator for Change<'_, C> {}
 
-impl Session {
+/// A change that waits for its first step.
+pub(crate) struct WaitingChange {
+    /// Its words.
+    words: String,
+    /// Its code, in which its table has its number: tables never change.
+    code: Code,
+    /// The names of the tables.
+    names: Arc<Names>,
+}
+
+impl Db {
     /// Begins a change, or keeps it if its first step has to wait.
-    fn begin_change(&self, change: &str, now: u64) -> Result<Step, Error> {
-        let mut waiting = self.waiting.lock().unwrap_or_else(PoisonError::into_inner);
-        if let Some(change) = waiting.clone() {
+    fn begin_change(&self, change: &Wanted<'_, SchemaChange>, now: u64) -> Result<Step, Error> {
+        let (session, names) = (self.session(), self.names());
+        let mut waiting = session
+            .waiting
+            .lock()
+            .unwrap_or_else(PoisonError::into_inner);
+        if let Some(other) = &*waiting {
+            let change = other.words.clone();
             return Err(Error::StillWaiting { change });
         }
-        let first = self.publish_first(change, now)?;
+        let wanted = session.read(change)?;
+        let code = code::changes(&[wanted.into_owned()], |table| names.table(table));
+        let words = change.to_string();
+        let change = WaitingChange { words, code, names };
+        let first = session.publish_first(&change, now)?;
         if first != Step::Acted {
-            *waiting = Some(change.to_string());
+            *waiting = Some(change);
         }
         Ok(first)
     }
+}
 
+impl Session {
     /// Publishes the first step of the change that waits; `None` if none does.
     pub(crate) fn begin_waiting(&self, now: u64) -> Result<Option<Step>, Error> {
         let mut waiting = self.waiting.lock().unwrap_or_else(PoisonError::into_inner);
@@ -156,27 +186,25 @@ impl Session {
         first.map(Some)
     }
 
-    /// Publishes the first step of a change's plan, unless it is too early. Both lines are answered
-    /// under one lock, so that the plan is of the newest version.
-    fn publish_first(&self, change: &str, now: u64) -> Result<Step, Error> {
+    /// Publishes the first step of a change's plan, unless it is too early. Both calls are under one
+    /// lock, so that the plan is of the newest version.
+    fn publish_first(&self, change: &WaitingChange, now: u64) -> Result<Step, Error> {
         let mut handle = self.lock();
-        let plan = reply_to(&mut handle, &format!("plan: {change}"))?;
-        if plan.starts_with("refused ") {
-            return Err(refusal_of(&plan));
+        let plan =
+            fetch(|_, out| handle.plan(change.code.as_bytes(), out)).map_err(plan_refusal)?;
+        let steps = steps_of(&plan, &change.names)?;
+        let Some(first) = steps.first() else {
+            return Err(Error::Reply("a plan without steps".to_string()));
+        };
+        match number_of(handle.publish(now, &first.code)) {
+            Ok(_) => {
+                self.published();
+                Ok(Step::Acted)
+            }
+            Err(Error::TooEarly { until }) => Ok(Step::Waiting { until }),
+            Err(refused) => Err(refused),
         }
-        let first = step_of(&reply_to(&mut handle, &format!("next at {now}"))?)?;
-        self.published();
-        Ok(first)
     }
-}
-
-/// Whether there is a semicolon outside of quotes.
-fn is_list(change: &str) -> bool {
-    let mut is_quoted = false;
-    change.chars().any(|c| {
-        is_quoted ^= c == '\'';
-        c == ';' && !is_quoted
-    })
 }
 
 impl<C> fmt::Debug for Change<'_, C> {
@@ -187,18 +215,5 @@ impl<C> fmt::Debug for Change<'_, C> {
             .field("until", &self.until)
             .field("is_ended", &self.is_ended)
             .finish_non_exhaustive()
-    }
-}
-
-#[cfg(test)]
-mod tests {
-    use super::*;
-
-    #[test]
-    fn a_semicolon_outside_of_quotes_makes_a_list() {
-        assert!(is_list("drop index i on t; drop column a on t"));
-        assert!(is_list("add column a text default 'it''s' on t;"));
-        assert!(!is_list("add column a text default ';' on t"));
-        assert!(!is_list("add column a text default ''';' on t"));
     }
 }

@@ -4,14 +4,17 @@ use crate::change::Change;
 use crate::code;
 use crate::error::Error;
 use crate::ffi::Handle;
-use crate::lease::{Held, Lease};
+use crate::lease::{Grant, Lease, Store};
 use crate::library::check_library;
 use crate::names::Names;
-use crate::reply::Row;
+use crate::plan::SchemaChange;
+use crate::query::Query;
+use crate::rows::Row;
 use crate::schema::schema_of;
 use crate::session::{done, Session, Step};
 use crate::snapshot::Check;
 use crate::table::Table;
+use crate::wanted::Wanted;
 use std::sync::{Arc, Mutex, PoisonError};
 
 /// How many moments a lease lasts if nothing else is said.
@@ -49,7 +52,7 @@ pub struct Db {
     session: Session,
     names: Mutex<Arc<Names>>,
     /// The lease of [`Db::query`]. Its lock is taken before that of the session.
-    kept: Mutex<Option<Held>>,
+    kept: Mutex<Option<Arc<Grant>>>,
 }
 
 impl Db {
@@ -158,22 +161,40 @@ impl Db {
     /// # Ok::<(), cagzhomul::Error>(())
     /// ```
     pub fn lease(&self, now: u64) -> Result<Lease<'_>, Error> {
-        let mut handle = Handle::closed();
-        let held = self.grant(now, &mut handle)?;
-        Ok(Lease::new(self, handle, held))
+        Ok(Lease::new(Store::Borrowed(self), self.grant(now)?))
     }
 
-    /// Grants a lease into the handle, with the names of its version.
-    fn grant(&self, now: u64, lease: &mut Handle) -> Result<Held, Error> {
+    /// Grants a lease as [`Db::lease`] does, which owns its share of the store: it may go to a thread, or
+    /// into a struct, that outlives the caller.
+    ///
+    /// Refusals: those of [`Db::lease`].
+    ///
+    /// ```
+    /// # use cagzhomul::{Db, Table, Type};
+    /// # use std::sync::Arc;
+    /// let db = Arc::new(Db::open([Table::new("t").key("id", Type::Int)])?);
+    /// let lease = db.lease_owned(5)?;
+    /// drop(db);
+    /// let writer = std::thread::spawn(move || lease.txn().insert("t", 1, ()).commit(5));
+    /// assert_eq!(writer.join().unwrap()?.place, 2);
+    /// # Ok::<(), cagzhomul::Error>(())
+    /// ```
+    pub fn lease_owned(self: &Arc<Self>, now: u64) -> Result<Lease<'static>, Error> {
+        Ok(Lease::new(Store::Owned(Arc::clone(self)), self.grant(now)?))
+    }
+
+    /// Grants a lease, with the names of its version.
+    fn grant(&self, now: u64) -> Result<Grant, Error> {
+        let mut lease = Handle::closed();
         let mut session = self.session.lock();
-        let granted = session.lease(now, lease);
+        let granted = session.lease(now, &mut lease);
         done(granted.status)?;
         self.session.grown(&mut session, granted.place);
         let mut names = self.names.lock().unwrap_or_else(PoisonError::into_inner);
         if names.version() != granted.version {
-            *names = Arc::new(Names::new(granted.version, schema_of(lease)?));
+            *names = Arc::new(Names::new(granted.version, schema_of(&mut lease)?));
         }
-        Ok(Held::new(granted, Arc::clone(&names)))
+        Ok(Grant::new(lease, granted, Arc::clone(&names)))
     }
 
     /// The names of the newest version that a lease was granted on, with those of all tables.
@@ -190,40 +211,45 @@ impl Db {
     /// meanwhile, too.
     ///
     /// ```
-    /// # use cagzhomul::{Db, Table, Type};
+    /// # use cagzhomul::{Db, Query, Table, Type};
     /// # let db = Db::open([Table::new("t").key("id", Type::Int)])?;
     /// for now in 5..15 {
-    ///     db.query(now, "select * from t")?;
+    ///     assert_eq!(db.query(now, "select * from t")?, db.query(now, Query::of("t"))?);
     /// }
     /// assert_eq!(db.session().log_length()?, 1); // the lease is in force before 15
     /// # Ok::<(), cagzhomul::Error>(())
     /// ```
-    pub fn query(&self, now: u64, selection: &str) -> Result<Vec<Row>, Error> {
-        let held = self.kept_lease(now, None)?;
-        match held.rows(&self.session, now, selection) {
+    pub fn query<'q>(
+        &self,
+        now: u64,
+        query: impl Into<Wanted<'q, Query>>,
+    ) -> Result<Vec<Row>, Error> {
+        let kept = self.kept_lease(now, None)?;
+        let query = query.into();
+        let query = self.session.read(&query)?;
+        match kept.find(&self.session, now, &query) {
             Err(Error::BadLease | Error::LeaseEnded) => {
-                let held = self.kept_lease(now, Some(&held))?;
-                held.rows(&self.session, now, selection)
+                let kept = self.kept_lease(now, Some(&kept))?;
+                kept.find(&self.session, now, &query)
             }
             found => found,
         }
     }
 
     /// The kept lease; or a new one, if that is the refused one, or is on an older version.
-    fn kept_lease(&self, now: u64, refused: Option<&Held>) -> Result<Held, Error> {
+    fn kept_lease(&self, now: u64, refused: Option<&Arc<Grant>>) -> Result<Arc<Grant>, Error> {
         let mut kept = self.kept.lock().unwrap_or_else(PoisonError::into_inner);
-        if let Some(held) = kept.take() {
-            let is_refused = refused.is_some_and(|lease| lease.place() == held.place());
-            if !is_refused && self.session.is_newest(held.schema())? {
-                return Ok(kept.insert(held).clone());
+        if let Some(grant) = kept.take() {
+            let is_refused = refused.is_some_and(|lease| Arc::ptr_eq(lease, &grant));
+            if !is_refused && self.session.is_newest(grant.schema())? {
+                return Ok(Arc::clone(kept.insert(grant)));
             }
         }
-        let held = self.grant(now, &mut Handle::closed())?;
-        Ok(kept.insert(held).clone())
+        let grant = Arc::new(self.grant(now)?);
+        Ok(Arc::clone(kept.insert(grant)))
     }
 
-    /// The reply to any line of the script language, as text. The server `rust_binding` is the
-    /// crate's own: queries are asked under its name.
+    /// The reply to any line of the script language, as text.
     ///
     /// Refusals: those of [`Session::line`].
     ///
@@ -257,10 +283,10 @@ impl Db {
         &self.session
     }
 
-    /// Begins a schema change, and gives the steps that complete it. The change is one of those
-    /// that `plan` takes: `add index NAME on TABLE (COLUMNS)`, `add column NAME TYPE [default
-    /// VALUE] on TABLE`, `drop index NAME on TABLE`, `drop column NAME on TABLE` or `abandon
-    /// TABLE.NAME`; the session's kept plan is lost.
+    /// Begins a schema change, and gives the steps that complete it. The change is a
+    /// [`SchemaChange`], or its words: `add index NAME on TABLE (COLUMNS)`, `add column NAME TYPE
+    /// [default VALUE] on TABLE`, `drop index NAME on TABLE`, `drop column NAME on TABLE` or
+    /// `abandon TABLE.NAME`.
     ///
     /// When the call returns, the first of the steps is [`Step::Acted`], and the change is under
     /// way; or it is [`Step::Waiting`], since the newest version is not old enough. Then the store
@@ -274,7 +300,8 @@ impl Db {
     /// then.
     ///
     /// Refusals: [`Error::BadLine`] for a list of changes; [`Error::StillWaiting`] if another
-    /// change waits; [`Error::Closed`]; [`Error::BadLine`]; [`Error::Unknown`],
+    /// change waits; [`Error::Closed`]; [`Error::BadLine`], of which
+    /// [`BadWords`](crate::BadWords) has the place; [`Error::Unknown`],
     /// [`Error::NameTaken`], [`Error::StillIndexed`], [`Error::InChange`] or [`Error::Limit`];
     /// [`Error::MomentTooLarge`]; [`Error::VersionsSpent`]; [`Error::OutOfMemory`]. The steps have
     /// those of [`Db::advance`].
@@ -295,12 +322,12 @@ impl Db {
     /// assert_eq!(again.err(), Some(Error::NameTaken));
     /// # Ok::<(), Error>(())
     /// ```
-    pub fn change<C: FnMut() -> u64>(
+    pub fn change<'w, C: FnMut() -> u64>(
         &self,
-        change: &str,
+        change: impl Into<Wanted<'w, SchemaChange>>,
         clock: C,
     ) -> Result<Change<'_, C>, Error> {
-        Change::begin(self, change, clock)
+        Change::begin(self, &change.into(), clock)
     }
 
     /// Begins a schema change as [`Db::change`] does, and takes its steps to their end: when the
@@ -319,7 +346,11 @@ impl Db {
     /// assert!(clock() >= 60); // each version was the newest for a lease length
     /// # Ok::<(), cagzhomul::Error>(())
     /// ```
-    pub fn complete(&self, change: &str, clock: impl FnMut() -> u64) -> Result<(), Error> {
+    pub fn complete<'w>(
+        &self,
+        change: impl Into<Wanted<'w, SchemaChange>>,
+        clock: impl FnMut() -> u64,
+    ) -> Result<(), Error> {
         self.change(change, clock)?
             .try_for_each(|step| step.map(drop))
     }

@@ -41,7 +41,7 @@ pub enum Error {
     NoTable,
     /// A column that is named is not a public column of its table in the lease's version.
     NotPublic {
-        /// Its name; `None` if the query is a line, and names what its table does not have.
+        /// Its name; `None` if the call names none that its table does not have.
         column: Option<String>,
     },
     /// A value of another type than its column, another number of values in a key, null in a key, a

@@ -156,6 +156,11 @@ impl Handle {
         }))
     }
 
+    /// Whether it holds anything.
+    pub(crate) fn is_open(&self) -> bool {
+        self.0.is_open
+    }
+
     pub(crate) fn raw(&mut self) -> *mut RawHandle {
         &mut *self.0
     }

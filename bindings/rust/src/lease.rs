@@ -5,33 +5,32 @@ use crate::error::Error;
 use crate::ffi::{Granted, Handle};
 use crate::names::Names;
 use crate::query::{find, Query};
-use crate::reply::{refusal_of, rows_of, Row};
+use crate::rows::Row;
 use crate::schema::Schema;
-use crate::session::{done, reply_to, Session};
+use crate::session::{done, Session};
 use crate::snapshot::Snapshot;
 use crate::txn::{Receipt, Txn};
 use crate::value::{Cells, Key};
+use crate::wanted::Wanted;
 use std::fmt;
+use std::ops::Deref;
 use std::sync::{Arc, Mutex, MutexGuard, PoisonError};
 
-/// The server of the script language under whose name queries are asked, and which holds the lease
-/// of the last one.
-const SERVER: &str = "rust_binding";
-
-/// A lease as the script language has it: its numbers, and the names of its version.
-#[derive(Debug, Clone)]
-pub(crate) struct Held {
+/// A lease as it was granted, with the names of its version.
+pub(crate) struct Grant {
+    handle: Mutex<Handle>,
     granted: Granted,
     names: Arc<Names>,
 }
 
-impl Held {
-    pub(crate) fn new(granted: Granted, names: Arc<Names>) -> Held {
-        Held { granted, names }
-    }
-
-    pub(crate) fn version(&self) -> u64 {
-        self.granted.version
+impl Grant {
+    pub(crate) fn new(handle: Handle, granted: Granted, names: Arc<Names>) -> Grant {
+        let handle = Mutex::new(handle);
+        Grant {
+            handle,
+            granted,
+            names,
+        }
     }
 
     /// The schema of its version.
@@ -39,34 +38,45 @@ impl Held {
         self.names.schema()
     }
 
-    /// The place of its entry in the log.
-    pub(crate) fn place(&self) -> u64 {
-        self.granted.place
-    }
-
-    /// The rows of a query under it, which the server of this crate is given.
-    pub(crate) fn rows(
+    /// The rows of a query of the store of this session under it.
+    pub(crate) fn find(
         &self,
         session: &Session,
         now: u64,
-        selection: &str,
+        query: &Query,
     ) -> Result<Vec<Row>, Error> {
-        let Granted {
-            version,
-            granted,
-            until,
-            ..
-        } = self.granted;
-        let lease = format!("forge {SERVER} version {version} granted {granted} until {until}");
-        let query = format!("query {SERVER} at {now}: {selection}");
-        let mut handle = session.lock();
-        let forged = reply_to(&mut handle, &lease)?;
-        if forged != "ok\n" {
-            return Err(refusal_of(&forged));
+        find(query, &self.names, |code, rows| {
+            let mut session = session.lock();
+            session.query(now, &mut self.lock(), code, rows)
+        })
+    }
+
+    /// The handle. Its lock is taken after that of the session.
+    fn lock(&self) -> MutexGuard<'_, Handle> {
+        self.handle.lock().unwrap_or_else(PoisonError::into_inner)
+    }
+}
+
+impl fmt::Debug for Grant {
+    fn fmt(&self, f: &mut fmt::Formatter<'_>) -> fmt::Result {
+        self.granted.fmt(f)
+    }
+}
+
+/// The store of a lease.
+pub(crate) enum Store<'db> {
+    Borrowed(&'db Db),
+    Owned(Arc<Db>),
+}
+
+impl Deref for Store<'_> {
+    type Target = Db;
+
+    fn deref(&self) -> &Db {
+        match self {
+            Store::Borrowed(db) => db,
+            Store::Owned(db) => db,
         }
-        let reply = reply_to(&mut handle, &query)?;
-        drop(handle);
-        rows_of(&reply, &self.names)
     }
 }
 
@@ -74,25 +84,23 @@ impl Held {
 ///
 /// A transaction finds its columns by the names that they have in this version.
 pub struct Lease<'db> {
-    db: &'db Db,
-    handle: Mutex<Handle>,
-    held: Held,
+    db: Store<'db>,
+    grant: Grant,
 }
 
 impl<'db> Lease<'db> {
-    pub(crate) fn new(db: &'db Db, handle: Handle, held: Held) -> Lease<'db> {
-        let handle = Mutex::new(handle);
-        Lease { db, handle, held }
+    pub(crate) fn new(db: Store<'db>, grant: Grant) -> Lease<'db> {
+        Lease { db, grant }
     }
 
     /// The store that granted it.
-    pub fn db(&self) -> &'db Db {
-        self.db
+    pub fn db(&self) -> &Db {
+        &self.db
     }
 
     /// The number of the version that it is on.
     pub fn version(&self) -> u64 {
-        self.held.version()
+        self.grant.granted.version
     }
 
     /// The schema of that version.
@@ -106,22 +114,22 @@ impl<'db> Lease<'db> {
     /// # Ok::<(), cagzhomul::Error>(())
     /// ```
     pub fn schema(&self) -> &Schema {
-        self.held.schema()
+        self.grant.schema()
     }
 
     /// The moment from which on it is in force.
     pub fn granted(&self) -> u64 {
-        self.held.granted.granted
+        self.grant.granted.granted
     }
 
     /// The moment at which it ends: it is in force before it.
     pub fn until(&self) -> u64 {
-        self.held.granted.until
+        self.grant.granted.until
     }
 
     /// The place of its entry in the log.
     pub fn place(&self) -> u64 {
-        self.held.place()
+        self.grant.granted.place
     }
 
     /// A transaction under this lease, without operations yet.
@@ -176,26 +184,31 @@ impl<'db> Lease<'db> {
         }
     }
 
-    /// The rows of a query, by rising primary key: `select COLUMNS from TABLE [where CONDITION {and
-    /// CONDITION}]`, as `docs/SCRIPT.md` has it. [`Value`](crate::Value) writes values for it.
+    /// The rows of a query, by rising primary key: of a [`Query`], or of its words `select COLUMNS from
+    /// TABLE [where CONDITION {and CONDITION}]`, as `docs/SCRIPT.md` has them.
+    /// [`Value`](crate::Value) writes values for them.
     ///
-    /// Refusals: [`Error::Closed`], [`Error::BadLine`], [`Error::MomentTooLarge`],
-    /// [`Error::BadLease`], [`Error::LeaseEnded`], [`Error::NoTable`]; of the first faulty column
-    /// or condition [`Error::NotPublic`] or [`Error::WrongType`]; [`Error::OutOfMemory`].
+    /// Refusals: [`Error::Closed`], [`Error::BadLine`], of which [`BadWords`](crate::BadWords) has the
+    /// place, and those of [`Lease::find`].
     ///
     /// ```
-    /// # use cagzhomul::{Db, Error, Table, Type, Value};
+    /// # use cagzhomul::{Db, Error, Query, Table, Type, Value};
     /// # let db = Db::open([Table::new("t").key("id", Type::Int).column("a", Type::Text)])?;
     /// let lease = db.lease(0)?;
     /// lease.txn().insert("t", 1, [("a", "x")]).insert("t", 2, ()).commit(0)?;
     /// let rows = lease.query(0, "select * from t where a = null")?;
     /// assert_eq!((rows[0].key(), rows[0].get("a")), (&[2.into()][..], Some(&Value::Null)));
-    /// let column = None; // a query does not tell which name it does not know
+    /// assert_eq!(lease.query(0, Query::of("t").equal("a", Value::Null))?, rows);
+    /// let column = Some("b".to_string());
     /// assert_eq!(lease.query(0, "select b from t"), Err(Error::NotPublic { column }));
     /// # Ok::<(), Error>(())
     /// ```
-    pub fn query(&self, now: u64, selection: &str) -> Result<Vec<Row>, Error> {
-        self.held.rows(self.db.session(), now, selection)
+    pub fn query<'q>(
+        &self,
+        now: u64,
+        query: impl Into<Wanted<'q, Query>>,
+    ) -> Result<Vec<Row>, Error> {
+        self.find(now, &*self.db.session().read(&query.into())?)
     }
 
     /// The rows of a query, by rising primary key.
@@ -217,10 +230,7 @@ impl<'db> Lease<'db> {
     /// # Ok::<(), Error>(())
     /// ```
     pub fn find(&self, now: u64, query: &Query) -> Result<Vec<Row>, Error> {
-        find(query, self.names(), |code, rows| {
-            let mut session = self.db.session().lock();
-            session.query(now, &mut self.lock(), code, rows)
-        })
+        self.grant.find(self.db.session(), now, query)
     }
 
     /// What the store holds now, for queries and audits that need no lock of it.
@@ -231,16 +241,16 @@ impl<'db> Lease<'db> {
         let mut handle = Handle::closed();
         let mut session = self.db.session().lock();
         done(session.snapshot(now, &mut self.lock(), &mut handle))?;
-        Ok(Snapshot::over(handle, Arc::clone(&self.held.names)))
+        Ok(Snapshot::over(handle, Arc::clone(&self.grant.names)))
     }
 
     /// The names of its version.
     pub(crate) fn names(&self) -> &Names {
-        &self.held.names
+        &self.grant.names
     }
 
     pub(crate) fn lock(&self) -> MutexGuard<'_, Handle> {
-        self.handle.lock().unwrap_or_else(PoisonError::into_inner)
+        self.grant.lock()
     }
 }
 

@@ -327,7 +327,7 @@ pub(crate) fn plan_refusal(error: Error) -> Error {
 }
 
 /// The number of what a schema change came to.
-fn number_of(changed: Changed) -> Result<u64, Error> {
+pub(crate) fn number_of(changed: Changed) -> Result<u64, Error> {
     match changed.status {
         ffi::OK => Ok(changed.number),
         status => Err(Error::of_change(status, changed.number)),

@@ -4,8 +4,7 @@ use crate::code::{self, Code};
 use crate::error::Error;
 use crate::ffi::{self, Handle, Queried};
 use crate::names::Names;
-use crate::reply::Row;
-use crate::rows::rows_of;
+use crate::rows::{rows_of, Row};
 use crate::session::fetch;
 use crate::value::{Key, Value};
 
@@ -76,31 +75,32 @@ impl Query {
         self
     }
 
-    /// The row has this primary key.
-    pub fn key(mut self, key: impl Into<Key>) -> Query {
-        self.conditions.push(Condition::Key(key.into()));
+    /// The row meets this condition.
+    pub(crate) fn meeting(mut self, condition: Condition) -> Query {
+        self.conditions.push(condition);
         self
     }
 
+    /// The row has this primary key.
+    pub fn key(self, key: impl Into<Key>) -> Query {
+        self.meeting(Condition::Key(key.into()))
+    }
+
     /// The row has this value in a column; with [`Value::Null`] it has none there.
-    pub fn equal(mut self, column: impl Into<String>, value: impl Into<Value>) -> Query {
-        let condition = Condition::Equal(column.into(), value.into());
-        self.conditions.push(condition);
-        self
+    pub fn equal(self, column: impl Into<String>, value: impl Into<Value>) -> Query {
+        self.meeting(Condition::Equal(column.into(), value.into()))
     }
 
     /// The row has a value in a column, and it lies between these two, both included; `None` is no
     /// bound.
     pub fn between<V: Into<Value>>(
-        mut self,
+        self,
         column: impl Into<String>,
         low: Option<V>,
         high: Option<V>,
     ) -> Query {
         let (low, high) = (low.map(Into::into), high.map(Into::into));
-        let condition = Condition::Between(column.into(), low, high);
-        self.conditions.push(condition);
-        self
+        self.meeting(Condition::Between(column.into(), low, high))
     }
 
     /// The numbers of the columns that it selects, in a version.

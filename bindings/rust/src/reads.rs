@@ -5,7 +5,7 @@ use crate::ffi::{self, Handle};
 use crate::lease::Lease;
 use crate::operations::{Kind, Operations};
 use crate::query::{find, Query};
-use crate::reply::Row;
+use crate::rows::Row;
 use crate::session::done;
 use crate::value::Key;
 use std::sync::{Mutex, PoisonError};

@@ -1,10 +1,50 @@
-//! Rows as bytes, as `crates/entry_code` describes them.
+//! Rows, and the bytes that they come as, as `crates/entry_code` describes them.
 
 use crate::error::Error;
 use crate::names::Names;
 use crate::operations::Kind;
-use crate::reply::Row;
 use crate::value::Value;
+
+/// A row that a query found: its key, and the columns that the query selects.
+///
+/// ```
+/// # use cagzhomul::{Db, Table, Type, Value};
+/// # let db = Db::open([Table::new("t").key("id", Type::Int).column("a", Type::Int)])?;
+/// # db.lease(0)?.txn().insert("t", 1, [("a", 5)]).commit(0)?;
+/// for row in db.query(0, "select * from t")? {
+///     assert_eq!(row.key(), [Value::Int(1)]);
+///     assert_eq!(row.cells(), [("a".to_string(), Value::Int(5))]);
+///     assert_eq!((row.get("a"), row.get("b")), (Some(&Value::Int(5)), None));
+/// }
+/// # Ok::<(), cagzhomul::Error>(())
+/// ```
+#[derive(Debug, Clone, PartialEq, Eq)]
+pub struct Row {
+    key: Vec<Value>,
+    cells: Vec<(String, Value)>,
+}
+
+impl Row {
+    fn new(key: Vec<Value>, cells: Vec<(String, Value)>) -> Row {
+        Row { key, cells }
+    }
+
+    /// The primary key: the values of the key columns in their order.
+    pub fn key(&self) -> &[Value] {
+        &self.key
+    }
+
+    /// The selected columns by rising number, each with its value.
+    pub fn cells(&self) -> &[(String, Value)] {
+        &self.cells
+    }
+
+    /// The value of the column of this name; `None` if the query did not select it.
+    pub fn get(&self, column: &str) -> Option<&Value> {
+        let cell = self.cells.iter().find(|(name, _)| name == column)?;
+        Some(&cell.1)
+    }
+}
 
 /// What is left to read of a code.
 pub(crate) struct Reader<'a>(pub(crate) &'a [u8]);

@@ -1,5 +1,6 @@
 //! A session of the script language.
 
+use crate::change::WaitingChange;
 use crate::error::Error;
 use crate::ffi::{self, Handle, Outcome};
 use crate::library::check_library;
@@ -48,7 +49,7 @@ pub struct Session {
     /// written under the lock of the handle.
     is_newer: AtomicBool,
     /// The change that waits for its first step. Its lock is taken before that of the handle.
-    pub(crate) waiting: Mutex<Option<String>>,
+    pub(crate) waiting: Mutex<Option<WaitingChange>>,
 }
 
 impl Session {
@@ -369,7 +370,7 @@ pub(crate) fn done(status: i32) -> Result<(), Error> {
 }
 
 /// The reply to a line of the session behind this handle.
-pub(crate) fn reply_to(handle: &mut Handle, line: &str) -> Result<String, Error> {
+fn reply_to(handle: &mut Handle, line: &str) -> Result<String, Error> {
     let reply = fetch(|is_first, out| match is_first {
         true => handle.reply_to(line.as_bytes(), out),
         false => handle.reply_from(0, out),

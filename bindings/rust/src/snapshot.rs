@@ -4,7 +4,7 @@ use crate::error::Error;
 use crate::ffi::{Checked, Handle};
 use crate::names::Names;
 use crate::query::{find, Query};
-use crate::reply::Row;
+use crate::rows::Row;
 use crate::session::done;
 use std::fmt;
 use std::sync::{Arc, Mutex, MutexGuard, PoisonError};

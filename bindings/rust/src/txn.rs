@@ -5,7 +5,7 @@ use crate::ffi::{self, Handle};
 use crate::lease::Lease;
 use crate::operations::{self, Kind, Operations};
 use crate::reads::Reads;
-use crate::reply::Row;
+use crate::rows::Row;
 use crate::session::done;
 use crate::value::{Cells, Key};
 use std::fmt;

@@ -224,11 +224,13 @@ fn queries_are_refused_as_lines_are() -> Result<(), Error> {
     let column = Some("age".to_string());
     assert_eq!(
         newer.query(10, "select age from people"),
-        Err(Error::NotPublic { column })
+        Err(Error::NotPublic {
+            column: column.clone()
+        })
     );
     assert_eq!(
         lease.query(10, "select age from people"),
-        Err(Error::NotPublic { column: None })
+        Err(Error::NotPublic { column })
     );
     Ok(())
 }

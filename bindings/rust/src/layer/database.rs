@@ -12,7 +12,7 @@ use crate::layer::store::{bad_answer, read_page, Pair, Range, Store, StoreError}
 use crate::layer::txn::Txn;
 use crate::library::check_library;
 use crate::plan::SchemaChange;
-use crate::reply::Row;
+use crate::rows::Row;
 use crate::schema::Schema;
 use crate::snapshot::Check;
 use crate::table::Table;

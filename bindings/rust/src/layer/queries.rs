@@ -7,8 +7,7 @@ use crate::layer::ffi::{self, Fault};
 use crate::layer::server::Version;
 use crate::layer::store::{read, Pair, Range, Store};
 use crate::query::Query;
-use crate::reply::Row;
-use crate::rows::rows_of;
+use crate::rows::{rows_of, Row};
 use std::collections::BTreeMap;
 
 /// What stands at the beginning of the key of an index's pair.

@@ -1,0 +1,97 @@
+//! What calls are asked for, as values or in words.
+
+use crate::error::Error;
+use crate::plan::SchemaChange;
+use crate::query::Query;
+use crate::session::Session;
+use crate::words::BadWords;
+use std::borrow::Cow;
+use std::fmt;
+use std::str::FromStr;
+
+/// The [`Query`] or the [`SchemaChange`] that a call is asked for, as a value or in the words of the
+/// script language. Each is made by `into`, so a call takes either:
+///
+/// ```
+/// # use cagzhomul::{Db, Query, SchemaChange, Table, Type};
+/// # let db = Db::open([Table::new("t").key("id", Type::Int).column("a", Type::Int)])?;
+/// let in_words = db.query(0, "select a from t")?;
+/// assert_eq!(db.query(0, Query::of("t").columns(["a"]))?, in_words);
+/// let mut steps = db.change(SchemaChange::add_index("t", "i", ["a"]), || 10)?;
+/// # assert!(steps.next().is_some());
+/// # Ok::<(), cagzhomul::Error>(())
+/// ```
+#[derive(Debug, Clone, PartialEq, Eq)]
+pub enum Wanted<'a, T: Clone> {
+    /// In words, which are read by the call.
+    Words(Cow<'a, str>),
+    /// As a value.
+    Value(Cow<'a, T>),
+}
+
+impl<T: Clone + FromStr<Err = BadWords>> Wanted<'_, T> {
+    fn read(&self) -> Result<Cow<'_, T>, BadWords> {
+        match self {
+            Wanted::Words(words) => words.parse().map(Cow::Owned),
+            Wanted::Value(value) => Ok(Cow::Borrowed(value)),
+        }
+    }
+}
+
+impl<T: Clone + fmt::Display> fmt::Display for Wanted<'_, T> {
+    fn fmt(&self, f: &mut fmt::Formatter<'_>) -> fmt::Result {
+        match self {
+            Wanted::Words(words) => f.write_str(words),
+            Wanted::Value(value) => value.fmt(f),
+        }
+    }
+}
+
+impl Session {
+    /// What a call is asked for; if the session is closed, bad words are refused for that.
+    pub(crate) fn read<'w, T: Clone + FromStr<Err = BadWords>>(
+        &self,
+        wanted: &'w Wanted<'_, T>,
+    ) -> Result<Cow<'w, T>, Error> {
+        wanted.read().map_err(|bad| match self.lock().is_open() {
+            true => bad.into(),
+            false => Error::Closed,
+        })
+    }
+}
+
+impl<'a, T: Clone> From<&'a str> for Wanted<'a, T> {
+    fn from(words: &'a str) -> Self {
+        Wanted::Words(words.into())
+    }
+}
+
+impl<'a, T: Clone> From<&'a String> for Wanted<'a, T> {
+    fn from(words: &'a String) -> Self {
+        Wanted::Words(words.into())
+    }
+}
+
+impl<T: Clone> From<String> for Wanted<'_, T> {
+    fn from(words: String) -> Self {
+        Wanted::Words(words.into())
+    }
+}
+
+macro_rules! wanted_from {
+    ($($value:ty),*) => {
+        $(impl From<$value> for Wanted<'_, $value> {
+            fn from(value: $value) -> Self {
+                Wanted::Value(Cow::Owned(value))
+            }
+        }
+
+        impl<'a> From<&'a $value> for Wanted<'a, $value> {
+            fn from(value: &'a $value) -> Self {
+                Wanted::Value(Cow::Borrowed(value))
+            }
+        })*
+    };
+}
+
+wanted_from!(Query, SchemaChange);
