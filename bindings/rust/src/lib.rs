@@ -59,6 +59,7 @@ mod session;
 mod snapshot;
 mod steps;
 mod table;
+mod tokens;
 mod txn;
 mod value;
 mod wanted;

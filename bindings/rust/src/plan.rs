@@ -8,6 +8,7 @@ use crate::session::{fetch, status_of};
 use crate::steps::steps_of;
 use crate::table::Type;
 use crate::value::Value;
+use std::fmt;
 
 /// A change of a schema, for [`Db::plan`]. Tables, columns and indexes are given by name.
 #[derive(Debug, Clone, PartialEq, Eq)]
@@ -124,6 +125,34 @@ impl SchemaChange {
             SchemaChange::AddColumn { table, name, .. } => (2, table, name),
             SchemaChange::DropColumn { table, name } => (3, table, name),
             SchemaChange::Abandon { table, name } => (4, table, name),
+        }
+    }
+}
+
+/// Its words, which are read as the same change.
+impl fmt::Display for SchemaChange {
+    fn fmt(&self, f: &mut fmt::Formatter<'_>) -> fmt::Result {
+        match self {
+            SchemaChange::AddIndex {
+                table,
+                name,
+                columns,
+            } => write!(f, "add index {name} on {table} ({})", columns.join(", ")),
+            SchemaChange::DropIndex { table, name } => write!(f, "drop index {name} on {table}"),
+            SchemaChange::AddColumn {
+                table,
+                name,
+                kind,
+                default,
+            } => {
+                write!(f, "add column {name} {}", kind.word())?;
+                if let Some(value) = default {
+                    write!(f, " default {value}")?;
+                }
+                write!(f, " on {table}")
+            }
+            SchemaChange::DropColumn { table, name } => write!(f, "drop column {name} on {table}"),
+            SchemaChange::Abandon { table, name } => write!(f, "abandon {table}.{name}"),
         }
     }
 }

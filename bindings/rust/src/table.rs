@@ -11,6 +11,19 @@ pub enum Type {
     Bool,
 }
 
+impl Type {
+    pub(crate) const ALL: [Type; 3] = [Type::Int, Type::Text, Type::Bool];
+
+    /// Its word in the script language.
+    pub(crate) fn word(self) -> &'static str {
+        match self {
+            Type::Int => "int",
+            Type::Text => "text",
+            Type::Bool => "bool",
+        }
+    }
+}
+
 /// A table to open a [`Db`](crate::Db) with. Its columns and indexes are public at once.
 ///
 /// It has 1 to 4 key columns, and at most 32 others and 16 indexes of 1 to 4 of these columns.

@@ -5,16 +5,10 @@ use crate::error::Error;
 use crate::plan::SchemaChange;
 use crate::query::{Condition, Query};
 use crate::table::Type;
+use crate::tokens::token;
 use crate::value::{Key, Value};
 use std::fmt;
 use std::str::FromStr;
-
-/// The types of columns, by their words.
-const KINDS: [(&str, Type); 3] = [
-    ("int", Type::Int),
-    ("text", Type::Text),
-    ("bool", Type::Bool),
-];
 
 /// Words that are no query, or no change. As the refusal of a call this is [`Error::BadLine`].
 ///
@@ -76,35 +70,6 @@ impl FromStr for SchemaChange {
 
     fn from_str(words: &str) -> Result<SchemaChange, BadWords> {
         Words::new(words).whole(Words::change)
-    }
-}
-
-/// Its words, which are read as the same change.
-impl fmt::Display for SchemaChange {
-    fn fmt(&self, f: &mut fmt::Formatter<'_>) -> fmt::Result {
-        match self {
-            SchemaChange::AddIndex {
-                table,
-                name,
-                columns,
-            } => write!(f, "add index {name} on {table} ({})", columns.join(", ")),
-            SchemaChange::DropIndex { table, name } => write!(f, "drop index {name} on {table}"),
-            SchemaChange::AddColumn {
-                table,
-                name,
-                kind,
-                default,
-            } => {
-                let word = KINDS.iter().find(|it| it.1 == *kind);
-                write!(f, "add column {name} {}", word.map_or("", |it| it.0))?;
-                if let Some(value) = default {
-                    write!(f, " default {value}")?;
-                }
-                write!(f, " on {table}")
-            }
-            SchemaChange::DropColumn { table, name } => write!(f, "drop column {name} on {table}"),
-            SchemaChange::Abandon { table, name } => write!(f, "abandon {table}.{name}"),
-        }
     }
 }
 
@@ -203,7 +168,7 @@ impl<'a> Words<'a> {
 
     fn kind(&mut self) -> Read<Type> {
         let word = self.peek();
-        let Some(&(_, kind)) = KINDS.iter().find(|it| it.0 == word) else {
+        let Some(kind) = Type::ALL.into_iter().find(|it| it.word() == word) else {
             return self.bad();
         };
         self.pass(word);
@@ -315,45 +280,6 @@ impl<'a> Words<'a> {
     fn table(&mut self) -> Read<String> {
         self.expect("on")?;
         self.name()
-    }
-}
-
-/// The token with which a text begins: "" if there is none.
-fn token(text: &str) -> &str {
-    let length = match text.as_bytes() {
-        [b'A'..=b'Z' | b'a'..=b'z', ..] => Some(word(text)),
-        [b'-', ..] => number(&text[1..]).map(|length| length + 1),
-        [b'0'..=b'9', ..] => number(text),
-        [b'\'', ..] => quoted(text),
-        [b'>' | b'<', b'=', ..] => Some(2),
-        [b'(' | b')' | b',' | b'.' | b'=' | b'*', ..] => Some(1),
-        _ => None,
-    };
-    &text[..length.unwrap_or(0)]
-}
-
-/// How many bytes of a word a text begins with.
-fn word(text: &str) -> usize {
-    let is_part = |byte: &u8| byte.is_ascii_alphanumeric() || *byte == b'_';
-    text.bytes().take_while(is_part).count()
-}
-
-/// The length of the digits with which a text begins; `None` if there are none, or a letter follows.
-fn number(text: &str) -> Option<usize> {
-    let length = word(text);
-    let is_number = length > 0 && text[..length].bytes().all(|byte| byte.is_ascii_digit());
-    is_number.then_some(length)
-}
-
-/// The length of the text in quotes, a quote in it doubled, with which a text begins.
-fn quoted(text: &str) -> Option<usize> {
-    let mut end = 1;
-    loop {
-        end += text[end..].find('\'')? + 1;
-        match text[end..].starts_with('\'') {
-            true => end += 1,
-            false => return Some(end),
-        }
     }
 }
 
