@@ -765,6 +765,38 @@ def _change_in(change: str) -> _Parts:
     return parts
 
 
+def _query_of(query: Union[str, Query]) -> _Asked:
+    """A query that is given typed or in words."""
+    if isinstance(query, Query):
+        return _asked(query)
+    if not isinstance(query, str):
+        raise TypeError(f"the query is a Query or a str, and not {type(query).__name__}")
+    return _query_in(query)
+
+
+def _change_of(change: Union[str, Change]) -> _Parts:
+    """A change that is given typed or in words."""
+    if isinstance(change, (AddIndex, AddColumn, _Named)):
+        return _change(change)
+    if not isinstance(change, str):
+        raise TypeError(f"the change is a Change or a str, and not {type(change).__name__}")
+    return _change_in(change)
+
+
+def _words_of(change: Union[str, Change]) -> str:
+    """A change in the language's words."""
+    if isinstance(change, str):
+        return change
+    if isinstance(change, AddIndex):
+        return f"add index {change.name} on {change.table} ({', '.join(change.columns)})"
+    if isinstance(change, AddColumn):
+        default = "" if change.default is None else f" default {literal(change.default)}"
+        return f"add column {change.name} {('int', 'text', 'bool')[_TYPES.index(change.kind)]}{default} on {change.table}"
+    if isinstance(change, Abandon):
+        return f"abandon {change.table}.{change.name}"
+    return f"drop {'index' if isinstance(change, DropIndex) else 'column'} {change.name} on {change.table}"
+
+
 class _Names:
     """The tables, columns and indexes of one version, by its schema: so they are right whoever published
     it. The version's number is 0 if no lease is on it yet."""
@@ -828,24 +860,31 @@ def _schema_code(held: _Handle) -> bytes:
         _library.cagzhomul_close(schema)
 
 
-def _small(number: int) -> int:
-    """A number of an element, a piece, pieces or items."""
-    if not 0 <= number < 2**32:
-        raise OverflowError("such a number has 32 bits")
+class _OutOfRange(OverflowError, ValueError): """A number that an argument cannot have: negative, or of too many bits."""
+
+
+def _whole(name: str, number: int, bits: int) -> int:
+    """A number that is given as the argument of this name, from 0 up, of so many bits. A bool is no number here."""
+    if isinstance(number, bool) or not isinstance(number, int):
+        raise TypeError(f"{name} is an int, and not {type(number).__name__}")
+    if not 0 <= number < 1 << bits:
+        raise _OutOfRange(f"{name} is from 0 to 2**{bits} - 1, and not {number}")
     return number
 
 
-def _at(now: Moment) -> int:
+def _small(name: str, number: int) -> int:
+    """A number of an element, a piece, pieces or items."""
+    return _whole(name, number, 32)
+
+
+def _at(now: Moment, name: str = "now") -> int:
     """A moment that is given, or that a clock gives."""
-    moment = now() if callable(now) else now
-    if not 0 <= moment < 2**64:
-        raise OverflowError("a moment has 64 bits")
-    return moment
+    return _whole(name, now() if callable(now) else now, 64)
 
 
 def _arrived(clock: Clock, last: Step) -> int:
     """The moment of a clock, once it is that for which the last step waits, if it waits."""
-    while (moment := _at(clock)) < (last.until if isinstance(last, Waiting) else 0):
+    while (moment := _at(clock, "clock")) < (last.until if isinstance(last, Waiting) else 0):
         time.sleep(_PAUSE)
     return moment
 
@@ -1056,7 +1095,7 @@ class Session(_Audited):
         """
         moment = _at(now)
         with self._lock:
-            return _number_of(_library.cagzhomul_begin_reorg(self._handle, moment, _small(element), _small(pieces)))
+            return _number_of(_library.cagzhomul_begin_reorg(self._handle, moment, _small("element", element), _small("pieces", pieces)))
 
     def read_piece(self, element: int, piece: int, limit: int = 1000) -> Piece:
         """The next `limit` items (1 to 1,000) of a piece, from 0, of the reorganisation that has begun of
@@ -1066,14 +1105,14 @@ class Session(_Audited):
         """
         work = Piece(self)
         with self._lock:
-            _check(_library.cagzhomul_read_piece(self._handle, _small(element), _small(piece), _small(limit), work._handle))
+            _check(_library.cagzhomul_read_piece(self._handle, _small("element", element), _small("piece", piece), _small("limit", limit), work._handle))
         return work
 
     def progress(self, element: int) -> Progress:
         """How far the reorganisation that has begun of an element is. Raises Closed, NotOpened or
         NotWanted."""
         with self._lock:
-            done = _library.cagzhomul_progress(self._handle, _small(element))
+            done = _library.cagzhomul_progress(self._handle, _small("element", element))
         _check(done.status)
         return Progress(bool(done.ended), int(done.next), int(done.left), int(done.all))
 
@@ -1083,6 +1122,8 @@ class Session(_Audited):
         Raises Closed, NotOpened, NoEntry, also of an entry that was cut off, or OutOfMemory, and the
         session is as it was.
         """
+        if isinstance(place, bool) or not isinstance(place, int):
+            raise TypeError(f"place is an int, and not {type(place).__name__}")
         at = place if 0 < place < 2**63 else 0  # place 0 has no entry
         return self._told(lambda out, room: _library.cagzhomul_entry(self._handle, at, out, room))
 
@@ -1104,12 +1145,9 @@ class Session(_Audited):
 
     def cut(self, keep: int = 0) -> None:
         """Gives the memory of the log's entries back, but for the last `keep` of those that are in
-        memory; no answer changes but those of `entry` and `log_start`. Raises Closed or NotOpened, and
-        OverflowError for a number that is no length."""
-        if not 0 <= keep < 2**63:
-            raise OverflowError("keep is from 0 to 2**63 - 1")
+        memory; no answer changes but those of `entry` and `log_start`. Raises Closed or NotOpened."""
         with self._lock:
-            _check(_library.cagzhomul_cut(self._handle, keep))
+            _check(_library.cagzhomul_cut(self._handle, _whole("keep", keep, 63)))
 
     def checkpoint(self) -> bytes:
         """The checkpoint of the world as it is now, as bytes, from which `open(..., at=...)` goes on. It
@@ -1164,8 +1202,9 @@ class Session(_Audited):
         for it, and forgets it, except at MomentTooLarge and OutOfMemory; then BadCount, MomentTooLarge,
         VersionsSpent or OutOfMemory. The session is as it was.
         """
-        if not (0 <= moment < 2**64 and 0 <= pieces < 2**32 and 0 <= limit < 2**32):
-            raise OverflowError("moment, pieces and limit have 64, 32 and 32 bits")
+        _whole("moment", moment, 64)
+        _small("pieces", pieces)
+        _small("limit", limit)
         with self._lock:
             first = self._begin_waiting(moment)
             if isinstance(first, Acted):
@@ -1202,10 +1241,10 @@ class Db(Session):
     def __init__(self, tables: Tables, lease_length: int = 10, keep: Optional[int] = 10_000, at: Optional[bytes] = None) -> None:
         """Opens it, as `open` does."""
         declared = [_table(*it) for it in tables.items()] if isinstance(tables, Mapping) else list(tables)
-        super().__init__(_opening(lease_length, declared), at)
-        self._keep = keep
+        super().__init__(_opening(_whole("lease_length", lease_length, 64), declared), at)
+        self._keep = keep if keep is None else _whole("keep", keep, 63)
         # the change that waits for its first step
-        self._waiting: Optional[str] = None
+        self._waiting: Union[None, str, Change] = None
         self._kept: Optional[_Grant] = None
         self._keeping = threading.Lock()
         self._names = _Names(0, self.schema())
@@ -1227,7 +1266,7 @@ class Db(Session):
         """
         return Lease(self, now)
 
-    def query(self, now: Moment, selection: str) -> List[Row]:
+    def query(self, now: Moment, query: Union[str, Query]) -> List[Row]:
         """The rows of a query, as `Lease.query` gives them, under a lease that the store keeps. It takes
         one, which is an entry of the log, at the first query, and then only if the kept one has ended or
         a newer version was published, by any call of this store.
@@ -1237,7 +1276,7 @@ class Db(Session):
         """
         moment = _at(now)
         kept = self._kept_lease(moment)
-        asked = _query_in(selection)
+        asked = _query_of(query)
         try:
             return kept.rows(self, moment, asked)
         except (BadLease, LeaseEnded):
@@ -1294,9 +1333,10 @@ class Db(Session):
                 raise StillIndexed(_DEPENDENT, "an index is on the column") from None
             raise
 
-    def change(self, change: str, clock: Clock, *, pieces: int = 8, limit: int = 1000) -> Iterator[Step]:
-        """Begins a schema change, and gives the steps that complete it. The change is one that the
-        language's `plan` takes, as `add index by_town on people (town)`.
+    def change(self, change: Union[str, Change], clock: Clock, *, pieces: int = 8, limit: int = 1000) -> Iterator[Step]:
+        """Begins a schema change, and gives the steps that complete it. The change is typed, as
+        `AddIndex("people", "by_town", ["town"])`, or one that the language's `plan` takes, as
+        `add index by_town on people (town)`.
 
         When the call returns, the first of the steps is Acted, and the change is under way; or it is
         Waiting, since the newest version is not old enough. Then the store keeps the change, and the
@@ -1313,12 +1353,14 @@ class Db(Session):
         Unknown, NameTaken, StillIndexed, InChange or OverLimit; MomentTooLarge; VersionsSpent;
         OutOfMemory. The steps raise what `advance` does.
         """
-        if ";" in re.sub("'[^']*'", "", change):
+        if isinstance(change, str) and ";" in re.sub("'[^']*'", "", change):
             raise BadLine(_BAD_LINE)
-        moment = _at(clock)
+        _small("pieces", pieces)
+        _small("limit", limit)
+        moment = _at(clock, "clock")
         with self._lock:
             if self._waiting is not None:
-                raise StillWaiting(self._waiting)
+                raise StillWaiting(_words_of(self._waiting))
             first = self._publish_first(change, moment)
             if isinstance(first, Waiting):
                 self._waiting = change
@@ -1336,20 +1378,20 @@ class Db(Session):
             self._waiting = None
         return step
 
-    def _publish_first(self, change: str, moment: int) -> Step:
+    def _publish_first(self, change: Union[str, Change], moment: int) -> Step:
         """Publishes the first step of a change's plan, unless it is too early, for a caller who has the
         lock: so the plan is of the newest version."""
         if not self.is_open:
             raise Closed(_CLOSED)
         try:
-            self._publish(moment, self._plan([_change_in(change)])[0].code)
+            self._publish(moment, self._plan([_change_of(change)])[0].code)
         except TooEarly as early:
             return Waiting(early.number)
         except BadCode:  # only a default over 1,024 bytes makes a bad code of what this module writes
             raise OverLimit(_OVER_LIMIT) from None
         return Acted()
 
-    def complete(self, change: str, clock: Clock, *, pieces: int = 8, limit: int = 1000) -> None:
+    def complete(self, change: Union[str, Change], clock: Clock, *, pieces: int = 8, limit: int = 1000) -> None:
         """Begins a schema change as `change` does, and takes its steps to their end: when the call
         returns, no change is under way. The thread sleeps while nothing can be done.
 
@@ -1361,6 +1403,8 @@ class Db(Session):
     def resume(self, clock: Clock, *, pieces: int = 8, limit: int = 1000) -> Iterator[Step]:
         """The steps that complete the changes under way, and that which waits, whoever began them, as
         `change` gives them. They raise what `advance` does."""
+        _small("pieces", pieces)
+        _small("limit", limit)
         return self._steps_after(Acted(), clock, pieces, limit)
 
     def _steps_after(self, last: Step, clock: Clock, pieces: int, limit: int) -> Iterator[Step]:
@@ -1442,16 +1486,16 @@ class Lease(_Grant):
                     return None
                 return (txn.insert if row is None else txn.update)(table, key, **cells).commit()
 
-    def query(self, now: Moment, selection: str) -> List[Row]:
+    def query(self, now: Moment, query: Union[str, Query]) -> List[Row]:
         """The rows of a query by rising primary key, each a dict of its key columns and the columns
-        that are selected: `select COLUMNS from TABLE [where CONDITION {and CONDITION}]`, as
+        that are selected: of a `Query`, or of its words `select COLUMNS from TABLE [where CONDITION {and CONDITION}]`, as
         docs/SCRIPT.md has it. `literal` writes values for it.
 
         Raises Closed, BadLine, and what `find` does.
         """
         if not self.is_open:
             raise Closed(_CLOSED)
-        return self.rows(self._db, _at(now), _query_in(selection))
+        return self.rows(self._db, _at(now), _query_of(query))
 
     def find(self, query: Query, now: Optional[Moment] = None) -> List[Row]:
         """The rows of a query as `Snapshot.query` gives them, at this moment or that of the lease.
@@ -1701,7 +1745,7 @@ def retry(attempts: int, attempt: Callable[[], _Result]) -> _Result:
     What it reads by a query, or before it, is no part of the transaction, and may have changed.
     `Lease.modify` does all this for one row.
     """
-    for _ in range(attempts - 1):
+    for _ in range(_whole("attempts", attempts, 63) - 1):
         try:
             return attempt()
         except Conflict:

@@ -3,7 +3,7 @@
 import random
 import re
 import unittest
-from typing import Callable, List
+from typing import Callable, List, Tuple
 
 import cagzhomul
 from cagzhomul import Table
@@ -114,6 +114,25 @@ class Words(unittest.TestCase):
         self.db.close()
         self.assertEqual((self.begun(f"add column c text default {LONG} on t"), self.begun("what")), ("Closed", "Closed"))
         self.assertEqual(outcome(lambda: self.lease.query(0, "what")), "BadLine")
+
+    def test_typed_changes_and_queries_are_their_words(self) -> None:
+        changes: List[Tuple[cagzhomul.Change, str]] = [
+            (cagzhomul.AddIndex("t", "j", ["b", "a"]), "add index j on t (b, a)"), (cagzhomul.AddColumn("t", "c", int), "add column c int on t"),
+            (cagzhomul.AddColumn("t", "c", str, "it's"), "add column c text default 'it''s' on t"), (cagzhomul.AddColumn("t", "c", bool, True), "add column c bool default true on t"),
+            (cagzhomul.DropIndex("t", "i"), "drop index i on t"), (cagzhomul.DropColumn("t", "b"), "drop column b on t"), (cagzhomul.Abandon("t", "i"), "abandon t.i")]
+        for typed, words in changes:
+            with self.subTest(words), cagzhomul.open(TABLES) as db, cagzhomul.open(TABLES) as other:
+                self.assertEqual(outcome(lambda: db.change(typed, lambda: 1)), outcome(lambda: other.change(words, lambda: 1)))
+                if isinstance(typed, cagzhomul.Abandon):  # nothing waits
+                    self.assertEqual(cagzhomul._words_of(typed), words)
+                    continue
+                with self.assertRaises(cagzhomul.StillWaiting) as refused:
+                    db.change(typed, lambda: 1)
+                self.assertEqual(refused.exception.change, words)
+                self.assertEqual((next(db.resume(lambda: 10)), next(other.resume(lambda: 10)), db.entry(1)), (cagzhomul.Acted(), cagzhomul.Acted(), other.entry(1)))
+        query = cagzhomul.Query("t", columns=["a"], equal={"b": "it's"})
+        due = [{"id": 1, "k": "", "a": -7}]
+        self.assertEqual((self.db.query(0, query), self.lease.query(0, query), self.db.query(0, "select a from t where b = 'it''s'")), (due, due, due))
 
     def test_a_query_in_words_leaves_no_server_and_a_change_no_plan(self) -> None:
         self.assertEqual(self.db.query(0, "select a from t where a = 1"), [{"id": 2, "k": "x", "a": 1}])

@@ -149,7 +149,7 @@ class Operator:
     """Does schema changes over a store. `pieces` (1 to 64) and `limit` (at least 1) are as for `Layer.change`."""
 
     def __init__(self, store: Store, pieces: int, limit: int) -> None:
-        self._store, self._pieces, self._limit = store, pieces, limit
+        self._store, self._pieces, self._limit = store, cagzhomul._small("pieces", pieces), cagzhomul._small("limit", limit)
         # how many pairs of a piece are read, and fewer than which are too few
         self._some, self._least = limit, 1
         # how many elements move at once

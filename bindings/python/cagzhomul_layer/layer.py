@@ -89,7 +89,7 @@ class Layer:
     Raises NotOpened if there is no database in the store; what reads of the store do."""
 
     def __init__(self, store: Store, limit: int = 10_000, seconds: float = 30) -> None:
-        self._server, self._limit = Server(store, seconds), limit
+        self._server, self._limit = Server(store, seconds), cagzhomul._whole("limit", limit, 63)
 
     @property
     def schema(self) -> Schema:
@@ -150,7 +150,7 @@ class Layer:
 
         Raises BadLine; NoTable; of the first faulty column or condition NotPublic or WrongType, but a text that is too long is
         WrongType before all; TooManyPairs; what reads of the store do."""
-        wanted = cagzhomul._asked(query) if isinstance(query, Query) else cagzhomul._query_in(query)
+        wanted = cagzhomul._query_of(query)
         while True:
             version = self._server.version()
             try:
@@ -209,7 +209,7 @@ class Layer:
         Raises BadLine; of the first change that cannot be planned the first of Unknown, NameTaken, StillIndexed, InChange and
         OverLimit; VersionsSpent; what calls of the store do, after which `resume` goes on."""
         listed = [changes] if isinstance(changes, (str, *_CHANGES)) else list(changes)
-        parts = [cagzhomul._change_in(it) if isinstance(it, str) else cagzhomul._change(it) for it in listed]
+        parts = [cagzhomul._change_of(it) for it in listed]
         acts = Operator(self._server.store, pieces, limit).change(parts)
         first = next(acts, None)
         return itertools.chain([] if first is None else [first], acts)
