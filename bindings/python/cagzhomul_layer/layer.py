@@ -50,7 +50,15 @@ def open(store: Store, tables: Tables, limit: int = 10_000, seconds: float = 30)
     The tables are as for `cagzhomul.open`; of a database that is there, the names and the keys of tables are to be these.
     `limit` and `seconds` are as for `Layer`.
 
-    Raises BadTable, also for a database of other tables; BadAnswer if the store holds something else; what reads of the store do."""
+    Raises BadTable, also for a database of other tables; BadAnswer if the store holds something else; what reads of the store do.
+
+    >>> from cagzhomul_layer.memory import MemoryStore
+    >>> db = open(MemoryStore(), {"people": {"id": "int key", "town": "text"}})
+    >>> mark = db.insert("people", 1, town="Ulm")
+    >>> db.complete("add index by_town on people (town)")
+    >>> db.query("select town from people where town = 'Ulm'")
+    [{'id': 1, 'town': 'Ulm'}]
+    """
     declared = [cagzhomul._table(*it) for it in tables.items()] if isinstance(tables, Mapping) else list(tables)
     end = time.monotonic() + seconds
     while not versions_of(store) and not _is_opened(store, declared):
@@ -118,7 +126,14 @@ class Layer:
         """Calls the function with a transaction, and then commits that; both again for as long as rows that it got change meanwhile.
         No update is lost if it computes from nothing but what `get` gives. The answer is the function's last.
 
-        Raises what the function and `Txn.commit` do, but not Conflict."""
+        Raises what the function and `Txn.commit` do, but not Conflict.
+
+        >>> def move(txn):
+        ...     txn.insert("people", 2, town="Bonn")
+        ...     return txn.get("people", 1)
+        >>> db.run(move), len(db.query("select * from people"))
+        (None, 1)
+        """
         while True:
             txn = self.txn()
             try:
@@ -132,7 +147,13 @@ class Layer:
         """Changes a row by what it holds, as `cagzhomul.Lease.modify`: the function is given the row, or None if it is not there, and
         gives values by column, by which the row is updated, or inserted; or None, which leaves it. It may be called several times.
 
-        Raises what `run` does."""
+        Raises what `run` does.
+
+        >>> for _ in range(2):
+        ...     db.modify("people", 1, lambda row: {"town": "Ulm"} if row is None else {"town": row["town"] + "!"})
+        >>> db.query("select town from people")
+        [{'id': 1, 'town': 'Ulm!'}]
+        """
 
         def change(txn: Txn) -> None:
             row = txn.get(table, key)
@@ -149,7 +170,12 @@ class Layer:
         It is a `Query`, or in words, as for `cagzhomul.Lease.query`.
 
         Raises BadLine; NoTable; of the first faulty column or condition NotPublic or WrongType, but a text that is too long is
-        WrongType before all; TooManyPairs; what reads of the store do."""
+        WrongType before all; TooManyPairs; what reads of the store do.
+
+        >>> mark = db.insert("people", 1, town="Ulm")
+        >>> db.query(Query("people", equal={"town": "Ulm"})) == db.query("select * from people where town = 'Ulm'")
+        True
+        """
         wanted = cagzhomul._query_of(query)
         while True:
             version = self._server.version()
@@ -207,7 +233,12 @@ class Layer:
         program ends before, any may call `resume`; changes of the list that had not begun by then are forgotten.
 
         Raises BadLine; of the first change that cannot be planned the first of Unknown, NameTaken, StillIndexed, InChange and
-        OverLimit; VersionsSpent; what calls of the store do, after which `resume` goes on."""
+        OverLimit; VersionsSpent; what calls of the store do, after which `resume` goes on.
+
+        >>> acts = db.change(["add column age int on people", "add index by_town on people (town)"])
+        >>> len(list(acts)) > 3, [element.name for element in db.schema.elements]
+        (True, ['town'])
+        """
         listed = [changes] if isinstance(changes, (str, *_CHANGES)) else list(changes)
         parts = [cagzhomul._change_of(it) for it in listed]
         acts = Operator(self._server.store, pieces, limit).change(parts)

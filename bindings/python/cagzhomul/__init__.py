@@ -1,16 +1,22 @@
 """Cagzhomul from Python: typed transactions, queries, schema changes and lines, by ctypes.
 
-    import cagzhomul
+    >>> import cagzhomul
+    >>> with cagzhomul.open({"people": {"id": "int key", "town": "text"}}) as db:
+    ...     with db.lease(now=5) as lease:
+    ...         lease.insert("people", 1, town="Ulm")
+    ...         lease.modify("people", 1, lambda row: {"town": "Bonn"} if row else None)
+    ...         lease.find(cagzhomul.Query("people", equal={"town": "Bonn"}))
+    ...     db.query(6, "select town from people where town = 'Bonn'")
+    Receipt(place=2)
+    Receipt(place=3)
+    [{'id': 1, 'town': 'Bonn'}]
+    [{'id': 1, 'town': 'Bonn'}]
 
-    with cagzhomul.open({"people": {"id": "int key", "town": "text"}}) as db:
-        with db.lease(now=5) as lease:
-            lease.insert("people", (1,), town="Ulm")
-            lease.modify("people", 1, lambda row: {"town": "Bonn"} if row else None)
-            print(lease.find(cagzhomul.Query("people", equal={"town": "Bonn"})))
-        print(db.query(6, "select town from people where town = 'Bonn'"))
+    >>> with cagzhomul.open() as session:  # without tables: a session of the script language
+    ...     session.reply_to("table people (id int key, town text)")
+    'ok\\n'
 
-    with cagzhomul.open() as session:  # without tables: a session of the script language
-        print(session.reply_to("table people (id int key, town text)"), end="")
+In the examples of the methods, `db` is such a store without rows, and `lease` is `db.lease(0)`.
 
 The language is described in docs/SCRIPT.md, and the library in include/cagzhomul.h. The library is
 looked for at the path in the variable CAGZHOMUL_LIBRARY, then beside this file, and then where the
@@ -621,7 +627,11 @@ def _planned(code: bytes) -> List[PlannedStep]:
 
 # What the language writes and reads.
 def literal(value: Value) -> str:
-    """A value as the language has it, for a query: `f"select * from t where a = {literal(a)}"`."""
+    """A value as the language has it, for a query: `f"select * from t where a = {literal(a)}"`.
+
+    >>> literal("L'Aquila"), literal(None), literal(True)
+    ("'L''Aquila'", 'null', 'true')
+    """
     if value is None or isinstance(value, bool):
         return {None: "null", True: "true", False: "false"}[value]
     return str(int(value)) if isinstance(value, int) else "'" + value.replace("'", "''") + "'"
@@ -1022,6 +1032,9 @@ class Session(_Audited):
 
         Raises BadLine, Closed, NotUtf8 (for bytes alone) or OutOfMemory. A refusal of the language,
         as `refused NoServer`, is a reply.
+
+        >>> db.reply_to("lease a at 5"), db.reply_to("commit w at 5")
+        ('ok lease 1 5 15\\n', 'refused NoWork\\n')
         """
         words = line.encode() if isinstance(line, str) else line
         with self._lock:
@@ -1154,6 +1167,13 @@ class Session(_Audited):
         has the lock only while it is taken, which does not take longer where there are more rows.
 
         Raises Closed, NotOpened or OutOfMemory.
+
+        >>> lease.insert("people", 1)
+        Receipt(place=2)
+        >>> saved = db.checkpoint()
+        >>> with cagzhomul.open({"people": {"id": "int key", "town": "text"}}, at=saved) as later:
+        ...     later.query(0, "select * from people")
+        [{'id': 1, 'town': None}]
         """
         with _Owner() as taken, _Owner() as written:
             with self._lock:
@@ -1201,6 +1221,10 @@ class Session(_Audited):
         way, and none waits. Raises Closed or NotOpened; if a change waits, then what `Db.change` would
         for it, and forgets it, except at MomentTooLarge and OutOfMemory; then BadCount, MomentTooLarge,
         VersionsSpent or OutOfMemory. The session is as it was.
+
+        >>> steps = db.change("add column age int on people", lambda: 0)  # it waits, and the store keeps it
+        >>> [db.advance(moment) for moment in (0, 10, 20, 20)]
+        [Waiting(until=10), Acted(), Acted(), None]
         """
         _whole("moment", moment, 64)
         _small("pieces", pieces)
@@ -1263,6 +1287,10 @@ class Db(Session):
         have. They are at the moment `now`, too, if they name no other: give a clock if time passes.
 
         Raises Closed, MomentTooLarge or OutOfMemory.
+
+        >>> with db.lease(5) as lease:
+        ...     lease.version, lease.granted, lease.until
+        (1, 5, 15)
         """
         return Lease(self, now)
 
@@ -1273,6 +1301,13 @@ class Db(Session):
 
         Raises, if it takes a lease, what `lease` does; then what `Lease.query` does. BadLease or
         LeaseEnded only if the lease that it took has ended meanwhile, too.
+
+        >>> lease.insert("people", 1, town="Ulm")
+        Receipt(place=2)
+        >>> db.query(0, "select town from people where town = 'Ulm'")
+        [{'id': 1, 'town': 'Ulm'}]
+        >>> db.query(0, Query("people", equal={"town": "Bonn"}))
+        []
         """
         moment = _at(now)
         kept = self._kept_lease(moment)
@@ -1305,6 +1340,12 @@ class Db(Session):
         """What the store holds, under a lease; it is to be closed.
 
         Raises Closed, MomentTooLarge, BadLease, LeaseEnded or OutOfMemory.
+
+        >>> with db.snapshot(lease, 0) as snapshot:
+        ...     lease.insert("people", 1)
+        ...     snapshot.check().rows, db.check().rows
+        Receipt(place=2)
+        (0, 1)
         """
         moment, snapshot = _at(now), Snapshot(lease._names)
         with lease._lock, self._lock:
@@ -1318,6 +1359,10 @@ class Db(Session):
         Raises Closed; of the first change that cannot be planned the first of Unknown, NameTaken,
         StillIndexed, InChange and OverLimit, but a text that is too long is BadCode before all but
         Closed; OutOfMemory.
+
+        >>> steps = db.plan([AddIndex("people", "by_town", ["town"])])
+        >>> len(steps), steps[2].before
+        (3, (Reorganisation(work='fill', element=2),))
         """
         parts = [_change(change) for change in changes]
         with self._lock:
@@ -1352,6 +1397,14 @@ class Db(Session):
         Raises BadLine for a list of changes; StillWaiting if another change waits; Closed; BadLine;
         Unknown, NameTaken, StillIndexed, InChange or OverLimit; MomentTooLarge; VersionsSpent;
         OutOfMemory. The steps raise what `advance` does.
+
+        >>> moment = 0
+        >>> for step in db.change("add index by_town on people (town)", lambda: moment):
+        ...     if isinstance(step, Waiting):
+        ...         moment = step.until  # a clock that is set forward, in place of a wait
+        >>> with db.lease(moment) as lease:
+        ...     lease.version, moment
+        (4, 30)
         """
         if isinstance(change, str) and ";" in re.sub("'[^']*'", "", change):
             raise BadLine(_BAD_LINE)
@@ -1396,6 +1449,12 @@ class Db(Session):
         returns, no change is under way. The thread sleeps while nothing can be done.
 
         Raises what `change` and its steps do; after an error `resume` goes on.
+
+        >>> clock = lambda: int(time.monotonic() * 1000)
+        >>> with cagzhomul.open({"people": {"id": "int key", "town": "text"}}, lease_length=20) as store:
+        ...     store.complete(AddIndex("people", "by_town", ["town"]), clock)
+        ...     [element.name for element in store.schema().elements if element.state == "public"]
+        ['town', 'by_town']
         """
         for _ in self.change(change, clock, pieces=pieces, limit=limit):
             pass
@@ -1452,19 +1511,38 @@ class Lease(_Grant):
         return self._names.schema
 
     def txn(self, now: Optional[Moment] = None) -> Txn:
-        """A transaction without operations yet, at this moment or that of the lease."""
+        """A transaction without operations yet, at this moment or that of the lease.
+
+        >>> lease.txn().insert("people", 1, town="Ulm").insert("people", 2).commit()
+        Receipt(place=2)
+        """
         return Txn(self, self._now if now is None else now)
 
     def insert(self, table: str, key: Key, /, **cells: Value) -> Receipt:
-        """Inserts a row by a transaction of its own: as `Txn.insert` and `Txn.write`."""
+        """Inserts a row by a transaction of its own: as `Txn.insert` and `Txn.write`.
+
+        >>> lease.insert("people", 1, town="Ulm")
+        Receipt(place=2)
+        >>> lease.insert("people", 1)
+        Traceback (most recent call last):
+        cagzhomul.Duplicate: a row of this key is there: operation 0
+        """
         return self.txn().insert(table, key, **cells).write()
 
     def update(self, table: str, key: Key, /, **cells: Value) -> Receipt:
-        """Updates a row by a transaction of its own: as `Txn.update` and `Txn.write`."""
+        """Updates a row by a transaction of its own: as `Txn.update` and `Txn.write`.
+
+        >>> lease.insert("people", 1), lease.update("people", 1, town="Bonn")
+        (Receipt(place=2), Receipt(place=3))
+        """
         return self.txn().update(table, key, **cells).write()
 
     def delete(self, table: str, key: Key, /) -> Receipt:
-        """Deletes a row by a transaction of its own: as `Txn.delete` and `Txn.write`."""
+        """Deletes a row by a transaction of its own: as `Txn.delete` and `Txn.write`.
+
+        >>> lease.insert("people", 1), lease.delete("people", 1)
+        (Receipt(place=2), Receipt(place=3))
+        """
         return self.txn().delete(table, key).write()
 
     def modify(self, table: str, key: Key, function: Callable[[Optional[Row]], Optional[Mapping[str, Value]]], now: Optional[Moment] = None) -> Optional[Receipt]:
@@ -1477,6 +1555,13 @@ class Lease(_Grant):
         `lease.modify("counters", 1, lambda row: {"n": row["n"] + 1} if row else {"n": 1})`.
 
         Raises what `Txn.get`, the function and `Txn.commit` do, but not Conflict.
+
+        >>> for _ in range(2):
+        ...     lease.modify("people", 1, lambda row: {"town": "Ulm"} if row is None else {"town": row["town"] + "!"})
+        Receipt(place=2)
+        Receipt(place=3)
+        >>> lease.query(0, "select town from people")
+        [{'id': 1, 'town': 'Ulm!'}]
         """
         while True:
             with contextlib.closing(self.txn(now)) as txn, contextlib.suppress(Conflict):
@@ -1492,6 +1577,11 @@ class Lease(_Grant):
         docs/SCRIPT.md has it. `literal` writes values for it.
 
         Raises Closed, BadLine, and what `find` does.
+
+        >>> lease.insert("people", 1, town="L'Aquila")
+        Receipt(place=2)
+        >>> lease.query(0, "select town from people where town = " + literal("L'Aquila"))
+        [{'id': 1, 'town': "L'Aquila"}]
         """
         if not self.is_open:
             raise Closed(_CLOSED)
@@ -1503,6 +1593,11 @@ class Lease(_Grant):
         Raises Closed, MomentTooLarge, BadLease, LeaseEnded, NoTable; of the first faulty column or
         condition NotPublic or WrongType, but a text that is too long is WrongType before all but
         Closed; OutOfMemory.
+
+        >>> lease.insert("people", 1, town="Ulm")
+        Receipt(place=2)
+        >>> lease.find(Query("people", between={"town": ("A", None)}))
+        [{'id': 1, 'town': 'Ulm'}]
         """
         return self.rows(self._db, _at(self._now if now is None else now), _asked(query))
 
@@ -1541,6 +1636,17 @@ class Txn(_Owner):
 
         Raises WrongStage if it is prepared, or has got rows and has ended; Closed; NoTable or WrongType,
         but a text that is too long is WrongType before all; OutOfMemory.
+
+        >>> lease.insert("people", 1, town="Ulm")
+        Receipt(place=2)
+        >>> txn = lease.txn()
+        >>> txn.get("people", 1), txn.get("people", 2)
+        ({'id': 1, 'town': 'Ulm'}, None)
+        >>> lease.update("people", 1, town="Bonn")
+        Receipt(place=3)
+        >>> txn.update("people", 1, town="Hof").commit()
+        Traceback (most recent call last):
+        cagzhomul.Conflict: a pair changed since it was read
         """
         names, row = self._lease._names, self._row(table, key)
         with self._lock:
@@ -1735,12 +1841,14 @@ def retry(attempts: int, attempt: Callable[[], _Result]) -> _Result:
     No update is lost if the attempt begins its transaction, and computes from nothing but what the
     transaction's `get` gives:
 
-        def add_one() -> cagzhomul.Receipt:
-            txn = lease.txn()
-            row = txn.get("counters", 1)
-            return txn.update("counters", 1, n=row["n"] + 1).commit()
-
-        cagzhomul.retry(100, add_one)
+    >>> lease.insert("people", 1, town="Ulm")
+    Receipt(place=2)
+    >>> def change_town():
+    ...     txn = lease.txn()
+    ...     row = txn.get("people", 1)
+    ...     return txn.update("people", 1, town=row["town"] + "!").commit()
+    >>> cagzhomul.retry(100, change_town)
+    Receipt(place=3)
 
     What it reads by a query, or before it, is no part of the transaction, and may have changed.
     `Lease.modify` does all this for one row.
@@ -1770,5 +1878,10 @@ def open(tables: Optional[Tables] = None, lease_length: int = 10, keep: Optional
     BadCode if no world may open from the bytes, then BadTable if its tables are others.
 
     Raises BadTable, BadLength or OutOfMemory, and ValueError for another type.
+
+    >>> with cagzhomul.open([Table("shop", {"city": str, "number": int}, {"open": bool}, {"by_open": ["open"]})], lease_length=1000) as db:
+    ...     with db.lease(0) as lease:
+    ...         lease.until, lease.insert("shop", ("Ulm", 7), open=True), lease.query(0, "select open from shop")
+    (1000, Receipt(place=2), [{'city': 'Ulm', 'number': 7, 'open': True}])
     """
     return Session(_checkpoint=at) if tables is None else Db(tables, lease_length, keep, at)
