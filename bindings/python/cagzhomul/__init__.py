@@ -884,12 +884,14 @@ def _whole(name: str, number: int, bits: int) -> int:
 
 def _small(name: str, number: int) -> int:
     """A number of an element, a piece, pieces or items."""
-    return _whole(name, number, 32)
+    return number if type(number) is int and 0 <= number < 2**32 else _whole(name, number, 32)
 
 
 def _at(now: Moment, name: str = "now") -> int:
     """A moment that is given, or that a clock gives."""
-    return _whole(name, now() if callable(now) else now, 64)
+    moment = now() if callable(now) else now
+    # no further call in the common case
+    return moment if type(moment) is int and 0 <= moment < 2**64 else _whole(name, moment, 64)
 
 
 def _arrived(clock: Clock, last: Step) -> int:
@@ -1159,8 +1161,10 @@ class Session(_Audited):
     def cut(self, keep: int = 0) -> None:
         """Gives the memory of the log's entries back, but for the last `keep` of those that are in
         memory; no answer changes but those of `entry` and `log_start`. Raises Closed or NotOpened."""
+        if not (type(keep) is int and 0 <= keep < 2**63):
+            _whole("keep", keep, 63)
         with self._lock:
-            _check(_library.cagzhomul_cut(self._handle, _whole("keep", keep, 63)))
+            _check(_library.cagzhomul_cut(self._handle, keep))
 
     def checkpoint(self) -> bytes:
         """The checkpoint of the world as it is now, as bytes, from which `open(..., at=...)` goes on. It
@@ -1226,9 +1230,10 @@ class Session(_Audited):
         >>> [db.advance(moment) for moment in (0, 10, 20, 20)]
         [Waiting(until=10), Acted(), Acted(), None]
         """
-        _whole("moment", moment, 64)
-        _small("pieces", pieces)
-        _small("limit", limit)
+        if not (type(moment) is type(pieces) is type(limit) is int and 0 <= moment < 2**64 and 0 <= pieces < 2**32 and 0 <= limit < 2**32):
+            _whole("moment", moment, 64)
+            _small("pieces", pieces)
+            _small("limit", limit)
         with self._lock:
             first = self._begin_waiting(moment)
             if isinstance(first, Acted):
