@@ -95,3 +95,38 @@ macro_rules! wanted_from {
 }
 
 wanted_from!(Query, SchemaChange);
+
+#[cfg(test)]
+mod tests {
+    use super::*;
+    use crate::ffi::Handle;
+
+    #[test]
+    fn words_and_values_are_read_and_shown() {
+        let session = Session::open().unwrap();
+        let change = SchemaChange::drop_index("t", "i");
+        for wanted in [
+            Wanted::from("drop index i on t"),
+            Wanted::from("drop index i on t".to_string()),
+            Wanted::from(&"drop index i on t".to_string()),
+            Wanted::from(&change),
+            Wanted::from(change.clone()),
+        ] {
+            assert_eq!(session.read(&wanted).as_deref(), Ok(&change));
+            assert_eq!(wanted.to_string(), "drop index i on t");
+        }
+        let query = Query::of("t");
+        let wanted = [Wanted::from("select * from t"), Wanted::from(&query)];
+        assert!(wanted
+            .iter()
+            .all(|it| session.read(it).as_deref() == Ok(&query)));
+    }
+
+    #[test]
+    fn a_closed_session_is_refused_before_bad_words() {
+        let (open, closed) = (Session::open().unwrap(), Session::over(Handle::closed()));
+        let what = Wanted::<Query>::from("what");
+        assert_eq!(open.read(&what).err(), Some(Error::BadLine));
+        assert_eq!(closed.read(&what).err(), Some(Error::Closed));
+    }
+}
