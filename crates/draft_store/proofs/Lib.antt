@@ -2,5 +2,4 @@ pub mod Least
 pub mod OneMap
 pub mod Controlled
 pub mod Sided
-pub mod Encoded
 pub mod Runs

@@ -23,11 +23,10 @@ use Rattle.record_code.specs.Drafts.{parts_of, open_draft}
 use Rattle.record_code.specs.Keys.{key_code, HasKey}
 use Rattle.record_code.specs.Records.{record_code, HasRecord}
 use Rattle.record_code.specs.Runs.{no_store, store_after, IsOpenIn}
-use Rattle.record_code.proofs.Runs.{opens_stores, runs_agree_in_bytes}
+use Rattle.record_code.proofs.Runs.{Encodes, read_there, all_written, first_code, opens_stores, runs_agree_in_bytes}
 use Rattle.record_code.proofs.Suits.{reads_suit, writes_suit}
 use Rattle.draft_store.specs.Apply.{Allows, after}
 use Rattle.draft_store.specs.OneMap.{is_control, is_pair, sides, ArePairs, IsPairRange, IsSided, AreAllowed, after_all, opened_one, one_after, RunsAreTheSame, RunsAgreeInOneMap}
-use Rattle.draft_store.proofs.Encoded.{Encodes, read_there, all_written, first_code}
 use Rattle.draft_store.proofs.OneMap.{on_side, reads_allowed, pairs_allowed, one_map}
 use Rattle.draft_store.proofs.Controlled.{reads_control, writes_control}
 use Rattle.draft_store.proofs.Sided.{no_pairs, piece_low, piece_batch, txn_batch, txn_points}

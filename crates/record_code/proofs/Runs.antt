@@ -28,12 +28,12 @@ use Rattle.record_code.proofs.Records.{records_tell, one_kind}
 use Rattle.record_code.proofs.Suits.{Suits, AllSuit, reads_suit, writes_suit}
 
 -- a record under its key that has a code
-record Fits (k : Key) (r : Record) : Type 0 where
+pub record Fits (k : Key) (r : Record) : Type 0 where
   pub under : IsUnder k r
   pub known : HasRecord r
 
 -- the pairs of the records that have codes
-record Encodes (bytes : Pairs) (control : Control) : Type 0 where
+pub record Encodes (bytes : Pairs) (control : Control) : Type 0 where
   pub there : (k : Key) → HasKey k → map.get bytes (key_code k) ≡ option_map record_code (map.get control k)
   pub fit : (k : Key) (r : Record) → HasKey k → map.get control k ≡ Some r → Fits k r
 
@@ -50,7 +50,7 @@ fit_one : (entry : Key × Option Record) → IsFit HasKey HasRecord entry → Su
 fit_one (k, None) fit suits r e = none_some e
 fit_one (k, Some s) fit suits r e = record { under = subst (IsUnder k) (some_one e) suits; known = fit.value r e }
 
-read_there : (bytes : Pairs) (control : Control) → Encodes bytes control → (reads : List (Key × Option Record)) → AllByRecursion (IsFit HasKey HasRecord) reads → AllSuit reads
+pub read_there : (bytes : Pairs) (control : Control) → Encodes bytes control → (reads : List (Key × Option Record)) → AllByRecursion (IsFit HasKey HasRecord) reads → AllSuit reads
     → AllByRecursion (IsThereIn key_code record_code bytes) reads → AllByRecursion (IsThere control) reads
 read_there bytes control e [] fit suit at = tt
 read_there bytes control e (entry ∷ reads) fit suit at = (
@@ -75,7 +75,7 @@ one_written bytes control w e fit suit = record {
 }
 
 -- each value that is put, or removed, is so of both
-all_written : (bytes : Pairs) (control : Control) (ws : List (Key × Option Record)) → Encodes bytes control → AllByRecursion (IsFit HasKey HasRecord) ws → AllSuit ws
+pub all_written : (bytes : Pairs) (control : Control) (ws : List (Key × Option Record)) → Encodes bytes control → AllByRecursion (IsFit HasKey HasRecord) ws → AllSuit ws
     → Encodes (written_all bytes (each (coded key_code record_code) ws)) (written_all control ws)
 all_written bytes control [] e fit suit = e
 all_written bytes control (w ∷ ws) e fit suit =
@@ -104,7 +104,7 @@ all_go bytes store (call ∷ calls) e pairs fit may =
 one_key : (number : ℕ) → IsNumber number → HasKey (version_key number)
 one_key number is = (is, tt)
 
-first_code : (schema : Version) → HasRecord (OfVersion schema) → Encodes (opened_in key_code record_code schema).control (opened schema).control
+pub first_code : (schema : Version) → HasRecord (OfVersion schema) → Encodes (opened_in key_code record_code schema).control (opened schema).control
 first_code schema known =
     one_written map.empty map.empty (version_key 1, Some (OfVersion schema))
     (record { there = λ k h. map.get-empty bytes_cmp (key_code k) ∙ sym (ap (option_map record_code) (map.get-empty bytes_cmp k)); fit = λ k r h there. none_some (sym (map.get-empty bytes_cmp k) ∙ there) })
