@@ -1,8 +1,9 @@
 """Kept verdicts on wrong bodies: must-fail/verdicts.tsv, and the checksum that tells whether a row still holds.
 
-A verdict rests on the crate's own files, on the edit, on what the crates below promise, and on the logic. What a crate promises is its
-definitions (specs/), its signatures with their contracts, and those of its lemma files that a crate above cites; comments, layout and the
-bodies of its functions are no part of it, since a check of a crate above does not read them.
+A verdict rests on the crate's own files, on the edit, on which of the crates that both name are listed for it, on what the crates below
+promise, and on the logic. What a crate promises is its definitions (specs/), its signatures with their contracts, and those of its lemma files
+that a crate above cites; comments, layout and the bodies of its functions are no part of it, since a check of a crate above does not read them,
+nor is the list of crates on which it stands.
 """
 import hashlib
 import os
@@ -106,13 +107,19 @@ class Checksums:
             self.own[name] = [(os.path.relpath(path, folder), read(path)) for path in files_of(folder)]
         return self.own[name]
 
+    def named(self, name, text):
+        """The crates that are listed for a crate, and that its files or this text name."""
+        words = set(re.findall(r"\w+", text)).union(*(re.findall(r"\w+", it) for _, it in self.own_files(name)))
+        return sorted(it for it in self.crates.deps[name] if it in words)
+
     def of(self, name, text):
         """The checksum of all that the verdict on an edit of the crate rests on."""
         if name not in self.shared:
-            below = [(it, self.crates.deps[it], self.promised(it)) for it in self.crates.below(name)]
-            rests = (self.logic, name, self.crates.deps[name], self.own_files(name), self.cited(name), below)
+            below = sorted((it, self.promised(it)) for it in self.crates.below(name))
+            rests = (self.logic, name, self.own_files(name), self.cited(name), below)
             self.shared[name] = hashlib.sha256(repr(rests).encode()).hexdigest()
-        return hashlib.sha256(f"{self.shared[name]}\n{text}".encode()).hexdigest()[:32]
+        named = " ".join(self.named(name, text))
+        return hashlib.sha256(f"{self.shared[name]}\n{named}\n{text}".encode()).hexdigest()[:32]
 
 
 def read_rows(path):

@@ -7,7 +7,7 @@ import tempfile
 
 from speed_of import run as runs
 from speed_of.case import Case, Missing
-from speed_of.rows import load_time
+from speed_of.rows import load_time, unaudited_time
 
 ROOT = os.path.dirname(os.path.dirname(os.path.dirname(os.path.realpath(__file__))))
 ROWS = 100_000
@@ -76,6 +76,7 @@ def cases():
     for servers in (4, 1):
         name = f"Cagzhomul, `load`, {servers} server{'s' if servers > 1 else ''} and 3 workers"
         found.append(Case("peers", name, ROWS, load_time(ROWS, servers), work=ROWS, base="peers"))
+        found.append(Case("peers", f"{name}, without the audit", ROWS, unaudited_time(ROWS, servers), work=ROWS, base="peers"))
     peers = [
         ("an ordered map under a mutex, 4 threads", lambda _: {"": own_time([compiled("map", "g++ -O2 -pthread", "map.cpp")])}),
         ("SQLite in memory, 1 thread", lambda _: {"": own_time([compiled("sqlite", "gcc -O2", "sqlite.c", "-lsqlite3")])}),

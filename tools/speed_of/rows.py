@@ -1,8 +1,12 @@
 """Rows a second, and how the time of a row grows with the table."""
+import re
+
+from speed_of import run as runs
 from speed_of.case import Case, Missing
-from speed_of.run import timed
+from speed_of.run import ended, timed
 from speed_of.scripts import HEAD, most_rows, script
 
+PARTS = re.compile(rb"inserted in (\d+) ms: \d+ rows a second; index public after (\d+) ms; audited in (\d+) ms")
 LOADED = b"rows %d\nmissing 0\nextra 0\ncounts equal\nreceipts ok\n"
 
 
@@ -34,6 +38,21 @@ def load_time(rows, servers):
         if wrote != LOADED % rows:
             raise Missing(f"the load of {rows} rows found a difference")
         return {"": taken - empty}
+
+    return measure
+
+
+def unaudited_time(rows, servers):
+    """How long the rows and the index of a load take, as it measures them itself, without the audit."""
+
+    def measure(program):
+        if runs.COUNTS_PROCESSOR:
+            raise Missing("the processor's time of a part of a load is not known")
+        _, wrote, said = ended([*load_words(program, rows, servers), "--time"], "")
+        found = PARTS.search(said)
+        if wrote != LOADED % rows or not found:
+            raise Missing(f"the load of {rows} rows found a difference, or does not say how long its parts took")
+        return {"": max(int(found[1]), int(found[2])) / 1000}
 
     return measure
 

@@ -65,7 +65,8 @@ class MadeCheckout(unittest.TestCase):
             ("a constant below", "crates/low/src/lib.rt", "MOST: u64 = 100", "MOST: u64 = 99"),
             ("a definition below", "crates/low/specs/Half.antt", "n / 2", "n / 3"),
             ("a cited lemma below", "crates/low/proofs/Cited.antt", "= 1", "= 2"),
-            ("the crates that it names", "crates.txt", "high: low", "high: low thiserror"),
+            ("a crate that it names", "crates.txt", "high: low", "high:"),
+            ("a crate below more", "crates.txt", "high: low", "more:\nhigh: low more"),
         ]:
             with self.subTest(what):
                 self.write(path, FILES[path].replace(old, new))
@@ -84,6 +85,7 @@ class MadeCheckout(unittest.TestCase):
             ("layout below", "crates/low/src/lib.rt", "    requires small", "  requires small"),
             ("a remark in a definition below", "crates/low/specs/Half.antt", "-- the half", "-- half of it"),
             ("a lemma below that nothing cites", "crates/low/proofs/Own.antt", "= 1", "= 2"),
+            ("a library of the kit that nothing names", "crates.txt", "high: low", "high: low thiserror"),
         ]:
             with self.subTest(what):
                 self.write(path, FILES[path].replace(old, new))

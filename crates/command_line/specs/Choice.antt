@@ -17,7 +17,7 @@ is_named [] name = false
 -- a load with each number of its size in its range
 abbrev pub IsLoad : Chosen → Type 0
 IsLoad (Run file stops) = ⊥
-IsLoad (Prompt file at) = ⊥
+IsLoad (Prompt file at is_json) = ⊥
 IsLoad (Load size timed) = IsLoadSize size
 IsLoad (Soak size) = ⊥
 IsLoad Rollout = ⊥
@@ -25,7 +25,7 @@ IsLoad Rollout = ⊥
 -- a soak with each number of its size in its range
 abbrev pub IsSoak : Chosen → Type 0
 IsSoak (Run file stops) = ⊥
-IsSoak (Prompt file at) = ⊥
+IsSoak (Prompt file at is_json) = ⊥
 IsSoak (Load size timed) = ⊥
 IsSoak (Soak size) = IsSoakSize size
 IsSoak Rollout = ⊥
@@ -33,7 +33,7 @@ IsSoak Rollout = ⊥
 -- Each is chosen only by its word, and each number of a load's or a soak's size is in its range.
 abbrev pub IsChoiceOf : List (String Global) → Chosen → Type 0
 IsChoiceOf words (Run file stops) = IsTrue (is_named words (codes "run"))
-IsChoiceOf words (Prompt file at) = IsTrue (is_named words (codes "prompt"))
+IsChoiceOf words (Prompt file at is_json) = IsTrue (is_named words (codes "prompt"))
 IsChoiceOf words (Load size timed) = IsTrue (is_named words (codes "load")) × IsLoadSize size
 IsChoiceOf words (Soak size) = IsTrue (is_named words (codes "soak")) × IsSoakSize size
 IsChoiceOf words Rollout = IsTrue (is_named words (codes "rollout"))

@@ -30,6 +30,8 @@ pub enum Chosen<'a> {
         file: Option<&'a str>,
         /// The file of the checkpoint at which the session opens.
         at: Option<&'a str>,
+        /// Whether it answers in JSON.
+        is_json: bool,
     },
     /// Let threads write rows while an index is added.
     Load {
@@ -81,6 +83,7 @@ fn prompt_command<'a>(alloc: Global) -> Result<Command<'a>, AllocError> {
         .about(help::ABOUT_PROMPT)
         .after_help(help::PROMPTS)
         .arg(file_option(alloc, "at", help::AT))?
+        .arg(flag(alloc, "json", 'j', help::JSON))?
         .arg(file_arg(alloc))
 }
 
@@ -317,7 +320,8 @@ fn choice_of<'a>(
     if names(words, "prompt") {
         let file = file_of(matches, "prompt", "FILE");
         let at = file_of(matches, "prompt", "at");
-        return Ok(Chosen::Prompt { file, at });
+        let is_json = has_flag(matches, "prompt", "json");
+        return Ok(Chosen::Prompt { file, at, is_json });
     }
     if names(words, "rollout") {
         return Ok(Chosen::Rollout);

@@ -15,9 +15,12 @@ pub(crate) const FILE: &str = "The file of the lines; standard input if it is le
 pub(crate) const AT: &str =
     "Open the session at the checkpoint in this file, which `save FILE` has written";
 
+pub(crate) const JSON: &str = "Answer each line by one line of JSON";
+
 pub(crate) const STOP: &str = "End at the first line that is bad (status 1) or refused (status 7)";
 
-pub(crate) const TIME: &str = "Write the time and the rows a second to standard error";
+pub(crate) const TIME: &str =
+    "Write how long the parts took, and the rows a second, to standard error";
 
 pub(crate) const ABOUT_ROLLOUT: &str =
     "Carries three schema changes to their end while four servers write";
@@ -48,6 +51,7 @@ Its own lines:
 For example
   shell prompt                 on a terminal the prompt is the newest version and the moment: v3 @20>
   rlwrap shell prompt          the same with a history of lines
+  shell prompt --json          for a program: an object with reply, remarks, and what else there is to know
   shell prompt --at FILE       goes on where `save FILE` was answered
   shell prompt < script        another program may drive it over a pipe: each reply is written at once
 

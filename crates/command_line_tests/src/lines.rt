@@ -47,12 +47,13 @@ const RUNS: [(&str, Option<&str>, bool); 5] = [
 ];
 
 // Lines that choose a prompt or a rollout.
-const OTHERS: [(&str, Chosen<'static>); 5] = [
+const OTHERS: [(&str, Chosen<'static>); 7] = [
     (
         "prompt",
         Chosen::Prompt {
             file: None,
             at: None,
+            is_json: false,
         },
     ),
     (
@@ -60,6 +61,7 @@ const OTHERS: [(&str, Chosen<'static>); 5] = [
         Chosen::Prompt {
             file: Some("x"),
             at: None,
+            is_json: false,
         },
     ),
     (
@@ -67,6 +69,7 @@ const OTHERS: [(&str, Chosen<'static>); 5] = [
         Chosen::Prompt {
             file: None,
             at: Some("y"),
+            is_json: false,
         },
     ),
     (
@@ -74,6 +77,23 @@ const OTHERS: [(&str, Chosen<'static>); 5] = [
         Chosen::Prompt {
             file: Some("x"),
             at: Some("y"),
+            is_json: false,
+        },
+    ),
+    (
+        "prompt --json",
+        Chosen::Prompt {
+            file: None,
+            at: None,
+            is_json: true,
+        },
+    ),
+    (
+        "prompt --at y --json x",
+        Chosen::Prompt {
+            file: Some("x"),
+            at: Some("y"),
+            is_json: true,
         },
     ),
     ("rollout", Chosen::Rollout),

@@ -6,6 +6,7 @@ mod add_index;
 mod bar;
 mod fault;
 mod load_run;
+mod pace;
 mod report;
 mod table;
 

@@ -7,6 +7,7 @@ ghost use Rattle.world.specs.State.{entries_before, entries_kept};
 use crate::add_index::{Added, add_index};
 use crate::bar::Bar;
 use crate::fault::LoadFault;
+use crate::pace::{Pace, now};
 use crate::report::Report;
 use crate::table::{inserts, open_world};
 use collections::List;
@@ -21,17 +22,21 @@ use std::marker::Brand;
 use std::sync::Wait;
 use std::sync::ledger::Blank;
 use std::thread::{Threads, join};
+use std::time::{Clock, Instant};
 use world::{Receipt, World};
 
 /// How often a request is tried.
 const TRIES: u32 = 1_000;
 
-// What came back of both sides: all handles, all receipts, and whether all went well.
+// What came back of both sides: all handles, all receipts, whether all went well, and when the sides
+// had ended.
 #[derive(Drop)]
 struct Done<L: SharedLedger> {
     handles: Vec<Handle<L>>,
     receipts: Vec<Receipt>,
     outcome: Result<(), LoadFault>,
+    inserted: Option<Instant>,
+    filled: Option<Instant>,
 }
 
 // What became of a request, with its receipt kept.
@@ -129,10 +134,12 @@ fn all_handles<L: SharedLedger>(
     Ok(handles)
 }
 
-// Both sides put together.
+// Both sides put together, each with the moment at which it had ended.
 fn join_handles<L: SharedLedger>(
     served: Result<Served<L>, (ServeFault, Vec<Handle<L>>)>,
     added: Added<L>,
+    inserted: Option<Instant>,
+    filled: Option<Instant>,
 ) -> Result<Done<L>, LoadFault> {
     let Added {
         me,
@@ -147,11 +154,13 @@ fn join_handles<L: SharedLedger>(
         handles: all_handles(servers, me, fill_handles)?,
         receipts,
         outcome: worse(worse(settled, gathered), outcome),
+        inserted,
+        filled,
     })
 }
 
 // Both sides at once.
-fn at_once<L: SharedLedger + Send + Sync, R: Threads + Wait + Eprint + Sync>(
+fn at_once<L: SharedLedger + Send + Sync, R: Threads + Wait + Eprint + Clock + Sync>(
     rt: &R,
     alloc: Global,
     shared: &Shared<L>,
@@ -168,12 +177,18 @@ fn at_once<L: SharedLedger + Send + Sync, R: Threads + Wait + Eprint + Sync>(
         total: size.rows,
         is_shown,
     };
-    let (served, added) = join(
+    let ((served, inserted), (added, filled)) = join(
         rt,
-        move || serve(rt, alloc, shared, handles, requests, TRIES, &bar),
-        move || add_index(rt, alloc, shared, me, fill_handles, size, is_shown),
+        move || {
+            let served = serve(rt, alloc, shared, handles, requests, TRIES, &bar);
+            (served, now(rt))
+        },
+        move || {
+            let added = add_index(rt, alloc, shared, me, fill_handles, size, is_shown);
+            (added, now(rt))
+        },
     );
-    join_handles(served, added)
+    join_handles(served, added, inserted, filled)
 }
 
 // Whether there are as many receipts as entries, and what is wrong with them, if anything is. If
@@ -200,6 +215,7 @@ fn check_receipts(
     world: &World,
     receipts: &[Receipt],
     outcome: Result<(), LoadFault>,
+    pace: Pace,
 ) -> Result<Report, LoadFault>
     ensures { IfOk result (λ r. r.is_counted ≡ true → r.receipts ≡ None → AreTheLog (entries_before world.now) (entries_kept world.now) 0 receipts.now) }
 {
@@ -215,11 +231,12 @@ fn check_receipts(
         is_counted,
         receipts: fault,
         is_done: outcome.is_ok(),
+        pace,
     })
 }
 
 // The whole load over a world that is shared among so many handles.
-fn load_in<L: SharedLedger + Send + Sync, R: Threads + Wait + Eprint + Sync>(
+fn load_in<L: SharedLedger + Send + Sync, R: Threads + Wait + Eprint + Clock + Sync>(
     rt: &R,
     alloc: Global,
     blank: Blank,
@@ -236,19 +253,29 @@ fn load_in<L: SharedLedger + Send + Sync, R: Threads + Wait + Eprint + Sync>(
     let Ok((shared, handles)) = Shared::<L>::new(alloc, blank, world, count) else {
         return Err(LoadFault::Memory);
     };
+    let begun = now(rt);
     let Done {
         handles,
         receipts,
         outcome,
+        inserted,
+        filled,
     } = at_once(rt, alloc, &shared, handles, requests, size, is_shown)?;
-    match shared.close(handles) {
-        Ok(world) => check_receipts(alloc, &world, receipts.as_slice(), outcome),
-        Err(_) => Err(LoadFault::Refused),
-    }
+    let Ok(world) = shared.close(handles) else {
+        return Err(LoadFault::Refused);
+    };
+    let pace = Pace {
+        begun,
+        inserted,
+        filled,
+        settled: now(rt),
+        audited: None,
+    };
+    check_receipts(alloc, &world, receipts.as_slice(), outcome, pace)
 }
 
 // What a load of this size finds.
-fn load<R: Threads + Wait + Eprint + Sync>(
+fn load<R: Threads + Wait + Eprint + Clock + Sync>(
     rt: &R,
     alloc: Global,
     size: LoadSize,
@@ -261,7 +288,16 @@ fn load<R: Threads + Wait + Eprint + Sync>(
     let count = u64::from(size.servers + size.workers + 1);
     let blank = Blank::new(count);
     let requests = requests.as_slice();
-    load_in::<Brand, R>(rt, alloc, blank, world, count, requests, size, is_shown)
+    let mut report = load_in::<Brand, R>(rt, alloc, blank, world, count, requests, size, is_shown)?;
+    report.pace.audited = now(rt);
+    Ok(report)
+}
+
+// Says on standard error how long the parts took, unless there is no memory for that.
+fn report_pace<R: Eprint>(rt: &R, alloc: Global, report: &Report, rows: u32) {
+    if let Ok(text) = report.pace.text(alloc, rows) {
+        let _ = eprintln!(rt; "{text}");
+    }
 }
 
 /// Runs a load: it opens the table t (id int key, a int), has servers insert rows, each by a
@@ -280,7 +316,7 @@ fn load<R: Threads + Wait + Eprint + Sync>(
 /// refused for another reason than memory, or an outcome was another than a committed row or a
 /// finished piece; 4 if the lines could not be written; 5 if any call or outcome found no memory,
 /// and then nothing is written. Of several the first in the order 5, 4, 6 is answered.
-pub fn run_load<R: Threads + Wait + Eprint + Sync, W: Write>(
+pub fn run_load<R: Threads + Wait + Eprint + Clock + Sync, W: Write>(
     rt: &R,
     alloc: Global,
     size: LoadSize,
@@ -288,18 +324,21 @@ pub fn run_load<R: Threads + Wait + Eprint + Sync, W: Write>(
 ) -> u8
     requires { IsLoadSize size }
 {
-    run_load_shown(rt, alloc, size, false, writer)
+    run_load_shown(rt, alloc, size, false, false, writer)
 }
 
 /// Runs a load as `run_load` does, and shows a bar on standard error while it runs: how many rows
 /// were inserted, and how many pieces of the index were filled.
 ///
 /// - `is_shown`: whether someone is to see the bar.
-pub fn run_load_shown<R: Threads + Wait + Eprint + Sync, W: Write>(
+/// - `is_timed`: whether standard error gets a line that says how long the inserts, the index and the
+///   audit took, in milliseconds.
+pub fn run_load_shown<R: Threads + Wait + Eprint + Clock + Sync, W: Write>(
     rt: &R,
     alloc: Global,
     size: LoadSize,
     is_shown: bool,
+    is_timed: bool,
     writer: &mut W,
 ) -> u8
     requires { IsLoadSize size }
@@ -314,6 +353,9 @@ pub fn run_load_shown<R: Threads + Wait + Eprint + Sync, W: Write>(
     };
     if writer.write_all(text.as_bytes()).is_err() {
         return 4;
+    }
+    if is_timed {
+        report_pace(rt, alloc, &report, size.rows);
     }
     if report.is_good(size.rows) { 0 } else { 6 }
 }

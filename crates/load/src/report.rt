@@ -1,10 +1,11 @@
 //! What a load found, and what it prints.
 
+use crate::pace::Pace;
 use locked_store::ReceiptFault;
 use std::alloc::{AllocError, Global};
 
 /// What a load found once all threads were done.
-#[derive(Clone, Copy, PartialEq, Eq)]
+#[derive(Clone, Copy)]
 pub(crate) struct Report {
     /// How many rows the store has.
     pub(crate) rows: u64,
@@ -18,6 +19,8 @@ pub(crate) struct Report {
     pub(crate) receipts: Option<ReceiptFault>,
     /// Whether each request was committed, each piece finished and each step published.
     pub(crate) is_done: bool,
+    /// When its parts had ended.
+    pub(crate) pace: Pace,
 }
 
 impl Report {

@@ -253,10 +253,10 @@ impl<L: SharedLedger> Shared<L> {
         through(locked.checkpoint(me))
     }
 
-    /// Hands out the entries that are in memory, as `World::take_log` does, with how many there were
-    /// before them, in one critical section whose time does not grow with them: they may then be
-    /// stored, and are freed outside of it. Refused with `WentBack` alone, if the log is shorter than
-    /// the handle's front.
+    /// Hands out the entries that are in memory, with how many there were before them, as
+    /// `World::take_log` does; they are freed outside of the lock. Refused with `WentBack` alone, if the
+    /// log is shorter than the handle's front. No contract through the lock speaks of the world that a
+    /// call leaves there: that all entries are handed out, and gone then, `locked_store_tests` shows.
     #[tactic(auto, using(crate::proofs::Through::finds))]
     pub fn take_log(
         &self,
@@ -272,7 +272,7 @@ impl<L: SharedLedger> Shared<L> {
 
     /// Gives the memory of all entries back, as `World::cut` does: they are taken in one critical
     /// section and freed outside of it. Refused with `WentBack` alone, if the log is shorter than the
-    /// handle's front.
+    /// handle's front. That they are gone `locked_store_tests` shows.
     #[tactic(auto, using(crate::proofs::Through::only_found))]
     pub fn cut(&self, rt: &impl Wait, me: &mut Handle<L>) -> Result<(), WentBack>
         ensures { Finds L.start me.old result me.new (λ c x. x ≡ tt) }

@@ -2,6 +2,7 @@
 #![tactic(auto)]
 
 mod calls;
+mod counted;
 mod fault;
 mod handle;
 mod locked;

@@ -1,6 +1,6 @@
 //! What lies behind the lock, and the calls of one critical section: each is one call of the world.
 ghost use Rattle.std.specs.Prelude.{◌≡◌, ◌+◌, ◌<◌, ◌≤◌, length, IfOk, IfErr, OnOk, option_map};
-ghost use Rattle.locked_store.specs.Answers.{Counts, Takes, Found, place_of, no_place, grant_place, commit_place, publish_place, receipt_place, piece_place};
+ghost use Rattle.locked_store.specs.Answers.{Takes, Found, no_place, grant_place, commit_place, publish_place, receipt_place, piece_place};
 ghost use Rattle.locked_store.specs.Cores.{IsCore, WasLength};
 ghost use Rattle.world.specs.BeginReorg.{BeginStep};
 ghost use Rattle.piece_work.specs.WorkOff.{NextStep};
@@ -13,6 +13,7 @@ ghost use Rattle.world.specs.Snapshot.{SnapshotStep};
 ghost use Rattle.checkpoint.specs.Checkpoint.{checkpoint_of};
 ghost use Rattle.world.specs.State.{cut_here, entries_before, entries_kept, entry_count, facts_of, recent};
 
+use crate::counted::{commit_counted, log_len, piece_counted};
 use crate::fault::WentBack;
 use crate::handle::Handle;
 use crate::shared_ledger::SharedLedger;
@@ -62,13 +63,6 @@ impl<L: SharedLedger> Model for Locked<L> {
     ghost invariant = { λ l. IsCore L.start l.world × (entry_count l.world ≡ entry_count L.start + l.added) × (l.book.total ≡ l.added) × (L.handles ≡ L.parts) };
 }
 
-/// How many entries there were ever.
-pub(crate) fn log_len(world: &World) -> u64
-    ensures { result ≡ entry_count world.now }
-{
-    world.log_len()
-}
-
 // An owner more of a schema.
 fn same(schema: Option<&ArcValue<Schema>>) -> Result<Option<ArcValue<Schema>>, AllocError>
     ensures { IfOk result (λ s. s ≡ option_map (λ r. r.now) schema.entry) }
@@ -77,62 +71,6 @@ fn same(schema: Option<&ArcValue<Schema>>) -> Result<Option<ArcValue<Schema>>, A
         Some(schema) => Ok(Some(schema.clone()?)),
         None => Ok(None),
     }
-}
-
-// Commits, counts the entry, if there is one, and moves the front to the length of the log.
-fn commit_counted<L: SharedLedger>(
-    alloc: Global,
-    world: &mut World,
-    added: &mut u64,
-    book: &mut Book<L>,
-    me: &mut Handle<L>,
-    moment: u64,
-    prepared: Prepared,
-) -> Result<Committed, (CommitFault, Prepared)>
-    requires seen { me.old.front ≤ entry_count world.old }
-    requires few { added.old ≤ entry_count world.old }
-    ensures step { CommitStep world.old moment prepared result world.new }
-    ensures added { entry_count world.new + added.old ≡ entry_count world.old + added.new }
-    ensures total { book.new.total + added.old ≡ book.old.total + added.new }
-    ensures front { me.new.front ≡ entry_count world.new }
-    ensures counts { Counts me.old (place_of commit_place result) me.new }
-{
-    let result = world.commit(alloc, moment, prepared);
-    let len = log_len(world);
-    if matches!(&result, Ok(Committed::Done(_))) {
-        book.add(&mut me.share, 1);
-        *added += 1;
-    }
-    me.front = len;
-    result
-}
-
-// The same of a piece, which always has an entry if it is accepted.
-fn piece_counted<L: SharedLedger>(
-    alloc: Global,
-    world: &mut World,
-    added: &mut u64,
-    book: &mut Book<L>,
-    me: &mut Handle<L>,
-    moment: u64,
-    prepared: PreparedPiece,
-) -> Result<PieceDone, (PieceFault, PreparedPiece)>
-    requires seen { me.old.front ≤ entry_count world.old }
-    requires few { added.old ≤ entry_count world.old }
-    ensures step { PieceStep world.old moment prepared result world.new }
-    ensures added { entry_count world.new + added.old ≡ entry_count world.old + added.new }
-    ensures total { book.new.total + added.old ≡ book.old.total + added.new }
-    ensures front { me.new.front ≡ entry_count world.new }
-    ensures counts { Counts me.old (place_of piece_place result) me.new }
-{
-    let result = world.commit_piece(alloc, moment, prepared);
-    let len = log_len(world);
-    if result.is_ok() {
-        book.add(&mut me.share, 1);
-        *added += 1;
-    }
-    me.front = len;
-    result
 }
 
 impl<L: SharedLedger> Locked<L> {

@@ -5,9 +5,10 @@ ghost use Rattle.locked_store.specs.Known.{total_count, AreFresh};
 ghost use Rattle.locked_store.specs.Sharing.{IsCount, IsRefused};
 ghost use Rattle.world.specs.State.{entry_count};
 
+use crate::counted::log_len;
 use crate::fault::{Missing, ShareFault};
 use crate::handle::Handle;
-use crate::locked::{Locked, log_len};
+use crate::locked::Locked;
 use crate::shared_ledger::SharedLedger;
 use std::alloc::Global;
 use std::sync::Mutex;

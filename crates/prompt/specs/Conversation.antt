@@ -6,6 +6,7 @@ use Rattle.std.specs.Io.KnownBytes.{Appends}
 use Rattle.std.specs.List.{flat_map}
 use Rattle.std.specs.Str.{IsUtf8, bytes_eq, trim}
 use Rattle.lease.specs.Timeline.{newest}
+use Rattle.script_json.specs.Answer.{IsAnswerText}
 use Rattle.script_replies.specs.Texts.{bad_line}
 use Rattle.script_session.specs.Replies.{Reply}
 use Rattle.script_session.specs.Session.{Session}
@@ -23,6 +24,8 @@ use Rattle.prompt.specs.Moment.{IsForeign, IsGiven, first_word}
 use Rattle.prompt.specs.declared.conversation.Summary.{Summary}
 use Rattle.prompt.specs.declared.fault.PromptFault.{PromptFault}
 use Rattle.prompt.specs.declared.fault.PromptFault.TheVariants.{Read, Write, Memory}
+use Rattle.prompt.specs.declared.form.Form.{Form}
+use Rattle.prompt.specs.declared.form.Form.TheVariants.{Plain, Shown, Json}
 use Rattle.prompt.specs.declared.state.PromptState.{PromptState}
 use Rattle.prompt.specs.Save.{is_save}
 use Rattle.prompt.specs.Undo.{TakesBack, declared_after, is_undo}
@@ -58,7 +61,7 @@ Replied old line reply bad new =
 abbrev pub is_view_word : List ℕ → Bool
 is_view_word word =
     (bytes_eq word (codes "help") || bytes_eq word (codes "describe") || bytes_eq word (codes "check") || bytes_eq word (codes "leases") || bytes_eq word (codes "progress"))
-    || (bytes_eq word (codes "plan") || bytes_eq word (codes "timeline") || bytes_eq word (codes "explain") || bytes_eq word (codes "advance") || bytes_eq word (codes "finish"))
+    || (bytes_eq word (codes "plan") || bytes_eq word (codes "timeline") || bytes_eq word (codes "explain") || bytes_eq word (codes "advance") || bytes_eq word (codes "finish") || bytes_eq word (codes "rows"))
 
 -- such a line, whatever white space is around it
 abbrev pub is_view : List ℕ → Bool
@@ -102,31 +105,38 @@ abbrev pub remark_text : List ℕ → List ℕ
 remark_text [] = []
 remark_text (b ∷ bs) = codes "# " ++ flat_map remark_byte (b ∷ bs) ++ codes "\n"
 
--- What is written for a line, which leaves new: the reply, and remarks.
-pub record IsAnswered (old : PromptState) (line text : List ℕ) (bad : Bool) (new : PromptState) : Type 0 where
+-- A reply and its remarks in a form. What an object of JSON has besides them is said by no contract.
+abbrev pub IsTextOf : Form → List ℕ → List ℕ → List ℕ → Type 0
+IsTextOf Plain reply remark text = text ≡ reply ++ remark_text remark
+IsTextOf Shown reply remark text = text ≡ reply ++ remark_text remark
+IsTextOf Json reply remark text = IsAnswerText reply remark text
+
+-- What is written for a line in a form, which leaves new: the reply, and remarks.
+pub record IsAnswered (form : Form) (old : PromptState) (line text : List ℕ) (bad : Bool) (new : PromptState) : Type 0 where
   pub reply : List ℕ
   pub remark : List ℕ
-  pub written : text ≡ reply ++ remark_text remark
+  pub written : IsTextOf form reply remark text
   pub kind : Replied old line reply bad new ⊎ Passed old line reply bad new ⊎ Carried old line reply bad new ⊎ Undone old line reply bad new ⊎ LogCut old line reply bad new ⊎ Saved old line reply bad new
 
 -- the newest version and the moment, where they are shown
-abbrev pub prompt_text : Bool → Session → List ℕ
-prompt_text false session = []
-prompt_text true (Declaring d) = codes "> "
-prompt_text true (Running r) = codes "v" ++ decimal (newest (facts_of r.world).line) ++ codes " @" ++ decimal (facts_of r.world).moment ++ codes "> "
+abbrev pub prompt_text : Form → Session → List ℕ
+prompt_text Plain session = []
+prompt_text Json session = []
+prompt_text Shown (Declaring d) = codes "> "
+prompt_text Shown (Running r) = codes "v" ++ decimal (newest (facts_of r.world).line) ++ codes " @" ++ decimal (facts_of r.world).moment ++ codes "> "
 
 -- From old, the lines in answer may be given this text, each after a prompt, with so many bad lines, and leave new. None of them ends the conversation.
-abbrev pub AreAnswered : Bool → PromptState → List (List ℕ) → List ℕ → ℕ → PromptState → Type 0
-AreAnswered shown old [] text bad new = (text ≡ []) × (bad ≡ 0) × (new ≡ old)
-AreAnswered shown old (l ∷ ls) text bad new =
+abbrev pub AreAnswered : Form → PromptState → List (List ℕ) → List ℕ → ℕ → PromptState → Type 0
+AreAnswered form old [] text bad new = (text ≡ []) × (bad ≡ 0) × (new ≡ old)
+AreAnswered form old (l ∷ ls) text bad new =
     (answer : List ℕ) × (is_bad : Bool) × (mid : PromptState) × (more : List ℕ) × (others : ℕ)
-    × IsAnswered old l answer is_bad mid × AreAnswered shown mid ls more others new
-    × (is_quit l ≡ false) × (text ≡ prompt_text shown old.session ++ (answer ++ more)) × (bad ≡ cond is_bad 1 0 + others)
+    × IsAnswered form old l answer is_bad mid × AreAnswered form mid ls more others new
+    × (is_quit l ≡ false) × (text ≡ prompt_text form old.session ++ (answer ++ more)) × (bad ≡ cond is_bad 1 0 + others)
 
 -- All that is written from this state until a line is waited for: the answers, and the next prompt.
-abbrev pub IsTranscript : PromptState → Bool → List (List ℕ) → List ℕ → ℕ → Type 0
-IsTranscript start shown lines out bad =
-    (text : List ℕ) × (new : PromptState) × AreAnswered shown start lines text bad new × (out ≡ text ++ prompt_text shown new.session)
+abbrev pub IsTranscript : PromptState → Form → List (List ℕ) → List ℕ → ℕ → Type 0
+IsTranscript start form lines out bad =
+    (text : List ℕ) × (new : PromptState) × AreAnswered form start lines text bad new × (out ≡ text ++ prompt_text form new.session)
 
 -- what is read at the end: nothing more, or a line that ends the conversation
 abbrev pub Ends : Option (List ℕ) → Option (List ℕ) → Type 0
@@ -142,26 +152,26 @@ IsAwaited input rest None = Ends input rest
 IsAwaited input rest (Some line) = IsNext input rest (Some line) × (is_quit line ≡ false)
 
 -- The line was answered, which leaves new, and all of the answer was written.
-pub record IsWritten (old : PromptState) (line : List ℕ) (bad : Bool) (new : PromptState) (before after : Option (List ℕ)) : Type 0 where
+pub record IsWritten (form : Form) (old : PromptState) (line : List ℕ) (bad : Bool) (new : PromptState) (before after : Option (List ℕ)) : Type 0 where
   pub text : List ℕ
-  pub answered : IsAnswered old line text bad new
+  pub answered : IsAnswered form old line text bad new
   pub written : Appends before after text
 
 -- What an answer that was cut leaves: a start of it was written.
-pub record IsCut (old : PromptState) (line : List ℕ) (before after : Option (List ℕ)) : Type 0 where
+pub record IsCut (form : Form) (old : PromptState) (line : List ℕ) (before after : Option (List ℕ)) : Type 0 where
   pub text : List ℕ
   pub bad : Bool
   pub new : PromptState
-  pub answered : IsAnswered old line text bad new
+  pub answered : IsAnswered form old line text bad new
   pub written : AppendsPrefix before after text
 
 -- Lines that were read and answered in turn from the start, each after a prompt: all of that was written, and they leave the state.
-pub record IsSoFar (start : PromptState) (shown : Bool) (input rest old new : Option (List ℕ)) (lines bad : ℕ) (state : PromptState) : Type 0 where
+pub record IsSoFar (start : PromptState) (form : Form) (input rest old new : Option (List ℕ)) (lines bad : ℕ) (state : PromptState) : Type 0 where
   pub read : List (List ℕ)
   pub text : List ℕ
   pub taken : HasRead input read rest
   pub written : Appends old new text
-  pub answered : AreAnswered shown start read text bad state
+  pub answered : AreAnswered form start read text bad state
   pub count : lines ≡ length read
 
 -- a fault that is not the writer's
@@ -183,36 +193,36 @@ IsUnasked prompt input rest old new handed Write = AppendsPrefix old new prompt 
 IsUnasked prompt input rest old new handed Memory = (Appends old new [] × (rest ≡ input)) ⊎ IsAsked prompt input rest old new handed
 
 -- Why a line was not answered: the writer failed in the answer; or memory ran out, and the writer was kept.
-abbrev pub IsUnanswered : Type 0 → PromptState → List ℕ → Option (List ℕ) → Option (List ℕ) → PromptFault → Type 0
-IsUnanswered kept old line before after Read = ⊥
-IsUnanswered kept old line before after Write = IsCut old line before after
-IsUnanswered kept old line before after Memory = kept
+abbrev pub IsUnanswered : Type 0 → Form → PromptState → List ℕ → Option (List ℕ) → Option (List ℕ) → PromptFault → Type 0
+IsUnanswered kept form old line before after Read = ⊥
+IsUnanswered kept form old line before after Write = IsCut form old line before after
+IsUnanswered kept form old line before after Memory = kept
 
 -- The prompt was written, the next line was read, and a start of its answer was written.
-pub record IsCutAfter (shown : Bool) (state : PromptState) (input rest old new : Option (List ℕ)) : Type 0 where
+pub record IsCutAfter (form : Form) (state : PromptState) (input rest old new : Option (List ℕ)) : Type 0 where
   pub line : List ℕ
   pub at : Option (List ℕ)
-  pub prompt : Appends old at (prompt_text shown state.session)
+  pub prompt : Appends old at (prompt_text form state.session)
   pub awaited : IsAwaited input rest (Some line)
-  pub cut : IsCut state line at new
+  pub cut : IsCut form state line at new
 
 -- How it ends early, after lines that were answered: the next line was not read; or the writer failed in its answer.
-abbrev pub IsBroken : Bool → PromptState → Option (List ℕ) → Option (List ℕ) → Option (List ℕ) → Option (List ℕ) → Option (List ℕ) → PromptFault → Type 0
-IsBroken shown state input rest old new handed fault =
-    IsUnasked (prompt_text shown state.session) input rest old new handed fault ⊎ ((fault ≡ Write) × IsCutAfter shown state input rest old new)
+abbrev pub IsBroken : Form → PromptState → Option (List ℕ) → Option (List ℕ) → Option (List ℕ) → Option (List ℕ) → Option (List ℕ) → PromptFault → Type 0
+IsBroken form state input rest old new handed fault =
+    IsUnasked (prompt_text form state.session) input rest old new handed fault ⊎ ((fault ≡ Write) × IsCutAfter form state input rest old new)
 
 -- as many lines were answered as can be counted
 abbrev pub IsSpent : ℕ → Option (List ℕ) → Option (List ℕ) → Option (List ℕ) → Option (List ℕ) → PromptFault → Type 0
 IsSpent lines input rest old new fault = (lines ≡ 2 ^ 64 - 1) × (rest ≡ input) × Appends old new [] × (fault ≡ Read)
 
 -- What was read and written from the start, and how the call ends. What was handed on is known where nothing was written since the writer was asked to.
-abbrev pub Conversed : PromptState → Bool → Option (List ℕ) → Option (List ℕ) → Option (List ℕ) → Option (List ℕ) → Option (List ℕ) → Result Summary PromptFault → Type 0
-Conversed start shown input rest old new handed (Ok s) =
+abbrev pub Conversed : PromptState → Form → Option (List ℕ) → Option (List ℕ) → Option (List ℕ) → Option (List ℕ) → Option (List ℕ) → Result Summary PromptFault → Type 0
+Conversed start form input rest old new handed (Ok s) =
     (lines : List (List ℕ)) × (mid : Option (List ℕ)) × (out : List ℕ)
-    × HasRead input lines mid × Ends mid rest × IsTranscript start shown lines out s.bad × Appends old new out × (s.lines ≡ length lines) × (handed ≡ new)
-Conversed start shown input rest old new handed (Err fault) =
+    × HasRead input lines mid × Ends mid rest × IsTranscript start form lines out s.bad × Appends old new out × (s.lines ≡ length lines) × (handed ≡ new)
+Conversed start form input rest old new handed (Err fault) =
     (lines : ℕ) × (bad : ℕ) × (state : PromptState) × (mid : Option (List ℕ)) × (at : Option (List ℕ))
-    × IsSoFar start shown input mid old at lines bad state × (IsBroken shown state mid rest at new handed fault ⊎ IsSpent lines mid rest at new fault)
+    × IsSoFar start form input mid old at lines bad state × (IsBroken form state mid rest at new handed fault ⊎ IsSpent lines mid rest at new fault)
 
 abbrev pub with_bad : ℕ → ℕ
 with_bad zero = 0

@@ -8,6 +8,7 @@ ghost use Rattle.prompt.specs.Start.{start_at};
 ghost use Rattle.prompt.specs.Conversation.{AppendsPrefix, Conversed, IsAwaited, IsReaders, IsUnanswered, IsUnasked, IsWritten, prompt_text};
 
 use crate::fault::PromptFault;
+use crate::form::Form;
 use crate::handover::Handover;
 use crate::line_answer::{answer_line, prompt_text};
 use crate::moment::is_quit;
@@ -69,14 +70,14 @@ fn ask<R: BufRead + Drop, W: Handover + Drop>(
     alloc: Global,
     streams: &mut Streams<R, W>,
     session: &Session,
-    is_shown: bool,
+    form: Form,
 ) -> Result<Option<Vec<u8>>, PromptFault>
     ensures line { IfOk result (λ found. IsAwaited (R.remaining streams.old.reader) (R.remaining streams.new.reader) (option_map (λ line. line.items) found)) }
-    ensures shown { OnOk result (Appends (W.contents streams.old.writer) (W.contents streams.new.writer) (prompt_text is_shown session.now)) }
+    ensures shown { OnOk result (Appends (W.contents streams.old.writer) (W.contents streams.new.writer) (prompt_text form session.now)) }
     ensures handed { OnOk result (W.handed streams.new.writer ≡ W.contents streams.new.writer) }
-    ensures cut { IfErr result (λ fault. IsUnasked (prompt_text is_shown session.now) (R.remaining streams.old.reader) (R.remaining streams.new.reader) (W.contents streams.old.writer) (W.contents streams.new.writer) (W.handed streams.new.writer) fault) }
+    ensures cut { IfErr result (λ fault. IsUnasked (prompt_text form session.now) (R.remaining streams.old.reader) (R.remaining streams.new.reader) (W.contents streams.old.writer) (W.contents streams.new.writer) (W.handed streams.new.writer) fault) }
 {
-    let prompt = prompt_text(alloc, session, is_shown)?;
+    let prompt = prompt_text(alloc, session, form)?;
     show(streams, prompt.as_str().as_bytes())?;
     next_to_answer(alloc, streams)
 }
@@ -88,13 +89,13 @@ fn write_answer<R: BufRead + Drop, W: Handover + Drop, F: Files>(
     state: &mut PromptState,
     files: &mut F,
     line: &[u8],
-    is_shown: bool,
+    form: Form,
 ) -> Result<bool, PromptFault>
-    ensures whole { IfOk result (λ bad. IsWritten state.old line.now bad state.new (W.contents streams.old.writer) (W.contents streams.new.writer)) }
-    ensures cut { IfErr result (λ fault. IsUnanswered (streams.new.writer ≡ streams.old.writer) state.old line.now (W.contents streams.old.writer) (W.contents streams.new.writer) fault) }
+    ensures whole { IfOk result (λ bad. IsWritten form state.old line.now bad state.new (W.contents streams.old.writer) (W.contents streams.new.writer)) }
+    ensures cut { IfErr result (λ fault. IsUnanswered (streams.new.writer ≡ streams.old.writer) form state.old line.now (W.contents streams.old.writer) (W.contents streams.new.writer) fault) }
     ensures reader { streams.new.reader ≡ streams.old.reader }
 {
-    let answer = answer_line(alloc, state, files, line, is_shown)?;
+    let answer = answer_line(alloc, state, files, line, form)?;
     streams.write(answer.bytes())?;
     Ok(answer.is_bad)
 }
@@ -105,43 +106,45 @@ fn answer_all<R: BufRead + Drop, W: Handover + Drop, F: Files>(
     streams: &mut Streams<R, W>,
     state: &mut PromptState,
     files: &mut F,
-    is_shown: bool,
+    form: Form,
 ) -> Result<Summary, PromptFault>
-    ensures { Conversed state.old is_shown (R.remaining streams.old.reader) (R.remaining streams.new.reader) (W.contents streams.old.writer) (W.contents streams.new.writer) (W.handed streams.new.writer) result }
+    ensures { Conversed state.old form (R.remaining streams.old.reader) (R.remaining streams.new.reader) (W.contents streams.old.writer) (W.contents streams.new.writer) (W.handed streams.new.writer) result }
 {
     let mut bad = 0u64;
     for lines in 0..u64::MAX {
-        let Some(line) = ask(alloc, streams, &state.session, is_shown)? else {
+        let Some(line) = ask(alloc, streams, &state.session, form)? else {
             return Ok(Summary { lines, bad });
         };
-        let is_bad = write_answer(alloc, streams, state, files, line.as_slice(), is_shown)?;
+        let is_bad = write_answer(alloc, streams, state, files, line.as_slice(), form)?;
         bad += u64::from(is_bad);
     }
     Err(PromptFault::Read)
 }
 
 /// Answers each line as it comes: its reply is written, and after it the remarks, lines that begin
-/// with `# `; then all is handed on, and the next line is read. It ends at a line `quit`, `exit`,
-/// `.quit` or `\q`, and at the end of the input.
+/// with `# `, or both in one line of JSON; then all is handed on, and the next line is read. It ends
+/// at a line `quit`, `exit`, `.quit` or `\q`, and at the end of the input.
 ///
 /// - `streams`: where lines come from and replies go.
 /// - `files`: where `save` keeps a checkpoint.
 /// - `checkpoint`: where the session opens, if not before the declarations; then no server has a
 ///   lease, nothing is prepared, and no plan is kept.
-/// - `is_shown`: whether a prompt is written before each line is read.
+/// - `form`: the form of the answers, and whether a prompt is written before each line is read.
 ///
 /// Refused if the reader fails, or after 2^64 - 1 lines (`Read`), if the writer fails or takes
 /// nothing (`Write`), and if memory runs out (`Memory`): what was written is what is due for the
-/// lines that were read, in turn. Only at `Write` is the last prompt or answer cut short.
+/// lines that were read, in turn. Only at `Write` is the last prompt or answer cut short. No contract
+/// of std says when a reader or a writer fails, so none says here that a fault had its cause;
+/// `.ci/fuzz` and `.ci/prompts` show it.
 pub fn converse<R: BufRead + Drop, W: Handover + Drop, F: Files>(
     alloc: Global,
     streams: &mut Streams<R, W>,
     files: &mut F,
     checkpoint: Option<Checkpoint>,
-    is_shown: bool,
+    form: Form,
 ) -> Result<Summary, PromptFault>
-    ensures { Conversed (start_at checkpoint) is_shown (R.remaining streams.old.reader) (R.remaining streams.new.reader) (W.contents streams.old.writer) (W.contents streams.new.writer) (W.handed streams.new.writer) result }
+    ensures { Conversed (start_at checkpoint) form (R.remaining streams.old.reader) (R.remaining streams.new.reader) (W.contents streams.old.writer) (W.contents streams.new.writer) (W.handed streams.new.writer) result }
 {
     let mut state = PromptState::new(alloc, checkpoint);
-    answer_all(alloc, streams, &mut state, files, is_shown)
+    answer_all(alloc, streams, &mut state, files, form)
 }

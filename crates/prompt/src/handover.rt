@@ -19,6 +19,8 @@ pub trait Handover: Write {
         ensures handed { OnOk result (handed self.new ≡ Self.contents self.new) };
 }
 
+// What standard output has handed on is not known, so that a body which does nothing would be proved;
+// `.ci/prompts` reads each answer over a pipe before it writes the next line.
 impl<P: Print> Handover for Printer<'_, P> {
     ghost handed = { λ _. None };
 

@@ -5,8 +5,10 @@ mod alone;
 mod carry;
 mod conversation;
 mod fault;
+mod form;
 mod handover;
 mod line_answer;
+mod line_text;
 mod log_cut;
 mod moment;
 mod save;
@@ -16,6 +18,7 @@ mod undo;
 
 pub use conversation::{Summary, converse};
 pub use fault::{PromptFault, prompt_status};
+pub use form::Form;
 pub use handover::Handover;
 pub use save::Files;
 pub use streams::Streams;

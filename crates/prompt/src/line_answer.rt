@@ -1,93 +1,73 @@
 //! What one line is answered.
-ghost use Rattle.std.specs.Prelude.{◌≡◌, ◌++◌, IfOk, IfSome, OnOk, Some, None, string_bytes, true, false};
-ghost use Rattle.std.specs.List.{flat_map};
-ghost use Rattle.prompt.specs.Conversation.{IsCalm, IsAnswered, carry_asked, is_view, remark_text, remark_byte, prompt_text};
+ghost use Rattle.std.specs.Prelude.{◌≡◌, IfOk, IfSome, Some, None, string_bytes, true, false};
+ghost use Rattle.prompt.specs.Conversation.{IsCalm, IsAnswered, carry_asked, is_view, prompt_text};
+ghost use Rattle.prompt.specs.declared.form.Form.TheVariants as form;
 ghost use Rattle.prompt.specs.LogCut.{is_cut};
 ghost use Rattle.prompt.specs.Moment.{IsForeign};
 ghost use Rattle.prompt.specs.Save.{is_save};
 ghost use Rattle.prompt.specs.Undo.{is_undo};
 
 use crate::carry::{CarryLine, carry_of, carry_on};
+use crate::form::Form;
+use crate::line_text::{LineAnswer, answer_of, no_details};
 use crate::log_cut::{cut_log, cut_text, is_cut};
 use crate::moment::{given_line, is_foreign, is_view};
 use crate::save::{Files, is_save, saved_text};
 use crate::state::PromptState;
 use crate::undo::{is_undo, keep_declared, take_back, taken_text};
-use script_hints::{Before, view_of};
+use script_hints::{Before, bad_column, view_of};
+use script_json::{Details, facts_of};
+use script_progress::plan_dropped;
 use script_session::Session;
 use std::alloc::{AllocError, Global};
 
-/// What is written for one line.
-#[derive(Drop)]
-pub(crate) struct LineAnswer {
-    /// The reply, and after it the remarks, each line of which begins with `# `.
-    pub text: Vec<u8>,
-    /// Whether the reply is `bad line`.
-    pub is_bad: bool,
-}
-
-impl LineAnswer {
-    /// What is written.
-    pub(crate) fn bytes(&self) -> &[u8]
-        ensures { result.now ≡ self.now.text.items }
-    {
-        self.text.as_slice()
-    }
-}
-
-// Adds a byte of a remark, and `# ` after a line feed.
-fn push_remark_byte(out: &mut Vec<u8>, byte: u8) -> Result<(), AllocError>
-    ensures { OnOk result (out.new.items ≡ out.old.items ++ remark_byte byte) }
-{
-    out.push(byte)?;
-    if byte == b'\n' {
-        out.extend_from_slice(b"# ")?;
-    }
-    Ok(())
-}
-
-// Adds the bytes of a remark, and `# ` after each line feed.
-fn push_remark(out: &mut Vec<u8>, remark: &[u8]) -> Result<(), AllocError>
-    ensures { OnOk result (out.new.items ≡ out.old.items ++ flat_map remark_byte remark.now) }
-{
-    for byte in remark {
-        push_remark_byte(out, *byte)?;
-    }
-    Ok(())
-}
-
-// A reply and the remark on it, which is nothing if it is empty.
-fn answer_of(
+// What an answer has in JSON besides the session's reply: where a bad line is wrong.
+fn reply_details(
     alloc: Global,
-    reply: &str,
+    session: &Session,
+    line: &str,
     is_bad: bool,
-    remark: &str,
-) -> Result<LineAnswer, AllocError>
-    ensures text { IfOk result (λ answer. answer.text.items ≡ reply.now ++ remark_text remark.now) }
-    ensures bad { IfOk result (λ answer. answer.is_bad ≡ is_bad) }
-{
-    let mut text = Vec::new(alloc);
-    text.extend_from_slice(reply.as_bytes())?;
-    if !remark.is_empty() {
-        text.extend_from_slice(b"# ")?;
-        push_remark(&mut text, remark.as_bytes())?;
-        text.push(b'\n')?;
+    form: Form,
+) -> Result<Details, AllocError> {
+    let mut details = no_details();
+    if is_bad && form.is_json() {
+        details.column = bad_column(alloc, session, line)?;
     }
-    Ok(LineAnswer { text, is_bad })
+    Ok(details)
+}
+
+// What an answer has in JSON besides a view: the facts that it shows.
+fn view_details(
+    alloc: Global,
+    session: &Session,
+    line: &str,
+    form: Form,
+) -> Result<Details, AllocError> {
+    let mut details = no_details();
+    if form.is_json() {
+        details.facts = facts_of(alloc, session, line)?;
+    }
+    Ok(details)
 }
 
 // The session's own reply to a line, and the hint that goes with it.
-fn reply_line(alloc: Global, state: &mut PromptState, line: &str) -> Result<LineAnswer, AllocError>
+fn reply_line(
+    alloc: Global,
+    state: &mut PromptState,
+    line: &str,
+    form: Form,
+) -> Result<LineAnswer, AllocError>
     requires calm { IsCalm state.old.session line.now }
-    ensures { IfOk result (λ answer. IsAnswered state.old line.now answer.text.items answer.is_bad state.new) }
+    ensures { IfOk result (λ answer. IsAnswered form state.old line.now answer.text.items answer.is_bad state.new) }
 {
     let given = given_line(alloc, &state.session, line)?;
     let before = Before::new(alloc, &state.session, given.as_str())?;
     let answer = state.session.reply_to(alloc, given.as_str())?;
     let reply = answer.text.as_str();
     let hint = before.hint(alloc, &state.session, given.as_str(), reply)?;
+    let details = reply_details(alloc, &state.session, given.as_str(), answer.is_bad, form)?;
     keep_declared(alloc, state, given, answer.is_bad)?;
-    let answer = answer_of(alloc, reply, answer.is_bad, hint.as_str())?;
+    let answer = answer_of(alloc, form, reply, answer.is_bad, hint.as_str(), &details)?;
     Ok(answer)
 }
 
@@ -96,12 +76,12 @@ fn view_shown(
     alloc: Global,
     session: &Session,
     line: &str,
-    is_shown: bool,
+    form: Form,
 ) -> Result<Option<String>, AllocError>
     ensures { IfOk result (λ shown. IfSome shown (λ _. is_view line.now ≡ true)) }
 {
     if is_view(line) {
-        view_of(alloc, session, line, is_shown)
+        view_of(alloc, session, line, form.is_shown())
     } else {
         Ok(None)
     }
@@ -112,20 +92,21 @@ fn view_line(
     alloc: Global,
     state: &mut PromptState,
     line: &str,
-    is_shown: bool,
+    form: Form,
 ) -> Result<LineAnswer, AllocError>
     requires foreign { IsForeign line.now }
     requires calm { carry_asked state.old.session line.now ≡ None }
     requires no_undo { is_undo line.now ≡ false }
     requires no_cut { is_cut line.now ≡ false }
     requires no_save { is_save line.now ≡ false }
-    ensures { IfOk result (λ answer. IsAnswered state.old line.now answer.text.items answer.is_bad state.new) }
+    ensures { IfOk result (λ answer. IsAnswered form state.old line.now answer.text.items answer.is_bad state.new) }
 {
-    if let Some(view) = view_shown(alloc, &state.session, line, is_shown)? {
-        let answer = answer_of(alloc, "", false, view.as_str())?;
+    if let Some(view) = view_shown(alloc, &state.session, line, form)? {
+        let details = view_details(alloc, &state.session, line, form)?;
+        let answer = answer_of(alloc, form, "", false, view.as_str(), &details)?;
         return Ok(answer);
     }
-    reply_line(alloc, state, line)
+    reply_line(alloc, state, line, form)
 }
 
 // What a line asks an opened session for: to carry changes on.
@@ -142,46 +123,66 @@ fn carry_asked(
     }
 }
 
-// Carries changes on as the line asks.
+// Carries changes on as the line asks, and says so if that drops a plan.
 fn carry_line(
     alloc: Global,
     state: &mut PromptState,
     line: &str,
     carry: CarryLine,
+    form: Form,
 ) -> Result<LineAnswer, AllocError>
     requires foreign { IsForeign line.now }
     requires asked { carry_asked state.old.session line.now ≡ Some carry }
-    ensures { IfOk result (λ answer. IsAnswered state.old line.now answer.text.items answer.is_bad state.new) }
+    ensures { IfOk result (λ answer. IsAnswered form state.old line.now answer.text.items answer.is_bad state.new) }
 {
     let Session::Running(opened) = &mut state.session else {
         return Err(AllocError);
     };
+    let dropped = plan_dropped(alloc, opened)?;
     let text = carry_on(alloc, opened, carry)?;
-    let answer = answer_of(alloc, text.as_str(), false, "")?;
+    let details = no_details();
+    let answer = answer_of(
+        alloc,
+        form,
+        text.as_str(),
+        false,
+        dropped.as_str(),
+        &details,
+    )?;
     Ok(answer)
 }
 
 // Takes the last declaration back, and says which.
-fn undo_line(alloc: Global, state: &mut PromptState, line: &str) -> Result<LineAnswer, AllocError>
+fn undo_line(
+    alloc: Global,
+    state: &mut PromptState,
+    line: &str,
+    form: Form,
+) -> Result<LineAnswer, AllocError>
     requires foreign { IsForeign line.now }
     requires asked { is_undo line.now ≡ true }
-    ensures { IfOk result (λ answer. IsAnswered state.old line.now answer.text.items answer.is_bad state.new) }
+    ensures { IfOk result (λ answer. IsAnswered form state.old line.now answer.text.items answer.is_bad state.new) }
 {
     let taken = take_back(alloc, state)?;
     let remark = taken_text(alloc, &state.session, taken.as_ref())?;
-    let answer = answer_of(alloc, "", false, remark.as_str())?;
+    let answer = answer_of(alloc, form, "", false, remark.as_str(), &no_details())?;
     Ok(answer)
 }
 
 // Gives the memory of the log's entries back, and says of how many.
-fn cut_line(alloc: Global, state: &mut PromptState, line: &str) -> Result<LineAnswer, AllocError>
+fn cut_line(
+    alloc: Global,
+    state: &mut PromptState,
+    line: &str,
+    form: Form,
+) -> Result<LineAnswer, AllocError>
     requires foreign { IsForeign line.now }
     requires asked { is_cut line.now ≡ true }
-    ensures { IfOk result (λ answer. IsAnswered state.old line.now answer.text.items answer.is_bad state.new) }
+    ensures { IfOk result (λ answer. IsAnswered form state.old line.now answer.text.items answer.is_bad state.new) }
 {
     let remark = cut_text(alloc, &state.session)?;
     cut_log(&mut state.session);
-    let answer = answer_of(alloc, "", false, remark.as_str())?;
+    let answer = answer_of(alloc, form, "", false, remark.as_str(), &no_details())?;
     Ok(answer)
 }
 
@@ -191,13 +192,14 @@ fn save_line<F: Files>(
     state: &mut PromptState,
     files: &mut F,
     line: &str,
+    form: Form,
 ) -> Result<LineAnswer, AllocError>
     requires foreign { IsForeign line.now }
     requires asked { is_save line.now ≡ true }
-    ensures { IfOk result (λ answer. IsAnswered state.old line.now answer.text.items answer.is_bad state.new) }
+    ensures { IfOk result (λ answer. IsAnswered form state.old line.now answer.text.items answer.is_bad state.new) }
 {
     let remark = saved_text(alloc, &state.session, files, line)?;
-    let answer = answer_of(alloc, "", false, remark.as_str())?;
+    let answer = answer_of(alloc, form, "", false, remark.as_str(), &no_details())?;
     Ok(answer)
 }
 
@@ -208,20 +210,20 @@ fn calm_line<F: Files>(
     state: &mut PromptState,
     files: &mut F,
     line: &str,
-    is_shown: bool,
+    form: Form,
 ) -> Result<LineAnswer, AllocError>
     requires foreign { IsForeign line.now }
     requires calm { carry_asked state.old.session line.now ≡ None }
-    ensures { IfOk result (λ answer. IsAnswered state.old line.now answer.text.items answer.is_bad state.new) }
+    ensures { IfOk result (λ answer. IsAnswered form state.old line.now answer.text.items answer.is_bad state.new) }
 {
     if is_undo(alloc, line.as_bytes())? {
-        undo_line(alloc, state, line)
+        undo_line(alloc, state, line, form)
     } else if is_cut(alloc, line.as_bytes())? {
-        cut_line(alloc, state, line)
+        cut_line(alloc, state, line, form)
     } else if is_save(line) {
-        save_line(alloc, state, files, line)
+        save_line(alloc, state, files, line, form)
     } else {
-        view_line(alloc, state, line, is_shown)
+        view_line(alloc, state, line, form)
     }
 }
 
@@ -231,14 +233,14 @@ fn own_line<F: Files>(
     state: &mut PromptState,
     files: &mut F,
     line: &str,
-    is_shown: bool,
+    form: Form,
 ) -> Result<LineAnswer, AllocError>
     requires foreign { IsForeign line.now }
-    ensures { IfOk result (λ answer. IsAnswered state.old line.now answer.text.items answer.is_bad state.new) }
+    ensures { IfOk result (λ answer. IsAnswered form state.old line.now answer.text.items answer.is_bad state.new) }
 {
     match carry_asked(alloc, &state.session, line.as_bytes())? {
-        Some(carry) => carry_line(alloc, state, line, carry),
-        None => calm_line(alloc, state, files, line, is_shown),
+        Some(carry) => carry_line(alloc, state, line, carry, form),
+        None => calm_line(alloc, state, files, line, form),
     }
 }
 
@@ -249,7 +251,7 @@ fn own_line<F: Files>(
 /// - `state`: the session, and its declarations.
 /// - `files`: where `save` keeps a checkpoint.
 /// - `line`: the line without its ending.
-/// - `is_shown`: whether someone sees the answer on a terminal.
+/// - `form`: the form in which it is answered.
 ///
 /// Refused only when out of memory; discard the state then.
 pub(crate) fn answer_line<F: Files>(
@@ -257,36 +259,32 @@ pub(crate) fn answer_line<F: Files>(
     state: &mut PromptState,
     files: &mut F,
     line: &[u8],
-    is_shown: bool,
+    form: Form,
 ) -> Result<LineAnswer, AllocError>
-    ensures { IfOk result (λ answer. IsAnswered state.old line.now answer.text.items answer.is_bad state.new) }
+    ensures { IfOk result (λ answer. IsAnswered form state.old line.now answer.text.items answer.is_bad state.new) }
 {
     let Ok(line) = std::str::from_utf8(line) else {
-        let answer = answer_of(alloc, "bad line\n", true, "the line is not UTF-8")?;
+        let answer = answer_of(
+            alloc,
+            form,
+            "bad line\n",
+            true,
+            "the line is not UTF-8",
+            &no_details(),
+        )?;
         return Ok(answer);
     };
     if is_foreign(alloc, line.as_bytes())? {
-        return own_line(alloc, state, files, line, is_shown);
+        return own_line(alloc, state, files, line, form);
     }
-    reply_line(alloc, state, line)
+    reply_line(alloc, state, line, form)
 }
 
-/// The prompt: the newest version and the moment, as `v3 @20> `, or `> ` before `open`. Nothing if
-/// it is not shown.
-///
-/// - `session`: the session, which is only read.
-/// - `is_shown`: whether there is someone to show it to.
-pub(crate) fn prompt_text(
-    alloc: Global,
-    session: &Session,
-    is_shown: bool,
-) -> Result<String, AllocError>
-    ensures { IfOk result (λ text. string_bytes text ≡ prompt_text is_shown session.now) }
+// The prompt on a terminal.
+fn shown_prompt(alloc: Global, session: &Session) -> Result<String, AllocError>
+    ensures { IfOk result (λ text. string_bytes text ≡ prompt_text form.Shown session.now) }
 {
     let mut text = String::new(alloc);
-    if !is_shown {
-        return Ok(text);
-    }
     match session {
         Session::Declaring(_) => text.push_str("> ")?,
         Session::Running(opened) => {
@@ -296,4 +294,22 @@ pub(crate) fn prompt_text(
         }
     }
     Ok(text)
+}
+
+/// The prompt: the newest version and the moment, as `v3 @20> `, or `> ` before `open`. Nothing if
+/// the form has none.
+///
+/// - `session`: the session, which is only read.
+/// - `form`: the form in which lines are answered.
+pub(crate) fn prompt_text(
+    alloc: Global,
+    session: &Session,
+    form: Form,
+) -> Result<String, AllocError>
+    ensures { IfOk result (λ text. string_bytes text ≡ prompt_text form session.now) }
+{
+    match form {
+        Form::Plain | Form::Json => Ok(String::new(alloc)),
+        Form::Shown => shown_prompt(alloc, session),
+    }
 }

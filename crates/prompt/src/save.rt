@@ -33,7 +33,8 @@ fn file_of(line: &str) -> &str {
 }
 
 /// Has a checkpoint of the world kept in the file that the line names, and says so, or why it is not
-/// kept. Refused only when out of memory.
+/// kept. Refused only when out of memory. No contract says that `Files::save` is called: `.ci/prompts`
+/// goes on from the file.
 ///
 /// - `session`: the session, which is only read.
 /// - `line`: the line without its ending.

@@ -5,7 +5,7 @@ use crate::in_way::left_out;
 use crate::refused::{opening_hint, refusal_hint, refusal_of};
 use crate::rows::row_hint;
 use script_grammar::{Command, read_command};
-use script_mistakes::unexpected;
+use script_mistakes::{column_of, unexpected};
 use script_session::{Declarations, Session};
 use script_views::push_nearest;
 use std::alloc::{AllocError, Global};
@@ -139,4 +139,27 @@ pub fn hint_of(
         Some(refusal) => refused_hint(alloc, session, line, refusal.trim_end()),
         None => accepted_hint(alloc, session, line, reply),
     }
+}
+
+/// The column of what is wrong with a bad line of a prompt, in characters from 1; `None` if the hint
+/// names no column. Refused only when out of memory.
+///
+/// - `session`: the session, which is only read.
+/// - `line`: the line without its ending, which is answered `bad line`.
+pub fn bad_column(
+    alloc: Global,
+    session: &Session,
+    line: &str,
+) -> Result<Option<usize>, AllocError> {
+    if line.len() > MAX_LINE {
+        return Ok(None);
+    }
+    let read = read_command(alloc, line.as_bytes());
+    let column = match (session, &read) {
+        (Session::Declaring(_), Ok(_)) => Ok(None),
+        (Session::Running(_), Ok(_)) => Ok(Some(1)),
+        (_, Err(_)) => column_of(alloc, line, true),
+    };
+    drop(read);
+    column
 }

@@ -14,5 +14,5 @@ mod rows;
 mod views;
 
 pub use before::Before;
-pub use hint::hint_of;
+pub use hint::{bad_column, hint_of};
 pub use views::view_of;

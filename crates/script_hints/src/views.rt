@@ -6,43 +6,11 @@ ghost use Rattle.script_views.specs.Explain.{ShowsPath, ShowsPathIn};
 use crate::command_help::help_text;
 use crate::explain_plan::plan_explanation;
 use crate::hint::NOT_OPEN;
-use lease::LeaseFault;
-use script_progress::{description, plan_left, progress, timeline};
-use script_session::{Opened, ServerLease, Session};
+use script_progress::{description, leases_text, plan_left, progress, timeline};
+use script_rows::rows_view;
+use script_session::{Opened, Session};
 use script_views::{explanation, named_pairs, named_view};
 use std::alloc::{AllocError, Global};
-
-fn push_lease(
-    out: &mut String,
-    opened: &Opened,
-    name: &str,
-    held: &ServerLease,
-) -> Result<(), AllocError> {
-    let lease = &held.lease;
-    let (version, granted, until) = (lease.version, lease.granted, lease.until);
-    let line = opened.world.timeline();
-    let standing = match line.standing(lease, opened.world.moment()) {
-        Ok(()) => "in force",
-        Err(LeaseFault::LeaseEnded { .. }) => "ended",
-        Err(_) => "never granted",
-    };
-    write!(
-        out,
-        "{name:<8}  version {version}, from {granted} until {until}, {standing}\n"
-    )
-}
-
-fn leases(alloc: Global, opened: &Opened) -> Result<String, AllocError> {
-    let mut out = String::new(alloc);
-    for (name, held) in opened.leases.entries() {
-        let name = std::str::from_utf8(name.as_slice()).unwrap_or("");
-        push_lease(&mut out, opened, name, held)?;
-    }
-    if out.is_empty() {
-        out.push_str("no server has a lease")?;
-    }
-    Ok(out)
-}
 
 // `check TABLE.NAME` with white space around its names; `None` if the words are no such name.
 fn element_view(alloc: Global, opened: &Opened, name: &str) -> Result<Option<String>, AllocError> {
@@ -60,17 +28,18 @@ fn element_view(alloc: Global, opened: &Opened, name: &str) -> Result<Option<Str
 fn opened_view(
     alloc: Global,
     opened: &Opened,
-    command: &str,
-    rest: &str,
+    line: &str,
     is_shown: bool,
 ) -> Result<Option<String>, AllocError> {
-    match (command, rest) {
+    let (command, rest) = line.split_once(' ').unwrap_or((line, ""));
+    match (command, rest.trim()) {
         ("help", command) => Ok(Some(help_text(alloc, command)?)),
         ("describe", table) => Ok(Some(description(alloc, &opened.world, table)?)),
         ("check", name) => element_view(alloc, opened, name),
-        ("leases", "") => Ok(Some(leases(alloc, opened)?)),
+        ("leases", "") => Ok(Some(leases_text(alloc, opened)?)),
         ("progress", "") => Ok(Some(progress(alloc, opened, is_shown)?)),
         ("plan", "") => Ok(Some(plan_left(alloc, opened)?)),
+        ("rows", _) => Ok(Some(rows_view(alloc, opened, line)?)),
         ("timeline", "") => Ok(Some(timeline(alloc, opened, is_shown)?)),
         ("explain", line) if line.starts_with("plan") => {
             Ok(Some(plan_explanation(alloc, opened, line)?))
@@ -95,8 +64,7 @@ fn view_by_words(
     line: &str,
     is_shown: bool,
 ) -> Result<Option<String>, AllocError> {
-    let (command, rest) = line.split_once(' ').unwrap_or((line, ""));
-    let view = opened_view(alloc, opened, command, rest.trim(), is_shown)?;
+    let view = opened_view(alloc, opened, line, is_shown)?;
     trimmed(alloc, view)
 }
 
@@ -127,6 +95,7 @@ fn declaring_view(alloc: Global, line: &str) -> Result<Option<String>, AllocErro
         "describe"
         | "leases"
         | "progress"
+        | "rows"
         | "timeline"
         | "explain"
         | "check"
@@ -136,8 +105,8 @@ fn declaring_view(alloc: Global, line: &str) -> Result<Option<String>, AllocErro
     }
 }
 
-/// What a line of the prompt's own shows: `help`, `describe`, `leases`, `progress`, `timeline`,
-/// `plan` alone, `check TABLE.NAME`, `explain query` and `explain plan`; `None` if the line is none
+/// What a line of the prompt's own shows: `help`, `describe`, `leases`, `progress`, `rows`,
+/// `timeline`, `plan` alone, `check TABLE.NAME`, `explain query` and `explain plan`; `None` if the line is none
 /// of them. White space around the line does not matter. Refused only when out of memory.
 ///
 /// - `session`: the session, which is only read.

@@ -136,3 +136,23 @@ pub fn unexpected(alloc: Global, line: &str, may_omit: bool) -> Result<String, A
         None => key_hint(alloc, pieces.as_slice()),
     }
 }
+
+/// The column at which a line that is no command stops being one, in characters from 1; `None` if it
+/// has no such place, as with key columns that are not the first of their table. Refused only when
+/// out of memory.
+///
+/// - `line`: the line without its ending.
+/// - `may_omit`: whether `at M` may be left out, as in a prompt.
+pub fn column_of(alloc: Global, line: &str, may_omit: bool) -> Result<Option<usize>, AllocError> {
+    let pieces = pieces_of(alloc, line.as_bytes())?;
+    let end = line.trim_end().len().saturating_add(1);
+    let Some(stop) = stop_of(pieces.as_slice(), end, may_omit) else {
+        return Ok(None);
+    };
+    let bytes = stop.piece.column.saturating_sub(1);
+    let before = match line.as_bytes().split_at_checked(bytes) {
+        Some((before, _)) => std::str::from_utf8(before).unwrap_or(""),
+        None => "",
+    };
+    Ok(Some(before.chars().count().saturating_add(1)))
+}

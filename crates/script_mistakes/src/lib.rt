@@ -11,5 +11,5 @@ mod rules;
 mod stop;
 mod table;
 
-pub use expected::unexpected;
+pub use expected::{column_of, unexpected};
 pub use table::row_of;

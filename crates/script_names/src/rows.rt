@@ -56,6 +56,15 @@ fn named_cells(
     Ok(List::new(cells))
 }
 
+// The same key, without room for more, since the log keeps it.
+fn exact(key: List<Value>) -> List<Value>
+    ensures { result ≡ key }
+{
+    let mut values = key.into_vec();
+    values.shrink_to_fit();
+    List::new(values)
+}
+
 fn resolve_operation(
     alloc: Global,
     schema: &Schema,
@@ -67,11 +76,13 @@ fn resolve_operation(
         Operation::Insert { table, key, sets } => {
             let table = table_number(schema, &table);
             let cells = named_cells(alloc, schema, table, sets)?;
+            let key = exact(key);
             Ok(RowOp::Insert { table, key, cells })
         }
         Operation::Update { table, key, sets } => {
             let table = table_number(schema, &table);
             let cells = named_cells(alloc, schema, table, sets)?;
+            let key = exact(key);
             Ok(RowOp::Update { table, key, cells })
         }
         Operation::Delete { table, key } => {

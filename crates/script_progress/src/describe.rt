@@ -1,5 +1,6 @@
 //! The columns and indexes of tables, as aligned tables.
-use crate::unfinished::{is_resting, push_waiting};
+use crate::unfinished::is_resting;
+use crate::waiting::push_waiting;
 use keycode::Text;
 use row_map::ColumnType;
 use schema_version::{ElementDef, Kind, MAX_TABLES, Schema, Way};
@@ -48,14 +49,23 @@ fn kind_text(alloc: Global, schema: &Schema, kind: &Kind) -> Result<String, Allo
     Ok(out)
 }
 
+/// The word for what an element of this way is: `adding` or `dropping`; nothing of one that is public
+/// and is not being dropped.
+pub fn way_word(element: &ElementDef) -> Option<&'static str> {
+    match (element.way, element.state.is_public()) {
+        (Way::Adding, true) => None,
+        (Way::Adding, false) => Some("adding"),
+        (Way::Dropping, _) => Some("dropping"),
+    }
+}
+
 /// Adds the state of an element and, if it is being added or dropped, which: `write_only, adding`.
 /// Refused only when out of memory.
 pub fn push_standing(out: &mut String, element: &ElementDef) -> Result<(), AllocError> {
     out.push_str(state_word(element.state))?;
-    match (element.way, element.state.is_public()) {
-        (Way::Adding, true) => Ok(()),
-        (Way::Adding, false) => out.push_str(", adding"),
-        (Way::Dropping, _) => out.push_str(", dropping"),
+    match way_word(element) {
+        None => Ok(()),
+        Some(word) => write!(out, ", {word}"),
     }
 }
 

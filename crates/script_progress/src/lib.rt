@@ -3,11 +3,16 @@
 
 mod describe;
 mod fills;
+mod leases;
 mod moves;
 mod unfinished;
 mod versions;
+mod waiting;
 
-pub use describe::{description, push_standing};
+pub use describe::{description, push_standing, way_word};
 pub use fills::push_reads;
-pub use unfinished::{is_resting, plan_left, progress, push_waiting};
-pub use versions::timeline;
+pub use leases::{Standing, leases_text, standing_of, standing_word};
+pub use moves::push_moved;
+pub use unfinished::{is_resting, plan_dropped, plan_left, progress};
+pub use versions::{Event, Happened, History, history_of, timeline};
+pub use waiting::{Begun, Waiting, push_waiting, waiting_of, work_word};

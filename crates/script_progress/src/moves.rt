@@ -55,10 +55,11 @@ fn older_with(opened: &Opened, number: u32) -> Option<&Schema> {
 }
 
 /// Adds the name of an element of the newest version, of one that enters, or of one that has left
-/// since. One that was there at the opening is `element N` if no version at hand has it.
+/// since. One that was there at the opening is `element N` if no version at hand has it. Refused only
+/// when out of memory.
 ///
 /// - `entered`: the number of the first that enters, and all that enter.
-pub(crate) fn push_moved(
+pub fn push_moved(
     out: &mut String,
     opened: &Opened,
     entered: (u32, &[&NewElement]),

@@ -2,9 +2,49 @@
 use crate::moves::{push_entered, push_moved, push_step};
 use crate::unfinished::progress;
 use replay::What;
-use schema_version::NewElement;
+use schema_version::{NewElement, Step};
 use script_session::Opened;
 use std::alloc::{AllocError, Global};
+
+/// What happened to the schema at a moment.
+#[derive(Clone, Copy)]
+pub enum Happened<'a> {
+    /// A version was published.
+    Version {
+        /// Its number.
+        version: u64,
+        /// Its step; `None` of the first version, and if the log no longer has it in memory.
+        step: Option<&'a Step>,
+    },
+    /// A fill or a clear began.
+    Begin {
+        /// The number of the element.
+        element: u32,
+        /// In how many pieces.
+        pieces: u32,
+    },
+}
+
+/// What happened to the schema, and when.
+#[derive(Clone, Copy)]
+pub struct Event<'a> {
+    /// The moment.
+    pub moment: u64,
+    /// What happened.
+    pub what: Happened<'a>,
+}
+
+/// What happened to the schema.
+#[derive(Drop)]
+pub struct History<'a> {
+    /// The number of the first element that entered by a step in memory; those after it have the
+    /// next ones.
+    pub first: u32,
+    /// The elements that entered by the steps in memory.
+    pub entered: Vec<&'a NewElement>,
+    /// What happened, by rising moments.
+    pub events: Vec<Event<'a>>,
+}
 
 // The elements that entered by the log's publications.
 fn entered<'a>(alloc: Global, opened: &'a Opened) -> Result<Vec<&'a NewElement>, AllocError> {
@@ -28,47 +68,112 @@ fn known_versions(opened: &Opened) -> usize {
     known
 }
 
-// Adds the versions whose entries are no longer in memory, by their moments alone, and answers how
-// many there are.
-fn push_older(out: &mut String, opened: &Opened) -> Result<u64, AllocError> {
+// The versions whose entries are no longer in memory, by their moments alone.
+fn push_older<'a>(events: &mut Vec<Event<'a>>, opened: &'a Opened) -> Result<u64, AllocError> {
     let published = opened.world.timeline().published();
     let older = published.len().saturating_sub(known_versions(opened));
     let mut version = 0u64;
     for moment in published.iter().take(older) {
         version = version.saturating_add(1);
-        write!(out, "@{moment}  version {version}\n")?;
+        events.push(Event {
+            moment: *moment,
+            what: Happened::Version {
+                version,
+                step: None,
+            },
+        })?;
     }
     Ok(version)
 }
 
+fn push_known<'a>(
+    events: &mut Vec<Event<'a>>,
+    opened: &'a Opened,
+    older: u64,
+) -> Result<(), AllocError> {
+    let mut version = older;
+    for entry in opened.world.log() {
+        let moment = entry.moment;
+        let what = match entry.what.get() {
+            What::Publish(step) => {
+                version = version.saturating_add(1);
+                let step = Some(step);
+                Happened::Version { version, step }
+            }
+            What::Begin { element, pieces } => {
+                let (element, pieces) = (*element, *pieces);
+                Happened::Begin { element, pieces }
+            }
+            _ => continue,
+        };
+        events.push(Event { moment, what })?;
+    }
+    Ok(())
+}
+
+/// Each publication and each begin of a fill or a clear, by rising moments. Of what the log no
+/// longer has in memory there are only the versions, with their moments. Refused only when out of
+/// memory.
+///
+/// - `opened`: the world.
+pub fn history_of<'a>(alloc: Global, opened: &'a Opened) -> Result<History<'a>, AllocError> {
+    let entered = entered(alloc, opened)?;
+    let count = u32::try_from(entered.len()).unwrap_or(0);
+    let first = opened
+        .world
+        .newest()
+        .get()
+        .next_number()
+        .wrapping_sub(count);
+    let mut events = Vec::new(alloc);
+    let older = push_older(&mut events, opened)?;
+    push_known(&mut events, opened, older)?;
+    Ok(History {
+        first,
+        entered,
+        events,
+    })
+}
+
+fn push_event(
+    out: &mut String,
+    opened: &Opened,
+    entered: (u32, &[&NewElement]),
+    event: &Event<'_>,
+) -> Result<(), AllocError> {
+    let moment = event.moment;
+    match event.what {
+        Happened::Version {
+            version,
+            step: None,
+        } => write!(out, "@{moment}  version {version}\n"),
+        Happened::Version {
+            version,
+            step: Some(step),
+        } => {
+            write!(out, "@{moment}  version {version}: ")?;
+            push_step(out, opened, entered, step)
+        }
+        Happened::Begin { element, pieces } => {
+            write!(out, "@{moment}  reorganise ")?;
+            push_moved(out, opened, entered, element)?;
+            write!(out, " pieces {pieces}\n")
+        }
+    }
+}
+
 /// Each publication with its moment and moves, each begin of a fill or a clear, and what is in
-/// progress now. Of what the log no longer has in memory only the moments of the versions are told.
+/// progress now. Of what the log no longer has in memory only the moments of the versions are shown.
 /// Refused only when out of memory.
 ///
 /// - `opened`: the world.
 /// - `is_shown`: whether someone sees it on a terminal.
 pub fn timeline(alloc: Global, opened: &Opened, is_shown: bool) -> Result<String, AllocError> {
-    let schema = opened.world.newest().get();
-    let entered = entered(alloc, opened)?;
-    let count = u32::try_from(entered.len()).unwrap_or(0);
-    let first = schema.next_number().wrapping_sub(count);
+    let history = history_of(alloc, opened)?;
+    let entered = (history.first, history.entered.as_slice());
     let mut out = String::new(alloc);
-    let mut version = push_older(&mut out, opened)?;
-    for entry in opened.world.log() {
-        let moment = entry.moment;
-        match entry.what.get() {
-            What::Publish(step) => {
-                version = version.saturating_add(1);
-                write!(out, "@{moment}  version {version}: ")?;
-                push_step(&mut out, opened, (first, entered.as_slice()), step)?;
-            }
-            What::Begin { element, pieces } => {
-                write!(out, "@{moment}  reorganise ")?;
-                push_moved(&mut out, opened, (first, entered.as_slice()), *element)?;
-                write!(out, " pieces {pieces}\n")?;
-            }
-            _ => {}
-        }
+    for event in history.events.as_slice() {
+        push_event(&mut out, opened, entered, event)?;
     }
     let moment = opened.world.moment();
     let now = progress(alloc, opened, is_shown)?;

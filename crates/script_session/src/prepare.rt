@@ -5,8 +5,9 @@ ghost use Rattle.script_replies.specs.Texts.{line};
 ghost use Rattle.script_session.specs.Prepare.{Prepares, prepared_text};
 
 use crate::session::ServerLease;
-use collections::List;
-use row_write::{PrepareFault, Prepared, prepare, reads_of};
+use collections::{ArcValue, List};
+use row_write::{PrepareFault, Prepared, RowOps, prepare_shared, reads_of};
+use schema_version::Schema;
 use script_grammar::Operation;
 use script_names::resolved_all;
 use script_replies::unprepared_line;
@@ -24,6 +25,17 @@ pub(crate) enum Preparation {
     OutOfMemory,
 }
 
+// The operations with their names looked up, of which the log becomes an owner.
+fn shared_ops(
+    alloc: Global,
+    schema: &Schema,
+    operations: List<Operation>,
+) -> Result<ArcValue<RowOps>, AllocError>
+    ensures { IfOk result (λ ops. ops ≡ resolved_all schema.now operations) }
+{
+    ArcValue::new(alloc, resolved_all(alloc, schema, operations)?)
+}
+
 /// Reads what the operations need and prepares them, by the schema of the server's lease.
 pub(crate) fn prepare_for(
     alloc: Global,
@@ -36,16 +48,16 @@ pub(crate) fn prepare_for(
     let Ok(schema) = held.schema.clone() else {
         return Preparation::OutOfMemory;
     };
-    let Ok(ops) = resolved_all(alloc, schema.get(), operations) else {
+    let Ok(ops) = shared_ops(alloc, schema.get(), operations) else {
         return Preparation::OutOfMemory;
     };
-    let Ok(keys) = reads_of(alloc, schema.get(), ops.as_slice()) else {
+    let Ok(keys) = reads_of(alloc, schema.get(), ops.get().as_slice()) else {
         return Preparation::OutOfMemory;
     };
     let Ok(view) = world.read(alloc, &keys) else {
         return Preparation::OutOfMemory;
     };
-    match prepare(alloc, schema, held.lease, ops, view) {
+    match prepare_shared(alloc, schema, held.lease, ops, view) {
         Ok(prepared) => Preparation::Ready(prepared),
         Err((fault, _)) => Preparation::Unprepared(fault),
     }

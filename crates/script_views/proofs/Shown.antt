@@ -1,6 +1,5 @@
 -- What is shown of a query under a lease, and of the check of an element.
 use Rattle.std.proofs.Common.{◌≡◌, ◌++◌, ℕ, List, Option, Some, None, Result, Ok, Err, IfOk, codes, option_map, ap, sym, subst, ◌∙◌}
-use Rattle.std.specs.Bool.{⊤}
 use Rattle.std.specs.Option.{MatchOption}
 use Rattle.audit.specs.Audit.{numbered}
 use Rattle.element_check.specs.Check.{IsElementCheck}
@@ -13,6 +12,7 @@ use Rattle.script_session.specs.declared.session.ServerLease.{ServerLease}
 use Rattle.world.specs.State.{State, facts_of}
 use Rattle.script_views.specs.Check.{IsElementText, ShowsElement, check_text, number_of}
 use Rattle.script_views.specs.Explain.{BeginsWith, ExplainsUnder, path_line}
+use Rattle.script_views.specs.Unknown.{SaysUnknown}
 
 pub explained_under : {X E H : Type 0} (bytes : X → List ℕ) (view : H → ServerLease) (result : Result X E) (held : Option H) (one : H) (version : Version) (selection : Selection) → held ≡ Some one → version ≡ (view one).schema
     → IfOk result (λ text. BeginsWith (path_line version selection) (bytes text)) → IfOk result (λ text. ExplainsUnder (option_map view held) selection (bytes text))
@@ -38,15 +38,15 @@ pub shown_element : {X E : Type 0} (bytes : X → List ℕ) (result : Result X E
 shown_element bytes (Ok text) world table name lent_table lent_name version place number found report is at named h same table_is name_is made =
     let checked = subst (λ (o : Option ElementReport). IsFound (facts_of world).newest world (number_of world table name) o) same (found_by_names world table name version place number found is at named h) in
     let written : bytes text ≡ check_text (table ++ codes "." ++ name) report = made ∙ ap (λ (t : List ℕ). check_text (t ++ codes "." ++ lent_name) report) table_is ∙ ap (λ (n : List ℕ). check_text (table ++ codes "." ++ n) report) name_is in
-    subst (λ (o : Option ElementDef). MatchOption o ⊤ (λ element. IsElementText world (table ++ codes "." ++ name) element (bytes text))) (sym checked.1) (report, checked.2, written)
+    subst (λ (o : Option ElementDef). MatchOption o (SaysUnknown (facts_of world).newest table name (bytes text)) (λ element. IsElementText world (table ++ codes "." ++ name) element (bytes text))) (sym checked.1) (report, checked.2, written)
 shown_element bytes (Err short) world table name lent_table lent_name version place number found report is at named h same table_is name_is made = tt
 
 pub shown_unknown : {X E : Type 0} (bytes : X → List ℕ) (result : Result X E) (world : State) (table name : List ℕ) (version : Version) (place number : ℕ) (found : Option ElementReport) → version ≡ (facts_of world).newest → place ≡ table_number version table
-    → number ≡ element_number version place name → IsFound version world number found → found ≡ None → IfOk result (λ text. ShowsElement world table name (bytes text))
-shown_unknown bytes (Ok text) world table name version place number found is at named h same =
+    → number ≡ element_number version place name → IsFound version world number found → found ≡ None → IfOk result (λ text. SaysUnknown version table name (bytes text)) → IfOk result (λ text. ShowsElement world table name (bytes text))
+shown_unknown bytes (Ok text) world table name version place number found is at named h same says =
     let none = subst (λ (o : Option ElementReport). IsFound (facts_of world).newest world (number_of world table name) o) same (found_by_names world table name version place number found is at named h) in
-    subst (λ (o : Option ElementDef). MatchOption o ⊤ (λ element. IsElementText world (table ++ codes "." ++ name) element (bytes text))) (sym none) tt
-shown_unknown bytes (Err short) world table name version place number found is at named h same = tt
+    subst (λ (o : Option ElementDef). MatchOption o (SaysUnknown (facts_of world).newest table name (bytes text)) (λ element. IsElementText world (table ++ codes "." ++ name) element (bytes text))) (sym none) (subst (λ (v : Version). SaysUnknown v table name (bytes text)) is says)
+shown_unknown bytes (Err short) world table name version place number found is at named h same says = tt
 
 -- the same names, however they are lent
 pub shown_as : (world : State) (t n table name text : List ℕ) → t ≡ table → n ≡ name → ShowsElement world t n text → ShowsElement world table name text

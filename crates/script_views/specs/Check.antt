@@ -20,6 +20,7 @@ use Rattle.script_session.specs.Session.{Session}
 use Rattle.script_session.specs.declared.session.Opened.{Opened}
 use Rattle.script_session.specs.declared.session.Session.TheVariants.{Declaring, Running}
 use Rattle.world.specs.State.{State, facts_of}
+use Rattle.script_views.specs.Unknown.{SaysUnknown}
 
 -- `(VALUE, VALUE)`
 abbrev pub tuple : List Value → List ℕ
@@ -52,10 +53,10 @@ IsElementText world name element text =
 abbrev pub number_of : State → List ℕ → List ℕ → ℕ
 number_of world table name = element_number (facts_of world).newest (table_number (facts_of world).newest table) name
 
--- what is shown of the live element of these names
+-- what is shown of the live element of these names; or that it is not there
 abbrev pub ShowsElement : State → List ℕ → List ℕ → List ℕ → Type 0
 ShowsElement world table name text =
-    MatchOption (numbered (facts_of world).newest (number_of world table name)) ⊤ (λ element. IsElementText world (table ++ codes "." ++ name) element text)
+    MatchOption (numbered (facts_of world).newest (number_of world table name)) (SaysUnknown (facts_of world).newest table name text) (λ element. IsElementText world (table ++ codes "." ++ name) element text)
 
 abbrev pub HasNo : ℕ → List ℕ → Type 0
 HasNo c bytes = (i : ℕ) → i < length bytes → get_or bytes i 0 ≢ c

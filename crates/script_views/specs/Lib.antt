@@ -1,3 +1,4 @@
 pub mod Names
 pub mod Explain
+pub mod Unknown
 pub mod Check

@@ -2,8 +2,9 @@
 ghost use Rattle.std.specs.Prelude.{◌≡◌, ◌++◌, IfOk, OnOk, codes, string_bytes};
 ghost use Rattle.std.specs.List.{flat_map};
 ghost use Rattle.script_views.specs.Check.{ShowsElement, check_text, extra_line, key_tuple, missing_line};
+ghost use Rattle.script_views.specs.Unknown.{SaysUnknown};
 
-use crate::named::{missing_element, missing_table};
+use crate::named::{missing_table, other_text};
 use crate::tuples::push_tuple;
 use element_check::{ElementReport, check_element};
 use keycode::{Text, Values};
@@ -67,13 +68,18 @@ fn unknown_text(
     schema: &Schema,
     table: &Text,
     name: &Text,
-) -> Result<String, AllocError> {
-    if let Some(out) = missing_table(alloc, schema, table)? {
-        return Ok(out);
-    }
-    match missing_element(alloc, schema, table, name)? {
+) -> Result<String, AllocError>
+    ensures { IfOk result (λ text. SaysUnknown schema.now table.now name.now (string_bytes text)) }
+{
+    match missing_table(alloc, schema, table)? {
         Some(out) => Ok(out),
-        None => Ok(String::new(alloc)),
+        None => other_text(
+            alloc,
+            schema,
+            table_number(schema, table),
+            table.as_str(),
+            name.as_str(),
+        ),
     }
 }
 

@@ -66,7 +66,8 @@ fn push_remark(out: &mut String, remark: Option<String>) -> Result<(), AllocErro
     }
 }
 
-// The path of a selection, and what is wrong with it.
+// The path of a selection, and what is wrong with it. That a remark is there if something is wrong is
+// said by no contract; `.ci/prompts` shows it.
 fn selection_text(
     alloc: Global,
     schema: &Schema,

@@ -1,9 +1,13 @@
 //! Names and values of a line that a version of the schema does not have or take.
+ghost use Rattle.std.specs.Prelude.{◌≡◌, ◌++◌, IfOk, codes, option_map, string_bytes};
+ghost use Rattle.script_views.specs.Unknown.{MissingElement, MissingTable, NamesNoElement};
+
 use crate::near::push_nearest;
 use crate::types::{key_misfit, misfit};
 use keycode::{Text, Value};
 use schema_version::{ElementDef, MAX_TABLES, Schema};
 use script_grammar::{Condition, Operation, Selection, state_word};
+use script_names::{element_number, table_number};
 use std::alloc::{AllocError, Global};
 
 /// What is looked for in a line: the refusal names it.
@@ -55,15 +59,57 @@ pub fn missing_table(
     alloc: Global,
     schema: &Schema,
     table: &Text,
-) -> Result<Option<String>, AllocError> {
-    let name = table.as_str();
-    if schema.table(name).is_some() {
+) -> Result<Option<String>, AllocError>
+    ensures { IfOk result (λ found. MissingTable schema.now table.now (option_map string_bytes found)) }
+{
+    if table_number(schema, table) > 0 {
         return Ok(None);
     }
+    let name = table.as_str();
     let mut out = format!(in alloc; "there is no table {name}")?;
     let names = table_names(alloc, schema)?;
     push_nearest(alloc, &mut out, name, names.as_slice())?;
     Ok(Some(out))
+}
+
+fn no_element_text(alloc: Global, table: &str, name: &str) -> Result<String, AllocError>
+    ensures { IfOk result (λ text. string_bytes text ≡ table.now ++ codes " has no column or index " ++ name.now) }
+{
+    let mut out = table.to_string(alloc)?;
+    out.push_str(" has no column or index ")?;
+    out.push_str(name)?;
+    Ok(out)
+}
+
+fn key_column_text(alloc: Global, table: &str, name: &str) -> Result<String, AllocError>
+    ensures { IfOk result (λ text. NamesNoElement table.now name.now (string_bytes text)) }
+{
+    let mut out = name.to_string(alloc)?;
+    out.push_str(" is a key column of ")?;
+    out.push_str(table)?;
+    out.push_str(": rows show it, and key = (..) or the tuple after the table gives it")?;
+    Ok(out)
+}
+
+// That the table of this number has no element of this name, and the nearest one; or that it is a
+// key column.
+pub(crate) fn other_text(
+    alloc: Global,
+    schema: &Schema,
+    number: u32,
+    table: &str,
+    name: &str,
+) -> Result<String, AllocError>
+    ensures { IfOk result (λ text. NamesNoElement table.now name.now (string_bytes text)) }
+{
+    let keys = schema.key_of(number).unwrap_or(&[]);
+    if keys.iter().any(|key| key.0.as_str() == name) {
+        return key_column_text(alloc, table, name);
+    }
+    let mut out = no_element_text(alloc, table, name)?;
+    let names = element_names(alloc, schema, number)?;
+    push_nearest(alloc, &mut out, name, names.as_slice())?;
+    Ok(out)
 }
 
 /// That the table has no element of this name, and the nearest one; `None` if it has, or if there
@@ -77,25 +123,17 @@ pub fn missing_element(
     schema: &Schema,
     table: &Text,
     name: &Text,
-) -> Result<Option<String>, AllocError> {
-    let name = name.as_str();
-    let Some(number) = schema.table(table.as_str()) else {
-        return Ok(None);
-    };
-    if schema.by_name(number, name).is_some() {
+) -> Result<Option<String>, AllocError>
+    ensures { IfOk result (λ found. MissingElement schema.now table.now name.now (option_map string_bytes found)) }
+{
+    let number = table_number(schema, table);
+    if number == 0 {
         return Ok(None);
     }
-    let keys = schema.key_of(number).unwrap_or(&[]);
-    let table = table.as_str();
-    if keys.iter().any(|key| key.0.as_str() == name) {
-        let out = format!(in alloc;
-            "{name} is a key column of {table}: rows show it, and key = (..) or the tuple after the table gives it"
-        )?;
-        return Ok(Some(out));
+    if element_number(schema, number, name) > 0 {
+        return Ok(None);
     }
-    let mut out = format!(in alloc; "{table} has no column or index {name}")?;
-    let names = element_names(alloc, schema, number)?;
-    push_nearest(alloc, &mut out, name, names.as_slice())?;
+    let out = other_text(alloc, schema, number, table.as_str(), name.as_str())?;
     Ok(Some(out))
 }
 

@@ -1,4 +1,7 @@
 //! The name that is nearest to a word.
+ghost use Rattle.std.specs.Prelude.{OnOk, string_bytes};
+ghost use Rattle.script_views.specs.Unknown.{StartsWith};
+
 use std::alloc::{AllocError, Global};
 use strsim::levenshtein;
 
@@ -42,7 +45,9 @@ pub fn push_nearest(
     out: &mut String,
     word: &str,
     names: &[&str],
-) -> Result<(), AllocError> {
+) -> Result<(), AllocError>
+    ensures { OnOk result (StartsWith (string_bytes out.old) (string_bytes out.new)) }
+{
     match nearest(alloc, word, names)? {
         Some(name) => write!(out, "; the nearest is {name}"),
         None => Ok(()),

@@ -1,6 +1,6 @@
 -- How a try ends.
 use Rattle.std.proofs.Common.{◌≡◌, ℕ, ◌+◌, List, [], ◌∷◌, ◌++◌, ⊎_elim, refl, subst, sym, ap, ◌∙◌, arith}
-use Rattle.std.specs.Prelude.{◌↔◌, Some, Result, Ok, Err}
+use Rattle.std.specs.Prelude.{◌↔◌, Option, Some, None, Result, Ok, Err}
 use Rattle.std.specs.FinMap as map
 use Rattle.std.proofs.lemmas.List.Elements.{All-append, All-cons, All-nil, All-same}
 use Rattle.collections.specs.Refusal.{IsFirst, IsRefusal}
@@ -18,38 +18,39 @@ use Rattle.world.specs.declared.grant.GrantFault.{GrantFault}
 use Rattle.locked_store.specs.declared.fault.SharedFault.{SharedFault}
 use Rattle.server.specs.declared.request.Outcome.{Outcome}
 use Rattle.server.specs.declared.request.Outcome.TheVariants as outcome
+use Rattle.server.specs.declared.request.Request.{Request}
 use Rattle.server.specs.declared.tally.Tally.{Tally}
 use Rattle.server.specs.declared.tally.Last.{Last}
 use Rattle.server.specs.declared.tally.Last.TheVariants as last
-use Rattle.server.specs.Outcomes.{Said, Keys, Keeps, IsEnd, IsLeaseReceipt, IsServed, IsTrueOf, IsFailedTry, FailedSoOften, unprepared_by, receipts_of}
-use Rattle.server.specs.inner.Tries.{HasFailed, StayLeases}
+use Rattle.server.specs.Outcomes.{Said, WasGranted, Keys, Keeps, IsEnd, IsLeaseReceipt, IsServed, IsTrueOf, IsFailedTry, FailedSoOften, unprepared_by, receipts_of}
+use Rattle.server.specs.inner.Tries.{HasFailed, IsTrueOfTry, StayLeases, receipts_in, retries_after}
 
 -- a refusal that is not for memory has its condition
 with_condition : {F : Type 0} (number : F → ℕ) (C : F → Type 0) (memory fault : F) → ¬ (fault ≡ memory) → IsRefusal number C memory fault → IsFirst number C fault
 with_condition number C memory fault other refused = (⊎_elim (λ (e : fault ≡ memory). absurd (other e)) (λ (c : C fault). c) refused.0, refused.1)
 
 -- a refusal of the preparation, as the request ends
-pub unprepared : (may : Said → Type 0) (moment tries : ℕ) (ops : List RowOp) (fault : PrepareFault) (lease : Lease) (schema : Version) (keys : Keys) (view : View)
-    → may (Said.granted moment lease schema) → ((key : Bytes) → (map.get keys key ≡ Some tt) ↔ IsRead schema ops key) → may (Said.viewed keys view)
-    → IsRefusal rank (Condition schema ops view) prepare_fault.Memory fault → IsTrueOf may moment ops tries (unprepared_by fault)
-unprepared may moment tries ops prepare_fault.NoTable lease schema keys view granted own viewed refused = record { lease = lease; schema = schema; granted = granted; keys = keys; own = own; view = view; viewed = viewed; first = with_condition rank (Condition schema ops view) prepare_fault.Memory prepare_fault.NoTable (λ e. cc) refused }
-unprepared may moment tries ops (prepare_fault.NotPublic column) lease schema keys view granted own viewed refused = record { lease = lease; schema = schema; granted = granted; keys = keys; own = own; view = view; viewed = viewed; first = with_condition rank (Condition schema ops view) prepare_fault.Memory (prepare_fault.NotPublic column) (λ e. cc) refused }
-unprepared may moment tries ops prepare_fault.WrongType lease schema keys view granted own viewed refused = record { lease = lease; schema = schema; granted = granted; keys = keys; own = own; view = view; viewed = viewed; first = with_condition rank (Condition schema ops view) prepare_fault.Memory prepare_fault.WrongType (λ e. cc) refused }
-unprepared may moment tries ops prepare_fault.TooManyOps lease schema keys view granted own viewed refused = record { lease = lease; schema = schema; granted = granted; keys = keys; own = own; view = view; viewed = viewed; first = with_condition rank (Condition schema ops view) prepare_fault.Memory prepare_fault.TooManyOps (λ e. cc) refused }
-unprepared may moment tries ops prepare_fault.ViewMismatch lease schema keys view granted own viewed refused = record { lease = lease; schema = schema; granted = granted; keys = keys; own = own; view = view; viewed = viewed; first = with_condition rank (Condition schema ops view) prepare_fault.Memory prepare_fault.ViewMismatch (λ e. cc) refused }
-unprepared may moment tries ops prepare_fault.Memory lease schema keys view granted own viewed refused = tt
+pub unprepared : (may : Said → Type 0) (requests : List Request) (moment tries : ℕ) (ops : List RowOp) (fault : PrepareFault) (lease : Lease) (schema : Version) (keys : Keys) (view : View)
+    → WasGranted may requests lease schema → ((key : Bytes) → (map.get keys key ≡ Some tt) ↔ IsRead schema ops key) → may (Said.viewed keys view)
+    → IsRefusal rank (Condition schema ops view) prepare_fault.Memory fault → IsTrueOf may requests moment ops tries (unprepared_by fault)
+unprepared may requests moment tries ops prepare_fault.NoTable lease schema keys view granted own viewed refused = record { lease = lease; schema = schema; granted = granted; keys = keys; own = own; view = view; viewed = viewed; first = with_condition rank (Condition schema ops view) prepare_fault.Memory prepare_fault.NoTable (λ e. cc) refused }
+unprepared may requests moment tries ops (prepare_fault.NotPublic column) lease schema keys view granted own viewed refused = record { lease = lease; schema = schema; granted = granted; keys = keys; own = own; view = view; viewed = viewed; first = with_condition rank (Condition schema ops view) prepare_fault.Memory (prepare_fault.NotPublic column) (λ e. cc) refused }
+unprepared may requests moment tries ops prepare_fault.WrongType lease schema keys view granted own viewed refused = record { lease = lease; schema = schema; granted = granted; keys = keys; own = own; view = view; viewed = viewed; first = with_condition rank (Condition schema ops view) prepare_fault.Memory prepare_fault.WrongType (λ e. cc) refused }
+unprepared may requests moment tries ops prepare_fault.TooManyOps lease schema keys view granted own viewed refused = record { lease = lease; schema = schema; granted = granted; keys = keys; own = own; view = view; viewed = viewed; first = with_condition rank (Condition schema ops view) prepare_fault.Memory prepare_fault.TooManyOps (λ e. cc) refused }
+unprepared may requests moment tries ops prepare_fault.ViewMismatch lease schema keys view granted own viewed refused = record { lease = lease; schema = schema; granted = granted; keys = keys; own = own; view = view; viewed = viewed; first = with_condition rank (Condition schema ops view) prepare_fault.Memory prepare_fault.ViewMismatch (λ e. cc) refused }
+unprepared may requests moment tries ops prepare_fault.Memory lease schema keys view granted own viewed refused = tt
 
 -- the same, where the schema and the operations went over as copies
-pub unprepared_so : (may : Said → Type 0) (moment tries : ℕ) (ops : List RowOp) (fault : PrepareFault) (lease : Lease) (schema : Version) (keys : Keys) (view : View)
-    → may (Said.granted moment lease schema) → (seen : Version) (these : List RowOp) → seen ≡ schema → these ≡ ops → ((key : Bytes) → (map.get keys key ≡ Some tt) ↔ IsRead seen these key) → may (Said.viewed keys view)
+pub unprepared_so : (may : Said → Type 0) (requests : List Request) (moment tries : ℕ) (ops : List RowOp) (fault : PrepareFault) (lease : Lease) (schema : Version) (keys : Keys) (view : View)
+    → WasGranted may requests lease schema → (seen : Version) (these : List RowOp) → seen ≡ schema → these ≡ ops → ((key : Bytes) → (map.get keys key ≡ Some tt) ↔ IsRead seen these key) → may (Said.viewed keys view)
     → (copy : Version) (again : List RowOp) → copy ≡ schema → again ≡ ops
-    → IsRefusal rank (Condition copy again view) prepare_fault.Memory fault → (o : Outcome) → o ≡ unprepared_by fault → IsTrueOf may moment ops tries o
-unprepared_so may moment tries ops fault lease schema keys view granted seen these seen_is these_is own viewed copy again schema_is ops_is refused o is =
+    → IsRefusal rank (Condition copy again view) prepare_fault.Memory fault → (o : Outcome) → o ≡ unprepared_by fault → IsTrueOf may requests moment ops tries o
+unprepared_so may requests moment tries ops fault lease schema keys view granted seen these seen_is these_is own viewed copy again schema_is ops_is refused o is =
     let read_so : (key : Bytes) → (map.get keys key ≡ Some tt) ↔ IsRead schema ops key =
     λ key. subst (λ (v : Version). (map.get keys key ≡ Some tt) ↔ IsRead v ops key) seen_is (subst (λ (os : List RowOp). (map.get keys key ≡ Some tt) ↔ IsRead seen os key) these_is (own key)) in
     let same : IsRefusal rank (Condition schema ops view) prepare_fault.Memory fault =
     subst (λ (v : Version). IsRefusal rank (Condition v ops view) prepare_fault.Memory fault) schema_is (subst (λ (os : List RowOp). IsRefusal rank (Condition copy os view) prepare_fault.Memory fault) ops_is refused) in
-    subst (λ (x : Outcome). IsTrueOf may moment ops tries x) (sym is) (unprepared may moment tries ops fault lease schema keys view granted read_so viewed same)
+    subst (λ (x : Outcome). IsTrueOf may requests moment ops tries x) (sym is) (unprepared may requests moment tries ops fault lease schema keys view granted read_so viewed same)
 
 unprepared_none : (fault : PrepareFault) → receipts_of (unprepared_by fault) ≡ 0
 unprepared_none prepare_fault.NoTable = refl
@@ -97,3 +98,17 @@ still_leases may before after (Ok given) keeps all =
     All-same (IsLeaseReceipt may) after (before ++ keeps.0 ∷ []) keeps.1
     (All-append (IsLeaseReceipt may) before (keeps.0 ∷ []) all (All-cons (IsLeaseReceipt may) keeps.0 [] (keeps.3, (given.0, keeps.2)) (All-nil (IsLeaseReceipt may))))
 still_leases may before after (Err fault) keeps all = All-same (IsLeaseReceipt may) after before keeps all
+
+-- ---- a try that another one follows, and one that none follows
+
+pub try_failed : (may : Said → Type 0) (requests : List Request) (moment tries : ℕ) (ops : List RowOp) (found : Option Outcome) → found ≡ None → IsTrueOfTry may requests moment ops tries found → HasFailed may moment ops
+try_failed may requests moment tries ops found is own = subst (IsTrueOfTry may requests moment ops tries) is own
+
+pub try_ended : (may : Said → Type 0) (requests : List Request) (moment tries : ℕ) (ops : List RowOp) (found : Option Outcome) (o : Outcome) → found ≡ Some o → IsTrueOfTry may requests moment ops tries found → IsTrueOf may requests moment ops tries o
+try_ended may requests moment tries ops found o is own = subst (IsTrueOfTry may requests moment ops tries) is own
+
+pub one_more_retry : (retries : ℕ) (found : Option Outcome) → found ≡ None → retries_after retries found ≡ retries + 1
+one_more_retry retries found is = ap (retries_after retries) is
+
+pub none_holds_none : (found : Option Outcome) → found ≡ None → receipts_in found ≡ 0
+none_holds_none found is = ap receipts_in is

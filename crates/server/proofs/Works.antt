@@ -12,9 +12,9 @@ use Rattle.server.specs.Outcomes.{IsLeaseReceipt}
 use Rattle.server.specs.Works.{IsOutcomeOf, Orders, Serving, IsAtWork, IsOutcomeAt}
 
 -- of the request of this number, whatever is given for none
-pub outcome_at : (start : State) (orders : Orders) (number : ℕ) (e : Request) (o : Outcome) → IsOutcomeOf start orders.front orders.most (slice_index_or orders.requests number e) orders.tries o
+pub outcome_at : (start : State) (orders : Orders) (number : ℕ) (e : Request) (o : Outcome) → IsOutcomeOf start orders.front orders.most orders.requests (slice_index_or orders.requests number e) orders.tries o
     → IsOutcomeAt start orders number o
-outcome_at start orders number e o own d lt = subst (λ (r : Request). IsOutcomeOf start orders.front orders.most r orders.tries o) (get_or_default orders.requests number e d lt) own
+outcome_at start orders number e o own d lt = subst (λ (r : Request). IsOutcomeOf start orders.front orders.most orders.requests r orders.tries o) (get_or_default orders.requests number e d lt) own
 
 -- the receipts that a server of these orders keeps
 kept_leases : (start : State) (orders : Orders) (w : Serving) → IsAtWork start w → w.orders ≡ orders → All (IsLeaseReceipt (SaidByCore start orders.front orders.most)) w.kept_receipts

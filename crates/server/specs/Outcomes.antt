@@ -1,7 +1,8 @@
--- Cited by the contracts of serve_one, Port, RequestWorker.
+-- Cited by the contracts of serve_one, serve_under, Port, RequestWorker.
 -- What becomes of one request.
-use Rattle.std.specs.Prelude.{◌≡◌, ℕ, ◌+◌, ◌≤◌, ◌⊎◌, List, [], ◌∷◌, ◌++◌, length, All, Result, Ok, Err, Some, ◌↔◌, Bool, true, false}
+use Rattle.std.specs.Prelude.{◌≡◌, ℕ, ◌+◌, ◌<◌, ◌≤◌, ◌⊎◌, List, [], ◌∷◌, ◌++◌, length, All, Option, Some, None, Result, Ok, Err, ◌↔◌, Bool, true, false}
 use Rattle.std.specs.FinMap as map
+use Rattle.std.specs.List.{Contains}
 use Rattle.keycode.specs.Order.{bytes_cmp}
 use Rattle.collections.specs.Refusal.{IsFirst}
 use Rattle.row_map.specs.Expect.{View}
@@ -28,6 +29,7 @@ use Rattle.row_write.specs.Made.{PreparedTxn}
 use Rattle.std.specs.declared.alloc.AllocError.{AllocError}
 use Rattle.server.specs.declared.request.Outcome.{Outcome}
 use Rattle.server.specs.declared.request.Outcome.TheVariants as outcome
+use Rattle.server.specs.declared.request.Request.{Request}
 use Rattle.server.specs.declared.tally.Tally.{Tally}
 use Rattle.server.specs.declared.tally.Last.{Last}
 use Rattle.server.specs.declared.tally.Last.TheVariants as last
@@ -104,13 +106,30 @@ CommitSays may moment ops (Ok (committed.Done receipt)) = may (Said.done moment 
 CommitSays may moment ops (Ok (committed.Refused op why)) = may (Said.unfit ops op why)
 CommitSays may moment ops (Err refusal) = RefusalSays may moment ops refusal.0
 
+-- ---- the lease that a server has at hand
+
+-- the lease was granted at the moment of one of these requests, and this is the schema of its version
+abbrev pub WasGranted : (Said → Type 0) → List Request → Lease → Version → Type 0
+WasGranted may requests lease schema = (request : Request) × Contains requests request × may (Said.granted request.moment lease schema)
+
+-- the lease at hand, if there is one, was granted so
+abbrev pub IsHeld : (Said → Type 0) → List Request → Option (Lease × Version) → Type 0
+IsHeld may requests None = Unit {0}
+IsHeld may requests (Some held) = WasGranted may requests held.0 held.1
+
+-- at this moment there is a lease at hand that has not ended
+abbrev pub IsInForce : ℕ → Option (Lease × Version) → Type 0
+IsInForce moment None = ⊥
+IsInForce moment (Some held) = moment < held.0.until
+
 -- ---- what is true of an outcome
 
--- under a schema of a lease that was granted, and by what was read for the operations under it, preparation has this fault and none of a lower number
-pub record IsUnprepared (may : Said → Type 0) (moment : ℕ) (ops : List RowOp) (fault : PrepareFault) : Type 0 where
+-- under a schema of a lease that was granted at the moment of one of these requests, and by what was read for the operations under it,
+-- preparation has this fault and none of a lower number
+pub record IsUnprepared (may : Said → Type 0) (requests : List Request) (ops : List RowOp) (fault : PrepareFault) : Type 0 where
   pub lease : Lease
   pub schema : Version
-  pub granted : may (Said.granted moment lease schema)
+  pub granted : WasGranted may requests lease schema
   pub keys : Keys
   pub own : (key : Bytes) → (map.get keys key ≡ Some tt) ↔ IsRead schema ops key
   pub view : View
@@ -156,16 +175,16 @@ IsFailedTry may moment ops fault = IsRetried fault × may (Said.uncommitted mome
 abbrev pub FailedSoOften : (Said → Type 0) → ℕ → List RowOp → ℕ → Type 0
 FailedSoOften may moment ops times = (faults : List CommitFault) × (length faults ≡ times) × All (IsFailedTry may moment ops) faults
 
--- what is true of the outcome of these operations at this moment, with so many tries
-abbrev pub IsTrueOf : (Said → Type 0) → ℕ → List RowOp → ℕ → Outcome → Type 0
-IsTrueOf may moment ops tries (outcome.Done receipt) = may (Said.done moment ops receipt) × IsReceiptOf ops receipt
-IsTrueOf may moment ops tries (outcome.Row op why) = may (Said.unfit ops op why)
-IsTrueOf may moment ops tries (outcome.Unprepared fault) = IsUnprepared may moment ops fault
-IsTrueOf may moment ops tries (outcome.Rejected fault) = IsRejected may moment ops fault
-IsTrueOf may moment ops tries (outcome.Busy n) = (n ≡ tries) × FailedSoOften may moment ops tries
-IsTrueOf may moment ops tries outcome.Held = Unit {0}
-IsTrueOf may moment ops tries (outcome.WentBack seen) = may (Said.went_back seen)
-IsTrueOf may moment ops tries outcome.Memory = Unit {0}
+-- what is true of the outcome of these operations at this moment, with so many tries, under leases granted at the moments of these requests
+abbrev pub IsTrueOf : (Said → Type 0) → List Request → ℕ → List RowOp → ℕ → Outcome → Type 0
+IsTrueOf may requests moment ops tries (outcome.Done receipt) = may (Said.done moment ops receipt) × IsReceiptOf ops receipt
+IsTrueOf may requests moment ops tries (outcome.Row op why) = may (Said.unfit ops op why)
+IsTrueOf may requests moment ops tries (outcome.Unprepared fault) = IsUnprepared may requests ops fault
+IsTrueOf may requests moment ops tries (outcome.Rejected fault) = IsRejected may moment ops fault
+IsTrueOf may requests moment ops tries (outcome.Busy n) = (n ≡ tries) × FailedSoOften may moment ops tries
+IsTrueOf may requests moment ops tries outcome.Held = Unit {0}
+IsTrueOf may requests moment ops tries (outcome.WentBack seen) = may (Said.went_back seen)
+IsTrueOf may requests moment ops tries outcome.Memory = Unit {0}
 
 -- ---- the port's tally at the end
 

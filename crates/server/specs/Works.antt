@@ -16,13 +16,14 @@ pub record Orders : Type 0 where
   pub front : ℕ
   pub most : ℕ
 
--- what may become of a request, served in this shared world by handles that came with fronts from `front` to `most`, with so many tries
-abbrev pub IsOutcomeOf : State → ℕ → ℕ → Request → ℕ → Outcome → Type 0
-IsOutcomeOf start front most request tries = IsTrueOf (SaidByCore start front most) request.moment request.ops tries
+-- what may become of a request, served in this shared world by handles that came with fronts from `front` to `most`, with so many tries,
+-- under leases granted at the moments of these requests
+abbrev pub IsOutcomeOf : State → ℕ → ℕ → List Request → Request → ℕ → Outcome → Type 0
+IsOutcomeOf start front most requests request tries = IsTrueOf (SaidByCore start front most) requests request.moment request.ops tries
 
 -- what may become of the request of this number
 abbrev pub IsOutcomeAt : State → Orders → ℕ → Outcome → Type 0
-IsOutcomeAt start orders number o = (d : Request) → number < length orders.requests → IsOutcomeOf start orders.front orders.most (slice_index_or orders.requests number d) orders.tries o
+IsOutcomeAt start orders number o = (d : Request) → number < length orders.requests → IsOutcomeOf start orders.front orders.most orders.requests (slice_index_or orders.requests number d) orders.tries o
 
 -- each outcome is one of the request of its number
 abbrev pub AreOutcomes : State → Orders → List (ℕ × Outcome) → Type 0

@@ -13,7 +13,7 @@ mod serve_all;
 mod tally;
 mod worker;
 
-pub use one_request::serve_one;
+pub use one_request::{serve_one, serve_under};
 pub use port::Port;
 pub use request::{Outcome, Request};
 pub use serve_all::{ServeFault, Served, serve};

@@ -5,8 +5,8 @@ use world::{CommitFault, Receipt};
 /// A transaction that a server is to commit.
 #[derive(Drop)]
 pub struct Request {
-    /// The moment of its lease and of its commit; the greater of it and the moment of the last
-    /// entry counts.
+    /// The moment of its commit, and of a lease that is taken for it; the greater of it and the moment
+    /// of the last entry counts.
     pub moment: u64,
     /// Its operations, at most 64.
     pub ops: RowOps,

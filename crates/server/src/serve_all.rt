@@ -95,6 +95,7 @@ fn make_workers<'a, L: SharedLedger, R: Wait>(
                     last: Last::Nothing,
                 },
             },
+            held: None,
             requests,
             tries,
             front,
@@ -127,8 +128,10 @@ fn into_parts<L: SharedLedger, R: Wait>(
                 kept_receipts,
                 ..
             },
+            held,
             ..
         } = worker;
+        drop(held);
         handles.push_reserved(handle);
         receipts.push_reserved(List::new(kept_receipts));
     }
@@ -197,7 +200,8 @@ fn to_fault(fault: TaskFault) -> ServeFault
 
 /// Serves each request once, in as many threads as there are handles, the caller's thread being one
 /// of them; a thread that cannot be started leaves its share to the others. A request is served as
-/// by `serve_one`, and is read and prepared outside of the lock.
+/// by `serve_under`: each server keeps its lease while that is in force. It is read and prepared
+/// outside of the lock.
 ///
 /// - `handles`: all of the same shared world, from 1 to 64.
 /// - `requests`: at most 1,000,000.

@@ -1,15 +1,20 @@
 //! One worker: a server that commits the requests whose numbers it draws.
-ghost use Rattle.std.specs.Prelude.{◌≡◌, ℕ, ◌+◌, ◌≤◌, length, All};
+ghost use Rattle.std.specs.Prelude.{◌≡◌, ℕ, ◌+◌, ◌≤◌, List, length, All};
+ghost use Rattle.std.specs.List.{Contains};
+ghost use Rattle.server.specs.declared.request.Request.{Request as Asked};
 ghost use Rattle.server.specs.HandlePorts.{HasSeen, SaidByCore};
-ghost use Rattle.server.specs.Outcomes.{IsLeaseReceipt, IsServed, Sees, receipts_of};
+ghost use Rattle.server.specs.Outcomes.{IsHeld, IsLeaseReceipt, IsServed, Sees, receipts_of};
 ghost use Rattle.server.specs.Tallies.{tally};
 ghost use Rattle.server.specs.Works.{Orders, IsOutcomeOf, IsOutcomeAt};
 
 use crate::handle_port::HandlePort;
-use crate::one_request::serve_one;
+use crate::one_request::serve_under;
 use crate::request::{Outcome, Request};
 use crate::tally::{Last, Tally};
+use collections::ArcValue;
+use lease::Lease;
 use locked_store::SharedLedger;
+use schema_version::Schema;
 use std::alloc::Global;
 use std::marker::Model;
 use std::sync::Wait;
@@ -19,6 +24,8 @@ use tasks::Worker;
 #[derive(Drop)]
 pub(crate) struct RequestWorker<'a, L: SharedLedger, R: Wait> {
     pub(crate) port: HandlePort<'a, L, R>,
+    /// The lease at hand, if it may still serve, with the schema of its version.
+    pub(crate) held: Option<(Lease, ArcValue<Schema>)>,
     pub(crate) requests: &'a [Request],
     pub(crate) tries: u32,
     /// The least front with which a handle of theirs came.
@@ -30,36 +37,40 @@ pub(crate) struct RequestWorker<'a, L: SharedLedger, R: Wait> {
 }
 
 impl<'a, L: SharedLedger, R: Wait> Model for RequestWorker<'a, L, R> {
+    ghost use Rattle.server.specs.HandlePorts.{SaidByCore};
+    ghost use Rattle.server.specs.Outcomes.{IsHeld};
     ghost use Rattle.server.specs.Works.{Serving, IsAtWork};
 
     ghost Value = { Serving };
 
     ghost view = { λ w. record { handle = w.port.handle; first_front = w.first_front; kept_receipts = w.port.kept_receipts.items; orders = record { requests = w.requests.now; tries = w.tries; front = w.front; most = w.most } } };
 
-    ghost invariant = { λ w. IsAtWork L.start (record { handle = w.port.handle; first_front = w.first_front; kept_receipts = w.port.kept_receipts.items; orders = record { requests = w.requests.now; tries = w.tries; front = w.front; most = w.most } }) };
+    ghost invariant = { λ w. IsAtWork L.start (record { handle = w.port.handle; first_front = w.first_front; kept_receipts = w.port.kept_receipts.items; orders = record { requests = w.requests.now; tries = w.tries; front = w.front; most = w.most } }) × IsHeld (SaidByCore L.start w.front w.most) w.requests.now w.held };
 }
 
-// The outcome of one request, by a tally of its own.
+// The outcome of one request, by a tally of its own, and the lease at hand then.
 fn outcome_of<L: SharedLedger, R: Wait>(
     alloc: Global,
     port: &mut HandlePort<L, R>,
     request: &Request,
     tries: u32,
-) -> Outcome
+    held: Option<(Lease, ArcValue<Schema>)>,
+) -> (Outcome, Option<(Lease, ArcValue<Schema>)>)
     requires tries { (1 ≤ tries) × (tries ≤ 1000) }
-    ensures served { IsServed tries (tally 0 Last.Nothing) result port.new.tally }
-    ensures own { (f m : ℕ) → Sees (HasSeen L.start) f m port.old.handle.front → IsOutcomeOf L.start f m request.now tries result }
+    ensures served { IsServed tries (tally 0 Last.Nothing) result.0 port.new.tally }
+    ensures own { (f m : ℕ) (requests : List Asked) → Sees (HasSeen L.start) f m port.old.handle.front → Contains requests request.now → IsHeld (SaidByCore L.start f m) requests held → IsOutcomeOf L.start f m requests request.now tries result.0 }
+    ensures held { (f m : ℕ) (requests : List Asked) → Sees (HasSeen L.start) f m port.old.handle.front → Contains requests request.now → IsHeld (SaidByCore L.start f m) requests held → IsHeld (SaidByCore L.start f m) requests result.1 }
     ensures leases { (f m : ℕ) → Sees (HasSeen L.start) f m port.old.handle.front → All (IsLeaseReceipt (SaidByCore L.start f m)) port.old.kept_receipts.items → All (IsLeaseReceipt (SaidByCore L.start f m)) port.new.kept_receipts.items }
     ensures rises { port.old.handle.front ≤ port.new.handle.front }
     ensures stays { (m : ℕ) → HasSeen L.start m port.old.handle.front → HasSeen L.start m port.new.handle.front }
     ensures same { port.new.handle.id ≡ port.old.handle.id }
-    ensures counted { port.new.handle.count + length port.old.kept_receipts.items ≡ port.old.handle.count + length port.new.kept_receipts.items + receipts_of result }
+    ensures counted { port.new.handle.count + length port.old.kept_receipts.items ≡ port.old.handle.count + length port.new.kept_receipts.items + receipts_of result.0 }
 {
     port.tally = Tally {
         retries: 0,
         last: Last::Nothing,
     };
-    serve_one(alloc, port, request, tries)
+    serve_under(alloc, port, request, tries, held)
 }
 
 impl<'a, L: SharedLedger, R: Wait> Worker for RequestWorker<'a, L, R> {
@@ -90,11 +101,14 @@ impl<'a, L: SharedLedger, R: Wait> Worker for RequestWorker<'a, L, R> {
     fn perform(&mut self, alloc: Global, number: usize) -> Outcome {
         let RequestWorker {
             port,
+            held,
             requests,
             tries,
             ..
         } = self;
-        outcome_of(alloc, port, &requests[number], *tries)
+        let (outcome, next) = outcome_of(alloc, port, &requests[number], *tries, held.take());
+        *held = next;
+        outcome
     }
 
     fn held_back() -> Outcome

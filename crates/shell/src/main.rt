@@ -9,7 +9,7 @@ use crate::reports::Reports;
 use clap::Error;
 use command_line::{Chosen, NOT_UTF8, options, status_of};
 use load::run_load_shown;
-use prompt::{Streams, converse, prompt_status};
+use prompt::{Form, Streams, converse, prompt_status};
 use rollout_example::rollout_report;
 use script::{Watch, run_watched, watched_status};
 use soak::run_soak;
@@ -62,13 +62,13 @@ fn run_input(rt: &HostRuntime, file: Option<&str>, stops: bool) -> u8 {
     }
 }
 
-/// Answers the lines of a reader as they come. If there is a checkpoint, the session opens there; if
-/// there is a prompt, it is shown.
+/// Answers the lines of a reader as they come, in this form. If there is a checkpoint, the session opens
+/// there.
 fn answer_lines<R: BufRead + Drop>(
     rt: &HostRuntime,
     reader: R,
     checkpoint: Option<Checkpoint>,
-    is_shown: bool,
+    form: Form,
 ) -> u8 {
     let mut streams = Streams {
         reader,
@@ -76,7 +76,7 @@ fn answer_lines<R: BufRead + Drop>(
         is_flushed: false,
     };
     let mut files = Folder { rt };
-    let outcome = converse(rt.alloc(), &mut streams, &mut files, checkpoint, is_shown);
+    let outcome = converse(rt.alloc(), &mut streams, &mut files, checkpoint, form);
     if let Err(fault) = &outcome {
         let _ = eprintln!(rt; "fault: {fault}");
     }
@@ -94,26 +94,39 @@ fn opened(rt: &HostRuntime, file: &str) -> Result<BufReader<File>, u8> {
     }
 }
 
+/// The form of the answers on standard input: with a prompt if it is a terminal, and no JSON is asked for.
+fn terminal_form(rt: &HostRuntime, form: Form) -> Form {
+    let is_terminal = rt.stdin().is_terminal() && rt.stdout().is_terminal();
+    if is_terminal && form == Form::Plain {
+        Form::Shown
+    } else {
+        form
+    }
+}
+
 /// Answers the lines of a file, or those of standard input, with a prompt if it is a terminal.
-fn answer_input(rt: &HostRuntime, file: Option<&str>, checkpoint: Option<Checkpoint>) -> u8 {
+fn answer_input(
+    rt: &HostRuntime,
+    file: Option<&str>,
+    checkpoint: Option<Checkpoint>,
+    form: Form,
+) -> u8 {
     match file {
-        None => {
-            let is_shown = rt.stdin().is_terminal() && rt.stdout().is_terminal();
-            answer_lines(rt, rt.reader(), checkpoint, is_shown)
-        }
+        None => answer_lines(rt, rt.reader(), checkpoint, terminal_form(rt, form)),
         Some(file) => match opened(rt, file) {
-            Ok(reader) => answer_lines(rt, reader, checkpoint, false),
+            Ok(reader) => answer_lines(rt, reader, checkpoint, form),
             Err(status) => status,
         },
     }
 }
 
 /// Answers lines from the checkpoint in a file on, if one is named.
-fn answer_from(rt: &HostRuntime, file: Option<&str>, at: Option<&str>) -> u8 {
+fn answer_from(rt: &HostRuntime, file: Option<&str>, at: Option<&str>, is_json: bool) -> u8 {
+    let form = if is_json { Form::Json } else { Form::Plain };
     match at {
-        None => answer_input(rt, file, None),
+        None => answer_input(rt, file, None, form),
         Some(at) => match checkpoint_in(rt, at) {
-            Ok(checkpoint) => answer_input(rt, file, Some(checkpoint)),
+            Ok(checkpoint) => answer_input(rt, file, Some(checkpoint), form),
             Err(status) => status,
         },
     }
@@ -202,7 +215,9 @@ fn main(rt: HostRuntime) -> ExitCode {
     };
     match options(alloc, words.as_slice()) {
         Ok(Chosen::Run { file, stops }) => ExitCode::from(run_input(&rt, file, stops)),
-        Ok(Chosen::Prompt { file, at }) => ExitCode::from(answer_from(&rt, file, at)),
+        Ok(Chosen::Prompt { file, at, is_json }) => {
+            ExitCode::from(answer_from(&rt, file, at, is_json))
+        }
         Ok(Chosen::Load { size, is_timed }) => {
             let started = if is_timed {
                 Instant::now(&rt).ok()
@@ -211,7 +226,7 @@ fn main(rt: HostRuntime) -> ExitCode {
             };
             let is_shown = rt.stderr().is_terminal();
             let mut output = io::writer(&rt);
-            let status = run_load_shown(&rt, alloc, size, is_shown, &mut output);
+            let status = run_load_shown(&rt, alloc, size, is_shown, is_timed, &mut output);
             ExitCode::from(end_load(&rt, status, size.rows, started))
         }
         Ok(Chosen::Soak { size }) => {

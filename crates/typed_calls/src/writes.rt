@@ -6,6 +6,7 @@ ghost use Rattle.typed_calls.specs.Writes.{IsReadFor, WritesPrepared, WritesRead
 use crate::commits::commit_status;
 use crate::preparation::{PrepareOutcome, prepare_outcome};
 use crate::status::{BAD_CODE, NOT_OPENED, OUT_OF_MEMORY};
+use collections::ArcValue;
 use entry_code::{CodeFault, ops_of};
 use row_map::ReadView;
 use row_write::{Prepared, RowOps, reads_of};
@@ -39,7 +40,10 @@ fn prepared_from(
     let Ok(schema) = held.schema.clone() else {
         return Err(PrepareOutcome::of(OUT_OF_MEMORY));
     };
-    match row_write::prepare(alloc, schema, held.lease, ops, view) {
+    let Ok(ops) = ArcValue::new(alloc, ops) else {
+        return Err(PrepareOutcome::of(OUT_OF_MEMORY));
+    };
+    match row_write::prepare_shared(alloc, schema, held.lease, ops, view) {
         Ok(prepared) => Ok(prepared),
         Err((fault, _)) => Err(prepare_outcome(fault)),
     }

@@ -11,4 +11,4 @@ returns-in-Some c =
 pub returns-in-None : goal.returns-in-None
 returns-in-None c =
     shown_unknown string_bytes c.unknown_text.result c.args.opened.now.world c.args.table.now c.args.name.now c.get-schema.result.now c.table_number.result c.element_number-number.result c.in_ok-report.field-0
-    (c.get-schema.ensures ∙ c.newest.ensures) c.table_number.ensures c.element_number-number.ensures c.in_ok-report.ensures c.in-None.is
+    (c.get-schema.ensures ∙ c.newest.ensures) c.table_number.ensures c.element_number-number.ensures c.in_ok-report.ensures c.in-None.is c.unknown_text.ensures

@@ -13,7 +13,7 @@ returns g c =
     record {
       of_request = tt;
       over = end.0;
-      own = λ f m n at granted. unprepared_so (g.P.Port.may f m) c.args.request.now.moment n c.args.request.now.ops c.in-Err.fault c.args.lease c.args.schema.now c.in-Ok.keys c.in-Ok-read.view
+      own = λ f m n requests at granted. unprepared_so (g.P.Port.may f m) requests c.args.request.now.moment n c.args.request.now.ops c.in-Err.fault c.args.lease c.args.schema.now c.in-Ok.keys c.in-Ok-read.view
           granted _ _ c.get.ensures c.as_slice.ensures c.in-Ok.ensures (c.in-Ok-read.ensures.says f m at) c.in-Ok-clone.schema c.in-Ok-ops_of.ops schema_is c.in-Ok-ops_of.ensures
           c.in-Err.ensures.refused c.unprepared_outcome.result c.unprepared_outcome.ensures;
       retries = ap (λ (t : Tally). t.retries) c.read.ensures.tallied;
@@ -25,5 +25,5 @@ returns g c =
     }
 
 pub returns-in-Err-WentBack-clause-own : goal.returns-in-Err-WentBack-clause-own
-returns-in-Err-WentBack-clause-own g c f m n at granted =
+returns-in-Err-WentBack-clause-own g c f m n requests at granted =
     subst (λ (seen : ℕ). g.P.Port.may f m (Said.went_back seen)) (sym c.in-Err-WentBack.seen-is) (read_back (g.P.Port.may f m) c.in-Ok.keys c.in-Err-WentBack.field-0 c.in-Err-WentBack.seen c.in-Err-WentBack.field-0-is (c.in-Err-WentBack.ensures.says f m at))

@@ -16,10 +16,10 @@ loop-worker-preserved g c = (
   search rules,
   grind (arith, common_steps),
   grind (arith, common_steps),
-  λ orders all. one_more_leases g.L.SharedLedger.start orders _ _ c.in-Some.worker _ _ _ _ c.in-Some.ensures.items c.worker.view_is c.new.ensures c.push_reserved-in-Some.ensures.items c.worker.invariant (c.loop-worker.invariant.6 orders all),
+  λ orders all. one_more_leases g.L.SharedLedger.start orders _ _ c.in-Some.worker _ _ _ _ c.in-Some.ensures.items c.worker.view_is c.new.ensures c.push_reserved-in-Some.ensures.items c.worker.invariant.0 (c.loop-worker.invariant.6 orders all),
   λ all.
       c.loop-worker.invariant.7
-      (All-same IsRisen c.loop-worker.workers.items _ c.in-Some.ensures.items (All-push IsRisen c.pop.new.self.items c.in-Some.worker all (subst IsRisen c.worker.view_is c.worker.invariant.risen))),
+      (All-same IsRisen c.loop-worker.workers.items _ c.in-Some.ensures.items (All-push IsRisen c.pop.new.self.items c.in-Some.worker all (subst IsRisen c.worker.view_is c.worker.invariant.0.risen))),
 )
 
 pub returns-clause-leases : goal.returns-clause-leases

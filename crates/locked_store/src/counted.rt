@@ -1,0 +1,77 @@
+//! Commits of a critical section, which count the entry that they add.
+ghost use Rattle.std.specs.Prelude.{◌≡◌, ◌+◌, ◌≤◌};
+ghost use Rattle.locked_store.specs.Answers.{Counts, place_of, commit_place, piece_place};
+ghost use Rattle.world.specs.Calls.{CommitStep};
+ghost use Rattle.world.specs.Piece.{PieceStep};
+ghost use Rattle.world.specs.State.{entry_count};
+
+use crate::handle::Handle;
+use crate::shared_ledger::SharedLedger;
+use reorganise::PreparedPiece;
+use row_write::Prepared;
+use std::alloc::Global;
+use std::sync::ledger::Book;
+use world::{CommitFault, Committed, PieceDone, PieceFault, World};
+
+/// How many entries there were ever.
+pub(crate) fn log_len(world: &World) -> u64
+    ensures { result ≡ entry_count world.now }
+{
+    world.log_len()
+}
+
+/// Commits, counts the entry, if there is one, and moves the front to the length of the log.
+pub(crate) fn commit_counted<L: SharedLedger>(
+    alloc: Global,
+    world: &mut World,
+    added: &mut u64,
+    book: &mut Book<L>,
+    me: &mut Handle<L>,
+    moment: u64,
+    prepared: Prepared,
+) -> Result<Committed, (CommitFault, Prepared)>
+    requires seen { me.old.front ≤ entry_count world.old }
+    requires few { added.old ≤ entry_count world.old }
+    ensures step { CommitStep world.old moment prepared result world.new }
+    ensures added { entry_count world.new + added.old ≡ entry_count world.old + added.new }
+    ensures total { book.new.total + added.old ≡ book.old.total + added.new }
+    ensures front { me.new.front ≡ entry_count world.new }
+    ensures counts { Counts me.old (place_of commit_place result) me.new }
+{
+    let result = world.commit(alloc, moment, prepared);
+    let len = log_len(world);
+    if matches!(&result, Ok(Committed::Done(_))) {
+        book.add(&mut me.share, 1);
+        *added += 1;
+    }
+    me.front = len;
+    result
+}
+
+/// The same of a piece, which always has an entry if it is accepted.
+pub(crate) fn piece_counted<L: SharedLedger>(
+    alloc: Global,
+    world: &mut World,
+    added: &mut u64,
+    book: &mut Book<L>,
+    me: &mut Handle<L>,
+    moment: u64,
+    prepared: PreparedPiece,
+) -> Result<PieceDone, (PieceFault, PreparedPiece)>
+    requires seen { me.old.front ≤ entry_count world.old }
+    requires few { added.old ≤ entry_count world.old }
+    ensures step { PieceStep world.old moment prepared result world.new }
+    ensures added { entry_count world.new + added.old ≡ entry_count world.old + added.new }
+    ensures total { book.new.total + added.old ≡ book.old.total + added.new }
+    ensures front { me.new.front ≡ entry_count world.new }
+    ensures counts { Counts me.old (place_of piece_place result) me.new }
+{
+    let result = world.commit_piece(alloc, moment, prepared);
+    let len = log_len(world);
+    if result.is_ok() {
+        book.add(&mut me.share, 1);
+        *added += 1;
+    }
+    me.front = len;
+    result
+}

@@ -1,0 +1,16 @@
+//! What the prompt answers, as JSON: one object for each line of input, and the facts behind the views
+//! of an opened world. Each is made of a world or a session that is only read.
+#![tactic(auto)]
+
+mod answer;
+mod describe;
+mod elements;
+mod facts;
+mod history;
+mod leases;
+mod object;
+mod pieces;
+mod rows;
+
+pub use answer::{Details, answer_text};
+pub use facts::facts_of;
