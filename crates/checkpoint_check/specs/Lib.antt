@@ -1,3 +1,5 @@
+pub use Rattle.checkpoint.specs.Checkpoint
+pub use Rattle.checkpoint.specs.Sound
 pub mod Given
 pub mod Refusals
 pub mod Accepted

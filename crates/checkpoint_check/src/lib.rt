@@ -16,3 +16,6 @@ mod row;
 pub use fault::CheckpointFault;
 pub use laws::logs_are_accepted;
 pub use parts::check;
+
+// Crates whose items callers of this one name, so that they list this one alone.
+pub use checkpoint;

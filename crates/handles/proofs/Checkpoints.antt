@@ -1,7 +1,7 @@
 -- The steps of the calls about checkpoints.
 use Rattle.std.proofs.Common.{◌≡◌, ℤ, List, ℕ, [], Option, Some, None, Ok, Err, inl, inr, refl, subst, string_bytes}
 use Rattle.checkpoint.specs.Checkpoint.{Checkpoint}
-use Rattle.script_session.specs.Session.{Session}
+use Rattle.typed_calls.specs.Session.{Session}
 use Rattle.typed_calls.specs.Checkpoints.{OpensAt, OpensSaved, TakesIn}
 use Rattle.handles.specs.declared.engine.Conversation.{Conversation}
 use Rattle.handles.specs.declared.engine.Engine.{Engine}

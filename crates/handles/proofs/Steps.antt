@@ -1,8 +1,8 @@
 -- The steps of calls on what a handle holds.
 use Rattle.std.proofs.Common.{◌≡◌, ℕ, ℤ, Bool, false, List, [], Option, Some, None, Ok, Err, is_some, inl, inr, refl, sym, ap, subst, ◌∙◌, string_bytes, true≢false}
-use Rattle.script_session.specs.Session.{Session}
-use Rattle.script_session.specs.declared.session.ServerLease.{ServerLease}
-use Rattle.world.specs.Snapshot.{Taken}
+use Rattle.typed_calls.specs.Session.{Session}
+use Rattle.typed_calls.specs.ServerLease.{ServerLease}
+use Rattle.typed_calls.specs.Snapshot.{Taken}
 use Rattle.typed_calls.specs.Commit.{CommitsIn}
 use Rattle.typed_calls.specs.Opening.{OpensSession}
 use Rattle.typed_calls.specs.Prepare.{Prepares as PreparesTxn, prepare_alone}

@@ -3,15 +3,15 @@
 use Rattle.std.specs.Prelude.{◌≡◌, ℕ, ◌-◌, zero, suc, ◌⊎◌, List, [], ◌++◌, take, drop, length, min, slice_get, Bool, Option, Some, None, Result, ℤ, string_bytes, IsUtf8}
 use Rattle.keycode.specs.Valid.{IsStorable}
 use Rattle.replay.specs.declared.entry.Entry.{Entry}
-use Rattle.world.specs.State.{State, entries_before, entries_kept}
-use Rattle.world.specs.declared.entry.Receipt.{Receipt}
+use Rattle.typed_calls.specs.State.{State, entries_before, entries_kept}
+use Rattle.typed_calls.specs.Receipt.{Receipt}
 use Rattle.entry_code.specs.Code.{entry_code}
 use Rattle.entry_code.specs.Known.{IsEntry}
 use Rattle.replica.specs.Next.{RepeatStep}
 use Rattle.replica.specs.declared.fault.RepeatFault.{RepeatFault}
-use Rattle.script_session.specs.Session.{Session, empty}
-use Rattle.script_session.specs.Replies.{Reply}
-use Rattle.script_session.specs.declared.session.Session.TheVariants.{Declaring, Running}
+use Rattle.typed_calls.specs.Session.{Session, empty}
+use Rattle.typed_calls.specs.Replies.{Reply}
+use Rattle.typed_calls.specs.SessionVariants.TheVariants.{Declaring, Running}
 use Rattle.handles.specs.declared.engine.Conversation.{Conversation}
 use Rattle.handles.specs.declared.engine.Engine.{Engine}
 use Rattle.handles.specs.declared.engine.Engine.TheVariants as engine

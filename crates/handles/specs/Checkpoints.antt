@@ -2,8 +2,8 @@
 -- The checkpoint of a session's world in a handle of its own, its bytes in another, and a session that opens there.
 use Rattle.std.specs.Prelude.{◌≡◌, ℕ, ◌⊎◌, ℤ, List, Option, Some, None, Result, Ok, Err}
 use Rattle.checkpoint.specs.Checkpoint.{Checkpoint}
-use Rattle.script_session.specs.Session.{Session}
-use Rattle.world.specs.State.{opened}
+use Rattle.typed_calls.specs.Session.{Session}
+use Rattle.typed_calls.specs.State.{opened}
 use Rattle.typed_calls.specs.Opening.{session_over}
 use Rattle.typed_calls.specs.Checkpoints.{OpensAt, OpensSaved, Saves, TakesIn}
 use Rattle.typed_calls.specs.Statuses.{ok, closed, already_open, out_of_memory, wrong_kind}

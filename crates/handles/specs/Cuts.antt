@@ -1,7 +1,7 @@
 -- Cited by the contracts of cagzhomul_log_start, cagzhomul_cut and of what they call.
 -- Which entries of a session's log are in memory.
 use Rattle.std.specs.Prelude.{◌≡◌, ℕ, ℤ, Option, Some, None, Result}
-use Rattle.script_session.specs.Session.{Session}
+use Rattle.typed_calls.specs.Session.{Session}
 use Rattle.typed_calls.specs.Cuts.{StartIn, CutsIn}
 use Rattle.typed_calls.specs.Statuses.{closed, wrong_kind}
 use Rattle.handles.specs.declared.engine.Engine.{Engine}

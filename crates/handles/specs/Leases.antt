@@ -1,8 +1,8 @@
 -- Cited by the contracts of cagzhomul_open_tables, cagzhomul_lease and of what they call.
 -- A session that is opened by a code, and a lease of its world in a handle of its own.
 use Rattle.std.specs.Prelude.{◌≡◌, ℕ, ◌⊎◌, ℤ, List, [], Option, Some, None, Ok, Err, string_bytes}
-use Rattle.script_session.specs.Session.{Session}
-use Rattle.world.specs.declared.entry.Grant.{Grant}
+use Rattle.typed_calls.specs.Session.{Session}
+use Rattle.typed_calls.specs.Grant.{Grant}
 use Rattle.typed_calls.specs.Leases.{LeasesIn, held_by}
 use Rattle.typed_calls.specs.Opening.{OpensSession}
 use Rattle.typed_calls.specs.Statuses.{ok, closed, already_open, wrong_kind, out_of_memory}

@@ -1,3 +1,19 @@
+pub use Rattle.typed_calls.specs.Changes
+pub use Rattle.typed_calls.specs.Opened
+pub use Rattle.typed_calls.specs.PieceDone
+pub use Rattle.typed_calls.specs.Pieces
+pub use Rattle.typed_calls.specs.Plans
+pub use Rattle.typed_calls.specs.Prepare
+pub use Rattle.typed_calls.specs.Progress
+pub use Rattle.typed_calls.specs.Queries as TypedQueries
+pub use Rattle.typed_calls.specs.Session
+pub use Rattle.typed_calls.specs.SessionVariants
+pub use Rattle.typed_calls.specs.Sessions
+pub use Rattle.typed_calls.specs.State
+pub use Rattle.typed_calls.specs.Statuses
+pub use Rattle.typed_calls.specs.declared.changes.ChangeRefusal
+pub use Rattle.typed_calls.specs.declared.pieces.PieceWork
+pub use Rattle.typed_calls.specs.declared.standing.Reached
 pub mod Calls
 pub mod Owned
 pub mod Replies

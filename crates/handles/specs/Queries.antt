@@ -1,9 +1,9 @@
 -- Cited by the contracts of cagzhomul_query, cagzhomul_snapshot_query, cagzhomul_query_read, cagzhomul_rows_from and of what they call.
 -- The rows that a query answers, by their code, in a handle of their own.
 use Rattle.std.specs.Prelude.{◌≡◌, ℕ, ℤ, List, drop, length, Option, Some, None, Result, Ok, Err}
-use Rattle.script_session.specs.Session.{Session}
-use Rattle.script_session.specs.declared.session.ServerLease.{ServerLease}
-use Rattle.world.specs.Snapshot.{Taken}
+use Rattle.typed_calls.specs.Session.{Session}
+use Rattle.typed_calls.specs.ServerLease.{ServerLease}
+use Rattle.typed_calls.specs.Snapshot.{Taken}
 use Rattle.typed_calls.specs.Queries.{query_alone, QueriesIn, QueriesSnapshot}
 use Rattle.typed_calls.specs.ReadQueries.{QueriesRead}
 use Rattle.typed_calls.specs.Statuses.{ok, closed, already_open, wrong_kind}

@@ -1,7 +1,7 @@
 -- Cited by the contracts of cagzhomul_reply_to and cagzhomul_repeat.
 -- The statuses of lines that have their replies, and of entries that were to be repeated.
 use Rattle.std.specs.Prelude.{ℤ, Bool, true, false, Result, Ok, Err}
-use Rattle.world.specs.declared.entry.Receipt.{Receipt}
+use Rattle.typed_calls.specs.Receipt.{Receipt}
 use Rattle.replica.specs.declared.fault.RepeatFault.{RepeatFault}
 use Rattle.replica.specs.declared.fault.RepeatFault.TheVariants.{NotNext, Memory}
 use Rattle.typed_calls.specs.Statuses.{ok, bad_line, not_next, out_of_memory}

@@ -2,9 +2,9 @@
 -- A snapshot in a handle of its own, the audit of what a handle holds, and the length of a session's log.
 use Rattle.std.specs.Prelude.{◌≡◌, ℕ, ◌⊎◌, ℤ, Option, Some, None, Result, Ok, Err}
 use Rattle.audit.specs.declared.report.CheckReport.{CheckReport}
-use Rattle.script_session.specs.Session.{Session}
-use Rattle.script_session.specs.declared.session.ServerLease.{ServerLease}
-use Rattle.world.specs.Snapshot.{Taken}
+use Rattle.typed_calls.specs.Session.{Session}
+use Rattle.typed_calls.specs.ServerLease.{ServerLease}
+use Rattle.typed_calls.specs.Snapshot.{Taken}
 use Rattle.typed_calls.specs.Snapshots.{SnapshotsIn, ChecksIn, ChecksTaken, LengthIn}
 use Rattle.typed_calls.specs.Statuses.{ok, closed, already_open, wrong_kind}
 use Rattle.handles.specs.declared.engine.Engine.{Engine}

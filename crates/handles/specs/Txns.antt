@@ -1,8 +1,8 @@
 -- Cited by the contracts of cagzhomul_transaction, cagzhomul_read, cagzhomul_operations, cagzhomul_prepare and of what they call.
 -- A transaction in a handle of its own: its operations, what it reads, and its preparation.
 use Rattle.std.specs.Prelude.{◌≡◌, ℕ, ◌⊎◌, ℤ, List, Option, Some, None, Ok, Err}
-use Rattle.script_session.specs.Session.{Session}
-use Rattle.script_session.specs.declared.session.ServerLease.{ServerLease}
+use Rattle.typed_calls.specs.Session.{Session}
+use Rattle.typed_calls.specs.ServerLease.{ServerLease}
 use Rattle.typed_calls.specs.Txns.{Wants, ReadsIn}
 use Rattle.typed_calls.specs.Operations.{WantsAgain}
 use Rattle.typed_calls.specs.Prepare.{Prepares as PreparesTxn, prepare_alone}

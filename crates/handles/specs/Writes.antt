@@ -2,9 +2,9 @@
 -- A transaction in one call, in the world of a session behind a handle.
 use Rattle.std.specs.Prelude.{◌≡◌, ℕ, ℤ, List, Option, Some, None, Result, Ok, Err}
 use Rattle.row_write.specs.declared.fault.RowFault.TheVariants.{Duplicate, NoRow}
-use Rattle.script_session.specs.Session.{Session}
-use Rattle.world.specs.declared.committed.Committed.{Committed}
-use Rattle.world.specs.declared.committed.Committed.TheVariants.{Done, Refused}
+use Rattle.typed_calls.specs.Session.{Session}
+use Rattle.typed_calls.specs.Committed.{Committed}
+use Rattle.typed_calls.specs.Committed.TheVariants.{Done, Refused}
 use Rattle.typed_calls.specs.Statuses.{ok, closed, wrong_kind, duplicate, no_row}
 use Rattle.typed_calls.specs.Writes.{WritesIn}
 use Rattle.typed_calls.specs.declared.preparation.PrepareOutcome.{PrepareOutcome}

@@ -5,10 +5,10 @@ ghost use Rattle.handles.specs.Checkpoints.{OpensEngine, OpensHeld, OpensHere, S
 use crate::boxes::{filled, taken_out};
 use crate::engine::{Conversation, Engine};
 use crate::handle::Handle;
-use script_session::Session;
 use std::alloc::Global;
+use typed_calls::script_session::Session;
 use typed_calls::status::{ALREADY_OPEN, CLOSED, OK, WRONG_KIND};
-use world::Checkpoint;
+use typed_calls::world::Checkpoint;
 
 // The engine after it was opened, if it is a checkpoint.
 fn open_engine(alloc: Global, engine: Engine) -> (i32, Engine)

@@ -6,10 +6,10 @@ use crate::boxes::{filled, taken_out};
 use crate::engine::{Conversation, Engine};
 use crate::handle::Handle;
 use row_write::RowFault;
-use script_session::Session;
 use std::alloc::Global;
+use typed_calls::script_session::Session;
 use typed_calls::status::{CLOSED, DUPLICATE, NO_ROW, OK, WRONG_KIND};
-use world::Committed;
+use typed_calls::world::Committed;
 
 /// What the commit of a transaction came to.
 #[repr(C)]

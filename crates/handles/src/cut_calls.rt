@@ -6,8 +6,8 @@ ghost use Rattle.typed_calls.specs.Cuts.{CutsIn};
 use crate::engine::{Conversation, Engine};
 use crate::handle::Handle;
 use crate::outcome::Outcome;
-use script_session::Session;
 use std::alloc::Global;
+use typed_calls::script_session::Session;
 use typed_calls::status::{CLOSED, OK, WRONG_KIND};
 
 // Where the entries of the session's log begin that are in memory.

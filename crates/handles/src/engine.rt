@@ -1,15 +1,15 @@
 //! What a handle may hold. Each kind of calls has its variant.
 ghost use Rattle.std.specs.Prelude.{◌≡◌, string_bytes, []};
-ghost use Rattle.script_session.specs.Session.{empty};
+ghost use Rattle.typed_calls.specs.Session.{empty};
 ghost use Rattle.handles.specs.Calls.{RepliesIn};
 
 use crate::outcome::{Outcome, lay};
 use collections::List;
-use script_session::{ServerLease, Session};
 use std::alloc::Global;
+use typed_calls::script_session::{ServerLease, Session};
 use typed_calls::status::{BAD_LINE, NOT_UTF8, OK, OUT_OF_MEMORY};
+use typed_calls::world::{Checkpoint, Snapshot};
 use typed_calls::{PieceWork, Txn};
-use world::{Checkpoint, Snapshot};
 
 /// A session, and the last reply that it gave.
 pub struct Conversation {

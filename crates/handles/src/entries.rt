@@ -7,10 +7,10 @@ use crate::engine::Conversation;
 use crate::outcome::{Outcome, lay};
 use entry_code::{CodeFault, entry_bytes, entry_of};
 use replica::{Repeat, RepeatFault};
-use script_session::Session;
 use std::alloc::Global;
+use typed_calls::script_session::Session;
 use typed_calls::status::{BAD_ENTRY, NO_ENTRY, NOT_NEXT, NOT_OPENED, OK, OUT_OF_MEMORY};
-use world::{Entry, Receipt, World};
+use typed_calls::world::{Entry, Receipt, World};
 
 // The entry of this place, of which the first is 1.
 fn entry_at(log: &[Entry], place: usize) -> Option<&Entry>

@@ -8,8 +8,8 @@ use crate::engine::{Conversation, Engine};
 use crate::handle::Handle;
 use std::alloc::Global;
 use typed_calls::status::{ALREADY_OPEN, CLOSED, OK, OUT_OF_MEMORY, WRONG_KIND};
+use typed_calls::world::Grant;
 use typed_calls::{held_by, open_session};
-use world::Grant;
 
 /// What the grant of a lease came to.
 #[repr(C)]

@@ -29,3 +29,7 @@ pub use outcome::{Outcome, lay, show_text};
 pub use place::Place;
 pub use snapshot_calls::CheckOutcome;
 pub use write_calls::WriteOutcome;
+
+// Crates whose items callers of this one name, so that they list this one alone.
+pub use typed_calls;
+pub use typed_calls::{script_session, world};

@@ -6,11 +6,11 @@ use crate::engine::Engine;
 use crate::handle::Handle;
 use crate::outcome::{Outcome, lay};
 use collections::List;
-use script_session::{ServerLease, Session};
 use std::alloc::Global;
+use typed_calls::script_session::{ServerLease, Session};
 use typed_calls::status::{ALREADY_OPEN, CLOSED, OK, WRONG_KIND};
+use typed_calls::world::Snapshot;
 use typed_calls::{QueryOutcome, Txn};
-use world::Snapshot;
 
 impl Handle {
     // Fills a closed handle with the rows of an answer.

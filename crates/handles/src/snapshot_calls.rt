@@ -5,10 +5,10 @@ ghost use Rattle.handles.specs.Snapshots.{check_outcome, Snapshots, SnapshotsUnd
 use crate::engine::Engine;
 use crate::handle::Handle;
 use crate::outcome::Outcome;
-use script_session::{ServerLease, Session};
 use std::alloc::Global;
+use typed_calls::script_session::{ServerLease, Session};
 use typed_calls::status::{ALREADY_OPEN, CLOSED, OK, WRONG_KIND};
-use world::CheckReport;
+use typed_calls::world::CheckReport;
 
 /// What an audit found.
 #[repr(C)]

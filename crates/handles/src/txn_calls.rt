@@ -5,9 +5,9 @@ ghost use Rattle.handles.specs.Txns.{Transacts, WantsIn, Reads, ReadsFor, ReadsE
 use crate::boxes::{filled, taken_out};
 use crate::engine::Engine;
 use crate::handle::Handle;
-use script_session::{ServerLease, Session};
 use std::alloc::Global;
 use typed_calls::PrepareOutcome;
+use typed_calls::script_session::{ServerLease, Session};
 use typed_calls::status::{ALREADY_OPEN, CLOSED, OK, WRONG_KIND};
 
 // The engine after it was read for, if it is a transaction.

@@ -8,7 +8,7 @@ use row_write::RowFault;
 use std::alloc::Global;
 use typed_calls::PrepareOutcome;
 use typed_calls::status::{CLOSED, DUPLICATE, NO_ROW, OK, WRONG_KIND};
-use world::Committed;
+use typed_calls::world::Committed;
 
 /// What a transaction in one call came to.
 #[repr(C)]

@@ -7,7 +7,7 @@ use Rattle.handles.specs.Snapshots.{check_alone}
 use Rattle.handles.specs.declared.snapshot_calls.CheckOutcome.{CheckOutcome}
 use Rattle.row_map.specs.Rows.{Bytes, Pairs}
 use Rattle.schema_version.specs.Version.{Version}
-use Rattle.typed_calls.specs.Statuses.{ok, out_of_memory}
+use Rattle.handles.specs.Statuses.{ok, out_of_memory}
 use Rattle.layer_calls.specs.Given.{alone, GivesVersion, GivesPairs}
 use Rattle.layer_calls.specs.declared.outcome.LayerOutcome.{LayerOutcome}
 

@@ -22,8 +22,8 @@ use Rattle.drafts.specs.declared.record.Reorg.{Reorg}
 use Rattle.record_code.specs.Records.{record_code, IsKnown}
 use Rattle.record_code.specs.declared.fault.RecordFault.{RecordFault}
 use Rattle.record_code.specs.declared.fault.RecordFault.TheVariants.{Version as OtherFormat, Trailing, Malformed, Unsound, Memory}
-use Rattle.typed_calls.specs.Sessions.{IsNoCode}
-use Rattle.typed_calls.specs.Statuses.{bad_code, out_of_memory}
+use Rattle.handles.specs.Sessions.{IsNoCode}
+use Rattle.handles.specs.Statuses.{bad_code, out_of_memory}
 use Rattle.layer_calls.specs.declared.outcome.LayerOutcome.{LayerOutcome}
 use Rattle.layer_calls.specs.declared.outcome.LayerReply.{LayerReply}
 

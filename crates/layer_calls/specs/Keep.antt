@@ -3,7 +3,7 @@
 use Rattle.std.specs.Prelude.{◌≡◌, ◌⊎◌, Option, Some, None, Ok, Err}
 use Rattle.handles.specs.declared.engine.Engine.{Engine}
 use Rattle.handles.specs.declared.engine.Engine.TheVariants as engine
-use Rattle.typed_calls.specs.Statuses.{ok, already_open, out_of_memory}
+use Rattle.handles.specs.Statuses.{ok, already_open, out_of_memory}
 use Rattle.layer_calls.specs.Given.{alone, numbered, Answer}
 use Rattle.layer_calls.specs.declared.outcome.LayerOutcome.{LayerOutcome}
 

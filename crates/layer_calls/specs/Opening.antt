@@ -4,7 +4,7 @@ use Rattle.std.specs.Prelude.{◌≡◌, ◌⊎◌, List, Ok, Err}
 use Rattle.schema_version.specs.Declare.{declared, IsLawful}
 use Rattle.schema_version.specs.declared.table.TableDef.{TableDef}
 use Rattle.record_code.specs.Drafts.{draft_code, open_draft}
-use Rattle.typed_calls.specs.Statuses.{bad_table, out_of_memory}
+use Rattle.handles.specs.Statuses.{bad_table, out_of_memory}
 use Rattle.layer_calls.specs.Given.{alone, Answer, Replies}
 
 -- version 1 with these tables, if they may be declared

@@ -15,7 +15,7 @@ use Rattle.drafts.specs.Calls.{piece_draft, IsWorking}
 use Rattle.drafts.specs.Made.{working}
 use Rattle.drafts.specs.declared.record.Reorg.{Reorg}
 use Rattle.record_code.specs.Drafts.{draft_code}
-use Rattle.typed_calls.specs.Statuses.{bad_count, bad_piece, out_of_memory, spent}
+use Rattle.handles.specs.Statuses.{bad_count, bad_piece, out_of_memory, spent}
 use Rattle.layer_calls.specs.Given.{alone, Answer, Replies}
 
 -- ---- a piece that has come to its cursor

@@ -15,8 +15,8 @@ use Rattle.row_query.specs.Refused.{IsRefused, IsSound}
 use Rattle.row_query.specs.declared.fault.QueryFault.{QueryFault}
 use Rattle.row_query.specs.declared.query.Query.{Query}
 use Rattle.schema_version.specs.Version.{Version}
-use Rattle.typed_calls.specs.Queries.{fault_outcome}
-use Rattle.typed_calls.specs.Statuses.{out_of_memory}
+use Rattle.handles.specs.TypedQueries.{fault_outcome}
+use Rattle.handles.specs.Statuses.{out_of_memory}
 use Rattle.layer_calls.specs.Given.{alone, Answer}
 use Rattle.layer_calls.specs.declared.outcome.LayerOutcome.{LayerOutcome}
 

@@ -22,8 +22,8 @@ use Rattle.drafts.specs.Calls.{txn_draft, IsTxn}
 use Rattle.drafts.specs.Marked.{MarkedTxn}
 use Rattle.drafts.specs.Txn.{IsTxnOf}
 use Rattle.record_code.specs.Drafts.{draft_code}
-use Rattle.typed_calls.specs.Prepare.{prepare_outcome}
-use Rattle.typed_calls.specs.Statuses.{duplicate, no_row, out_of_memory}
+use Rattle.handles.specs.Prepare.{prepare_outcome}
+use Rattle.handles.specs.Statuses.{duplicate, no_row, out_of_memory}
 use Rattle.layer_calls.specs.Given.{alone, numbered, Answer, Replies}
 use Rattle.layer_calls.specs.declared.outcome.LayerOutcome.{LayerOutcome}
 

@@ -6,8 +6,8 @@ use crate::given;
 use crate::outcome::LayerOutcome;
 use audit::{CheckReport, audit};
 use handles::CheckOutcome;
+use handles::typed_calls::status::OK;
 use std::alloc::Global;
-use typed_calls::status::OK;
 
 // What the audit counts.
 fn counted(alloc: Global, version: &[u8], pairs: &[u8]) -> Result<CheckReport, LayerOutcome>

@@ -1,7 +1,7 @@
 //! Schema changes: plans, steps, closes and begins.
 ghost use Rattle.std.specs.Prelude.{◌≡◌, ◌++◌, List as PlainList, IfErr, OnOk, ◌⊎◌};
 ghost use Rattle.drafts.specs.declared.record.Reorg.{Reorg as PlainReorg};
-ghost use Rattle.typed_calls.specs.Statuses.{bad_code, out_of_memory};
+ghost use Rattle.handles.specs.Statuses.{bad_code, out_of_memory};
 ghost use Rattle.layer_calls.specs.Given.{alone, With, GivesVersion, GivesStep, GivesKeys};
 ghost use Rattle.layer_calls.specs.Changes.{newest_of, Plans, publish_refusal as publish_refusal_of, divide_refusal as divide_refusal_of, AreReorgs, HasBad, GivesReorgs, Publishes, Closes, Begins};
 
@@ -11,13 +11,13 @@ use byte_map::Bytes;
 use checkpoint_code::{PageFault, page_of};
 use collections::{ArcValue, List};
 use drafts::{DivideFault, Newest, PublishFault, Reorg, draft_close, draft_divide, draft_publish};
+use handles::typed_calls::status::{
+    BAD_CODE, BAD_COUNT, BAD_PIECE, NOT_WANTED, OUT_OF_MEMORY, UNFINISHED, VERSIONS_SPENT,
+};
+use handles::typed_calls::{plan_coded, step_refusal};
 use record_code::control_bytes;
 use schema_version::{Schema, Step};
 use std::alloc::Global;
-use typed_calls::status::{
-    BAD_CODE, BAD_COUNT, BAD_PIECE, NOT_WANTED, OUT_OF_MEMORY, UNFINISHED, VERSIONS_SPENT,
-};
-use typed_calls::{plan_coded, step_refusal};
 
 // The plan of these changes, with the status of its refusal.
 fn plan_from(alloc: Global, schema: &Schema, changes: &[u8]) -> Result<LayerReply, LayerOutcome>

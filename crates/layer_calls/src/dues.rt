@@ -3,7 +3,7 @@ ghost use Rattle.std.specs.Prelude.{◌≡◌, ◌⊎◌, drop, IfErr, IfOk, OnO
 ghost use Rattle.entry_code.specs.Known.{IsPlan};
 ghost use Rattle.drafts.specs.Store.{reorg_key, cursor_key};
 ghost use Rattle.record_code.specs.Keys.{key_code};
-ghost use Rattle.typed_calls.specs.Statuses.{bad_code, out_of_memory};
+ghost use Rattle.handles.specs.Statuses.{bad_code, out_of_memory};
 ghost use Rattle.layer_calls.specs.Changes.{newest_of};
 ghost use Rattle.layer_calls.specs.Dues.{seen, IsAdded, AreAdded, IsUnknown, HasUnknown, GivesRecords, steps_in, GivesSteps, stuck_outcome as stuck_outcome_of, DueBy, DueFrom, act_outcome as act_outcome_of, due_outcome as due_outcome_of, Dues};
 ghost use Rattle.layer_calls.specs.Given.{alone};
@@ -16,11 +16,11 @@ use checkpoint_code::{PageFault, page_of};
 use collections::{ArcValue, List};
 use drafts::{KeyName, Newest};
 use entry_code::{CodeFault, plan_of};
+use handles::typed_calls::status::{BAD_CODE, BAD_PIECE, NOT_WANTED, OK, OUT_OF_MEMORY};
 use layer_due::{Act, Cursor, DueFault, Records};
 use record_code::{NoKey, key_of};
 use schema_version::{Schema, Step};
 use std::alloc::{AllocError, Global};
-use typed_calls::status::{BAD_CODE, BAD_PIECE, NOT_WANTED, OK, OUT_OF_MEMORY};
 
 // Notes that a version has a record.
 fn see_version(records: &mut Records, number: u64)

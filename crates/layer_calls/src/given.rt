@@ -6,7 +6,7 @@ ghost use Rattle.drafts.specs.declared.record.Record.TheVariants.{Version as OfV
 ghost use Rattle.record_code.specs.Records.{kind_of};
 ghost use Rattle.record_code.specs.Read.{number_of};
 ghost use Rattle.record_code.specs.declared.kind.RecordKind.TheVariants.{Version as AVersion, Reorg as AReorg, Cursor as ACursor};
-ghost use Rattle.typed_calls.specs.Statuses.{out_of_memory};
+ghost use Rattle.handles.specs.Statuses.{out_of_memory};
 ghost use Rattle.layer_calls.specs.Given.{alone, record_refusal, GivesVersion, GivesReorg, GivesOpening, GivesOps, GivesQuery, GivesStep, GivesPairs, GivesKeys, GivesCursor, GivesView, put_all, keys_in};
 
 use crate::outcome::LayerOutcome;
@@ -15,13 +15,13 @@ use checkpoint_code::{PageFault, page_of};
 use collections::{ArcValue, List};
 use drafts::{Record, Reorg};
 use entry_code::{CodeFault, opening_of, ops_of, points_of, query_of, step_of};
+use handles::typed_calls::status::{BAD_CODE, OUT_OF_MEMORY};
 use record_code::{RecordFault, RecordKind, record_of};
 use row_map::ReadView;
 use row_query::Query;
 use row_write::RowOps;
 use schema_version::{Schema, Step, TableDef};
 use std::alloc::{AllocError, Global};
-use typed_calls::status::{BAD_CODE, OUT_OF_MEMORY};
 
 // What bytes that are the code of no record are reported as.
 fn no_record(fault: &RecordFault) -> LayerOutcome

@@ -3,9 +3,9 @@ ghost use Rattle.std.specs.Prelude.{◌≡◌};
 ghost use Rattle.layer_calls.specs.Keep.{Keeps};
 
 use crate::outcome::{LayerOutcome, LayerReply};
+use handles::typed_calls::status::{ALREADY_OPEN, OK};
 use handles::{Engine, Handle};
 use std::alloc::Global;
-use typed_calls::status::{ALREADY_OPEN, OK};
 
 /// Keeps the bytes that a call gives in a closed handle, from which `Handle::rows_from` gives them:
 /// `OK`, with the reply's number. Else `ALREADY_OPEN` if the handle is not closed, the call's own

@@ -5,10 +5,10 @@ ghost use Rattle.layer_calls.specs.Opening.{OpensWith};
 
 use crate::given;
 use crate::outcome::{LayerOutcome, LayerReply};
+use handles::typed_calls::status::{BAD_TABLE, OUT_OF_MEMORY};
 use record_code::open_bytes;
 use schema_version::{DeclareFault, TableDef};
 use std::alloc::Global;
-use typed_calls::status::{BAD_TABLE, OUT_OF_MEMORY};
 
 // The draft that opens a store with these tables.
 fn open_with(alloc: Global, tables: &[TableDef]) -> Result<LayerReply, LayerOutcome>

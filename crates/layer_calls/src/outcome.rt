@@ -1,11 +1,11 @@
 //! What a call of the layer comes to.
 ghost use Rattle.std.specs.Prelude.{◌≡◌};
-ghost use Rattle.typed_calls.specs.Statuses.{ok, out_of_memory};
+ghost use Rattle.handles.specs.Statuses.{ok, out_of_memory};
 ghost use Rattle.layer_calls.specs.Given.{alone};
 
 use collections::List;
+use handles::typed_calls::status::{OK, OUT_OF_MEMORY};
 use std::alloc::{AllocError, AllocFailed};
-use typed_calls::status::{OK, OUT_OF_MEMORY};
 
 /// What a call of the layer came to.
 #[repr(C)]

@@ -8,10 +8,10 @@ use crate::outcome::{LayerOutcome, LayerReply};
 use byte_map::{Bytes, KeyMap};
 use collections::List;
 use drafts::{PieceFault, Reorg, draft_piece};
+use handles::typed_calls::status::{BAD_COUNT, BAD_PIECE, OUT_OF_MEMORY, SPENT};
 use record_code::piece_bytes;
 use reorganise::{PieceView, Progress, Span, prepare_piece};
 use std::alloc::{AllocError, Global};
-use typed_calls::status::{BAD_COUNT, BAD_PIECE, OUT_OF_MEMORY, SPENT};
 
 // The pieces with these bounds, of which the one of this number has come to the cursor.
 fn spans(

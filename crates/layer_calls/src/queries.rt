@@ -8,11 +8,11 @@ use crate::outcome::{LayerOutcome, LayerReply};
 use byte_map::{Bytes, KeyMap};
 use collections::List;
 use entry_code::{pairs_bytes, rows_bytes};
+use handles::typed_calls::fault_outcome;
 use row_ask::{Remaining, after_index, answer_read, begin, ranges_of};
 use row_query::{Query, QueryFault};
 use schema_version::Schema;
 use std::alloc::Global;
-use typed_calls::fault_outcome;
 
 // What a fault of the query is reported as.
 fn query_refusal(fault: QueryFault) -> LayerOutcome

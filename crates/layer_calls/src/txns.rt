@@ -12,13 +12,13 @@ use byte_map::Bytes;
 use collections::{ArcValue, List};
 use drafts::{Drafted, TxnDraft, draft_txn};
 use entry_code::points_bytes;
+use handles::typed_calls::prepare_outcome;
+use handles::typed_calls::status::{DUPLICATE, NO_ROW};
 use record_code::txn_bytes;
 use row_map::{ReadSet, ReadView};
 use row_write::{PrepareFault, RowFault, RowOp, RowOps, reads_of};
 use schema_version::Schema;
 use std::alloc::{AllocError, Global};
-use typed_calls::prepare_outcome;
-use typed_calls::status::{DUPLICATE, NO_ROW};
 
 // The keys of a set, each without a value.
 fn missing_points(alloc: Global, keys: &ReadSet) -> Result<List<(Bytes, Option<Bytes>)>, AllocError>

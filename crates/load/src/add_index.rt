@@ -5,13 +5,13 @@ use crate::fault::LoadFault;
 use crate::table::{INDEX, index_step, state_step};
 use collections::List;
 use command_line::LoadSize;
-use locked_store::{Handle, Shared, SharedFault, SharedLedger};
 use reorganise_workers::{PieceEnd, ReorganiseFault, Reorganised, reorganise_all};
 use schema_version::{ElementState, Step};
+use server::locked_store::{Handle, Shared, SharedFault, SharedLedger};
+use server::world::{BeginFault, GrantFault, PublishFault, Receipt};
 use std::alloc::Global;
 use std::sync::Wait;
 use std::thread::Threads;
-use world::{BeginFault, GrantFault, PublishFault, Receipt};
 
 /// What became of the index, and all that it was added with.
 #[derive(Drop)]

@@ -1,7 +1,7 @@
 //! A bar on standard error while threads work.
 ghost use Rattle.std.specs.Prelude.{◌≤◌};
 
-use tasks::Gate;
+use server::tasks::Gate;
 
 /// Bars by the tenths that are done.
 const BARS: [&str; 11] = [

@@ -1,8 +1,8 @@
 //! The run of a load.
 ghost use Rattle.std.specs.Prelude.{◌≡◌, IfOk, None, true};
 ghost use Rattle.command_line.specs.LoadSize.{IsLoadSize};
-ghost use Rattle.locked_store.specs.Receipts.{AreTheLog};
-ghost use Rattle.world.specs.State.{entries_before, entries_kept};
+ghost use Rattle.server.specs.Receipts.{AreTheLog};
+ghost use Rattle.server.specs.State.{entries_before, entries_kept};
 
 use crate::add_index::{Added, add_index};
 use crate::bar::Bar;
@@ -12,9 +12,10 @@ use crate::report::Report;
 use crate::table::{inserts, open_world};
 use collections::List;
 use command_line::LoadSize;
-use locked_store::{
+use server::locked_store::{
     Handle, ReceiptFault, Shared, SharedLedger, lemma_receipts_are_the_log, reconcile,
 };
+use server::world::{Receipt, World};
 use server::{Outcome, Request, ServeFault, Served, serve};
 use std::alloc::{AllocError, Global};
 use std::io::Write;
@@ -23,7 +24,6 @@ use std::sync::Wait;
 use std::sync::ledger::Blank;
 use std::thread::{Threads, join};
 use std::time::{Clock, Instant};
-use world::{Receipt, World};
 
 /// How often a request is tried.
 const TRIES: u32 = 1_000;

@@ -1,7 +1,7 @@
 //! What a load found, and what it prints.
 
 use crate::pace::Pace;
-use locked_store::ReceiptFault;
+use server::locked_store::ReceiptFault;
 use std::alloc::{AllocError, Global};
 
 /// What a load found once all threads were done.

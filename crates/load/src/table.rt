@@ -7,8 +7,8 @@ use row_map::ColumnType;
 use row_write::{RowOp, RowOps};
 use schema_version::{ElementState, Kind, Move, NewElement, Step, TableDef};
 use server::Request;
+use server::world::{Config, OpenFault, World};
 use std::alloc::{AllocError, Global};
-use world::{Config, OpenFault, World};
 
 /// The number of the table.
 const TABLE: u32 = 1;

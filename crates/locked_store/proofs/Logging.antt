@@ -4,17 +4,17 @@ use Rattle.std.specs.Prelude.{slice_get}
 use Rattle.row_write.specs.Made.{PreparedTxn}
 use Rattle.reorganise.specs.declared.read.Reading.{Reading}
 use Rattle.replay.specs.declared.entry.What.{What}
-use Rattle.world.specs.declared.committed.Committed.{Committed}
-use Rattle.world.specs.declared.committed.Committed.TheVariants as committed
-use Rattle.world.specs.declared.commit.CommitFault.{CommitFault}
-use Rattle.world.specs.declared.entry.Grant.{Grant}
-use Rattle.world.specs.declared.entry.PieceDone.{PieceDone}
-use Rattle.world.specs.declared.entry.Receipt.{Receipt}
-use Rattle.world.specs.declared.grant.GrantFault.{GrantFault}
-use Rattle.world.specs.declared.piece.PieceFault.{PieceFault}
-use Rattle.world.specs.Calls.{Appends, LeaseStep, CommitStep}
-use Rattle.world.specs.Piece.{PieceStep}
-use Rattle.world.specs.State.{State, entry_count}
+use Rattle.rollout.specs.Committed.{Committed}
+use Rattle.rollout.specs.Committed.TheVariants as committed
+use Rattle.rollout.specs.CommitFault.{CommitFault}
+use Rattle.rollout.specs.Grant.{Grant}
+use Rattle.rollout.specs.PieceDone.{PieceDone}
+use Rattle.rollout.specs.Receipt.{Receipt}
+use Rattle.rollout.specs.GrantFault.{GrantFault}
+use Rattle.rollout.specs.PieceFault.{PieceFault}
+use Rattle.rollout.specs.Calls.{Appends, LeaseStep, CommitStep}
+use Rattle.rollout.specs.Piece.{PieceStep}
+use Rattle.rollout.specs.State.{State, entry_count}
 use Rattle.locked_store.specs.declared.fault.SharedFault.{SharedFault}
 use Rattle.locked_store.specs.declared.fault.SharedFault.TheVariants as shared
 use Rattle.locked_store.specs.declared.fault.WentBack.{WentBack}

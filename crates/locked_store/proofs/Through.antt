@@ -1,6 +1,6 @@
 -- The world's answer is the lock's.
 use Rattle.std.proofs.Common.{◌≡◌, ℕ, Option, Result, Ok, Err, refl, subst, sym}
-use Rattle.world.specs.State.{State}
+use Rattle.rollout.specs.State.{State}
 use Rattle.locked_store.specs.Answers.{Answers, AnswersBack, Finds, Found, Takes, reported, to_fault}
 use Rattle.locked_store.specs.Known.{Known}
 use Rattle.locked_store.specs.declared.fault.SharedFault.{SharedFault}

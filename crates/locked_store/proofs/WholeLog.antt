@@ -4,7 +4,7 @@ use Rattle.std.specs.Prelude.{slice_get, ◌==◌, if◌then◌else◌}
 use mathlib.Core.Logic.{dite}
 use native.Mathlib.Decide.{ℕ_discrete}
 use Rattle.replay.specs.declared.entry.Entry.{Entry}
-use Rattle.world.specs.declared.entry.Receipt.{Receipt}
+use Rattle.rollout.specs.Receipt.{Receipt}
 use Rattle.std.proofs.lemmas.Option.{slice_get_within}
 use Rattle.locked_store.specs.Receipts.{EachOnce, IsReceiptAt, ReceiptsAreTheLog}
 

@@ -3,7 +3,7 @@
 use Rattle.std.specs.Prelude.{◌≡◌, ℕ, ◌≤◌, List, ◌++◌}
 use Rattle.replay.specs.Kept.{IsKept}
 use Rattle.replay.specs.declared.entry.Entry.{Entry}
-use Rattle.world.specs.State.{State, entry_count, facts_of, IsReplayed, Agrees}
+use Rattle.rollout.specs.State.{State, entry_count, facts_of, IsReplayed, Agrees}
 
 -- the state that the world had when it was shared, with more entries or none
 pub record GrewFrom (start core : State) : Type 0 where

@@ -2,7 +2,7 @@
 -- What reconcile answers.
 use Rattle.std.specs.Prelude.{◌≡◌, ◌≢◌, ℕ, ◌+◌, ◌-◌, ◌<◌, ◌≤◌, ◌⊎◌, List, length, slice_get, Option, Some, None}
 use Rattle.replay.specs.declared.entry.Entry.{Entry}
-use Rattle.world.specs.declared.entry.Receipt.{Receipt}
+use Rattle.rollout.specs.Receipt.{Receipt}
 use Rattle.locked_store.specs.declared.fault.ReceiptFault.{ReceiptFault}
 use Rattle.locked_store.specs.declared.fault.ReceiptFault.TheVariants.{NoPlace, OtherEntry, Twice, CutOff, Memory}
 use Rattle.locked_store.specs.Receipts.{Stands}

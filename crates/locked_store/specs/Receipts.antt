@@ -2,8 +2,8 @@
 -- Receipts against a log.
 use Rattle.std.specs.Prelude.{◌≡◌, ◌≢◌, ℕ, ◌+◌, ◌-◌, ◌<◌, ◌≤◌, List, length, Some, slice_get}
 use Rattle.replay.specs.declared.entry.Entry.{Entry}
-use Rattle.world.specs.declared.entry.Receipt.{Receipt}
-use Rattle.world.specs.State.{State}
+use Rattle.rollout.specs.Receipt.{Receipt}
+use Rattle.rollout.specs.State.{State}
 use Rattle.locked_store.specs.Cores.{IsCore}
 
 -- the entry of the receipt is at its place in the log, counted from 1, if so many entries came before those of the log

@@ -3,16 +3,16 @@
 //! stays; else it is the length of the log after the call, also if the world refuses.
 ghost use Rattle.std.specs.Prelude.{◌≡◌, IfOk};
 ghost use Rattle.locked_store.specs.Answers.{Answers, AnswersBack, Finds, reported, to_fault, no_place, grant_place, commit_place, publish_place, receipt_place, piece_place};
-ghost use Rattle.world.specs.BeginReorg.{BeginStep};
-ghost use Rattle.piece_work.specs.WorkOff.{NextStep};
+ghost use Rattle.rollout.specs.BeginReorg.{BeginStep};
+ghost use Rattle.rollout.specs.WorkOff.{NextStep};
 ghost use Rattle.rollout.specs.Due.{IsDue};
-ghost use Rattle.world.specs.Calls.{LeaseStep, CommitStep, IsReadView, IsCheck, effective_moment};
-ghost use Rattle.world.specs.Piece.{PieceStep, ReadStep, standing_at, piece_standing_at};
-ghost use Rattle.world.specs.Publish.{PublishStep};
-ghost use Rattle.world.specs.Query.{QueryStep};
-ghost use Rattle.world.specs.Snapshot.{SnapshotStep};
+ghost use Rattle.rollout.specs.Calls.{LeaseStep, CommitStep, IsReadView, IsCheck, effective_moment};
+ghost use Rattle.rollout.specs.Piece.{PieceStep, ReadStep, standing_at, piece_standing_at};
+ghost use Rattle.rollout.specs.Publish.{PublishStep};
+ghost use Rattle.rollout.specs.Query.{QueryStep};
+ghost use Rattle.rollout.specs.Snapshot.{SnapshotStep};
 ghost use Rattle.checkpoint.specs.Checkpoint.{checkpoint_of};
-ghost use Rattle.world.specs.State.{entries_before, entries_kept, entry_count, facts_of, recent};
+ghost use Rattle.rollout.specs.State.{entries_before, entries_kept, entry_count, facts_of, recent};
 
 use crate::fault::{SharedFault, WentBack};
 use crate::handle::Handle;
@@ -22,16 +22,16 @@ use collections::{ArcValue, List};
 use lease::Lease;
 use reorganise::{PieceView, PreparedPiece, Work};
 use rollout::Act;
+use rollout::world::{
+    BeginFault, CheckReport, Checkpoint, CommitFault, Committed, Entry, Grant, GrantFault,
+    PieceDone, PieceFault, PublishFault, QueryRefusal, ReadFault, Receipt, Snapshot, SnapshotFault,
+};
 use row_map::{ReadSet, ReadView, Row};
 use row_query::Query;
 use row_write::Prepared;
 use schema_version::{Schema, Step};
 use std::alloc::{AllocError, Global};
 use std::sync::Wait;
-use world::{
-    BeginFault, CheckReport, Checkpoint, CommitFault, Committed, Entry, Grant, GrantFault,
-    PieceDone, PieceFault, PublishFault, QueryRefusal, ReadFault, Receipt, Snapshot, SnapshotFault,
-};
 
 // What the world answered.
 fn through<T, E>(answer: Result<T, E>) -> Result<T, SharedFault<E>>

@@ -1,17 +1,17 @@
 //! Commits of a critical section, which count the entry that they add.
 ghost use Rattle.std.specs.Prelude.{◌≡◌, ◌+◌, ◌≤◌};
 ghost use Rattle.locked_store.specs.Answers.{Counts, place_of, commit_place, piece_place};
-ghost use Rattle.world.specs.Calls.{CommitStep};
-ghost use Rattle.world.specs.Piece.{PieceStep};
-ghost use Rattle.world.specs.State.{entry_count};
+ghost use Rattle.rollout.specs.Calls.{CommitStep};
+ghost use Rattle.rollout.specs.Piece.{PieceStep};
+ghost use Rattle.rollout.specs.State.{entry_count};
 
 use crate::handle::Handle;
 use crate::shared_ledger::SharedLedger;
 use reorganise::PreparedPiece;
+use rollout::world::{CommitFault, Committed, PieceDone, PieceFault, World};
 use row_write::Prepared;
 use std::alloc::Global;
 use std::sync::ledger::Book;
-use world::{CommitFault, Committed, PieceDone, PieceFault, World};
 
 /// How many entries there were ever.
 pub(crate) fn log_len(world: &World) -> u64

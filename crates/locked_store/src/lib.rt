@@ -15,3 +15,7 @@ pub use handle::{Handle, least_front};
 pub use receipts::{lemma_receipts_are_the_log, reconcile};
 pub use shared::Shared;
 pub use shared_ledger::SharedLedger;
+
+// Crates whose items callers of this one name, so that they list this one alone.
+pub use rollout;
+pub use rollout::world;

@@ -2,16 +2,16 @@
 ghost use Rattle.std.specs.Prelude.{◌≡◌, ◌+◌, ◌<◌, ◌≤◌, length, IfOk, IfErr, OnOk, option_map};
 ghost use Rattle.locked_store.specs.Answers.{Takes, Found, no_place, grant_place, commit_place, publish_place, receipt_place, piece_place};
 ghost use Rattle.locked_store.specs.Cores.{IsCore, WasLength};
-ghost use Rattle.world.specs.BeginReorg.{BeginStep};
-ghost use Rattle.piece_work.specs.WorkOff.{NextStep};
+ghost use Rattle.rollout.specs.BeginReorg.{BeginStep};
+ghost use Rattle.rollout.specs.WorkOff.{NextStep};
 ghost use Rattle.rollout.specs.Due.{IsDue};
-ghost use Rattle.world.specs.Calls.{LeaseStep, CommitStep, IsReadView, IsCheck, effective_moment};
-ghost use Rattle.world.specs.Piece.{PieceStep, ReadStep, standing_at, piece_standing_at};
-ghost use Rattle.world.specs.Publish.{PublishStep};
-ghost use Rattle.world.specs.Query.{QueryStep};
-ghost use Rattle.world.specs.Snapshot.{SnapshotStep};
+ghost use Rattle.rollout.specs.Calls.{LeaseStep, CommitStep, IsReadView, IsCheck, effective_moment};
+ghost use Rattle.rollout.specs.Piece.{PieceStep, ReadStep, standing_at, piece_standing_at};
+ghost use Rattle.rollout.specs.Publish.{PublishStep};
+ghost use Rattle.rollout.specs.Query.{QueryStep};
+ghost use Rattle.rollout.specs.Snapshot.{SnapshotStep};
 ghost use Rattle.checkpoint.specs.Checkpoint.{checkpoint_of};
-ghost use Rattle.world.specs.State.{cut_here, entries_before, entries_kept, entry_count, facts_of, recent};
+ghost use Rattle.rollout.specs.State.{cut_here, entries_before, entries_kept, entry_count, facts_of, recent};
 
 use crate::counted::{commit_counted, log_len, piece_counted};
 use crate::fault::WentBack;
@@ -19,8 +19,13 @@ use crate::handle::Handle;
 use crate::shared_ledger::SharedLedger;
 use collections::{ArcValue, List};
 use lease::Lease;
-use piece_work::next_view;
 use reorganise::{PieceView, PreparedPiece, Work};
+use rollout::piece_work::next_view;
+use rollout::world::{
+    BeginFault, CheckReport, Checkpoint, CommitFault, Committed, Entry, Grant, GrantFault,
+    PieceDone, PieceFault, PublishFault, QueryRefusal, ReadFault, Receipt, Snapshot, SnapshotFault,
+    World,
+};
 use rollout::{Act, due};
 use row_map::{ReadSet, ReadView, Row};
 use row_query::Query;
@@ -29,11 +34,6 @@ use schema_version::{Schema, Step};
 use std::alloc::{AllocError, Global};
 use std::marker::Model;
 use std::sync::ledger::Book;
-use world::{
-    BeginFault, CheckReport, Checkpoint, CommitFault, Committed, Entry, Grant, GrantFault,
-    PieceDone, PieceFault, PublishFault, QueryRefusal, ReadFault, Receipt, Snapshot, SnapshotFault,
-    World,
-};
 
 /// The world, and how many entries its calls added since it was shared. Contracts see it as the
 /// state of the world.
@@ -50,8 +50,8 @@ pub(crate) struct Locked<L: SharedLedger> {
 
 impl<L: SharedLedger> Model for Locked<L> {
     ghost use Rattle.std.specs.Prelude.{◌≡◌, ◌+◌};
-    ghost use Rattle.world.specs.State.{State, entry_count};
-    ghost use Rattle.world.specs.Code.{state_code};
+    ghost use Rattle.rollout.specs.State.{State, entry_count};
+    ghost use Rattle.rollout.specs.Code.{state_code};
     ghost use Rattle.locked_store.specs.Cores.{IsCore};
 
     ghost Value = { State };

@@ -2,12 +2,12 @@
 //! `Shared::close` gives it back.
 ghost use Rattle.std.specs.Prelude.{◌≡◌, ◌<◌, ℕ, IfOk, IfErr, OnOk, vec_len, slice_index_or, true, false};
 ghost use Rattle.locked_store.specs.Faults.{Faulty, HasPlace};
-ghost use Rattle.world.specs.State.{entries_before, entries_kept};
+ghost use Rattle.rollout.specs.State.{entries_before, entries_kept};
 ghost use Rattle.locked_store.specs.Receipts.{Agree, ReceiptsAreTheLog};
 
 use crate::fault::ReceiptFault;
+use rollout::world::{Entry, Receipt, World};
 use std::alloc::{AllocError, Global};
-use world::{Entry, Receipt, World};
 
 // A mark for each of so many places, none of them set.
 fn fresh(alloc: Global, count: usize) -> Result<Vec<bool>, AllocError>

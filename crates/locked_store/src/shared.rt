@@ -3,17 +3,17 @@ ghost use Rattle.std.specs.Prelude.{◌≡◌, ◌+◌, ◌<◌, ◌≤◌, leng
 ghost use Rattle.locked_store.specs.Cores.{IsCore};
 ghost use Rattle.locked_store.specs.Known.{total_count, AreFresh};
 ghost use Rattle.locked_store.specs.Sharing.{IsCount, IsRefused};
-ghost use Rattle.world.specs.State.{entry_count};
+ghost use Rattle.rollout.specs.State.{entry_count};
 
 use crate::counted::log_len;
 use crate::fault::{Missing, ShareFault};
 use crate::handle::Handle;
 use crate::locked::Locked;
 use crate::shared_ledger::SharedLedger;
+use rollout::world::World;
 use std::alloc::Global;
 use std::sync::Mutex;
 use std::sync::ledger::{Blank, Share};
-use world::World;
 
 /// The greatest number of handles.
 const MAX_HANDLES: u64 = 64;

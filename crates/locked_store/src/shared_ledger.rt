@@ -7,7 +7,7 @@ use std::sync::ledger::Ledger;
 /// shared. Each call of `Shared::new` picks it.
 pub trait SharedLedger: Ledger {
     ghost use Rattle.std.specs.Prelude.{ℕ};
-    ghost use Rattle.world.specs.State.{State};
+    ghost use Rattle.rollout.specs.State.{State};
 
     ghost handles: { ℕ };
 
@@ -19,7 +19,7 @@ impl SharedLedger for Brand {
     ghost use Rattle.std.specs.Prelude.{[]};
     ghost use Rattle.schema_version.specs.Declare.{declared};
     ghost use Rattle.checkpoint.specs.Checkpoint.{opening_checkpoint};
-    ghost use Rattle.world.specs.State.{opened};
+    ghost use Rattle.rollout.specs.State.{opened};
 
     ghost handles = { 0 };
 

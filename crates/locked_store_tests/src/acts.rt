@@ -4,19 +4,19 @@ use crate::fixtures::{FIRST, are, delete, entering, going, insert, whole_table};
 use crate::handle_port::{HandlePort, Reported, judged, prepared};
 use crate::pieces::{begun, works};
 use collections::{ArcValue, List};
-use locked_store::{SharedFault, SharedLedger, WentBack};
 use reorganise::{PreparedPiece, Work};
 use row_map::Row;
 use row_query::QueryFault;
 use row_write::{Prepared, RowOps};
 use schema_version::{ElementState, Schema, Step};
-use std::alloc::{AllocError, Global};
-use std::mem;
-use std::sync::Wait;
-use world::{
+use shared_rollout::locked_store::{SharedFault, SharedLedger, WentBack};
+use shared_rollout::world::{
     Checkpoint, CommitFault, Committed, Entry, Grant, GrantFault, PublishFault, QueryRefusal,
     Receipt, Snapshot, SnapshotFault,
 };
+use std::alloc::{AllocError, Global};
+use std::mem;
+use std::sync::Wait;
 
 /// Rows by their keys and their values of a.
 pub(crate) type Rows = &'static [(i64, i64)];

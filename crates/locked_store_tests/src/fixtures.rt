@@ -7,8 +7,8 @@ use row_map::{ColumnType, Row};
 use row_query::Query;
 use row_write::{Prepared, RowOp, RowOps, prepare, reads_of};
 use schema_version::{ElementState, Kind, Move, NewElement, Step, TableDef};
+use shared_rollout::world::{Config, OpenFault, World};
 use std::alloc::{AllocError, Global};
-use world::{Config, OpenFault, World};
 
 /// The lease that is granted at 0 on version 1.
 pub(crate) const FIRST: Lease = Lease {

@@ -2,13 +2,13 @@
 
 use crate::fixtures::{FIRST, insert};
 use collections::ArcValue;
-use locked_store::{Handle, Shared, SharedFault, SharedLedger};
 use row_map::ReadView;
 use row_write::{PrepareFault, Prepared, RowOps, prepare, reads_of};
 use schema_version::Schema;
+use shared_rollout::locked_store::{Handle, Shared, SharedFault, SharedLedger};
+use shared_rollout::world::{CommitFault, Committed, Receipt};
 use std::alloc::{AllocError, Global};
 use std::sync::Wait;
-use world::{CommitFault, Committed, Receipt};
 
 /// A handle, and what its calls take.
 #[derive(Drop)]

@@ -6,15 +6,15 @@ ghost use Rattle.std.specs.Prelude.{◌≡◌};
 use crate::fixtures::{FIRST, are, opened, update, whole_table};
 use crate::handle_port::{HandlePort, Read, inserted, read_for};
 use keycode::Value;
-use locked_store::{Handle, Shared, SharedFault, SharedLedger};
 use row_map::{ColumnType, ReadView, column_key, read_typed_value};
 use row_write::{Prepared, prepare};
+use shared_rollout::locked_store::{Handle, Shared, SharedFault, SharedLedger};
+use shared_rollout::world::{CommitFault, Committed, Receipt, World};
 use std::alloc::Global;
 use std::marker::Brand;
 use std::sync::Wait;
 use std::sync::ledger::Blank;
 use std::thread::{Threads, join};
-use world::{CommitFault, Committed, Receipt, World};
 
 // How often each handle increments.
 const TIMES: i64 = 200;

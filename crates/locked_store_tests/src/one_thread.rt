@@ -9,16 +9,16 @@ use Act::{
     Begin, Cut, Delete, Enter, Find, Go, Insert, Keep, Lease, Look, Piece, Save, Stand, State, Take,
 };
 use audit::CheckReport;
-use locked_store::{
-    Handle, ReceiptFault, ShareFault, Shared, SharedFault, SharedLedger, reconcile,
-};
 use reorganise::Work::Fill;
 use schema_version::ElementState::{Absent, Public, WriteOnly};
+use shared_rollout::locked_store::{
+    Handle, ReceiptFault, ShareFault, Shared, SharedFault, SharedLedger, reconcile,
+};
+use shared_rollout::world::{Entry, Receipt, World};
 use std::alloc::{AllocError, Global};
 use std::marker::Brand;
 use std::sync::Wait;
 use std::sync::ledger::Blank;
-use world::{Entry, Receipt, World};
 
 // The length of the log and the number of rows.
 type Seen = (u64, u64);

@@ -1,12 +1,12 @@
 //! The fill of the index through a handle.
 
 use crate::handle_port::{HandlePort, Reported, judged};
-use locked_store::{SharedFault, SharedLedger};
 use reorganise::{PieceView, PreparedPiece, ViewFault, prepare_piece};
+use shared_rollout::locked_store::{SharedFault, SharedLedger};
+use shared_rollout::world::{BeginFault, PieceDone, PieceFault, ReadFault, Receipt};
 use std::alloc::Global;
 use std::mem;
 use std::sync::Wait;
-use world::{BeginFault, PieceDone, PieceFault, ReadFault, Receipt};
 
 /// Whether it has begun.
 pub(crate) fn begun(answer: Result<Receipt, SharedFault<BeginFault>>) -> Reported {

@@ -3,13 +3,15 @@ ghost use Rattle.std.specs.Prelude.{◌≡◌};
 
 use crate::fixtures::{FIRST, opened, prepared_in, whole_table};
 use crate::handle_port::{HandlePort, inserted};
-use locked_store::{Handle, Missing, ReceiptFault, Shared, SharedFault, SharedLedger, reconcile};
+use shared_rollout::locked_store::{
+    Handle, Missing, ReceiptFault, Shared, SharedFault, SharedLedger, reconcile,
+};
+use shared_rollout::world::{Committed, Entry, Grant, GrantFault, Receipt, Snapshot, What, World};
 use std::alloc::Global;
 use std::marker::Brand;
 use std::sync::Wait;
 use std::sync::ledger::Blank;
 use std::thread::{Threads, join};
-use world::{Committed, Entry, Grant, GrantFault, Receipt, Snapshot, What, World};
 
 // A snapshot that a thread took, and how long the log then was.
 #[derive(Drop)]

@@ -1,9 +1,9 @@
 -- The steps of calls on pieces that a handle holds.
 use Rattle.std.proofs.Common.{◌≡◌, ℕ, ℤ, Option, Some, None, Ok, Err, inl, inr, refl, sym, ap, subst, ◌∙◌}
-use Rattle.script_session.specs.Session.{Session}
-use Rattle.typed_calls.specs.Pieces.{ReadsPieceIn, PreparesPiece as PreparesWork, CommitsPieceIn}
-use Rattle.typed_calls.specs.Statuses.{ok}
-use Rattle.typed_calls.specs.declared.pieces.PieceWork.{PieceWork}
+use Rattle.handles.specs.Session.{Session}
+use Rattle.handles.specs.Pieces.{ReadsPieceIn, PreparesPiece as PreparesWork, CommitsPieceIn}
+use Rattle.handles.specs.Statuses.{ok}
+use Rattle.handles.specs.PieceWork.{PieceWork}
 use Rattle.handles.specs.declared.engine.Conversation.{Conversation}
 use Rattle.handles.specs.declared.engine.Engine.{Engine}
 use Rattle.handles.specs.declared.engine.Engine.TheVariants as engine

@@ -6,10 +6,10 @@ use Rattle.rollout.specs.declared.advanced.Advanced.{Advanced}
 use Rattle.rollout.specs.declared.advanced.Advanced.TheVariants.{Began, Published, Worked, Waiting, Finished}
 use Rattle.rollout.specs.declared.advanced.AdvanceFault.{AdvanceFault}
 use Rattle.rollout.specs.declared.advanced.AdvanceFault.TheVariants.{BadCount, MomentTooLarge, VersionsSpent, Memory}
-use Rattle.script_session.specs.Session.{Session}
-use Rattle.script_session.specs.declared.session.Session.TheVariants.{Declaring, Running}
-use Rattle.world.specs.State.{State}
-use Rattle.typed_calls.specs.Statuses.{ok, closed, wrong_kind, not_opened, out_of_memory, waiting, finished, bad_count, moment_too_large, versions_spent}
+use Rattle.handles.specs.Session.{Session}
+use Rattle.handles.specs.SessionVariants.TheVariants.{Declaring, Running}
+use Rattle.handles.specs.State.{State}
+use Rattle.handles.specs.Statuses.{ok, closed, wrong_kind, not_opened, out_of_memory, waiting, finished, bad_count, moment_too_large, versions_spent}
 use Rattle.handles.specs.declared.engine.Engine.{Engine}
 use Rattle.handles.specs.declared.engine.Engine.TheVariants as engine
 use Rattle.operator_calls.specs.declared.advances.AdvanceOutcome.{AdvanceOutcome}

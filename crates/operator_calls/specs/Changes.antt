@@ -1,10 +1,10 @@
 -- Cited by the contracts of cagzhomul_publish, cagzhomul_begin_reorg and of what they call.
 -- Schema changes in the world of a session behind a handle.
 use Rattle.std.specs.Prelude.{◌≡◌, ℕ, ℤ, List, Option, Some, None, Result, Ok, Err}
-use Rattle.script_session.specs.Session.{Session}
-use Rattle.typed_calls.specs.Changes.{PublishesIn, BeginsIn}
-use Rattle.typed_calls.specs.Statuses.{ok, closed, wrong_kind}
-use Rattle.typed_calls.specs.declared.changes.ChangeRefusal.{ChangeRefusal}
+use Rattle.handles.specs.Session.{Session}
+use Rattle.handles.specs.Changes.{PublishesIn, BeginsIn}
+use Rattle.handles.specs.Statuses.{ok, closed, wrong_kind}
+use Rattle.handles.specs.ChangeRefusal.{ChangeRefusal}
 use Rattle.handles.specs.declared.engine.Engine.{Engine}
 use Rattle.handles.specs.declared.engine.Engine.TheVariants as engine
 use Rattle.operator_calls.specs.declared.changes.ChangeOutcome.{ChangeOutcome}

@@ -1,11 +1,11 @@
 -- Cited by the contracts of cagzhomul_read_piece, cagzhomul_prepare_piece, cagzhomul_commit_piece and of what they call.
 -- A piece of a begun reorganisation in a handle of its own: it is read, prepared and committed, and its handle is then closed.
 use Rattle.std.specs.Prelude.{◌≡◌, ℕ, ◌⊎◌, ℤ, false, Option, Some, None, Ok, Err}
-use Rattle.script_session.specs.Session.{Session}
-use Rattle.world.specs.declared.entry.PieceDone.{PieceDone}
-use Rattle.typed_calls.specs.Pieces.{ReadsPieceIn, PreparesPiece as PreparesWork, CommitsPieceIn}
-use Rattle.typed_calls.specs.Statuses.{ok, closed, already_open, wrong_kind}
-use Rattle.typed_calls.specs.declared.pieces.PieceWork.{PieceWork}
+use Rattle.handles.specs.Session.{Session}
+use Rattle.handles.specs.PieceDone.{PieceDone}
+use Rattle.handles.specs.Pieces.{ReadsPieceIn, PreparesPiece as PreparesWork, CommitsPieceIn}
+use Rattle.handles.specs.Statuses.{ok, closed, already_open, wrong_kind}
+use Rattle.handles.specs.PieceWork.{PieceWork}
 use Rattle.handles.specs.declared.engine.Engine.{Engine}
 use Rattle.handles.specs.declared.engine.Engine.TheVariants as engine
 use Rattle.operator_calls.specs.declared.pieces.PieceOutcome.{PieceOutcome}

@@ -1,9 +1,9 @@
 -- Cited by the contracts of cagzhomul_plan and of what it calls.
 -- The least plan of a batch of changes in the world of a session behind a handle, whose code lies in the caller's bytes.
 use Rattle.std.specs.Prelude.{◌≡◌, ℕ, ℤ, List, length, Option, Some, None, Result, Ok, Err}
-use Rattle.script_session.specs.Session.{Session}
-use Rattle.typed_calls.specs.Plans.{PlansIn}
-use Rattle.typed_calls.specs.Statuses.{ok, closed, wrong_kind}
+use Rattle.handles.specs.Session.{Session}
+use Rattle.handles.specs.Plans.{PlansIn}
+use Rattle.handles.specs.Statuses.{ok, closed, wrong_kind}
 use Rattle.handles.specs.declared.engine.Engine.{Engine}
 use Rattle.handles.specs.declared.engine.Engine.TheVariants as engine
 use Rattle.handles.specs.declared.outcome.Outcome.{Outcome}

@@ -2,10 +2,10 @@
 -- How far a begun reorganisation is, and how the world of a session behind a handle stands.
 use Rattle.std.specs.Prelude.{◌≡◌, ℕ, ℤ, false, List, length, Option, Some, None, Result, Ok, Err, String, string_bytes}
 use Rattle.std.specs.Global.{Global}
-use Rattle.script_session.specs.Session.{Session}
-use Rattle.typed_calls.specs.Progress.{ProgressIn, StatusIn}
-use Rattle.typed_calls.specs.Statuses.{ok, closed, wrong_kind}
-use Rattle.typed_calls.specs.declared.standing.Reached.{Reached}
+use Rattle.handles.specs.Session.{Session}
+use Rattle.handles.specs.Progress.{ProgressIn, StatusIn}
+use Rattle.handles.specs.Statuses.{ok, closed, wrong_kind}
+use Rattle.handles.specs.Reached.{Reached}
 use Rattle.handles.specs.declared.engine.Engine.{Engine}
 use Rattle.handles.specs.declared.engine.Engine.TheVariants as engine
 use Rattle.handles.specs.declared.outcome.Outcome.{Outcome}

@@ -2,15 +2,15 @@
 ghost use Rattle.std.specs.Prelude.{◌≡◌};
 ghost use Rattle.operator_calls.specs.Advances.{advance_outcome, AdvancesWorld, AdvancesIn, Advances};
 
-use handles::{Conversation, Engine, Handle};
-use rollout::{AdvanceFault, Advanced};
-use script_session::Session;
-use std::alloc::Global;
-use typed_calls::status::{
+use handles::script_session::Session;
+use handles::typed_calls::status::{
     BAD_COUNT, CLOSED, FINISHED, MOMENT_TOO_LARGE, NOT_OPENED, OK, OUT_OF_MEMORY, VERSIONS_SPENT,
     WAITING, WRONG_KIND,
 };
-use world::World;
+use handles::world::World;
+use handles::{Conversation, Engine, Handle};
+use rollout::{AdvanceFault, Advanced};
+use std::alloc::Global;
 
 /// What an advance did.
 #[repr(C)]

@@ -2,10 +2,10 @@
 ghost use Rattle.std.specs.Prelude.{◌≡◌};
 ghost use Rattle.operator_calls.specs.Changes.{change_outcome, Publishes, PublishesOf, Begins, BeginsOf};
 
-use handles::{Conversation, Engine, Handle};
+use handles::typed_calls::ChangeRefusal;
+use handles::typed_calls::status::{CLOSED, OK, WRONG_KIND};
+use handles::{Conversation, Engine, Handle, typed_calls};
 use std::alloc::Global;
-use typed_calls::ChangeRefusal;
-use typed_calls::status::{CLOSED, OK, WRONG_KIND};
 
 /// What a schema change came to.
 #[repr(C)]

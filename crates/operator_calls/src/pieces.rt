@@ -2,11 +2,11 @@
 ghost use Rattle.std.specs.Prelude.{◌≡◌, false, None};
 ghost use Rattle.operator_calls.specs.Pieces.{pieced, ReadsInto, ReadsPiece, PreparesEngine, PreparesPiece, CommitsEngine, CommitsTo, CommitsPiece};
 
-use handles::{Conversation, Engine, Handle, filled, taken_out};
-use script_session::Session;
+use handles::script_session::Session;
+use handles::typed_calls::status::{ALREADY_OPEN, CLOSED, OK, WRONG_KIND};
+use handles::world::PieceDone;
+use handles::{Conversation, Engine, Handle, filled, taken_out, typed_calls};
 use std::alloc::Global;
-use typed_calls::status::{ALREADY_OPEN, CLOSED, OK, WRONG_KIND};
-use world::PieceDone;
 
 /// What the commit of a piece came to.
 #[repr(C)]

@@ -2,10 +2,10 @@
 ghost use Rattle.std.specs.Prelude.{◌≡◌};
 ghost use Rattle.operator_calls.specs.Plans.{PlansOf, Plans};
 
-use handles::{Engine, Handle, Outcome, lay};
-use script_session::Session;
+use handles::script_session::Session;
+use handles::typed_calls::status::{CLOSED, OK, WRONG_KIND};
+use handles::{Engine, Handle, Outcome, lay, typed_calls};
 use std::alloc::Global;
-use typed_calls::status::{CLOSED, OK, WRONG_KIND};
 
 // Writes as much of the code of a batch's plan as fits.
 fn show_plan(alloc: Global, session: &Session, changes: &[u8], out: &mut [u8]) -> Outcome

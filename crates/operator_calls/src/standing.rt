@@ -2,11 +2,11 @@
 ghost use Rattle.std.specs.Prelude.{◌≡◌, false};
 ghost use Rattle.operator_calls.specs.Standing.{progress_outcome, ProgressOf, Progresses, ShowsStatusOf, ShowsStatus};
 
-use handles::{Engine, Handle, Outcome, lay};
-use script_session::Session;
+use handles::script_session::Session;
+use handles::typed_calls::Reached;
+use handles::typed_calls::status::{CLOSED, OK, WRONG_KIND};
+use handles::{Engine, Handle, Outcome, lay, typed_calls};
 use std::alloc::Global;
-use typed_calls::Reached;
-use typed_calls::status::{CLOSED, OK, WRONG_KIND};
 
 /// How far a begun reorganisation is.
 #[repr(C)]

@@ -11,3 +11,6 @@ mod piece_loop;
 pub use fault::WorkFault;
 pub use next_piece::next_view;
 pub use piece_loop::work_off;
+
+// Crates whose items callers of this one name, so that they list this one alone.
+pub use world;

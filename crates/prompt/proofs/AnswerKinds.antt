@@ -1,9 +1,9 @@
 -- The kinds of answer.
 use Rattle.std.proofs.Common.{◌≡◌, ℕ, List, [], Bool, true, false, Option, Some, None, IfSome, refl, inl, inr, sym, subst}
 use Rattle.std.specs.Str.{IsUtf8}
-use Rattle.script_replies.specs.Texts.{bad_line}
-use Rattle.script_session.specs.Session.{Session}
-use Rattle.script_session.specs.Replies.{Reply}
+use Rattle.script_json.specs.Texts.{bad_line}
+use Rattle.script_json.specs.Session.{Session}
+use Rattle.script_json.specs.Replies.{Reply}
 use Rattle.prompt.specs.declared.carry.CarryLine.{CarryLine}
 use Rattle.prompt.specs.declared.form.Form.{Form}
 use Rattle.prompt.specs.declared.state.PromptState.{PromptState}

@@ -1,8 +1,8 @@
 -- One more line is replied to.
 use Rattle.std.proofs.Common.{◌≡◌, ◌++◌, ◌∷◌, ◌+◌, ◌<◌, ℕ, List, [], length, get_or, take, Bool, refl, sym, ap, subst, ◌∙◌}
 use Rattle.std.proofs.lemmas.List.{take_more}
-use Rattle.script_session.specs.Session.{Session}
-use Rattle.script_session.specs.Replies.{Reply}
+use Rattle.script_json.specs.Session.{Session}
+use Rattle.script_json.specs.Replies.{Reply}
 use Rattle.prompt.specs.Undo.{AreReplied}
 
 replied_more : (old : Session) (lines : List (List ℕ)) (mid new : Session) (line reply : List ℕ) (bad : Bool) → AreReplied old lines mid → Reply mid line reply bad new → AreReplied old (lines ++ line ∷ []) new

@@ -10,12 +10,12 @@ use Rattle.rollout.specs.declared.advanced.Advanced.TheVariants as advanced
 use Rattle.rollout.specs.declared.advanced.AdvanceFault.{AdvanceFault}
 use Rattle.rollout.specs.declared.advanced.AdvanceFault.TheVariants as fault
 use Rattle.schema_version.specs.Version.{Version}
-use Rattle.script_replies.specs.Texts.{line, refused}
-use Rattle.script_session.specs.declared.session.Opened.{Opened}
+use Rattle.script_json.specs.Texts.{line, refused}
+use Rattle.script_json.specs.Opened.{Opened}
 use Rattle.script_tokens.specs.declared.token.Token.{Token}
 use Rattle.script_tokens.specs.Productions.{is_word, count_in}
-use Rattle.script_views.specs.Names.{element_name}
-use Rattle.world.specs.State.{facts_of}
+use Rattle.script_json.specs.Names.{element_name}
+use Rattle.script_json.specs.State.{facts_of}
 use Rattle.prompt.specs.declared.carry.CarryLine.{CarryLine}
 
 -- ---- the lines

@@ -7,15 +7,15 @@ use Rattle.std.specs.List.{flat_map}
 use Rattle.std.specs.Str.{IsUtf8, bytes_eq, trim}
 use Rattle.lease.specs.Timeline.{newest}
 use Rattle.script_json.specs.Answer.{IsAnswerText}
-use Rattle.script_replies.specs.Texts.{bad_line}
-use Rattle.script_session.specs.Replies.{Reply}
-use Rattle.script_session.specs.Session.{Session}
-use Rattle.script_session.specs.declared.session.Session.TheVariants.{Declaring, Running}
+use Rattle.script_json.specs.Texts.{bad_line}
+use Rattle.script_json.specs.Replies.{Reply}
+use Rattle.script_json.specs.Session.{Session}
+use Rattle.script_json.specs.SessionVariants.TheVariants.{Declaring, Running}
 use Rattle.script_tokens.specs.declared.token.Mark.TheVariants.{Dot}
 use Rattle.script_tokens.specs.declared.token.Token.{Token}
 use Rattle.script_tokens.specs.Productions.{is_mark, is_word}
 use Rattle.script_tokens.specs.Tokens.{tokens_of}
-use Rattle.world.specs.State.{facts_of}
+use Rattle.script_json.specs.State.{facts_of}
 use Rattle.prompt.specs.Carry.{CarriesOn, carry_in}
 use Rattle.prompt.specs.declared.carry.CarryLine.{CarryLine}
 use Rattle.prompt.specs.Lines.{HasRead, IsNext, IsReadInPart}

@@ -1,10 +1,10 @@
 -- Cited by the contracts of is_cut and cut_log, and by the definitions of Conversation.
 -- The line `cut`, which gives the memory of the log's entries back.
 use Rattle.std.specs.Prelude.{◌≡◌, ℕ, List, Bool, codes}
-use Rattle.script_session.specs.Session.{Session}
-use Rattle.script_session.specs.declared.session.Session.TheVariants.{Declaring, Running}
+use Rattle.script_json.specs.Session.{Session}
+use Rattle.script_json.specs.SessionVariants.TheVariants.{Declaring, Running}
 use Rattle.script_tokens.specs.Tokens.{tokens_of}
-use Rattle.world.specs.State.{cut_here}
+use Rattle.script_json.specs.State.{cut_here}
 use Rattle.prompt.specs.Alone.{is_alone}
 
 -- the word `cut` alone

@@ -7,10 +7,10 @@ use Rattle.std.specs.Str.{bytes_eq}
 use Rattle.std.specs.Str.Pattern.{FindsText, SplitsAroundMatch}
 use Rattle.script_grammar.specs.Commands.{command_at}
 use Rattle.script_grammar.specs.Silent.{is_silent}
-use Rattle.script_session.specs.Session.{Session}
-use Rattle.script_session.specs.declared.session.Session.TheVariants.{Declaring, Running}
+use Rattle.script_json.specs.Session.{Session}
+use Rattle.script_json.specs.SessionVariants.TheVariants.{Declaring, Running}
 use Rattle.script_tokens.specs.declared.fault.LineFault.TheVariants.{Malformed}
-use Rattle.world.specs.State.{facts_of}
+use Rattle.script_json.specs.State.{facts_of}
 
 -- no line of a script: neither a command nor silent
 abbrev pub IsForeign : List ℕ → Type 0

@@ -3,9 +3,9 @@
 use Rattle.std.specs.Prelude.{[], Option, Some, None}
 use Rattle.std.specs.FinMap as map
 use Rattle.checkpoint.specs.Checkpoint.{Checkpoint}
-use Rattle.script_session.specs.Session.{empty}
-use Rattle.script_session.specs.declared.session.Session.TheVariants.{Running}
-use Rattle.world.specs.State.{opened}
+use Rattle.script_json.specs.Session.{empty}
+use Rattle.script_json.specs.SessionVariants.TheVariants.{Running}
+use Rattle.script_json.specs.State.{opened}
 use Rattle.prompt.specs.declared.state.PromptState.{PromptState}
 
 -- Nothing is declared; or a session is opened at a checkpoint: no server has a lease, nothing is prepared, and no plan is kept.

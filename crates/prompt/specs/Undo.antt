@@ -4,9 +4,9 @@ use Rattle.std.specs.Prelude.{◌≡◌, ℕ, List, [], ◌∷◌, ◌++◌, Opt
 use Rattle.script_grammar.specs.Commands.{command_at}
 use Rattle.script_grammar.specs.declared.command.Command.{Command}
 use Rattle.script_grammar.specs.declared.command.Command.TheVariants as command
-use Rattle.script_session.specs.Replies.{Reply}
-use Rattle.script_session.specs.Session.{Session, empty}
-use Rattle.script_session.specs.declared.session.Session.TheVariants.{Declaring, Running}
+use Rattle.script_json.specs.Replies.{Reply}
+use Rattle.script_json.specs.Session.{Session, empty}
+use Rattle.script_json.specs.SessionVariants.TheVariants.{Declaring, Running}
 use Rattle.script_tokens.specs.declared.fault.LineFault.{LineFault}
 use Rattle.script_tokens.specs.Tokens.{tokens_of}
 use Rattle.prompt.specs.Alone.{is_alone}

@@ -1,16 +1,16 @@
 //! The lines that carry changes on: `advance` and `finish`.
 ghost use Rattle.std.specs.Prelude.{◌≡◌, ◌++◌, IfOk, OnOk, Some, string_bytes};
 ghost use Rattle.prompt.specs.Carry.{IsAdvanced, IsFinished, CarriesOn, act_words, advanced_words, carry_in, carry_word, fault_name, finished_words, moment_in, piece_word};
-ghost use Rattle.script_replies.specs.Texts.{line, refused};
+ghost use Rattle.script_json.specs.Texts.{line, refused};
 ghost use Rattle.script_tokens.specs.Productions.{count_in};
 ghost use Rattle.script_tokens.specs.Tokens.{tokens_of};
 
 use collections::List;
 use rollout::{AdvanceFault, Advanced, advance, complete};
 use schema_version::Schema;
-use script_session::Opened;
+use script_json::script_session::Opened;
+use script_json::script_views::push_element;
 use script_tokens::{Token, is_word, tokens_of};
-use script_views::push_element;
 use std::alloc::{AllocError, Global};
 
 /// In how many pieces a fill or a clear is begun.

@@ -15,10 +15,10 @@ use crate::moment::is_quit;
 use crate::save::Files;
 use crate::state::PromptState;
 use crate::streams::Streams;
-use script_session::Session;
+use script_json::script_session::Session;
+use script_json::world::Checkpoint;
 use std::alloc::Global;
 use std::io::BufRead;
-use world::Checkpoint;
 
 /// What came of a conversation that was led to its end.
 #[derive(Clone, Copy, PartialEq, Eq)]

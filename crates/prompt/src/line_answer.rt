@@ -16,9 +16,9 @@ use crate::save::{Files, is_save, saved_text};
 use crate::state::PromptState;
 use crate::undo::{is_undo, keep_declared, take_back, taken_text};
 use script_hints::{Before, bad_column, view_of};
+use script_json::script_progress::plan_dropped;
+use script_json::script_session::Session;
 use script_json::{Details, facts_of};
-use script_progress::plan_dropped;
-use script_session::Session;
 use std::alloc::{AllocError, Global};
 
 // What an answer has in JSON besides the session's reply: where a bad line is wrong.

@@ -1,12 +1,12 @@
 //! The line `cut`, which gives the memory of the log's entries back.
 ghost use Rattle.std.specs.Prelude.{◌≡◌, IfOk};
-ghost use Rattle.world.specs.State.{cut_here};
+ghost use Rattle.script_json.specs.State.{cut_here};
 ghost use Rattle.prompt.specs.LogCut.{CutIn, is_cut};
 
 use crate::alone::is_alone;
-use script_session::Session;
+use script_json::script_session::Session;
+use script_json::world::World;
 use std::alloc::{AllocError, Global};
-use world::World;
 
 /// Whether a line is `cut`. Refused only when out of memory.
 ///
@@ -18,6 +18,9 @@ pub(crate) fn is_cut(alloc: Global, line: &[u8]) -> Result<bool, AllocError>
 }
 
 /// What a cut gives back, in words. Refused only when out of memory.
+///
+/// It has no contract, so a body which counts after the cut would be proved; `prompts/cut` shows that
+/// this one counts before it.
 ///
 /// - `session`: the session before the cut, which is only read.
 pub(crate) fn cut_text(alloc: Global, session: &Session) -> Result<String, AllocError> {

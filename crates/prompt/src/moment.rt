@@ -7,7 +7,7 @@ ghost use Rattle.prompt.specs.Conversation.{is_quit, is_view, is_view_word, quit
 ghost use Rattle.prompt.specs.Moment.{IsForeign, IsCutAt, IsGiven, first_word, is_command, last_moment, moment_mark};
 
 use script_grammar::{is_silent, read_command};
-use script_session::Session;
+use script_json::script_session::Session;
 use script_tokens::{LineFault, Mark, Token, is_mark, is_word, tokens_of};
 use std::alloc::{AllocError, Global};
 

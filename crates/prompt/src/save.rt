@@ -3,10 +3,10 @@ ghost use Rattle.std.specs.Prelude.{◌≡◌};
 ghost use Rattle.prompt.specs.Save.{is_save};
 
 use crate::moment::first_word;
-use script_session::Session;
+use script_json::script_session::Session;
+use script_json::world::Checkpoint;
 use std::alloc::{AllocError, Global};
 use std::io;
-use world::Checkpoint;
 
 /// Where checkpoints are kept. What a file has then is said by no contract.
 pub trait Files {

@@ -5,9 +5,9 @@ ghost use Rattle.prompt.specs.Start.{start_at};
 use byte_map::KeyMap;
 use collections::List;
 use keycode::Text;
-use script_session::{Opened, Session};
+use script_json::script_session::{Opened, Session};
+use script_json::world::{Checkpoint, World};
 use std::alloc::Global;
-use world::{Checkpoint, World};
 
 /// The session, and the lines that declared what is declared in it.
 pub(crate) struct PromptState {

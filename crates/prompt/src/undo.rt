@@ -1,7 +1,7 @@
 //! The line `undo`, and the declarations that it takes back.
 ghost use Rattle.std.specs.Prelude.{◌≡◌, IfOk, option_map, string_bytes};
 ghost use Rattle.script_grammar.specs.Commands.{command_at};
-ghost use Rattle.script_session.specs.Session.{empty};
+ghost use Rattle.script_json.specs.Session.{empty};
 ghost use Rattle.prompt.specs.Undo.{AreReplied, TakesBack, declared_after, declared_by, effect_of, is_undo, line_effect};
 
 use crate::alone::is_alone;
@@ -9,7 +9,7 @@ use crate::state::PromptState;
 use collections::List;
 use keycode::Text;
 use script_grammar::{Command, read_command};
-use script_session::Session;
+use script_json::script_session::Session;
 use script_tokens::LineFault;
 use std::alloc::{AllocError, Global};
 

@@ -10,14 +10,14 @@ use Rattle.reorganise.specs.declared.fault.ViewFault.TheVariants as view_fault
 use Rattle.replay.specs.declared.entry.Entry.{Entry}
 use Rattle.replay.specs.declared.entry.What.TheVariants.{Piece}
 use Rattle.replay.specs.Replay.{is_of, progress_of}
-use Rattle.world.specs.Piece.{PieceStep, ReadStep, piece_standing_at}
-use Rattle.world.specs.State.{State, entry_count, facts_of}
-use Rattle.world.specs.declared.entry.PieceDone.{PieceDone}
-use Rattle.world.specs.declared.entry.Receipt.{Receipt}
-use Rattle.world.specs.declared.piece.PieceFault.{PieceFault}
-use Rattle.world.specs.declared.piece.PieceFault.TheVariants.{MomentTooLarge, NotWanted, WrongElement, Moved, Conflict, Memory}
-use Rattle.world.specs.declared.piece.ReadFault.{ReadFault}
-use Rattle.world.specs.declared.piece.ReadFault.TheVariants as read_fault
+use Rattle.locked_store.specs.Piece.{PieceStep, ReadStep, piece_standing_at}
+use Rattle.locked_store.specs.State.{State, entry_count, facts_of}
+use Rattle.locked_store.specs.PieceDone.{PieceDone}
+use Rattle.locked_store.specs.Receipt.{Receipt}
+use Rattle.locked_store.specs.PieceFault.{PieceFault}
+use Rattle.locked_store.specs.PieceFault.TheVariants.{MomentTooLarge, NotWanted, WrongElement, Moved, Conflict, Memory}
+use Rattle.locked_store.specs.ReadFault.{ReadFault}
+use Rattle.locked_store.specs.ReadFault.TheVariants as read_fault
 use Rattle.locked_store.specs.declared.fault.SharedFault.{SharedFault}
 use Rattle.locked_store.specs.declared.fault.SharedFault.TheVariants as shared
 use Rattle.locked_store.specs.declared.fault.WentBack.{WentBack}

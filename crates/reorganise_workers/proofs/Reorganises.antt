@@ -11,9 +11,9 @@ use Rattle.tasks.specs.Outcomes.{IsRow, held_in}
 use Rattle.schema_version.specs.declared.element.Work.{Work}
 use Rattle.reorganise.specs.declared.work.Progress.{Progress}
 use Rattle.replay.specs.Replay.{progress_of}
-use Rattle.world.specs.Piece.{standing, standing_at}
-use Rattle.world.specs.State.{State, facts_of}
-use Rattle.world.specs.declared.entry.Receipt.{Receipt}
+use Rattle.locked_store.specs.Piece.{standing, standing_at}
+use Rattle.locked_store.specs.State.{State, facts_of}
+use Rattle.locked_store.specs.Receipt.{Receipt}
 use Rattle.locked_store.specs.Cores.{IsCore}
 use Rattle.locked_store.specs.Known.{Known, total_count, IsLeastFront, OfLast}
 use Rattle.locked_store.proofs.Fronts.{back_risen, risen_on, one_risen}

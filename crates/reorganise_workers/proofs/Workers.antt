@@ -1,7 +1,7 @@
 -- A worker at its work.
 use Rattle.std.proofs.Common.{ℕ, ◌≤◌, List, All, arith}
-use Rattle.world.specs.declared.entry.Receipt.{Receipt}
-use Rattle.world.specs.State.{State}
+use Rattle.locked_store.specs.Receipt.{Receipt}
+use Rattle.locked_store.specs.State.{State}
 use Rattle.locked_store.specs.Known.{Known}
 use Rattle.reorganise_workers.specs.Ends.{HasSeen, IsPieceReceipt}
 use Rattle.reorganise_workers.specs.inner.Workers.{IsAtWork}

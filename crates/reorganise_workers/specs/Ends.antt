@@ -5,14 +5,14 @@ use Rattle.row_map.specs.Rows.{Bytes}
 use Rattle.schema_version.specs.declared.element.Work.{Work}
 use Rattle.reorganise.specs.declared.read.Reading.{Reading}
 use Rattle.replay.specs.declared.entry.What.TheVariants.{Piece}
-use Rattle.world.specs.Piece.{PieceStep, ReadStep, piece_standing_at}
-use Rattle.world.specs.State.{State, facts_of}
-use Rattle.world.specs.declared.entry.PieceDone.{PieceDone}
-use Rattle.world.specs.declared.entry.Receipt.{Receipt}
-use Rattle.world.specs.declared.piece.PieceFault.{PieceFault}
-use Rattle.world.specs.declared.piece.PieceFault.TheVariants.{MomentTooLarge, NotWanted, WrongElement, Moved, Conflict, Memory}
-use Rattle.world.specs.declared.piece.ReadFault.{ReadFault}
-use Rattle.world.specs.declared.piece.ReadFault.TheVariants as read_fault
+use Rattle.locked_store.specs.Piece.{PieceStep, ReadStep, piece_standing_at}
+use Rattle.locked_store.specs.State.{State, facts_of}
+use Rattle.locked_store.specs.PieceDone.{PieceDone}
+use Rattle.locked_store.specs.Receipt.{Receipt}
+use Rattle.locked_store.specs.PieceFault.{PieceFault}
+use Rattle.locked_store.specs.PieceFault.TheVariants.{MomentTooLarge, NotWanted, WrongElement, Moved, Conflict, Memory}
+use Rattle.locked_store.specs.ReadFault.{ReadFault}
+use Rattle.locked_store.specs.ReadFault.TheVariants as read_fault
 use Rattle.reorganise.specs.declared.fault.ViewFault.TheVariants as view_fault
 use Rattle.locked_store.specs.Cores.{IsCoreSince, WasLength}
 use Rattle.locked_store.specs.Receipts.{IsLogged}

@@ -2,9 +2,9 @@
 -- What a call for all pieces answers.
 use Rattle.std.specs.Prelude.{◌≡◌, ℕ, ◌+◌, ◌<◌, ◌≤◌, List, length, All, map, sum_by, Bool, Some, None}
 use Rattle.schema_version.specs.declared.element.Work.{Work}
-use Rattle.world.specs.Piece.{standing_at}
-use Rattle.world.specs.State.{State, facts_of}
-use Rattle.world.specs.declared.entry.Receipt.{Receipt}
+use Rattle.locked_store.specs.Piece.{standing_at}
+use Rattle.locked_store.specs.State.{State, facts_of}
+use Rattle.locked_store.specs.Receipt.{Receipt}
 use Rattle.locked_store.specs.Cores.{IsCoreSince, WasLength}
 use Rattle.locked_store.specs.Known.{Known, total_count, HaveRisen, IsLeastFront, OfLast}
 use Rattle.tasks.specs.Outcomes.{IsRow}

@@ -12,13 +12,13 @@ use crate::end::PieceEnd;
 use crate::job::Job;
 use crate::worker::PieceWorker;
 use collections::List;
+use locked_store::world::Receipt;
 use locked_store::{Handle, Shared, SharedLedger, WentBack, least_front};
 use std::alloc::Global;
 use std::sync::Wait;
 use std::thread::Threads;
 use tasks::{Gate, Performed, TaskFault, perform_all};
 use thiserror::Error;
-use world::Receipt;
 
 /// The greatest number of handles.
 const MAX_HANDLES: usize = 64;

@@ -5,11 +5,11 @@ ghost use Rattle.reorganise_workers.specs.inner.Attempts.{WasSpent, failed_by, u
 
 use crate::end::PieceEnd;
 use crate::job::Job;
+use locked_store::world::{PieceDone, PieceFault, ReadFault, Receipt};
 use locked_store::{Handle, Shared, SharedFault, SharedLedger, WentBack};
 use reorganise::{PieceView, ViewFault, prepare_piece};
 use std::alloc::Global;
 use std::sync::Wait;
-use world::{PieceDone, PieceFault, ReadFault, Receipt};
 
 /// What an attempt came to.
 #[derive(Drop)]

@@ -1,5 +1,5 @@
 //! What becomes of a piece.
-use world::PieceFault;
+use locked_store::world::PieceFault;
 
 /// What became of a piece.
 #[derive(Drop)]

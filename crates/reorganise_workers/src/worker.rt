@@ -7,12 +7,12 @@ ghost use Rattle.reorganise_workers.specs.inner.Jobs.{IsJob};
 use crate::attempt::{Attempt, FailedTries, make_attempt};
 use crate::end::PieceEnd;
 use crate::job::Job;
+use locked_store::world::Receipt;
 use locked_store::{Handle, Shared, SharedLedger};
 use std::alloc::Global;
 use std::marker::Model;
 use std::sync::Wait;
 use tasks::Worker;
-use world::Receipt;
 
 /// A handle, with the receipts of the pieces that it committed.
 #[derive(Drop)]

@@ -28,3 +28,7 @@ pub use laws::{
 };
 pub use limits::are_counts;
 pub use state_path::next_state;
+
+// Crates whose items callers of this one name, so that they list this one alone.
+pub use piece_work;
+pub use world;

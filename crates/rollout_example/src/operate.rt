@@ -1,14 +1,14 @@
 //! The operator: it does what is due, and reports each act.
 
 use crate::table::{BEGIN, name_of};
-use locked_store::{Handle, Shared, SharedLedger};
 use replay::What;
-use rollout::Advanced;
 use schema_version::{ElementState, Move};
 use shared_rollout::advance;
+use shared_rollout::locked_store::{Handle, Shared, SharedLedger};
+use shared_rollout::rollout::Advanced;
+use shared_rollout::world::Receipt;
 use std::alloc::Global;
 use std::sync::Wait;
-use world::Receipt;
 
 /// In how many pieces a fill or a clear begins.
 const PIECES: u32 = 8;

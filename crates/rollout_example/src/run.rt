@@ -3,15 +3,15 @@ ghost use Rattle.std.specs.Prelude.{◌≡◌};
 
 use crate::operate::{operate, report_step};
 use crate::table::{inserts, world_with_changes};
-use locked_store::{Handle, Shared, SharedLedger};
+use server::tasks::FreeGate;
 use server::{Outcome, Request, Served, serve};
+use shared_rollout::locked_store::{Handle, Shared, SharedLedger};
+use shared_rollout::world::World;
 use std::alloc::Global;
 use std::marker::Brand;
 use std::sync::Wait;
 use std::sync::ledger::Blank;
 use std::thread::{Threads, join};
-use tasks::FreeGate;
-use world::World;
 
 /// How many rows there are at first, and how many the servers add.
 const ROWS: u32 = 1_000;

@@ -8,8 +8,8 @@ use row_map::{ColumnType, ReadView};
 use row_write::{Prepared, RowOp, RowOps, prepare, reads_of};
 use schema_version::{ElementState, Kind, Move, NewElement, Schema, TableDef};
 use server::Request;
+use shared_rollout::world::{Committed, Config, Receipt, World};
 use std::alloc::{AllocError, Global};
-use world::{Committed, Config, Receipt, World};
 
 /// The number of the table.
 const TABLE: u32 = 1;

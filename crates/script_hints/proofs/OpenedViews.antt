@@ -1,10 +1,10 @@
 -- What an opened world shows of a line that asks for a path: what is found of it, or else any view.
 use Rattle.std.proofs.Common.{◌≡◌, ℕ, List, Option, Some, None, Result, Ok, Err, IfOk, option_map, sym, subst}
 use Rattle.std.specs.Str.{trim}
-use Rattle.script_session.specs.Session.{Session}
-use Rattle.script_session.specs.declared.session.Opened.{Opened}
-use Rattle.script_session.specs.declared.session.Session.TheVariants.{Running}
-use Rattle.script_views.specs.Explain.{ShowsPath, ShowsPathIn}
+use Rattle.script_progress.specs.Session.{Session}
+use Rattle.script_progress.specs.Opened.{Opened}
+use Rattle.script_progress.specs.SessionVariants.TheVariants.{Running}
+use Rattle.script_progress.specs.Explain.{ShowsPath, ShowsPathIn}
 
 -- a line of which no view is found asks for no path
 pub path_after_none : {X E : Type 0} (bytes : X → List ℕ) (opened : Opened) (found : Option X) (result : Result (Option X) E) (line : List ℕ) → found ≡ None → ShowsPathIn opened line (option_map bytes found)

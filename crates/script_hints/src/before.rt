@@ -4,7 +4,7 @@ use crate::hint::hint_of;
 use crate::in_way::push_replaced;
 use crate::rows::work_row;
 use script_grammar::{Command, read_command};
-use script_session::Session;
+use script_progress::script_session::Session;
 use std::alloc::{AllocError, Global};
 
 /// What a line may take away that its hint speaks of.

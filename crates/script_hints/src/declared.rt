@@ -6,8 +6,8 @@ use schema_version::{
     MAX_COLUMNS, MAX_INDEXES, MAX_KEY_COLUMNS, MAX_LISTED, MAX_NAME, MAX_TABLES, TableDef,
 };
 use script_grammar::Command;
-use script_session::Declarations;
-use script_views::push_nearest;
+use script_progress::script_session::Declarations;
+use script_progress::script_views::push_nearest;
 use std::alloc::{AllocError, Global};
 
 // Begins a line for one more fault.

@@ -3,10 +3,10 @@ use crate::refused::{refusal_hint, refusal_of};
 use change_plan::{PlanFault, plan};
 use collections::List;
 use script_grammar::{Command, NamedChange, read_command};
-use script_names::changes_of;
 use script_progress::push_reads;
-use script_replies::{steps_text, unplanned_line};
-use script_session::Opened;
+use script_progress::script_names::changes_of;
+use script_progress::script_replies::{steps_text, unplanned_line};
+use script_progress::script_session::Opened;
 use std::alloc::{AllocError, Global};
 
 // When each of so many steps may be published at the earliest.

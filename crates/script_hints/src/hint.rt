@@ -6,8 +6,8 @@ use crate::refused::{opening_hint, refusal_hint, refusal_of};
 use crate::rows::row_hint;
 use script_grammar::{Command, read_command};
 use script_mistakes::{column_of, unexpected};
-use script_session::{Declarations, Session};
-use script_views::push_nearest;
+use script_progress::script_session::{Declarations, Session};
+use script_progress::script_views::push_nearest;
 use std::alloc::{AllocError, Global};
 
 /// The longest line, in bytes.

@@ -2,9 +2,9 @@
 use keycode::Text;
 use schema_version::{ElementDef, Schema, moves_element};
 use script_grammar::{Command, NamedChange, New};
+use script_progress::script_session::Opened;
+use script_progress::script_views::push_element;
 use script_progress::{is_resting, push_standing, push_waiting};
-use script_session::Opened;
-use script_views::push_element;
 use std::alloc::{AllocError, Global};
 
 // The element of this name, if it is being added or dropped.

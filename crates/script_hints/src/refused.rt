@@ -5,8 +5,8 @@ use keycode::Text;
 use row_map::{KeyOf, read_key};
 use schema_version::Schema;
 use script_grammar::{Command, ElementName, NamedChange, NamedMove, New};
-use script_session::Opened;
-use script_views::{
+use script_progress::script_session::Opened;
+use script_progress::script_views::{
     Wrong, missing_element, missing_table, push_element, push_nearest, push_tuple,
     wrong_operations, wrong_selection,
 };

@@ -2,8 +2,8 @@
 use keycode::{Text, Value};
 use row_write::{Prepared, RowFault, RowOp, RowOutcome};
 use script_grammar::{Command, Operation};
-use script_session::{Opened, Pending};
-use script_views::push_tuple;
+use script_progress::script_session::{Opened, Pending};
+use script_progress::script_views::push_tuple;
 use std::alloc::{AllocError, Global};
 
 /// Words on a row that is inserted again.

@@ -1,15 +1,15 @@
 //! Where things stand: the lines of the prompt that no script has.
 ghost use Rattle.std.specs.Prelude.{IfOk, option_map, string_bytes};
-ghost use Rattle.script_views.specs.Check.{ShowsCheck, ShowsCheckIn};
-ghost use Rattle.script_views.specs.Explain.{ShowsPath, ShowsPathIn};
+ghost use Rattle.script_progress.specs.Check.{ShowsCheck, ShowsCheckIn};
+ghost use Rattle.script_progress.specs.Explain.{ShowsPath, ShowsPathIn};
 
 use crate::command_help::help_text;
 use crate::explain_plan::plan_explanation;
 use crate::hint::NOT_OPEN;
+use script_progress::script_session::{Opened, Session};
+use script_progress::script_views::{explanation, named_pairs, named_view};
 use script_progress::{description, leases_text, plan_left, progress, timeline};
 use script_rows::rows_view;
-use script_session::{Opened, Session};
-use script_views::{explanation, named_pairs, named_view};
 use std::alloc::{AllocError, Global};
 
 // `check TABLE.NAME` with white space around its names; `None` if the words are no such name.

@@ -5,7 +5,7 @@ use mathlib.Core.List.{map as each}
 use Rattle.std.proofs.Math.Dec.{eqb}
 use Rattle.std.proofs.lemmas.Bool.Decides.{eqb_tells}
 use Rattle.std.proofs.lemmas.List.{append-nil}
-use Rattle.script_views.specs.Unknown.{StartsWith}
+use Rattle.script_rows.specs.Unknown.{StartsWith}
 use Rattle.serde_json.specs.Data.{Data, string}
 use Rattle.serde_json.specs.View.{items_of}
 use Rattle.serde_json.specs.Written.{compact_text, has_float, items_have_float}

@@ -2,7 +2,7 @@
 -- The line of JSON that answers a line of input.
 use Rattle.std.specs.Prelude.{◌==◌, ◌∷◌, ◌++◌, ℕ, List, [], codes, if◌then◌else◌}
 use mathlib.Core.List.{map as each}
-use Rattle.script_views.specs.Unknown.{StartsWith}
+use Rattle.script_rows.specs.Unknown.{StartsWith}
 use Rattle.serde_json.specs.Data.{Data, string, array}
 use Rattle.serde_json.specs.View.{items_of}
 use Rattle.serde_json.specs.Written.{compact_text}

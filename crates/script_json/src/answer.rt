@@ -2,7 +2,7 @@
 ghost use Rattle.std.specs.Prelude.{◌≡◌, ◌∷◌, ◌++◌, [], IfOk, OnOk, string_bytes};
 ghost use mathlib.Core.List.{map};
 ghost use Rattle.script_json.specs.Answer.{IsAnswerText, head_text, last_data, lines_data, lines_of, lines_text};
-ghost use Rattle.script_views.specs.Unknown.{StartsWith};
+ghost use Rattle.script_rows.specs.Unknown.{StartsWith};
 ghost use Rattle.serde_json.specs.Data.{string};
 ghost use Rattle.serde_json.specs.View.{view};
 

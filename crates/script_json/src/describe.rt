@@ -4,10 +4,10 @@ use crate::object::{Object, list_object, put_list, put_number, put_text};
 use keycode::Text;
 use row_map::ColumnType;
 use schema_version::{MAX_TABLES, Schema};
-use script_views::type_word;
+use script_progress::world::World;
+use script_rows::script_views::type_word;
 use serde_json::{Map, Value};
 use std::alloc::{AllocError, Global};
-use world::World;
 
 fn key_column(alloc: Global, name: &Text, column_type: ColumnType) -> Result<Value, AllocError> {
     let mut out = Map::new(alloc);

@@ -3,11 +3,11 @@ use crate::object::{Object, put_list, put_number, put_text};
 use keycode::Value as Cell;
 use schema_version::{ElementDef, Kind, Schema};
 use script_grammar::{push_value, state_word};
+use script_progress::world::World;
 use script_progress::{Begun, Waiting, is_resting, waiting_of, way_word, work_word};
-use script_views::type_word;
+use script_rows::script_views::type_word;
 use serde_json::{Map, Value, put};
 use std::alloc::{AllocError, Global};
-use world::World;
 
 /// A value of a row, as the language has it. Refused only when out of memory.
 pub(crate) fn cell_text(alloc: Global, cell: &Cell) -> Result<String, AllocError> {

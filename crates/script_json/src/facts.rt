@@ -4,7 +4,7 @@ use crate::history::timeline_value;
 use crate::leases::leases_value;
 use crate::pieces::progress_value;
 use crate::rows::rows_value;
-use script_session::{Opened, Session};
+use script_progress::script_session::{Opened, Session};
 use serde_json::Value;
 use std::alloc::{AllocError, Global};
 

@@ -2,8 +2,8 @@
 use crate::object::{Object, put_list, put_number, put_text};
 use schema_version::{Move, NewElement, Step};
 use script_grammar::state_word;
+use script_progress::script_session::Opened;
 use script_progress::{Happened, History, history_of, push_moved};
-use script_session::Opened;
 use serde_json::{Map, Value};
 use std::alloc::{AllocError, Global};
 

@@ -1,7 +1,7 @@
 //! The leases of servers as JSON.
 use crate::object::{Object, list_object, put_flag, put_number, put_text};
+use script_progress::script_session::{Opened, ServerLease};
 use script_progress::{Standing, standing_of, standing_word};
-use script_session::{Opened, ServerLease};
 use serde_json::{Map, Value};
 use std::alloc::{AllocError, Global};
 

@@ -14,3 +14,8 @@ mod rows;
 
 pub use answer::{Details, answer_text};
 pub use facts::facts_of;
+
+// Crates whose items callers of this one name, so that they list this one alone.
+pub use script_progress;
+pub use script_progress::{script_session, world};
+pub use script_rows::script_views;

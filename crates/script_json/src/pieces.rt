@@ -5,9 +5,9 @@ use reorganise::{Progress, Span};
 use row_map::RankedView;
 use schema_version::ElementDef;
 use script_progress::is_resting;
+use script_progress::world::World;
 use serde_json::{Map, Value};
 use std::alloc::{AllocError, Global};
-use world::World;
 
 fn put_piece(
     alloc: Global,

@@ -2,8 +2,8 @@
 use crate::elements::cell_text;
 use crate::object::{Object, put_flag, put_list, put_number, put_text};
 use keycode::Value as Cell;
+use script_progress::script_session::Opened;
 use script_rows::{Found, Page, PageRow, PairOf, page_of, read_rows_line};
-use script_session::Opened;
 use serde_json::{Map, Value};
 use std::alloc::{AllocError, Global};
 

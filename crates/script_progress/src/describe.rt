@@ -5,9 +5,9 @@ use keycode::Text;
 use row_map::ColumnType;
 use schema_version::{ElementDef, Kind, MAX_TABLES, Schema, Way};
 use script_grammar::{push_value, state_word};
+use script_views::world::World;
 use script_views::{push_nearest, table_names, type_word};
 use std::alloc::{AllocError, Global};
-use world::World;
 
 fn push_key_columns(out: &mut String, key: &[(Text, ColumnType)]) -> Result<(), AllocError> {
     for (name, column_type) in key {

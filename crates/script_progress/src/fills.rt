@@ -3,9 +3,9 @@
 use crate::moves::{entered_by, push_moved};
 use change_plan::{PlanStep, Reorg};
 use schema_version::{ElementDef, NewElement, Work};
-use script_session::Opened;
+use script_views::script_session::Opened;
+use script_views::world::World;
 use std::alloc::{AllocError, Global};
-use world::World;
 
 /// Whether the items of a reorganisation are the rows of the element's table: those of the clear of
 /// an index are its pairs.

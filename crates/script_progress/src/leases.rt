@@ -1,6 +1,6 @@
 //! The leases that servers hold.
 use lease::LeaseFault;
-use script_session::{Opened, ServerLease};
+use script_views::script_session::{Opened, ServerLease};
 use std::alloc::{AllocError, Global};
 
 /// How a lease stands at the moment of the last entry.

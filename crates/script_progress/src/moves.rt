@@ -2,8 +2,8 @@
 use change_plan::PlanStep;
 use schema_version::{Move, NewElement, Schema, Step};
 use script_grammar::state_word;
-use script_session::Opened;
 use script_views::push_element;
+use script_views::script_session::Opened;
 use std::alloc::{AllocError, Global};
 
 /// Adds the elements that enter in a step.

@@ -3,10 +3,10 @@ use crate::describe::push_standing;
 use crate::moves::{push_entered, push_step};
 use crate::waiting::{Waiting, push_waiting, waiting_of};
 use schema_version::{ElementDef, Move, NewElement, Schema, Step, Way};
-use script_session::Opened;
 use script_views::push_element;
+use script_views::script_session::Opened;
+use script_views::world::World;
 use std::alloc::{AllocError, Global};
-use world::World;
 
 /// How many places a bar has.
 const PLACES: usize = 20;

@@ -3,7 +3,7 @@ use crate::moves::{push_entered, push_moved, push_step};
 use crate::unfinished::progress;
 use replay::What;
 use schema_version::{NewElement, Step};
-use script_session::Opened;
+use script_views::script_session::Opened;
 use std::alloc::{AllocError, Global};
 
 /// What happened to the schema at a moment.

@@ -1,8 +1,8 @@
 //! What an element that is being added or dropped waits for.
 use crate::fills::{goes_over_rows, rows_of};
 use schema_version::{ElementDef, Work};
+use script_views::world::World;
 use std::alloc::AllocError;
-use world::World;
 
 /// How far a begun reorganisation has come.
 #[derive(Clone, Copy)]

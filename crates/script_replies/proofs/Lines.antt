@@ -6,7 +6,7 @@ use Rattle.schema_version.specs.Version.{live}
 use Rattle.serde_json.specs.Data.{Data}
 use Rattle.serde_json.specs.View.{items_of}
 use Rattle.serde_json.specs.Written.{compact_text, has_float, items_have_float}
-use Rattle.world.specs.State.{State, facts_of}
+use Rattle.piece_work.specs.State.{State, facts_of}
 use Rattle.script_replies.specs.Status.{AreUsable, IsStatus, element_data, count_data, status_data}
 
 none_in_list : {A : Type 0} (f : A → Data) → ((x : A) → has_float (f x) ≡ false) → (xs : List A) → items_have_float (items_of (each f xs)) ≡ false

@@ -5,11 +5,11 @@ use Rattle.std.specs.Fmt.{decimal}
 use Rattle.script_grammar.specs.Print.{hex}
 use Rattle.reorganise.specs.declared.fault.ViewFault.{ViewFault}
 use Rattle.reorganise.specs.declared.fault.ViewFault.TheVariants as view_fault
-use Rattle.world.specs.declared.entry.PieceDone.{PieceDone}
-use Rattle.world.specs.declared.piece.PieceFault.{PieceFault}
-use Rattle.world.specs.declared.piece.PieceFault.TheVariants as piece_fault
-use Rattle.world.specs.declared.piece.ReadFault.{ReadFault}
-use Rattle.world.specs.declared.piece.ReadFault.TheVariants as read_fault
+use Rattle.piece_work.specs.PieceDone.{PieceDone}
+use Rattle.piece_work.specs.PieceFault.{PieceFault}
+use Rattle.piece_work.specs.PieceFault.TheVariants as piece_fault
+use Rattle.piece_work.specs.ReadFault.{ReadFault}
+use Rattle.piece_work.specs.ReadFault.TheVariants as read_fault
 
 abbrev pub view_name : ViewFault → List ℕ
 view_name view_fault.BadPiece = codes "BadPiece"

@@ -4,9 +4,9 @@ use Rattle.std.specs.Prelude.{ℕ, List, Result, Ok, Err, codes, ◌++◌}
 use Rattle.std.specs.Fmt.{decimal}
 use Rattle.schema_version.specs.declared.step.StepFault.{StepFault}
 use Rattle.schema_version.specs.declared.step.StepFault.TheVariants as step_fault
-use Rattle.world.specs.declared.entry.Receipt.{Receipt}
-use Rattle.world.specs.declared.publish.PublishFault.{PublishFault}
-use Rattle.world.specs.declared.publish.PublishFault.TheVariants as publish_fault
+use Rattle.piece_work.specs.Receipt.{Receipt}
+use Rattle.piece_work.specs.PublishFault.{PublishFault}
+use Rattle.piece_work.specs.PublishFault.TheVariants as publish_fault
 use Rattle.script_replies.specs.Texts.{refused}
 
 abbrev pub step_name : StepFault → List ℕ

@@ -8,9 +8,9 @@ use Rattle.schema_version.specs.declared.element.Work.{Work}
 use Rattle.schema_version.specs.declared.element.Work.TheVariants.{Fill, Clear}
 use Rattle.schema_version.specs.Edges.{wanted_work}
 use Rattle.schema_version.specs.Version.{Version, element_at}
-use Rattle.world.specs.declared.entry.Receipt.{Receipt}
-use Rattle.world.specs.declared.begin_reorg.BeginFault.{BeginFault}
-use Rattle.world.specs.declared.begin_reorg.BeginFault.TheVariants as begin_fault
+use Rattle.piece_work.specs.Receipt.{Receipt}
+use Rattle.piece_work.specs.BeginFault.{BeginFault}
+use Rattle.piece_work.specs.BeginFault.TheVariants as begin_fault
 use Rattle.piece_work.specs.declared.fault.WorkFault.{WorkFault}
 use Rattle.piece_work.specs.declared.fault.WorkFault.TheVariants as work_fault
 use Rattle.script_replies.specs.Pieces.{read_name, piece_name}

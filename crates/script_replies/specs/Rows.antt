@@ -14,8 +14,8 @@ use Rattle.row_query.specs.declared.query.Query.{Query}
 use Rattle.row_query.specs.Answer.{is_named}
 use Rattle.schema_version.specs.declared.element.ElementDef.{ElementDef}
 use Rattle.schema_version.specs.Version.{Version, live, is_public_column}
-use Rattle.world.specs.declared.query.QueryRefusal.{QueryRefusal}
-use Rattle.world.specs.declared.query.QueryRefusal.TheVariants as refusal
+use Rattle.piece_work.specs.QueryRefusal.{QueryRefusal}
+use Rattle.piece_work.specs.QueryRefusal.TheVariants as refusal
 use Rattle.script_replies.specs.Texts.{line, refused}
 
 -- the public columns that a query names, each once, by rising number

@@ -13,7 +13,7 @@ use Rattle.schema_version.specs.Version.{Version, Table, live, table_at}
 use Rattle.serde_json.specs.Data.{Data, unsigned, number, string, array, object, member, no_members}
 use Rattle.serde_json.specs.View.{items_of}
 use Rattle.serde_json.specs.Written.{compact_text}
-use Rattle.world.specs.State.{State, entry_count, facts_of}
+use Rattle.piece_work.specs.State.{State, entry_count, facts_of}
 
 -- the versions that a lease may still use, rising
 pub record AreUsable (facts : Facts) (numbers : List ℕ) : Type 0 where

@@ -7,10 +7,10 @@ use Rattle.audit.specs.declared.report.CheckReport.{CheckReport}
 use Rattle.script_grammar.specs.Print.{hex}
 use Rattle.lease.specs.declared.lease.Lease.{Lease}
 use Rattle.row_map.specs.Rows.{Bytes}
-use Rattle.world.specs.declared.open.OpenFault.{OpenFault}
-use Rattle.world.specs.declared.open.OpenFault.TheVariants as open_fault
-use Rattle.world.specs.declared.grant.GrantFault.{GrantFault}
-use Rattle.world.specs.declared.grant.GrantFault.TheVariants as grant_fault
+use Rattle.piece_work.specs.OpenFault.{OpenFault}
+use Rattle.piece_work.specs.OpenFault.TheVariants as open_fault
+use Rattle.piece_work.specs.GrantFault.{GrantFault}
+use Rattle.piece_work.specs.GrantFault.TheVariants as grant_fault
 
 -- a line of a reply
 abbrev pub line : List ℕ → List ℕ

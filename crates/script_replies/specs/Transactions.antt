@@ -7,10 +7,10 @@ use Rattle.row_write.specs.declared.fault.PrepareFault.{PrepareFault}
 use Rattle.row_write.specs.declared.fault.PrepareFault.TheVariants as prepare
 use Rattle.row_write.specs.declared.fault.RowFault.{RowFault}
 use Rattle.row_write.specs.declared.fault.RowFault.TheVariants.{Duplicate, NoRow}
-use Rattle.world.specs.declared.committed.Committed.{Committed}
-use Rattle.world.specs.declared.committed.Committed.TheVariants as committed
-use Rattle.world.specs.declared.commit.CommitFault.{CommitFault}
-use Rattle.world.specs.declared.commit.CommitFault.TheVariants as commit
+use Rattle.piece_work.specs.Committed.{Committed}
+use Rattle.piece_work.specs.Committed.TheVariants as committed
+use Rattle.piece_work.specs.CommitFault.{CommitFault}
+use Rattle.piece_work.specs.CommitFault.TheVariants as commit
 
 abbrev pub prepare_name : PrepareFault → List ℕ
 prepare_name prepare.NoTable = codes "NoTable"

@@ -3,8 +3,8 @@ ghost use Rattle.std.specs.Prelude.{◌≡◌, IfOk, string_bytes};
 ghost use Rattle.script_replies.specs.Texts.{line, refused, open_name, grant_name, leased};
 
 use lease::Lease;
+use piece_work::world::{GrantFault, OpenFault};
 use std::alloc::{AllocError, Global};
-use world::{GrantFault, OpenFault};
 
 /// The reply if no world was opened: `refused BadTable`.
 ///

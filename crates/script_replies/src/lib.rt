@@ -31,3 +31,7 @@ pub use reorganisations::{begun_line, work_word, worked_line};
 pub use rows::rows_text;
 pub use status::status_line;
 pub use transactions::{committed_line, rejected_line, unprepared_line};
+
+// Crates whose items callers of this one name, so that they list this one alone.
+pub use piece_work;
+pub use piece_work::world;

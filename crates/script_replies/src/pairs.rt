@@ -3,9 +3,9 @@ ghost use Rattle.std.specs.Prelude.{◌≡◌, ◌++◌, IfOk, OnOk, string_byte
 ghost use Rattle.script_replies.specs.Texts.{line, value_behind, pair_line, check_text};
 
 use crate::numbers::push_number;
+use piece_work::world::CheckReport;
 use script_grammar::push_hex;
 use std::alloc::{AllocError, Global};
-use world::CheckReport;
 
 fn push_value(text: &mut String, value: &[u8]) -> Result<(), AllocError>
     ensures { OnOk result (string_bytes text.new ≡ string_bytes text.old ++ value_behind value.now) }

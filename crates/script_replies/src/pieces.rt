@@ -4,10 +4,10 @@ ghost use Rattle.script_replies.specs.Pieces.{view_name, read_name, piece_name, 
 ghost use Rattle.script_replies.specs.Texts.{line, refused};
 
 use crate::numbers::push_number;
+use piece_work::world::{PieceDone, PieceFault, ReadFault};
 use reorganise::ViewFault;
 use script_grammar::push_hex;
 use std::alloc::{AllocError, Global};
-use world::{PieceDone, PieceFault, ReadFault};
 
 fn push_view(out: &mut String, fault: ViewFault) -> Result<(), AllocError>
     ensures { OnOk result (string_bytes out.new ≡ string_bytes out.old ++ view_name fault) }

@@ -5,9 +5,9 @@ ghost use Rattle.script_replies.specs.Publications.{step_name, publish_name, pub
 ghost use Rattle.script_replies.specs.Texts.{line, refused};
 
 use crate::numbers::{push_number, push_numbered};
+use piece_work::world::{PublishFault, Receipt};
 use schema_version::StepFault;
 use std::alloc::{AllocError, Global};
-use world::{PublishFault, Receipt};
 
 fn push_step_fault(out: &mut String, fault: StepFault) -> Result<(), AllocError>
     ensures { OnOk result (string_bytes out.new ≡ string_bytes out.old ++ step_name fault) }

@@ -4,9 +4,9 @@ ghost use Rattle.script_replies.specs.Rows.{fault_name, refusal_name};
 ghost use Rattle.script_replies.specs.Texts.{line, refused};
 
 use crate::numbers::{push_ended, push_number};
+use piece_work::world::QueryRefusal;
 use row_query::QueryFault;
 use std::alloc::{AllocError, Global};
-use world::QueryRefusal;
 
 fn push_fault(out: &mut String, fault: QueryFault) -> Result<(), AllocError>
     ensures { OnOk result (string_bytes out.new ≡ string_bytes out.old ++ fault_name fault) }

@@ -10,9 +10,9 @@ ghost use Rattle.script_replies.specs.Texts.{line};
 use crate::numbers::push_number;
 use crate::pieces::{push_piece, push_read};
 use piece_work::WorkFault;
+use piece_work::world::{BeginFault, Receipt};
 use schema_version::{Schema, Work};
 use std::alloc::{AllocError, Global};
-use world::{BeginFault, Receipt};
 
 fn push_begin(out: &mut String, fault: BeginFault) -> Result<(), AllocError>
     ensures { OnOk result (string_bytes out.new ≡ string_bytes out.old ++ begin_name fault) }

@@ -5,9 +5,9 @@ ghost use Rattle.script_replies.specs.Status.{IsStatus, status_data};
 
 use crate::elements::elements_value;
 use crate::usable::{numbers_value, usable_versions};
+use piece_work::world::World;
 use serde_json::{Value, json};
 use std::alloc::{AllocError, Global};
-use world::World;
 
 fn status_value(alloc: Global, world: &World, usable: &[u64]) -> Result<Value, AllocError>
     ensures { IfOk result (λ value. view value ≡ status_data world.now usable.now) }

@@ -4,10 +4,10 @@ ghost use Rattle.script_replies.specs.Texts.{line, refused};
 ghost use Rattle.script_replies.specs.Transactions.{prepare_name, commit_name, row_name, committed_text};
 
 use crate::numbers::{push_ended, push_number};
+use piece_work::world::{CommitFault, Committed};
 use row_write::{PrepareFault, RowFault};
 use script_grammar::push_hex;
 use std::alloc::{AllocError, Global};
-use world::{CommitFault, Committed};
 
 fn push_prepare(out: &mut String, fault: PrepareFault) -> Result<(), AllocError>
     ensures { OnOk result (string_bytes out.new ≡ string_bytes out.old ++ prepare_name fault) }

@@ -3,11 +3,11 @@ ghost use Rattle.std.specs.Prelude.{◌≡◌, IfOk};
 ghost use mathlib.Core.List.{map};
 ghost use Rattle.serde_json.specs.View.{view};
 ghost use Rattle.script_replies.specs.Status.{AreUsable, count_data, list_data};
-ghost use Rattle.world.specs.State.{facts_of};
+ghost use Rattle.piece_work.specs.State.{facts_of};
 
+use piece_work::world::World;
 use serde_json::Value;
 use std::alloc::{AllocError, Global};
-use world::World;
 
 /// The versions that a lease may still use at the moment of the last entry, rising: no other than
 /// the newest and the one before it. Refused only when out of memory.

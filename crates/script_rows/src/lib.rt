@@ -11,3 +11,6 @@ pub use line::{RowsLine, read_rows_line};
 pub use page::{Page, PageRow, read_page};
 pub use pairs::{Found, PairOf};
 pub use text::{page_of, rows_view};
+
+// Crates whose items callers of this one name, so that they list this one alone.
+pub use script_views;

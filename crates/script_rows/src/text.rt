@@ -4,7 +4,7 @@ use crate::page::{Page, PageRow, read_page};
 use crate::pairs::{Found, PairOf};
 use schema_version::Schema;
 use script_grammar::push_value;
-use script_session::Opened;
+use script_views::script_session::Opened;
 use script_views::{missing_table, push_tuple};
 use std::alloc::{AllocError, Global};
 

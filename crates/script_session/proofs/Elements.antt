@@ -2,13 +2,13 @@
 use Rattle.std.proofs.Common.{◌≡◌, ℕ, List, Result, Bool, false, refl, subst, ap, ◌∙◌}
 use Rattle.script_grammar.specs.declared.element.ElementName.{ElementName}
 use Rattle.script_names.specs.Names.{numbered}
-use Rattle.piece_work.specs.declared.fault.WorkFault.{WorkFault}
-use Rattle.piece_work.specs.WorkOff.{WorkStep}
+use Rattle.script_replies.specs.WorkFault.{WorkFault}
+use Rattle.script_replies.specs.WorkOff.{WorkStep}
 use Rattle.schema_version.specs.Version.{Version, element_at}
-use Rattle.world.specs.BeginReorg.{BeginStep}
-use Rattle.world.specs.State.{State, facts_of}
-use Rattle.world.specs.declared.entry.Receipt.{Receipt}
-use Rattle.world.specs.declared.begin_reorg.BeginFault.{BeginFault}
+use Rattle.script_replies.specs.BeginReorg.{BeginStep}
+use Rattle.script_replies.specs.State.{State, facts_of}
+use Rattle.script_replies.specs.Receipt.{Receipt}
+use Rattle.script_replies.specs.BeginFault.{BeginFault}
 use Rattle.script_session.specs.Pieces.{ReadsPiece, read_text}
 use Rattle.script_replies.specs.Reorganisations.{work_word, begun_words, begun_text, worked_text}
 use Rattle.script_session.specs.Answer.{PieceUnder, Begun, Worked, piece_kept}

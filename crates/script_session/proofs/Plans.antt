@@ -8,10 +8,10 @@ use Rattle.script_grammar.specs.declared.named.NamedChange.{NamedChange}
 use Rattle.script_names.specs.Changes.{changes_of}
 use Rattle.schema_version.specs.Version.{Version}
 use Rattle.schema_version.specs.declared.step.Move.{Move}
-use Rattle.world.specs.Publish.{PublishStep}
-use Rattle.world.specs.State.{State, facts_of}
-use Rattle.world.specs.declared.entry.Receipt.{Receipt}
-use Rattle.world.specs.declared.publish.PublishFault.{PublishFault}
+use Rattle.script_replies.specs.Publish.{PublishStep}
+use Rattle.script_replies.specs.State.{State, facts_of}
+use Rattle.script_replies.specs.Receipt.{Receipt}
+use Rattle.script_replies.specs.PublishFault.{PublishFault}
 use Rattle.script_replies.specs.Plans.{planned_text}
 use Rattle.script_session.specs.Plan.{IsPlanOf, kept_plan, left_of}
 use Rattle.script_replies.specs.Publications.{published_text}

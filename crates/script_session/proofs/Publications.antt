@@ -3,10 +3,10 @@ use Rattle.std.proofs.Common.{◌≡◌, ℕ, List, Result, Bool, false, refl, s
 use Rattle.script_grammar.specs.declared.named.NamedMove.{NamedMove}
 use Rattle.schema_version.specs.declared.step.Move.{Move}
 use Rattle.schema_version.specs.Version.{Version}
-use Rattle.world.specs.declared.entry.Receipt.{Receipt}
-use Rattle.world.specs.declared.publish.PublishFault.{PublishFault}
-use Rattle.world.specs.Publish.{PublishStep}
-use Rattle.world.specs.State.{State, facts_of}
+use Rattle.script_replies.specs.Receipt.{Receipt}
+use Rattle.script_replies.specs.PublishFault.{PublishFault}
+use Rattle.script_replies.specs.Publish.{PublishStep}
+use Rattle.script_replies.specs.State.{State, facts_of}
 use Rattle.script_session.specs.declared.session.Opened.{Opened}
 use Rattle.script_session.specs.declared.session.Session.TheVariants.{Running}
 use Rattle.script_names.specs.Moves.{step_of}

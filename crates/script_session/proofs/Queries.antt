@@ -4,9 +4,9 @@ use Rattle.script_grammar.specs.declared.selection.Selection.{Selection}
 use Rattle.row_map.specs.declared.shape.Row.{Row}
 use Rattle.row_query.specs.declared.query.Query.{Query}
 use Rattle.schema_version.specs.Version.{Version}
-use Rattle.world.specs.declared.query.QueryRefusal.{QueryRefusal}
-use Rattle.world.specs.Query.{QueryStep}
-use Rattle.world.specs.State.{State}
+use Rattle.script_replies.specs.QueryRefusal.{QueryRefusal}
+use Rattle.script_replies.specs.Query.{QueryStep}
+use Rattle.script_replies.specs.State.{State}
 use Rattle.script_session.specs.declared.session.ServerLease.{ServerLease}
 use Rattle.script_names.specs.Names.{asked}
 use Rattle.script_replies.specs.Rows.{shown, rows_text, refusal_name, queried_text}

@@ -7,13 +7,13 @@ use Rattle.std.specs.FinMap as map
 use Rattle.byte_map.specs.Order.{bytes_cmp}
 use Rattle.byte_map.proofs.Order.{bytes_cmp_total, bytes_cmp-IsAntisymmetric}
 use Rattle.row_write.specs.Made.{PreparedTxn}
-use Rattle.world.specs.Calls.{CommitStep}
-use Rattle.world.specs.Piece.{PieceStep}
-use Rattle.world.specs.State.{State}
-use Rattle.world.specs.declared.committed.Committed.{Committed}
-use Rattle.world.specs.declared.entry.PieceDone.{PieceDone}
-use Rattle.world.specs.declared.commit.CommitFault.{CommitFault}
-use Rattle.world.specs.declared.piece.PieceFault.{PieceFault}
+use Rattle.script_replies.specs.Calls.{CommitStep}
+use Rattle.script_replies.specs.Piece.{PieceStep}
+use Rattle.script_replies.specs.State.{State}
+use Rattle.script_replies.specs.Committed.{Committed}
+use Rattle.script_replies.specs.PieceDone.{PieceDone}
+use Rattle.script_replies.specs.CommitFault.{CommitFault}
+use Rattle.script_replies.specs.PieceFault.{PieceFault}
 use Rattle.script_session.specs.declared.session.Opened.{Opened}
 use Rattle.script_session.specs.declared.session.Pending.{Pending}
 use Rattle.script_session.specs.declared.session.Pending.TheVariants.{Txn, Piece}

@@ -13,8 +13,8 @@ use Rattle.row_write.specs.declared.fault.PrepareFault.TheVariants as prepare
 use Rattle.row_write.specs.Made.{PreparedTxn, expects}
 use Rattle.row_write.specs.Prepare.{Condition, rank, IsPrepared}
 use Rattle.row_write.specs.Reads.{IsRead}
-use Rattle.world.specs.Calls.{IsReadView}
-use Rattle.world.specs.State.{State}
+use Rattle.script_replies.specs.Calls.{IsReadView}
+use Rattle.script_replies.specs.State.{State}
 use Rattle.script_session.specs.declared.session.ServerLease.{ServerLease}
 use Rattle.script_session.specs.Prepare.{IsReadOf, IsPreparedFor}
 

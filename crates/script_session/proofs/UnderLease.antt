@@ -2,7 +2,7 @@
 use Rattle.std.proofs.Common.{◌≡◌, ℕ, List, Option, Some, Bool, false, refl, sym, subst}
 use Rattle.std.specs.FinMap as map
 use Rattle.script_grammar.specs.declared.operation.Operation.{Operation}
-use Rattle.world.specs.State.{State}
+use Rattle.script_replies.specs.State.{State}
 use Rattle.script_session.specs.declared.session.ServerLease.{ServerLease}
 use Rattle.script_session.specs.declared.session.Opened.{Opened}
 use Rattle.script_session.specs.declared.session.Session.TheVariants.{Running}

@@ -10,27 +10,27 @@ use Rattle.script_grammar.specs.declared.named.NamedMove.{NamedMove}
 use Rattle.script_grammar.specs.declared.operation.Operation.{Operation}
 use Rattle.script_grammar.specs.declared.selection.Selection.{Selection}
 use Rattle.row_write.specs.Made.{PreparedTxn}
-use Rattle.world.specs.Calls.{LeaseStep, CommitStep, IsCheck}
+use Rattle.script_replies.specs.Calls.{LeaseStep, CommitStep, IsCheck}
 use Rattle.change_plan.specs.declared.change.Change.{Change}
 use Rattle.change_plan.specs.declared.fault.PlanFault.{PlanFault}
 use Rattle.change_plan.specs.declared.least_plan.LeastPlan.{LeastPlan}
-use Rattle.piece_work.specs.declared.fault.WorkFault.{WorkFault}
-use Rattle.piece_work.specs.WorkOff.{WorkStep}
+use Rattle.script_replies.specs.WorkFault.{WorkFault}
+use Rattle.script_replies.specs.WorkOff.{WorkStep}
 use Rattle.reorganise.specs.declared.read.Reading.{Reading}
 use Rattle.schema_version.specs.declared.step.Move.{Move}
-use Rattle.world.specs.BeginReorg.{BeginStep}
-use Rattle.world.specs.Piece.{PieceStep}
-use Rattle.world.specs.Publish.{PublishStep}
-use Rattle.world.specs.State.{State, entry_count, facts_of}
-use Rattle.world.specs.declared.entry.Grant.{Grant}
-use Rattle.world.specs.declared.entry.PieceDone.{PieceDone}
-use Rattle.world.specs.declared.entry.Receipt.{Receipt}
-use Rattle.world.specs.declared.committed.Committed.{Committed}
-use Rattle.world.specs.declared.begin_reorg.BeginFault.{BeginFault}
-use Rattle.world.specs.declared.commit.CommitFault.{CommitFault}
-use Rattle.world.specs.declared.grant.GrantFault.{GrantFault}
-use Rattle.world.specs.declared.piece.PieceFault.{PieceFault}
-use Rattle.world.specs.declared.publish.PublishFault.{PublishFault}
+use Rattle.script_replies.specs.BeginReorg.{BeginStep}
+use Rattle.script_replies.specs.Piece.{PieceStep}
+use Rattle.script_replies.specs.Publish.{PublishStep}
+use Rattle.script_replies.specs.State.{State, entry_count, facts_of}
+use Rattle.script_replies.specs.Grant.{Grant}
+use Rattle.script_replies.specs.PieceDone.{PieceDone}
+use Rattle.script_replies.specs.Receipt.{Receipt}
+use Rattle.script_replies.specs.Committed.{Committed}
+use Rattle.script_replies.specs.BeginFault.{BeginFault}
+use Rattle.script_replies.specs.CommitFault.{CommitFault}
+use Rattle.script_replies.specs.GrantFault.{GrantFault}
+use Rattle.script_replies.specs.PieceFault.{PieceFault}
+use Rattle.script_replies.specs.PublishFault.{PublishFault}
 use Rattle.script_session.specs.declared.pieces.PieceRead.{PieceRead}
 use Rattle.script_session.specs.declared.pieces.PieceRead.TheVariants as pieces
 use Rattle.script_session.specs.declared.session.ServerLease.{ServerLease}

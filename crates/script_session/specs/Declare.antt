@@ -5,9 +5,9 @@ use Rattle.std.specs.FinMap as map
 use Rattle.script_grammar.specs.declared.command.Command.{Command}
 use Rattle.script_grammar.specs.declared.command.Command.TheVariants as command
 use Rattle.schema_version.specs.declared.table.TableDef.{TableDef}
-use Rattle.world.specs.Calls.{OpenStep}
-use Rattle.world.specs.State.{State}
-use Rattle.world.specs.declared.open.OpenFault.{OpenFault}
+use Rattle.script_replies.specs.Calls.{OpenStep}
+use Rattle.script_replies.specs.State.{State}
+use Rattle.script_replies.specs.OpenFault.{OpenFault}
 use Rattle.script_session.specs.declared.session.Declarations.{Declarations}
 use Rattle.script_session.specs.declared.session.Session.TheVariants.{Declaring, Running}
 use Rattle.script_session.specs.Session.{Session, empty}

@@ -4,7 +4,7 @@ use Rattle.std.specs.Prelude.{◌≡◌, ℕ, List, Bool, unwrap_or, codes}
 use Rattle.std.specs.FinMap as map
 use Rattle.lease.specs.declared.lease.Lease.{Lease}
 use Rattle.schema_version.specs.Version.{Version}
-use Rattle.world.specs.State.{State, facts_of, recent}
+use Rattle.script_replies.specs.State.{State, facts_of, recent}
 use Rattle.script_session.specs.declared.session.Opened.{Opened}
 use Rattle.script_session.specs.declared.session.Session.TheVariants.{Running}
 use Rattle.script_session.specs.Declare.{IsReply}

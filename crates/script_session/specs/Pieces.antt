@@ -2,8 +2,8 @@
 -- A piece of a reorganisation that a script reads and prepares, and what is printed of it.
 use Rattle.std.specs.Prelude.{ℕ, List, Ok, Err, codes}
 use Rattle.reorganise.specs.declared.read.Reading.{Reading}
-use Rattle.world.specs.Piece.{ReadStep}
-use Rattle.world.specs.State.{State}
+use Rattle.script_replies.specs.Piece.{ReadStep}
+use Rattle.script_replies.specs.State.{State}
 use Rattle.script_replies.specs.Pieces.{read_name}
 use Rattle.script_session.specs.declared.pieces.PieceRead.{PieceRead}
 use Rattle.script_session.specs.declared.pieces.PieceRead.TheVariants.{Ready, Unread, OutOfMemory}

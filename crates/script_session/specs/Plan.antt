@@ -11,8 +11,8 @@ use Rattle.change_plan.specs.Refusals.{IsPlannable, IsRefused}
 use Rattle.change_plan.specs.Schedule.{planned_steps}
 use Rattle.schema_version.specs.declared.step.Move.{Move}
 use Rattle.schema_version.specs.Version.{Version}
-use Rattle.world.specs.declared.entry.Receipt.{Receipt}
-use Rattle.world.specs.declared.publish.PublishFault.{PublishFault}
+use Rattle.script_replies.specs.Receipt.{Receipt}
+use Rattle.script_replies.specs.PublishFault.{PublishFault}
 
 -- the batch's schedule, which is the least plan, or why there is none
 abbrev pub IsPlanOf : Version → List Change → Result LeastPlan PlanFault → Type 0

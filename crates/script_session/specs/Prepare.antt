@@ -11,7 +11,7 @@ use Rattle.row_write.specs.declared.fault.PrepareFault.TheVariants as prepare
 use Rattle.row_write.specs.Made.{PreparedTxn, expects}
 use Rattle.row_write.specs.Prepare.{Condition, rank, IsPrepared}
 use Rattle.row_write.specs.Reads.{IsRead}
-use Rattle.world.specs.State.{State}
+use Rattle.script_replies.specs.State.{State}
 use Rattle.script_replies.specs.Transactions.{prepare_name}
 use Rattle.script_session.specs.declared.session.ServerLease.{ServerLease}
 use Rattle.script_session.specs.declared.prepare.Preparation.{Preparation}

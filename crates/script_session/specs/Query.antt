@@ -3,9 +3,9 @@
 use Rattle.std.specs.Prelude.{◌≡◌, ℕ, List, Result}
 use Rattle.row_map.specs.declared.shape.Row.{Row}
 use Rattle.row_query.specs.declared.query.Query.{Query}
-use Rattle.world.specs.declared.query.QueryRefusal.{QueryRefusal}
-use Rattle.world.specs.Query.{QueryStep}
-use Rattle.world.specs.State.{State}
+use Rattle.script_replies.specs.QueryRefusal.{QueryRefusal}
+use Rattle.script_replies.specs.Query.{QueryStep}
+use Rattle.script_replies.specs.State.{State}
 use Rattle.script_replies.specs.Rows.{queried_text}
 use Rattle.script_session.specs.declared.session.ServerLease.{ServerLease}
 

@@ -3,8 +3,8 @@
 use Rattle.std.specs.Prelude.{◌≡◌, ℕ, List, Ok, Err, codes}
 use Rattle.row_write.specs.declared.op.RowOp.{RowOp}
 use Rattle.row_write.specs.Made.{PreparedTxn}
-use Rattle.world.specs.Calls.{effective_moment, CommitAt}
-use Rattle.world.specs.State.{State}
+use Rattle.script_replies.specs.Calls.{effective_moment, CommitAt}
+use Rattle.script_replies.specs.State.{State}
 use Rattle.script_replies.specs.Transactions.{commit_name, committed_text, prepare_name}
 use Rattle.script_session.specs.declared.session.ServerLease.{ServerLease}
 use Rattle.script_session.specs.declared.prepare.Preparation.TheVariants as preparation

@@ -21,11 +21,11 @@ use keycode::Text;
 use lease::Lease;
 use row_map::PairView;
 use script_grammar::{Command, Operation};
+use script_replies::world::World;
 use script_replies::{
     check_line, grant_refusal, lease_line, push_numbered, push_pair, status_line,
 };
 use std::alloc::{AllocError, Global};
-use world::World;
 
 fn lease(
     alloc: Global,

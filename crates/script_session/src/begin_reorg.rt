@@ -5,9 +5,9 @@ ghost use Rattle.script_session.specs.declared.session.Session.TheVariants.{Runn
 ghost use Rattle.script_session.specs.Answer.{Answers};
 
 use crate::session::{Answer, Opened, reply};
-use piece_work::work_off;
 use script_grammar::ElementName;
 use script_names::element_of;
+use script_replies::piece_work::work_off;
 use script_replies::{begun_line, work_word, worked_line};
 use std::alloc::{AllocError, Global};
 

@@ -12,8 +12,8 @@ use keycode::Text;
 use schema_version::TableDef;
 use script_grammar::Command;
 use script_replies::open_refusal;
+use script_replies::world::{Config, World};
 use std::alloc::{AllocError, Global};
-use world::{Config, World};
 
 fn ok(alloc: Global, declared: Declarations) -> Result<(Session, Answer), AllocError>
     ensures session { IfOk result (λ x. x.0 ≡ Declaring declared) }

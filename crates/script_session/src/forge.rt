@@ -8,8 +8,8 @@ use collections::ArcValue;
 use keycode::Text;
 use lease::Lease;
 use schema_version::Schema;
+use script_replies::world::World;
 use std::alloc::{AllocError, Global};
-use world::World;
 
 fn schema_or_newest(world: &World, version: u64) -> Result<ArcValue<Schema>, AllocError>
     ensures { IfOk result (λ schema. schema ≡ schema_or_newest world.now version) }

@@ -15,3 +15,8 @@ mod session;
 mod txn;
 
 pub use session::{Answer, Declarations, Opened, Pending, ServerLease, Session};
+
+// Crates whose items callers of this one name, so that they list this one alone.
+pub use script_names;
+pub use script_replies;
+pub use script_replies::world;

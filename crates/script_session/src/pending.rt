@@ -9,9 +9,9 @@ use crate::session::{Answer, Opened, Pending, key_of, refusal, reply};
 use collections::List;
 use keycode::Text;
 use script_grammar::Operation;
+use script_replies::world::World;
 use script_replies::{committed_line, pieced_line, rejected_line, unpieced_line};
 use std::alloc::{AllocError, Global};
-use world::World;
 
 /// What was prepared is kept under this name, in place of what was kept there.
 pub(crate) fn keep(opened: &mut Opened, name: Text, prepared: Pending) -> Result<(), AllocError>

@@ -13,8 +13,8 @@ use reorganise::{PreparedPiece, prepare_piece};
 use script_grammar::ElementName;
 use script_names::element_of;
 use script_replies::unread_line;
+use script_replies::world::{ReadFault, World};
 use std::alloc::{AllocError, Global};
-use world::{ReadFault, World};
 
 /// What reading and preparing a piece came to.
 #[derive(Drop)]

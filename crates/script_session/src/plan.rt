@@ -12,9 +12,9 @@ use collections::List;
 use schema_version::Step;
 use script_grammar::NamedChange;
 use script_names::changes_of;
+use script_replies::world::{PublishFault, Receipt};
 use script_replies::{published_line, steps_text, unplanned_line};
 use std::alloc::{AllocError, Global};
-use world::{PublishFault, Receipt};
 
 fn moves_of(alloc: Global, steps: Vec<PlanStep>) -> Result<Vec<Step>, AllocError>
     ensures { IfOk result (λ moves. moves.items ≡ each (λ s. s.step) steps.items) }

@@ -11,8 +11,8 @@ use schema_version::Schema;
 use script_grammar::Operation;
 use script_names::resolved_all;
 use script_replies::unprepared_line;
+use script_replies::world::World;
 use std::alloc::{AllocError, Global};
-use world::World;
 
 /// What reading and preparing came to.
 #[derive(Drop)]

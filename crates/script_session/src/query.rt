@@ -10,9 +10,9 @@ use crate::session::{Answer, Opened, ServerLease, refusal, reply};
 use keycode::Text;
 use script_grammar::Selection;
 use script_names::asked;
+use script_replies::world::World;
 use script_replies::{rows_text, unanswered_line};
 use std::alloc::{AllocError, Global};
-use world::World;
 
 // What a query answers under a lease, as it is printed.
 fn query_rows(

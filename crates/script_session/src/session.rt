@@ -14,9 +14,9 @@ use reorganise::PreparedPiece;
 use row_write::Prepared;
 use schema_version::{Schema, Step, TableDef};
 use script_grammar::{Command, is_silent, read_command};
+use script_replies::world::World;
 use script_tokens::LineFault;
 use std::alloc::{AllocError, Global};
-use world::World;
 
 /// A lease's length if no line says it, in moments.
 const USUAL_LENGTH: u64 = 10;

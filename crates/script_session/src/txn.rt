@@ -9,9 +9,9 @@ use crate::session::ServerLease;
 use collections::List;
 use row_write::PrepareFault;
 use script_grammar::Operation;
+use script_replies::world::{CommitFault, Committed, World};
 use script_replies::{committed_line, rejected_line, unprepared_line};
 use std::alloc::{AllocError, Global};
-use world::{CommitFault, Committed, World};
 
 /// How a transaction ended.
 pub(crate) enum Transacted {

@@ -7,9 +7,9 @@ use Rattle.element_check.specs.declared.report.ElementReport.{ElementReport}
 use Rattle.schema_version.specs.declared.element.ElementDef.{ElementDef}
 use Rattle.schema_version.specs.Version.{Version}
 use Rattle.script_grammar.specs.declared.selection.Selection.{Selection}
-use Rattle.script_names.specs.Names.{table_number, element_number}
+use Rattle.script_session.specs.Names.{table_number, element_number}
 use Rattle.script_session.specs.declared.session.ServerLease.{ServerLease}
-use Rattle.world.specs.State.{State, facts_of}
+use Rattle.script_session.specs.State.{State, facts_of}
 use Rattle.script_views.specs.Check.{IsElementText, ShowsElement, check_text, number_of}
 use Rattle.script_views.specs.Explain.{BeginsWith, ExplainsUnder, path_line}
 use Rattle.script_views.specs.Unknown.{SaysUnknown}

@@ -14,12 +14,12 @@ use Rattle.row_map.specs.declared.key.KeyOf.{KeyOf}
 use Rattle.row_map.specs.declared.key.KeyOf.TheVariants.{Exists, Column, Index}
 use Rattle.schema_version.specs.declared.element.ElementDef.{ElementDef}
 use Rattle.script_grammar.specs.Print.{value_text}
-use Rattle.script_names.specs.Names.{table_number, element_number}
-use Rattle.script_replies.specs.Rows.{joined}
+use Rattle.script_session.specs.Names.{table_number, element_number}
+use Rattle.script_session.specs.Rows.{joined}
 use Rattle.script_session.specs.Session.{Session}
 use Rattle.script_session.specs.declared.session.Opened.{Opened}
 use Rattle.script_session.specs.declared.session.Session.TheVariants.{Declaring, Running}
-use Rattle.world.specs.State.{State, facts_of}
+use Rattle.script_session.specs.State.{State, facts_of}
 use Rattle.script_views.specs.Unknown.{SaysUnknown}
 
 -- `(VALUE, VALUE)`

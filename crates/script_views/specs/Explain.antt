@@ -12,7 +12,7 @@ use Rattle.script_grammar.specs.Commands.{command_at}
 use Rattle.script_grammar.specs.declared.command.Command.{Command}
 use Rattle.script_grammar.specs.declared.command.Command.TheVariants as command
 use Rattle.script_grammar.specs.declared.selection.Selection.{Selection}
-use Rattle.script_names.specs.Names.{asked}
+use Rattle.script_session.specs.Names.{asked}
 use Rattle.script_session.specs.Session.{Session}
 use Rattle.script_session.specs.declared.session.Opened.{Opened}
 use Rattle.script_session.specs.declared.session.ServerLease.{ServerLease}

@@ -4,7 +4,7 @@ use Rattle.std.specs.Prelude.{ℕ, List, ◌++◌, Option, Some, None, codes}
 use Rattle.std.specs.Fmt.{decimal}
 use Rattle.schema_version.specs.declared.element.ElementDef.{ElementDef}
 use Rattle.schema_version.specs.Version.{Version, element_at}
-use Rattle.script_replies.specs.PlanLines.{dotted}
+use Rattle.script_session.specs.PlanLines.{dotted}
 
 -- `TABLE.NAME`, or the number where there is no element
 abbrev pub name_or_number : Version → ℕ → Option ElementDef → List ℕ

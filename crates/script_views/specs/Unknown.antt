@@ -2,7 +2,7 @@
 -- What is said of names that a version does not have.
 use Rattle.std.specs.Prelude.{◌≡◌, ◌<◌, ◌++◌, ◌⊎◌, ℕ, List, Option, Some, None, codes}
 use Rattle.schema_version.specs.Version.{Version}
-use Rattle.script_names.specs.Names.{table_number, element_number}
+use Rattle.script_session.specs.Names.{table_number, element_number}
 
 abbrev pub StartsWith : List ℕ → List ℕ → Type 0
 StartsWith front text = (rest : List ℕ) × (text ≡ front ++ rest)

@@ -10,8 +10,8 @@ use element_check::{ElementReport, check_element};
 use keycode::{Text, Values};
 use row_map::KeyOf;
 use schema_version::Schema;
-use script_names::{element_number, table_number};
 use script_session::Opened;
+use script_session::script_names::{element_number, table_number};
 use std::alloc::{AllocError, Global};
 
 /// How many rows and how many pairs are shown at most.

@@ -1,7 +1,7 @@
 //! How an element is named.
 ghost use Rattle.std.specs.Prelude.{◌≡◌, ◌++◌, OnOk, string_bytes};
 ghost use Rattle.schema_version.specs.Version.{table_at};
-ghost use Rattle.script_replies.specs.PlanLines.{dotted, name_or_empty};
+ghost use Rattle.script_session.specs.PlanLines.{dotted, name_or_empty};
 ghost use Rattle.script_views.specs.Names.{element_name};
 
 use keycode::Text;

@@ -10,7 +10,7 @@ use keycode::Text;
 use row_query::{Path, path_of};
 use schema_version::Schema;
 use script_grammar::{Command, Selection, read_command};
-use script_names::asked;
+use script_session::script_names::asked;
 use script_session::{Opened, ServerLease};
 use script_tokens::LineFault;
 use std::alloc::{AllocError, Global};

@@ -20,3 +20,7 @@ pub use near::push_nearest;
 pub use tuples::push_tuple;
 pub use types::type_word;
 pub use views::{named_pairs, named_view};
+
+// Crates whose items callers of this one name, so that they list this one alone.
+pub use script_session;
+pub use script_session::{script_names, script_replies, world};

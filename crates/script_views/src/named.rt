@@ -7,7 +7,7 @@ use crate::types::{key_misfit, misfit};
 use keycode::{Text, Value};
 use schema_version::{ElementDef, MAX_TABLES, Schema};
 use script_grammar::{Condition, Operation, Selection, state_word};
-use script_names::{element_number, table_number};
+use script_session::script_names::{element_number, table_number};
 use std::alloc::{AllocError, Global};
 
 /// What is looked for in a line: the refusal names it.

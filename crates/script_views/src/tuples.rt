@@ -3,7 +3,7 @@ ghost use Rattle.std.specs.Prelude.{◌≡◌, ◌++◌, OnOk, codes, string_byt
 ghost use Rattle.std.specs.List.{flat_map};
 ghost use mathlib.Core.List.{map};
 ghost use Rattle.script_grammar.specs.Print.{value_text};
-ghost use Rattle.script_replies.specs.Rows.{joined};
+ghost use Rattle.script_session.specs.Rows.{joined};
 ghost use Rattle.script_views.specs.Check.{tuple};
 
 use keycode::Value;

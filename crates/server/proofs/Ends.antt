@@ -13,8 +13,8 @@ use Rattle.row_write.specs.Prepare.{rank, Condition}
 use Rattle.row_write.specs.Reads.{IsRead}
 use Rattle.lease.specs.declared.lease.Lease.{Lease}
 use Rattle.schema_version.specs.Version.{Version}
-use Rattle.world.specs.declared.entry.Receipt.{Receipt}
-use Rattle.world.specs.declared.grant.GrantFault.{GrantFault}
+use Rattle.locked_store.specs.Receipt.{Receipt}
+use Rattle.locked_store.specs.GrantFault.{GrantFault}
 use Rattle.locked_store.specs.declared.fault.SharedFault.{SharedFault}
 use Rattle.server.specs.declared.request.Outcome.{Outcome}
 use Rattle.server.specs.declared.request.Outcome.TheVariants as outcome

@@ -9,16 +9,16 @@ use Rattle.row_write.specs.Made.{PreparedTxn}
 use Rattle.lease.specs.declared.lease.Lease.{Lease}
 use Rattle.lease.specs.Timeline.{max_moment}
 use Rattle.schema_version.specs.Version.{Version}
-use Rattle.world.specs.Calls.{LeaseStep, CommitStep, IsReadView, GrantCondition, grant_rank, effective_moment}
-use Rattle.world.specs.State.{State, entry_count}
-use Rattle.world.specs.declared.committed.Committed.{Committed}
-use Rattle.world.specs.declared.committed.Committed.TheVariants as committed
-use Rattle.world.specs.declared.entry.Grant.{Grant}
-use Rattle.world.specs.declared.entry.Receipt.{Receipt}
-use Rattle.world.specs.declared.commit.CommitFault.{CommitFault}
-use Rattle.world.specs.declared.commit.CommitFault.TheVariants as commit_fault
-use Rattle.world.specs.declared.grant.GrantFault.{GrantFault}
-use Rattle.world.specs.declared.grant.GrantFault.TheVariants as grant_fault
+use Rattle.locked_store.specs.Calls.{LeaseStep, CommitStep, IsReadView, GrantCondition, grant_rank, effective_moment}
+use Rattle.locked_store.specs.State.{State, entry_count}
+use Rattle.locked_store.specs.Committed.{Committed}
+use Rattle.locked_store.specs.Committed.TheVariants as committed
+use Rattle.locked_store.specs.Grant.{Grant}
+use Rattle.locked_store.specs.Receipt.{Receipt}
+use Rattle.locked_store.specs.CommitFault.{CommitFault}
+use Rattle.locked_store.specs.CommitFault.TheVariants as commit_fault
+use Rattle.locked_store.specs.GrantFault.{GrantFault}
+use Rattle.locked_store.specs.GrantFault.TheVariants as grant_fault
 use Rattle.locked_store.specs.declared.fault.SharedFault.{SharedFault}
 use Rattle.locked_store.specs.declared.fault.SharedFault.TheVariants as shared
 use Rattle.locked_store.specs.Answers.{Answers, AnswersBack, BackBy, WentBackTo, Counts, grant_place, commit_place, no_place}

@@ -4,8 +4,8 @@ use Rattle.std.proofs.lemmas.List.{reverse-reverse, length-map, length-reverse}
 use Rattle.std.proofs.lemmas.List.Sums.{sum_by-le}
 use Rattle.tasks.proofs.Handed.{map_reverse, map_map, sum_reverse, sum_map}
 use Rattle.tasks.specs.Outcomes.{IsRow, held_in}
-use Rattle.world.specs.declared.entry.Receipt.{Receipt}
-use Rattle.world.specs.State.{State}
+use Rattle.locked_store.specs.Receipt.{Receipt}
+use Rattle.locked_store.specs.State.{State}
 use Rattle.locked_store.specs.Known.{Known, total_count, IsLeastFront}
 use Rattle.locked_store.proofs.Fronts.{back_risen}
 use Rattle.server.specs.HandlePorts.{SaidByCore}

@@ -7,13 +7,13 @@ use Rattle.row_write.specs.Plain.{outcome}
 use Rattle.lease.specs.declared.lease.Lease.{Lease}
 use Rattle.lease.specs.Timeline.{granted_at, max_moment}
 use Rattle.schema_version.specs.Version.{Version}
-use Rattle.world.specs.Calls.{CommitStep, IsReadView, effective_moment}
-use Rattle.world.specs.declared.commit.CommitFault.{CommitFault}
-use Rattle.world.specs.declared.committed.Committed.TheVariants.{Done}
+use Rattle.locked_store.specs.Calls.{CommitStep, IsReadView, effective_moment}
+use Rattle.locked_store.specs.CommitFault.{CommitFault}
+use Rattle.locked_store.specs.Committed.TheVariants.{Done}
 use Rattle.row_write.specs.Made.{PreparedTxn}
-use Rattle.world.specs.declared.entry.Grant.{Grant}
-use Rattle.world.specs.declared.entry.Receipt.{Receipt}
-use Rattle.world.specs.State.{State, facts_of}
+use Rattle.locked_store.specs.Grant.{Grant}
+use Rattle.locked_store.specs.Receipt.{Receipt}
+use Rattle.locked_store.specs.State.{State, facts_of}
 use Rattle.locked_store.specs.Cores.{IsCoreSince, WasLength}
 use Rattle.locked_store.specs.Receipts.{IsLogged}
 use Rattle.server.specs.Outcomes.{Said}

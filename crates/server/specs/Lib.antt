@@ -1,3 +1,8 @@
+pub use Rattle.locked_store.specs.CommitFault
+pub use Rattle.locked_store.specs.GrantFault
+pub use Rattle.locked_store.specs.Receipts
+pub use Rattle.locked_store.specs.State
+pub use Rattle.locked_store.specs.declared.fault.SharedFault
 pub mod Tallies
 pub mod Outcomes
 pub mod HandlePorts

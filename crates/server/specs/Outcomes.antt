@@ -16,13 +16,13 @@ use Rattle.row_write.specs.Reads.{IsRead}
 use Rattle.lease.specs.declared.lease.Lease.{Lease}
 use Rattle.schema_version.specs.Version.{Version}
 use Rattle.replay.specs.declared.entry.What.TheVariants.{Lease as Granted, Txn}
-use Rattle.world.specs.declared.entry.Receipt.{Receipt}
-use Rattle.world.specs.declared.committed.Committed.{Committed}
-use Rattle.world.specs.declared.committed.Committed.TheVariants as committed
-use Rattle.world.specs.declared.commit.CommitFault.{CommitFault}
-use Rattle.world.specs.declared.commit.CommitFault.TheVariants as commit_fault
-use Rattle.world.specs.declared.grant.GrantFault.{GrantFault}
-use Rattle.world.specs.declared.grant.GrantFault.TheVariants as grant_fault
+use Rattle.locked_store.specs.Receipt.{Receipt}
+use Rattle.locked_store.specs.Committed.{Committed}
+use Rattle.locked_store.specs.Committed.TheVariants as committed
+use Rattle.locked_store.specs.CommitFault.{CommitFault}
+use Rattle.locked_store.specs.CommitFault.TheVariants as commit_fault
+use Rattle.locked_store.specs.GrantFault.{GrantFault}
+use Rattle.locked_store.specs.GrantFault.TheVariants as grant_fault
 use Rattle.locked_store.specs.declared.fault.SharedFault.{SharedFault}
 use Rattle.locked_store.specs.declared.fault.SharedFault.TheVariants as shared
 use Rattle.row_write.specs.Made.{PreparedTxn}

@@ -4,8 +4,8 @@ use Rattle.std.specs.Prelude.{◌≡◌, ℕ, ◌+◌, ◌<◌, ◌≤◌, ◌�
 use Rattle.tasks.specs.Outcomes.{IsRow, held_in}
 use Rattle.tasks.specs.declared.fault.TaskFault.{TaskFault}
 use Rattle.tasks.specs.declared.fault.TaskFault.TheVariants as task_fault
-use Rattle.world.specs.declared.entry.Receipt.{Receipt}
-use Rattle.world.specs.State.{State}
+use Rattle.locked_store.specs.Receipt.{Receipt}
+use Rattle.locked_store.specs.State.{State}
 use Rattle.locked_store.specs.Known.{Known, total_count, HaveRisen, IsLeastFront}
 use Rattle.server.specs.HandlePorts.{SaidByCore}
 use Rattle.server.specs.Outcomes.{receipts_of, IsLeaseReceipt}

@@ -1,8 +1,8 @@
 -- Cited by the contracts of RequestWorker.
 -- What workers do.
 use Rattle.std.specs.Prelude.{◌≡◌, ℕ, ◌<◌, ◌≤◌, List, [], length, All, slice_index_or}
-use Rattle.world.specs.declared.entry.Receipt.{Receipt}
-use Rattle.world.specs.State.{State}
+use Rattle.locked_store.specs.Receipt.{Receipt}
+use Rattle.locked_store.specs.State.{State}
 use Rattle.locked_store.specs.Known.{Known}
 use Rattle.server.specs.declared.request.Request.{Request}
 use Rattle.server.specs.declared.request.Outcome.{Outcome}

@@ -6,13 +6,13 @@ use crate::port::Port;
 use crate::tally::{Last, Tally, last_of_commit, last_of_grant, last_of_read};
 use collections::ArcValue;
 use lease::Lease;
+use locked_store::world::{CommitFault, Committed, Grant, GrantFault, Receipt};
 use locked_store::{Handle, Shared, SharedFault, SharedLedger};
 use row_map::{ReadSet, ReadView};
 use row_write::Prepared;
 use schema_version::Schema;
 use std::alloc::{AllocError, Global};
 use std::sync::Wait;
-use world::{CommitFault, Committed, Grant, GrantFault, Receipt};
 
 /// A server's handle, with the receipts of its leases and its tally.
 #[derive(Drop)]

@@ -19,3 +19,8 @@ pub use request::{Outcome, Request};
 pub use serve_all::{ServeFault, Served, serve};
 pub use tally::{Last, Tally, last_of_commit, last_of_grant, last_of_read};
 pub use tasks::{FreeGate, Gate};
+
+// Crates whose items callers of this one name, so that they list this one alone.
+pub use locked_store;
+pub use locked_store::world;
+pub use tasks;

@@ -10,10 +10,10 @@ use crate::request::{Outcome, Request};
 use collections::ArcValue;
 use lease::Lease;
 use locked_store::SharedFault;
+use locked_store::world::{CommitFault, Committed, GrantFault};
 use row_write::{PrepareFault, Prepared, RowOps, prepare_shared, reads_of};
 use schema_version::Schema;
 use std::alloc::{AllocError, Global};
-use world::{CommitFault, Committed, GrantFault};
 
 // The lease at hand, or else a new one.
 fn held_or_new<P: Port>(

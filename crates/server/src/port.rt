@@ -7,11 +7,11 @@ use crate::tally::Tally;
 use collections::ArcValue;
 use lease::Lease;
 use locked_store::SharedFault;
+use locked_store::world::{CommitFault, Committed, GrantFault};
 use row_map::{ReadSet, ReadView};
 use row_write::Prepared;
 use schema_version::Schema;
 use std::alloc::{AllocError, Global};
-use world::{CommitFault, Committed, GrantFault};
 
 /// Leases, reads and commits of one server, as `Shared` answers them through a handle. A port keeps
 /// the receipts of its leases, and a tally of its answers.
@@ -22,7 +22,7 @@ use world::{CommitFault, Committed, GrantFault};
 /// seen, and `Memory`.
 pub trait Port {
     ghost use Rattle.std.specs.Prelude.{ℕ, List};
-    ghost use Rattle.world.specs.declared.entry.Receipt.{Receipt};
+    ghost use Rattle.locked_store.specs.Receipt.{Receipt};
     ghost use Rattle.server.specs.Outcomes.{Said};
     ghost use Rattle.server.specs.declared.tally.Tally.{Tally};
 

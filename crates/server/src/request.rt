@@ -1,6 +1,6 @@
 //! What servers are asked, and what becomes of it.
+use locked_store::world::{CommitFault, Receipt};
 use row_write::{PrepareFault, RowFault, RowOps};
-use world::{CommitFault, Receipt};
 
 /// A transaction that a server is to commit.
 #[derive(Drop)]

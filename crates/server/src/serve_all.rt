@@ -10,13 +10,13 @@ use crate::request::{Outcome, Request};
 use crate::tally::{Last, Tally};
 use crate::worker::RequestWorker;
 use collections::List;
+use locked_store::world::Receipt;
 use locked_store::{Handle, Shared, SharedLedger, least_front};
 use std::alloc::Global;
 use std::sync::Wait;
 use std::thread::Threads;
 use tasks::{Gate, Performed, TaskFault, perform_all};
 use thiserror::Error;
-use world::Receipt;
 
 /// The greatest number of requests.
 const MAX_REQUESTS: usize = 1_000_000;

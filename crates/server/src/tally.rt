@@ -5,11 +5,11 @@ ghost use Rattle.server.specs.Tallies.{tally, retried, last_of_grant, last_of_re
 use collections::ArcValue;
 use lease::Lease;
 use locked_store::SharedFault;
+use locked_store::world::{CommitFault, Committed, GrantFault};
 use row_map::ReadView;
 use row_write::{Prepared, RowFault};
 use schema_version::Schema;
 use std::alloc::AllocError;
-use world::{CommitFault, Committed, GrantFault};
 
 /// A port's last answer.
 #[derive(Clone, Copy, PartialEq, Eq)]

@@ -6,12 +6,12 @@ use Rattle.row_map.specs.Expect.{View}
 use Rattle.row_write.specs.declared.op.RowOp.{RowOp}
 use Rattle.lease.specs.declared.lease.Lease.{Lease}
 use Rattle.schema_version.specs.Version.{Version}
-use Rattle.world.specs.declared.commit.CommitFault.{CommitFault}
-use Rattle.world.specs.declared.commit.CommitFault.TheVariants as commit_fault
-use Rattle.world.specs.declared.grant.GrantFault.{GrantFault}
-use Rattle.world.specs.declared.grant.GrantFault.TheVariants as grant_fault
-use Rattle.locked_store.specs.declared.fault.SharedFault.{SharedFault}
-use Rattle.locked_store.specs.declared.fault.SharedFault.TheVariants as shared
+use Rattle.server.specs.CommitFault.{CommitFault}
+use Rattle.server.specs.CommitFault.TheVariants as commit_fault
+use Rattle.server.specs.GrantFault.{GrantFault}
+use Rattle.server.specs.GrantFault.TheVariants as grant_fault
+use Rattle.server.specs.SharedFault.{SharedFault}
+use Rattle.server.specs.SharedFault.TheVariants as shared
 use Rattle.server.specs.Outcomes.{Keys, GrantSays, ReadSays, RefusalSays}
 
 pub grants : (moment : ℕ) (answer : Result (Lease × Version) (SharedFault GrantFault)) → GrantSays (λ said. Unit {0}) moment answer

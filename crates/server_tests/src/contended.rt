@@ -5,8 +5,9 @@ ghost use Rattle.std.specs.Prelude.{◌≡◌};
 use crate::fills::filling;
 use crate::table::update;
 use collections::List;
-use locked_store::{Handle, Shared, SharedLedger};
 use reorganise_workers::{PieceEnd, ReorganiseFault, Reorganised, reorganise_all};
+use server::locked_store::{Handle, Shared, SharedLedger};
+use server::world::{Receipt, World};
 use server::{Request, Served, serve};
 use std::alloc::Global;
 use std::marker::Brand;
@@ -15,7 +16,6 @@ use std::sync::atomic::{AtomicU64, Ordering};
 use std::sync::ledger::Blank;
 use std::thread::{Threads, join};
 use tasks::{FreeGate, Gate};
-use world::{Receipt, World};
 
 // Whether a row was updated, and whether the piece has its end. The piece starts after the first
 // update.

@@ -6,8 +6,8 @@ use crate::table::{insert, named, opened};
 use collections::List;
 use schema_version::{ElementState, Kind, Move, NewElement, Step};
 use server::Outcome;
+use server::world::World;
 use std::alloc::{AllocError, Global};
-use world::World;
 
 // add index i on t (a): element 2, since 1 is the column
 fn entering(alloc: Global) -> Result<Step, AllocError> {

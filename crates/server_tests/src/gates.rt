@@ -2,7 +2,8 @@
 ghost use Rattle.std.specs.Prelude.{◌≡◌};
 
 use crate::table::{insert, opened};
-use locked_store::{Shared, SharedLedger};
+use server::locked_store::{Shared, SharedLedger};
+use server::world::World;
 use server::{Gate, Outcome, Request, Served, serve};
 use std::alloc::Global;
 use std::marker::Brand;
@@ -10,7 +11,6 @@ use std::sync::Wait;
 use std::sync::atomic::{AtomicU64, Ordering};
 use std::sync::ledger::Blank;
 use std::thread::{Threads, yield_now};
-use world::World;
 
 /// Holds request 0 until request 1 is answered.
 #[derive(Drop)]

@@ -7,15 +7,15 @@ use Answer::{Conflict, LeaseEnded, Memory};
 use byte_map::Bytes;
 use collections::ArcValue;
 use lease::Lease;
-use locked_store::SharedFault;
 use row_map::{ReadSet, ReadView};
 use row_write::Prepared;
 use schema_version::Schema;
+use server::locked_store::SharedFault;
+use server::world::{CommitFault, Committed, GrantFault, Receipt, World};
 use server::{
     Last, Outcome, Port, Request, Tally, last_of_commit, last_of_grant, last_of_read, serve_one,
 };
 use std::alloc::{AllocError, Global};
-use world::{CommitFault, Committed, GrantFault, Receipt, World};
 
 /// How a call is answered: as the port's world answers it, or by a refusal, if that call has one.
 #[derive(Clone, Copy)]

@@ -6,16 +6,16 @@ ghost use Rattle.std.specs.Prelude.{◌≡◌};
 use crate::fills::filling;
 use crate::gates::{Behind, Together};
 use crate::table::{insert, mark};
-use locked_store::{Handle, Shared, SharedLedger};
 use reorganise::Work;
 use reorganise_workers::{PieceEnd, ReorganiseFault, Reorganised, reorganise_all};
+use server::locked_store::{Handle, Shared, SharedLedger};
+use server::world::World;
 use server::{FreeGate, Gate, Outcome, Request, ServeFault, Served, serve};
 use std::alloc::{AllocError, Global};
 use std::marker::Brand;
 use std::sync::Wait;
 use std::sync::ledger::Blank;
 use std::thread::Threads;
-use world::World;
 
 // 1 if a request is committed, 0 if memory was short, also for the thread that its gate waits for,
 // or an earlier call committed it.

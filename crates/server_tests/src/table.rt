@@ -6,8 +6,8 @@ use row_map::ColumnType;
 use row_write::RowOp;
 use schema_version::TableDef;
 use server::Request;
+use server::world::{Config, OpenFault, World};
 use std::alloc::{AllocError, Global};
-use world::{Config, OpenFault, World};
 
 /// Prints the line from which on the step for refusals counts allocations.
 pub(crate) fn mark<R: Print>(rt: &R) -> bool {

@@ -5,18 +5,18 @@ ghost use Rattle.std.specs.Prelude.{◌≡◌};
 
 use crate::fills::{dropping, filling, turning};
 use collections::List;
-use locked_store::{Handle, Shared, SharedLedger};
 use reorganise::Work;
 use reorganise_workers::{PieceEnd, Reorganised, reorganise_all};
 use schema_version::ElementState::{DeleteOnly, WriteOnly};
 use schema_version::Step;
+use server::locked_store::{Handle, Shared, SharedLedger};
+use server::world::{PieceFault, Receipt, World};
 use std::alloc::Global;
 use std::marker::Brand;
 use std::sync::ledger::Blank;
 use std::sync::{Mutex, Wait};
 use std::thread::Threads;
 use tasks::{FreeGate, Gate};
-use world::{PieceFault, Receipt, World};
 
 // What is published while the pieces are held: the turn, and if a clear is to begin, the step to
 // delete-only.

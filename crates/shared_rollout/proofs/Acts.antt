@@ -8,13 +8,13 @@ use Rattle.std.proofs.lemmas.Grind.{flat_map-append}
 use Rattle.std.proofs.lemmas.List.Elements.{All-append, All-cons, All-nil, All-same, All-weaker}
 use Rattle.std.proofs.Math.Nat.{le-max_left}
 use Rattle.lease.specs.Timeline.{max_moment}
-use Rattle.world.specs.declared.entry.Receipt.{Receipt}
-use Rattle.world.specs.State.{State, facts_of}
+use Rattle.locked_store.specs.Receipt.{Receipt}
+use Rattle.locked_store.specs.State.{State, facts_of}
 use Rattle.locked_store.specs.Known.{Known}
 use Rattle.locked_store.specs.Receipts.{IsLogged}
-use Rattle.rollout.specs.declared.act.Act.TheVariants as act
-use Rattle.rollout.specs.declared.advanced.Advanced.{Advanced}
-use Rattle.rollout.specs.declared.advanced.Advanced.TheVariants as advanced
+use Rattle.locked_store.specs.Act.TheVariants as act
+use Rattle.locked_store.specs.Advanced.{Advanced}
+use Rattle.locked_store.specs.Advanced.TheVariants as advanced
 use Rattle.shared_rollout.specs.Operator.{AreActs, AreNumbers, HasCompleted, HasStopped, IsAdvanced, IsRefused, IsSeen, WasDueAt, WereOvertaken, asked, entries_in, entries_of, next_of, receipts_of}
 use Rattle.shared_rollout.specs.inner.Attempts.{Acts, ActsAndKeeps, Attempts}
 use Rattle.shared_rollout.specs.declared.ask.Ask.{Ask}

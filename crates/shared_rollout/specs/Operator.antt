@@ -6,30 +6,30 @@ use Rattle.lease.specs.Timeline.{max_moment}
 use Rattle.schema_version.specs.declared.step.Move.{Move}
 use Rattle.reorganise.specs.declared.fault.ViewFault.TheVariants as view_fault
 use Rattle.reorganise.specs.declared.read.Reading.{Reading}
-use Rattle.world.specs.declared.begin_reorg.BeginFault.{BeginFault}
-use Rattle.world.specs.declared.begin_reorg.BeginFault.TheVariants as begin_fault
-use Rattle.world.specs.declared.entry.PieceDone.{PieceDone}
-use Rattle.world.specs.declared.entry.Receipt.{Receipt}
-use Rattle.world.specs.declared.piece.PieceFault.{PieceFault}
-use Rattle.world.specs.declared.piece.PieceFault.TheVariants as piece_fault
-use Rattle.world.specs.declared.piece.ReadFault.{ReadFault}
-use Rattle.world.specs.declared.piece.ReadFault.TheVariants as read_fault
-use Rattle.world.specs.declared.publish.PublishFault.{PublishFault}
-use Rattle.world.specs.declared.publish.PublishFault.TheVariants as publish_fault
-use Rattle.world.specs.BeginReorg.{BeginStep}
-use Rattle.world.specs.Calls.{effective_moment}
-use Rattle.world.specs.Piece.{PieceStep}
-use Rattle.world.specs.Publish.{PublishStep}
-use Rattle.world.specs.State.{State, entry_count, facts_of}
+use Rattle.locked_store.specs.BeginFault.{BeginFault}
+use Rattle.locked_store.specs.BeginFault.TheVariants as begin_fault
+use Rattle.locked_store.specs.PieceDone.{PieceDone}
+use Rattle.locked_store.specs.Receipt.{Receipt}
+use Rattle.locked_store.specs.PieceFault.{PieceFault}
+use Rattle.locked_store.specs.PieceFault.TheVariants as piece_fault
+use Rattle.locked_store.specs.ReadFault.{ReadFault}
+use Rattle.locked_store.specs.ReadFault.TheVariants as read_fault
+use Rattle.locked_store.specs.PublishFault.{PublishFault}
+use Rattle.locked_store.specs.PublishFault.TheVariants as publish_fault
+use Rattle.locked_store.specs.BeginReorg.{BeginStep}
+use Rattle.locked_store.specs.Calls.{effective_moment}
+use Rattle.locked_store.specs.Piece.{PieceStep}
+use Rattle.locked_store.specs.Publish.{PublishStep}
+use Rattle.locked_store.specs.State.{State, entry_count, facts_of}
 use Rattle.locked_store.specs.Cores.{IsCore, IsCoreSince, WasLength}
 use Rattle.locked_store.specs.Receipts.{IsLogged}
-use Rattle.piece_work.specs.WorkOff.{NextStep}
-use Rattle.rollout.specs.declared.act.Act.{Act}
-use Rattle.rollout.specs.declared.act.Act.TheVariants as act
-use Rattle.rollout.specs.declared.advanced.Advanced.{Advanced}
-use Rattle.rollout.specs.declared.advanced.Advanced.TheVariants as advanced
-use Rattle.rollout.specs.Advance.{AreCounts}
-use Rattle.rollout.specs.Due.{IsDue}
+use Rattle.locked_store.specs.WorkOff.{NextStep}
+use Rattle.locked_store.specs.Act.{Act}
+use Rattle.locked_store.specs.Act.TheVariants as act
+use Rattle.locked_store.specs.Advanced.{Advanced}
+use Rattle.locked_store.specs.Advanced.TheVariants as advanced
+use Rattle.locked_store.specs.Advance.{AreCounts}
+use Rattle.locked_store.specs.Due.{IsDue}
 use Rattle.shared_rollout.specs.declared.ask.Ask.{Ask}
 use Rattle.shared_rollout.specs.declared.fault.OperatorFault.{OperatorFault}
 use Rattle.shared_rollout.specs.declared.fault.OperatorFault.TheVariants as fault

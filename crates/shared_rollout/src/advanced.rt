@@ -8,8 +8,8 @@ use crate::ask::{Ask, are_numbers};
 use crate::attempt::attempt_act;
 use crate::fault::OperatorFault;
 use lease::MAX_MOMENT;
+use locked_store::rollout::Advanced;
 use locked_store::{Handle, Shared, SharedLedger};
-use rollout::Advanced;
 use std::alloc::Global;
 use std::sync::Wait;
 

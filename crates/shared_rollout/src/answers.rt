@@ -5,10 +5,10 @@ ghost use Rattle.shared_rollout.specs.inner.Attempts.{of_begin, of_publish, of_l
 
 use crate::fault::OperatorFault;
 use locked_store::SharedFault;
+use locked_store::rollout::Advanced;
+use locked_store::world::{BeginFault, PieceDone, PieceFault, PublishFault, ReadFault, Receipt};
 use reorganise::{PreparedPiece, ViewFault};
-use rollout::Advanced;
 use std::alloc::AllocError;
-use world::{BeginFault, PieceDone, PieceFault, PublishFault, ReadFault, Receipt};
 
 /// What a begin came to.
 pub(crate) fn of_begin(

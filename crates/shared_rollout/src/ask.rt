@@ -2,7 +2,7 @@
 ghost use Rattle.std.specs.Bool.{Decides};
 ghost use Rattle.shared_rollout.specs.Operator.{AreNumbers};
 
-use rollout::are_counts;
+use locked_store::rollout::are_counts;
 
 /// How often another may be first, at most.
 const MAX_TRIES: u32 = 1_000_000;

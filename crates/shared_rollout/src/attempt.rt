@@ -1,15 +1,15 @@
 //! One look at what is due, and one try to do it.
 ghost use Rattle.std.specs.Prelude.{◌≡◌, ◌≤◌};
-ghost use Rattle.rollout.specs.declared.act.Act.TheVariants as act;
+ghost use Rattle.locked_store.specs.Act.TheVariants as act;
 ghost use Rattle.shared_rollout.specs.Operator.{WasDue, WasRead};
 ghost use Rattle.shared_rollout.specs.inner.Attempts.{Attempts};
 
 use crate::answers::{of_begin, of_commit, of_look, of_publish, of_read};
 use crate::ask::Ask;
 use crate::fault::OperatorFault;
+use locked_store::rollout::{Act, Advanced};
 use locked_store::{Handle, Shared, SharedLedger};
 use reorganise::{PieceView, prepare_piece};
-use rollout::{Act, Advanced};
 use schema_version::Step;
 use std::alloc::Global;
 use std::sync::Wait;

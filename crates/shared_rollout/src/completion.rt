@@ -8,11 +8,11 @@ ghost use Rattle.shared_rollout.specs.inner.Attempts.{ActsAndKeeps};
 use crate::advanced::do_act;
 use crate::ask::{Ask, are_numbers};
 use crate::fault::OperatorFault;
+use locked_store::rollout::Advanced;
+use locked_store::world::Receipt;
 use locked_store::{Handle, Shared, SharedLedger};
-use rollout::Advanced;
 use std::alloc::Global;
 use std::sync::Wait;
-use world::Receipt;
 
 // Keeps the receipt of an act, and tells the moment of the next one; `None` if no change is under
 // way.

@@ -16,3 +16,7 @@ mod fault;
 pub use advanced::advance;
 pub use completion::complete;
 pub use fault::OperatorFault;
+
+// Crates whose items callers of this one name, so that they list this one alone.
+pub use locked_store;
+pub use locked_store::{rollout, world};

@@ -3,12 +3,12 @@
 use crate::fault::SoakFault;
 use crate::table::{COLUMN, TABLE, text_of};
 use collections::List;
-use locked_store::{Handle, Shared, SharedFault, SharedLedger};
 use schema_version::{ElementState, Kind, Move, NewElement, Step};
+use shared_rollout::locked_store::{Handle, Shared, SharedFault, SharedLedger};
+use shared_rollout::world::PublishFault;
 use shared_rollout::{OperatorFault, complete};
 use std::alloc::{AllocError, Global};
 use std::sync::Wait;
-use world::PublishFault;
 
 /// In how many pieces the index is filled or cleared.
 const PIECES: u32 = 4;

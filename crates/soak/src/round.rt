@@ -2,8 +2,8 @@
 
 use crate::fault::SoakFault;
 use crate::index::change_index;
-use locked_store::{Handle, Shared, SharedLedger};
 use server::{FreeGate, Outcome, Request, ServeFault, Served, serve};
+use shared_rollout::locked_store::{Handle, Shared, SharedLedger};
 use std::alloc::Global;
 use std::mem::replace;
 use std::sync::Wait;

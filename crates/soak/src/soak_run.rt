@@ -7,14 +7,14 @@ use crate::requests::{Verb, moment_of, requests};
 use crate::round::{Handles, serve_all, serve_beside};
 use crate::table::{LENGTH, open_world};
 use command_line::SoakSize;
-use locked_store::{Shared, SharedLedger};
+use shared_rollout::locked_store::{Shared, SharedLedger};
+use shared_rollout::world::World;
 use std::alloc::Global;
 use std::io::Write;
 use std::marker::Brand;
 use std::sync::Wait;
 use std::sync::ledger::Blank;
 use std::thread::Threads;
-use world::World;
 
 /// How many updates a round has.
 const ROUND: u32 = 10_000;

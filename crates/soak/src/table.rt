@@ -5,8 +5,8 @@ use collections::List;
 use keycode::Text;
 use row_map::ColumnType;
 use schema_version::TableDef;
+use shared_rollout::world::{Config, OpenFault, World};
 use std::alloc::{AllocError, Global};
-use world::{Config, OpenFault, World};
 
 /// The number of the table.
 pub(crate) const TABLE: u32 = 1;

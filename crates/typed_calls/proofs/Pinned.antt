@@ -10,8 +10,8 @@ use Rattle.byte_map.proofs.Entries.{find_none}
 use Rattle.keycode.specs.Order.{bytes_cmp}
 use Rattle.row_map.specs.Rows.{Bytes}
 use Rattle.row_map.specs.Expect.{View}
-use Rattle.world.specs.State.{State}
-use Rattle.world.specs.Calls.{IsReadView}
+use Rattle.script_session.specs.State.{State}
+use Rattle.script_session.specs.Calls.{IsReadView}
 use Rattle.typed_calls.specs.Pins.{IsPinnedView, pinned_key, pinned_all}
 
 -- what a pin, if there is one, makes of what is there

@@ -1,6 +1,6 @@
 -- The world of an opened session takes a call, and the rest of the session stays.
 use Rattle.std.proofs.Common.{◌≡◌, refl}
-use Rattle.world.specs.State.{State}
+use Rattle.script_session.specs.State.{State}
 use Rattle.script_session.specs.declared.session.Opened.{Opened}
 use Rattle.script_session.specs.declared.session.Session.TheVariants.{Running}
 use Rattle.script_session.specs.Session.{Session}

@@ -8,14 +8,14 @@ use Rattle.schema_version.specs.declared.step.Move.{Move}
 use Rattle.schema_version.specs.declared.step.StepFault.{StepFault}
 use Rattle.schema_version.specs.declared.step.StepFault.TheVariants as step
 use Rattle.script_session.specs.Session.{Session}
-use Rattle.world.specs.State.{State}
-use Rattle.world.specs.BeginReorg.{BeginStep}
-use Rattle.world.specs.Publish.{PublishStep}
-use Rattle.world.specs.declared.begin_reorg.BeginFault.{BeginFault}
-use Rattle.world.specs.declared.begin_reorg.BeginFault.TheVariants as begin
-use Rattle.world.specs.declared.entry.Receipt.{Receipt}
-use Rattle.world.specs.declared.publish.PublishFault.{PublishFault}
-use Rattle.world.specs.declared.publish.PublishFault.TheVariants as publish
+use Rattle.script_session.specs.State.{State}
+use Rattle.script_session.specs.BeginReorg.{BeginStep}
+use Rattle.script_session.specs.Publish.{PublishStep}
+use Rattle.script_session.specs.BeginFault.{BeginFault}
+use Rattle.script_session.specs.BeginFault.TheVariants as begin
+use Rattle.script_session.specs.Receipt.{Receipt}
+use Rattle.script_session.specs.PublishFault.{PublishFault}
+use Rattle.script_session.specs.PublishFault.TheVariants as publish
 use Rattle.typed_calls.specs.Sessions.{InSession, IsNoCode}
 use Rattle.typed_calls.specs.Statuses.{bad_code, bad_count, begun, dependent, moment_too_large, name_taken, not_adjacent, not_opened, not_wanted, out_of_memory, over_limit, still_used, too_early, unfinished, unknown, versions_spent, wrong_way}
 use Rattle.typed_calls.specs.declared.changes.ChangeRefusal.{ChangeRefusal}

@@ -11,7 +11,7 @@ use Rattle.saved_world.specs.declared.fault.LoadFault.TheVariants as of_load
 use Rattle.saved_world.specs.declared.fault.LoadedFault.{LoadedFault}
 use Rattle.saved_world.specs.declared.fault.LoadedFault.TheVariants as loaded
 use Rattle.script_session.specs.Session.{Session}
-use Rattle.world.specs.State.{State, entry_count, facts_of, opened}
+use Rattle.script_session.specs.State.{State, entry_count, facts_of, opened}
 use Rattle.typed_calls.specs.Opening.{session_over}
 use Rattle.typed_calls.specs.Sessions.{OfSession}
 use Rattle.typed_calls.specs.Statuses.{bad_code, not_opened, out_of_memory}

@@ -3,11 +3,11 @@
 use Rattle.std.specs.Prelude.{◌≡◌, ℕ, ℤ, Result, Ok, Err}
 use Rattle.row_write.specs.Made.{PreparedTxn}
 use Rattle.script_session.specs.Session.{Session}
-use Rattle.world.specs.State.{State}
-use Rattle.world.specs.Calls.{CommitStep}
-use Rattle.world.specs.declared.committed.Committed.{Committed}
-use Rattle.world.specs.declared.commit.CommitFault.{CommitFault}
-use Rattle.world.specs.declared.commit.CommitFault.TheVariants.{MomentTooLarge, BadLease, LeaseEnded, WrongSchema, Conflict, Memory}
+use Rattle.script_session.specs.State.{State}
+use Rattle.script_session.specs.Calls.{CommitStep}
+use Rattle.script_session.specs.Committed.{Committed}
+use Rattle.script_session.specs.CommitFault.{CommitFault}
+use Rattle.script_session.specs.CommitFault.TheVariants.{MomentTooLarge, BadLease, LeaseEnded, WrongSchema, Conflict, Memory}
 use Rattle.typed_calls.specs.Sessions.{InSession}
 use Rattle.typed_calls.specs.Statuses.{moment_too_large, bad_lease, lease_ended, wrong_schema, conflict, out_of_memory, wrong_stage, not_opened}
 use Rattle.typed_calls.specs.declared.txns.Txn.{Txn}

@@ -2,7 +2,7 @@
 -- Which entries of the log of a session's world are in memory.
 use Rattle.std.specs.Prelude.{◌≡◌, ℕ, ℤ, Result, Ok, Err}
 use Rattle.script_session.specs.Session.{Session}
-use Rattle.world.specs.State.{cut_but, entries_before}
+use Rattle.script_session.specs.State.{cut_but, entries_before}
 use Rattle.typed_calls.specs.Sessions.{InSession, OfSession}
 use Rattle.typed_calls.specs.Statuses.{ok, not_opened}
 

@@ -3,11 +3,11 @@
 use Rattle.std.specs.Prelude.{◌≡◌, ℕ, ℤ, Result, Ok, Err}
 use Rattle.script_session.specs.Session.{Session}
 use Rattle.script_session.specs.declared.session.ServerLease.{ServerLease}
-use Rattle.world.specs.State.{State}
-use Rattle.world.specs.Calls.{LeaseStep}
-use Rattle.world.specs.declared.entry.Grant.{Grant}
-use Rattle.world.specs.declared.grant.GrantFault.{GrantFault}
-use Rattle.world.specs.declared.grant.GrantFault.TheVariants.{MomentTooLarge, Memory}
+use Rattle.script_session.specs.State.{State}
+use Rattle.script_session.specs.Calls.{LeaseStep}
+use Rattle.script_session.specs.Grant.{Grant}
+use Rattle.script_session.specs.GrantFault.{GrantFault}
+use Rattle.script_session.specs.GrantFault.TheVariants.{MomentTooLarge, Memory}
 use Rattle.typed_calls.specs.Sessions.{InSession}
 use Rattle.typed_calls.specs.Statuses.{not_opened, moment_too_large, out_of_memory}
 

@@ -1,3 +1,14 @@
+pub use Rattle.script_session.specs.Committed
+pub use Rattle.script_session.specs.Grant
+pub use Rattle.script_session.specs.PieceDone
+pub use Rattle.script_session.specs.Receipt
+pub use Rattle.script_session.specs.Replies
+pub use Rattle.script_session.specs.Session
+pub use Rattle.script_session.specs.Snapshot
+pub use Rattle.script_session.specs.State
+pub use Rattle.script_session.specs.declared.session.Opened
+pub use Rattle.script_session.specs.declared.session.ServerLease
+pub use Rattle.script_session.specs.declared.session.Session as SessionVariants
 pub mod Statuses
 pub mod Sessions
 pub mod Opening

@@ -7,11 +7,11 @@ use Rattle.entry_code.specs.Known.{IsOpening}
 use Rattle.schema_version.specs.declared.table.TableDef.{TableDef}
 use Rattle.script_session.specs.Session.{Session}
 use Rattle.script_session.specs.declared.session.Session.TheVariants.{Running}
-use Rattle.world.specs.State.{State}
-use Rattle.world.specs.Calls.{OpenStep}
-use Rattle.world.specs.declared.config.Config.{Config}
-use Rattle.world.specs.declared.open.OpenFault.{OpenFault}
-use Rattle.world.specs.declared.open.OpenFault.TheVariants.{BadTable, BadLength, Memory}
+use Rattle.script_session.specs.State.{State}
+use Rattle.script_session.specs.Calls.{OpenStep}
+use Rattle.script_session.specs.Config.{Config}
+use Rattle.script_session.specs.OpenFault.{OpenFault}
+use Rattle.script_session.specs.OpenFault.TheVariants.{BadTable, BadLength, Memory}
 use Rattle.typed_calls.specs.Sessions.{IsNoCode}
 use Rattle.typed_calls.specs.Statuses.{bad_table, bad_length, out_of_memory, bad_code}
 

@@ -5,13 +5,13 @@ use Rattle.reorganise.specs.declared.fault.ViewFault.{ViewFault}
 use Rattle.reorganise.specs.declared.fault.ViewFault.TheVariants.{BadPiece, Spent, BadLimit, Memory}
 use Rattle.reorganise.specs.declared.read.Reading.{Reading}
 use Rattle.script_session.specs.Session.{Session}
-use Rattle.world.specs.State.{State}
-use Rattle.world.specs.Piece.{ReadStep, PieceStep}
-use Rattle.world.specs.declared.entry.PieceDone.{PieceDone}
-use Rattle.world.specs.declared.piece.PieceFault.{PieceFault}
-use Rattle.world.specs.declared.piece.PieceFault.TheVariants as piece_fault
-use Rattle.world.specs.declared.piece.ReadFault.{ReadFault}
-use Rattle.world.specs.declared.piece.ReadFault.TheVariants as read_fault
+use Rattle.script_session.specs.State.{State}
+use Rattle.script_session.specs.Piece.{ReadStep, PieceStep}
+use Rattle.script_session.specs.PieceDone.{PieceDone}
+use Rattle.script_session.specs.PieceFault.{PieceFault}
+use Rattle.script_session.specs.PieceFault.TheVariants as piece_fault
+use Rattle.script_session.specs.ReadFault.{ReadFault}
+use Rattle.script_session.specs.ReadFault.TheVariants as read_fault
 use Rattle.typed_calls.specs.Sessions.{InSession, OfSession}
 use Rattle.typed_calls.specs.Statuses.{bad_count, bad_piece, conflict, moment_too_large, moved, not_opened, not_wanted, out_of_memory, spent, wrong_element, wrong_stage}
 use Rattle.typed_calls.specs.declared.pieces.PieceWork.{PieceWork}

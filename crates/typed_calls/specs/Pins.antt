@@ -5,7 +5,7 @@ use Rattle.std.specs.FinMap as map
 use Rattle.keycode.specs.Order.{bytes_cmp}
 use Rattle.row_map.specs.Rows.{Bytes}
 use Rattle.row_map.specs.Expect.{View}
-use Rattle.world.specs.State.{State}
+use Rattle.script_session.specs.State.{State}
 
 -- each key that is to be read, with what the pins have of it, or else with what the world has now, and no other key
 abbrev pub IsPinnedView : State → map.FinMap bytes_cmp (Unit {0}) → View → View → Type 0

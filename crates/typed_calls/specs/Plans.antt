@@ -13,7 +13,7 @@ use Rattle.entry_code.specs.Known.{AreChanges}
 use Rattle.keycode.specs.Valid.{IsStorable}
 use Rattle.schema_version.specs.Version.{Version}
 use Rattle.script_session.specs.Session.{Session}
-use Rattle.world.specs.State.{facts_of}
+use Rattle.script_session.specs.State.{facts_of}
 use Rattle.typed_calls.specs.Sessions.{OfSession, IsNoCode}
 use Rattle.typed_calls.specs.Statuses.{bad_code, dependent, in_change, name_taken, not_opened, out_of_memory, over_limit, unknown}
 

@@ -8,9 +8,9 @@ use Rattle.reorganise.specs.ScanRanges.{items, scan_range_of}
 use Rattle.reorganise.specs.declared.work.Progress.{Progress}
 use Rattle.replay.specs.Replay.{progress_of}
 use Rattle.row_map.specs.Rows.{Pairs}
-use Rattle.script_replies.specs.Status.{IsStatus}
+use Rattle.script_session.specs.Status.{IsStatus}
 use Rattle.script_session.specs.Session.{Session}
-use Rattle.world.specs.State.{State, facts_of}
+use Rattle.script_session.specs.State.{State, facts_of}
 use Rattle.typed_calls.specs.Sessions.{OfSession}
 use Rattle.typed_calls.specs.Statuses.{not_opened, not_wanted, out_of_memory}
 use Rattle.typed_calls.specs.declared.standing.Reached.{Reached}

@@ -10,11 +10,11 @@ use Rattle.row_query.specs.declared.fault.QueryFault.{QueryFault}
 use Rattle.row_query.specs.declared.fault.QueryFault.TheVariants.{NoTable, NotPublic, WrongType, Memory}
 use Rattle.row_query.specs.declared.query.Query.{Query}
 use Rattle.script_session.specs.Session.{Session}
-use Rattle.world.specs.State.{State}
-use Rattle.world.specs.Query.{QueryStep}
-use Rattle.world.specs.Snapshot.{Taken, IsSnapshotAnswer}
-use Rattle.world.specs.declared.query.QueryRefusal.{QueryRefusal}
-use Rattle.world.specs.declared.query.QueryRefusal.TheVariants as refusal
+use Rattle.script_session.specs.State.{State}
+use Rattle.script_session.specs.WorldQuery.{QueryStep}
+use Rattle.script_session.specs.Snapshot.{Taken, IsSnapshotAnswer}
+use Rattle.script_session.specs.QueryRefusal.{QueryRefusal}
+use Rattle.script_session.specs.QueryRefusal.TheVariants as refusal
 use Rattle.typed_calls.specs.Sessions.{OfSession, IsNoCode}
 use Rattle.typed_calls.specs.Statuses.{bad_code, bad_lease, lease_ended, moment_too_large, no_table, not_opened, not_public, out_of_memory, wrong_type}
 use Rattle.typed_calls.specs.declared.queries.QueryOutcome.{QueryOutcome}

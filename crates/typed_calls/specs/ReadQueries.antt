@@ -15,7 +15,7 @@ use Rattle.row_query.specs.Refused.{IsRefused, IsSound}
 use Rattle.row_write.specs.Made.{expects}
 use Rattle.row_write.specs.Reads.{IsRowKey}
 use Rattle.schema_version.specs.Version.{Version}
-use Rattle.world.specs.Snapshot.{Taken, IsSnapshotAnswer}
+use Rattle.script_session.specs.Snapshot.{Taken, IsSnapshotAnswer}
 use Rattle.typed_calls.specs.Queries.{AnswersCode, fault_outcome, query_alone}
 use Rattle.typed_calls.specs.Statuses.{bad_code, out_of_memory, view_mismatch, wrong_stage}
 use Rattle.typed_calls.specs.declared.queries.QueryOutcome.{QueryOutcome}

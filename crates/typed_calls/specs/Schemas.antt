@@ -5,7 +5,7 @@ use Rattle.checkpoint_code.specs.Head.{schema_parts}
 use Rattle.entry_code.specs.Records.{schema_parts_code}
 use Rattle.schema_version.specs.Version.{Version}
 use Rattle.script_session.specs.Session.{Session}
-use Rattle.world.specs.State.{facts_of}
+use Rattle.script_session.specs.State.{facts_of}
 use Rattle.typed_calls.specs.Sessions.{OfSession}
 use Rattle.typed_calls.specs.Statuses.{not_opened, out_of_memory}
 

@@ -1,7 +1,7 @@
 -- Cited by the definitions of Leases, Commit and others.
 -- A call on the world of a session, and codes that are none.
 use Rattle.std.specs.Prelude.{◌≡◌, ℕ, List}
-use Rattle.world.specs.State.{State}
+use Rattle.script_session.specs.State.{State}
 use Rattle.script_session.specs.Session.{Session}
 use Rattle.script_session.specs.declared.session.Session.TheVariants.{Declaring, Running}
 

@@ -4,11 +4,11 @@ use Rattle.std.specs.Prelude.{◌≡◌, ℕ, ℤ, length, Result, Ok, Err}
 use Rattle.audit.specs.declared.report.CheckReport.{CheckReport}
 use Rattle.lease.specs.declared.lease.Lease.{Lease}
 use Rattle.script_session.specs.Session.{Session}
-use Rattle.world.specs.State.{State, entry_count}
-use Rattle.world.specs.Calls.{IsCheck}
-use Rattle.world.specs.Snapshot.{Taken, SnapshotStep, IsSnapshotCheck}
-use Rattle.world.specs.declared.snapshot.SnapshotFault.{SnapshotFault}
-use Rattle.world.specs.declared.snapshot.SnapshotFault.TheVariants.{MomentTooLarge, BadLease, LeaseEnded, Memory}
+use Rattle.script_session.specs.State.{State, entry_count}
+use Rattle.script_session.specs.Calls.{IsCheck}
+use Rattle.script_session.specs.Snapshot.{Taken, SnapshotStep, IsSnapshotCheck}
+use Rattle.script_session.specs.SnapshotFault.{SnapshotFault}
+use Rattle.script_session.specs.SnapshotFault.TheVariants.{MomentTooLarge, BadLease, LeaseEnded, Memory}
 use Rattle.typed_calls.specs.Sessions.{OfSession}
 use Rattle.typed_calls.specs.Statuses.{moment_too_large, bad_lease, lease_ended, out_of_memory, not_opened}
 

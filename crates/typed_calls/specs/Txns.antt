@@ -13,7 +13,7 @@ use Rattle.row_write.specs.declared.op.RowOp.{RowOp}
 use Rattle.schema_version.specs.Version.{Version}
 use Rattle.script_session.specs.Session.{Session}
 use Rattle.script_session.specs.declared.session.ServerLease.{ServerLease}
-use Rattle.world.specs.State.{State}
+use Rattle.script_session.specs.State.{State}
 use Rattle.typed_calls.specs.Pins.{IsPinnedView}
 use Rattle.typed_calls.specs.Sessions.{IsNoCode, OfSession}
 use Rattle.typed_calls.specs.Statuses.{bad_code, out_of_memory, wrong_stage, not_opened}

@@ -11,10 +11,10 @@ use Rattle.row_write.specs.Made.{PreparedTxn}
 use Rattle.row_write.specs.declared.op.RowOp.{RowOp}
 use Rattle.script_session.specs.Session.{Session}
 use Rattle.script_session.specs.declared.session.ServerLease.{ServerLease}
-use Rattle.world.specs.State.{State}
-use Rattle.world.specs.Calls.{CommitStep, IsReadView}
-use Rattle.world.specs.declared.committed.Committed.{Committed}
-use Rattle.world.specs.declared.commit.CommitFault.{CommitFault}
+use Rattle.script_session.specs.State.{State}
+use Rattle.script_session.specs.Calls.{CommitStep, IsReadView}
+use Rattle.script_session.specs.Committed.{Committed}
+use Rattle.script_session.specs.CommitFault.{CommitFault}
 use Rattle.typed_calls.specs.Commit.{commit_status}
 use Rattle.typed_calls.specs.Prepare.{prepare_alone, IsPreparedFrom, IsUnprepared}
 use Rattle.typed_calls.specs.Sessions.{InSession, IsNoCode}

@@ -10,8 +10,8 @@ use crate::status::{
 use entry_code::{CodeFault, step_of};
 use schema_version::{Step, StepFault};
 use script_session::Session;
+use script_session::world::{BeginFault, PublishFault, World};
 use std::alloc::Global;
-use world::{BeginFault, PublishFault, World};
 
 /// Why a change was refused: a status, and its number.
 #[derive(Clone, Copy, Drop)]

@@ -1,6 +1,6 @@
 //! The checkpoint of a session's world, its bytes, and a session that opens there.
 ghost use Rattle.std.specs.Prelude.{◌≡◌};
-ghost use Rattle.world.specs.State.{opened};
+ghost use Rattle.script_session.specs.State.{opened};
 ghost use Rattle.typed_calls.specs.Opening.{session_over};
 ghost use Rattle.typed_calls.specs.Checkpoints.{load_status, OpensAt, OpensSaved, Saves, TakesIn, TakesOf};
 
@@ -10,8 +10,8 @@ use checkpoint_code::{HeadFault, PageFault};
 use collections::List;
 use saved_world::{LoadFault, LoadedFault, load, save};
 use script_session::Session;
+use script_session::world::{Checkpoint, CheckpointFault, World};
 use std::alloc::Global;
-use world::{Checkpoint, CheckpointFault, World};
 
 fn checkpoint_of(world: &World) -> Result<Checkpoint, i32>
     ensures { TakesOf world.now result }

@@ -9,8 +9,8 @@ use crate::status::{
 use crate::txns::Txn;
 use row_write::Prepared;
 use script_session::Session;
+use script_session::world::{CommitFault, Committed, World};
 use std::alloc::Global;
-use world::{CommitFault, Committed, World};
 
 // The status of a transaction that was not committed.
 pub(crate) fn commit_status(fault: &CommitFault) -> i32

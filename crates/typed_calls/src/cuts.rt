@@ -1,11 +1,11 @@
 //! Which entries of the log are in memory, and how they are given back.
 ghost use Rattle.std.specs.Prelude.{◌≡◌};
 ghost use Rattle.typed_calls.specs.Cuts.{StartIn, CutsIn};
-ghost use Rattle.world.specs.State.{cut_but};
+ghost use Rattle.script_session.specs.State.{cut_but};
 
 use crate::status::{NOT_OPENED, OK};
 use script_session::Session;
-use world::World;
+use script_session::world::World;
 
 /// How many entries of the log of the session's world come before those that are in memory: 0 until
 /// it is cut. Refused only by `NOT_OPENED`.

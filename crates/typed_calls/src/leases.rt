@@ -3,9 +3,9 @@ ghost use Rattle.std.specs.Prelude.{◌≡◌};
 ghost use Rattle.typed_calls.specs.Leases.{grant_status, held_by, LeasesWorld, LeasesIn};
 
 use crate::status::{MOMENT_TOO_LARGE, NOT_OPENED, OUT_OF_MEMORY};
+use script_session::world::{Grant, GrantFault, World};
 use script_session::{ServerLease, Session};
 use std::alloc::Global;
-use world::{Grant, GrantFault, World};
 
 // The status of a lease that was not granted.
 fn grant_status(fault: GrantFault) -> i32

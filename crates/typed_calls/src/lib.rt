@@ -39,3 +39,7 @@ pub use snapshots::{check, check_snapshot, log_length, snapshot};
 pub use standing::{Reached, progress, status_line};
 pub use txns::{Txn, read, transaction};
 pub use writes::write;
+
+// Crates whose items callers of this one name, so that they list this one alone.
+pub use script_session;
+pub use script_session::world;

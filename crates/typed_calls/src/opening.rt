@@ -7,9 +7,9 @@ use byte_map::KeyMap;
 use collections::List;
 use entry_code::{CodeFault, opening_of};
 use schema_version::TableDef;
+use script_session::world::{Config, OpenFault, World};
 use script_session::{Opened, Session};
 use std::alloc::Global;
-use world::{Config, OpenFault, World};
 
 // The status of a world that was not opened.
 fn open_status(fault: OpenFault) -> i32

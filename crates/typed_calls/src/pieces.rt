@@ -8,8 +8,8 @@ use crate::status::{
 };
 use reorganise::{PieceView, PreparedPiece, ViewFault};
 use script_session::Session;
+use script_session::world::{PieceDone, PieceFault, ReadFault, World};
 use std::alloc::Global;
-use world::{PieceDone, PieceFault, ReadFault, World};
 
 /// A piece of a reorganisation between its calls.
 #[derive(Drop)]

@@ -6,8 +6,8 @@ ghost use Rattle.typed_calls.specs.Pins.{IsPinnedView, pinned_key, pinned_all};
 use crate::preparation::value_again;
 use byte_map::Bytes;
 use row_map::{ReadSet, ReadView};
+use script_session::world::World;
 use std::alloc::{AllocError, Global};
-use world::World;
 
 // Puts what was read of a key before, if the view has the key.
 fn pin_key(view: &mut ReadView, key: &Bytes, value: &Option<Bytes>) -> Result<(), AllocError>

@@ -10,9 +10,9 @@ use collections::List;
 use entry_code::{CodeFault, query_of, rows_bytes};
 use lease::Lease;
 use row_query::{Query, QueryFault};
+use script_session::world::{QueryRefusal, Snapshot, World};
 use script_session::{ServerLease, Session};
 use std::alloc::Global;
-use world::{QueryRefusal, Snapshot, World};
 
 /// What a query came to.
 #[repr(C)]

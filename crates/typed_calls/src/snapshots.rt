@@ -5,8 +5,8 @@ ghost use Rattle.typed_calls.specs.Snapshots.{snapshot_status, SnapshotsWorld, S
 use crate::status::{BAD_LEASE, LEASE_ENDED, MOMENT_TOO_LARGE, NOT_OPENED, OUT_OF_MEMORY};
 use lease::Lease;
 use script_session::Session;
+use script_session::world::{CheckReport, Snapshot, SnapshotFault, World};
 use std::alloc::Global;
-use world::{CheckReport, Snapshot, SnapshotFault, World};
 
 // The status of a snapshot that was not taken.
 fn snapshot_status(fault: SnapshotFault) -> i32

@@ -3,9 +3,9 @@ ghost use Rattle.std.specs.Prelude.{◌≡◌};
 ghost use Rattle.typed_calls.specs.Progress.{reached_at, ProgressIn, TellsStatus, StatusIn};
 
 use crate::status::{NOT_OPENED, NOT_WANTED, OUT_OF_MEMORY};
-use script_session::Session;
+use script_session::world::World;
+use script_session::{Session, script_replies};
 use std::alloc::Global;
-use world::World;
 
 /// How far a begun reorganisation is.
 #[derive(Clone, Copy, Drop)]

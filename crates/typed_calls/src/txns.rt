@@ -8,9 +8,9 @@ use byte_map::KeyMap;
 use entry_code::{CodeFault, ops_of};
 use row_map::{ReadSet, ReadView};
 use row_write::{Prepared, RowOps, reads_of};
+use script_session::world::World;
 use script_session::{ServerLease, Session};
 use std::alloc::{AllocError, Global};
-use world::World;
 
 /// A transaction between its calls.
 #[derive(Drop)]

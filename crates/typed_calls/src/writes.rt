@@ -10,9 +10,9 @@ use collections::ArcValue;
 use entry_code::{CodeFault, ops_of};
 use row_map::ReadView;
 use row_write::{Prepared, RowOps, reads_of};
+use script_session::world::{Committed, World};
 use script_session::{ServerLease, Session};
 use std::alloc::{AllocError, Global};
-use world::{Committed, World};
 
 // What the operations read of the world.
 fn read_for(

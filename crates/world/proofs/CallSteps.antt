@@ -32,7 +32,7 @@ use Rattle.world.specs.declared.entry.Receipt.{Receipt}
 use Rattle.world.specs.declared.log.Log.{Log}
 use Rattle.world.specs.declared.world.World.TheInside.{Inside}
 use Rattle.world.specs.Calls.{effective_moment, GrantCondition, LeaseAt, LeaseStep, CommitCondition, commit_rank, CommitAt}
-use Rattle.checkpoint.specs.Checkpoint.{Checkpoint, said_by, IsWhole}
+use Rattle.checkpoint_check.specs.Checkpoint.{Checkpoint, said_by, IsWhole}
 use Rattle.world.specs.Inside.{state_of, state_with, Follow, IsHeld}
 use Rattle.world.specs.Whole.{Entries, whole, none_yet}
 use Rattle.world.specs.State.{State, facts_of, effect}

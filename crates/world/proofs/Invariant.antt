@@ -17,7 +17,7 @@ use Rattle.world.specs.declared.entry.Receipt.{Receipt}
 use Rattle.world.specs.declared.log.Log.{Log}
 use Rattle.world.specs.declared.world.World.TheInside.{Inside}
 use Rattle.world.specs.Calls.{effective_moment, Appends}
-use Rattle.checkpoint.specs.Checkpoint.{said_by}
+use Rattle.checkpoint_check.specs.Checkpoint.{said_by}
 use Rattle.world.specs.Inside.{state_of, state_with, Follow, IsHeld}
 use Rattle.world.specs.Whole.{whole, one_more, count_of}
 use Rattle.world.specs.State.{State, facts_of, effect, recent, IsReplayed, Agrees}

@@ -6,7 +6,7 @@ use Rattle.row_map.specs.Rows.{Pairs}
 use Rattle.schema_version.specs.Sound.{IsSoundVersion}
 use Rattle.schema_version.specs.Version.{Version}
 use Rattle.reorganise.specs.declared.work.Progress.{Progress}
-use Rattle.checkpoint.specs.Checkpoint.{Checkpoint, IsWhole, CheckpointsAreWhole, OpeningsAreWhole, checkpoint_of, opening_checkpoint}
+use Rattle.checkpoint_check.specs.Checkpoint.{Checkpoint, IsWhole, CheckpointsAreWhole, OpeningsAreWhole, checkpoint_of, opening_checkpoint}
 use Rattle.world.specs.declared.world.World.TheInside.{Inside}
 use Rattle.world.specs.Inside.{state_of, IsHeld}
 use Rattle.world.specs.State.{facts_of}

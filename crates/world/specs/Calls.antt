@@ -17,7 +17,7 @@ use Rattle.replay.specs.declared.entry.What.{What}
 use Rattle.replay.specs.declared.entry.What.TheVariants.{Lease as Granted, Txn}
 use Rattle.replay.specs.Headline.{MayFollow}
 use Rattle.replay.specs.Replay.{Opening, version_at}
-use Rattle.checkpoint.specs.Checkpoint.{opening_checkpoint}
+use Rattle.checkpoint_check.specs.Checkpoint.{opening_checkpoint}
 use Rattle.world.specs.declared.config.Config.{Config}
 use Rattle.world.specs.declared.committed.Committed.{Committed}
 use Rattle.world.specs.declared.committed.Committed.TheVariants as committed

@@ -11,7 +11,7 @@ use Rattle.schema_version.specs.Held.{version_code}
 use Rattle.schema_version.specs.Version.{Version}
 use Rattle.reorganise.specs.declared.work.Progress.{Progress}
 use Rattle.reorganise.specs.contracts.work.Progress as progress
-use Rattle.checkpoint.specs.Checkpoint.{Checkpoint}
+use Rattle.checkpoint_check.specs.Checkpoint.{Checkpoint}
 
 abbrev pub checkpoint_code : Coded Checkpoint
 checkpoint_code =

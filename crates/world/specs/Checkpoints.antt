@@ -1,6 +1,6 @@
 -- Cited by the contracts of Checkpoint.
 -- What the fields of a Checkpoint stand for, and what is true of them.
-use Rattle.checkpoint.specs.Checkpoint.{Checkpoint, IsWhole}
+use Rattle.checkpoint_check.specs.Checkpoint.{Checkpoint, IsWhole}
 use Rattle.world.specs.declared.checkpoints.Checkpoint.TheInside.{Inside}
 
 abbrev pub said : Inside → Checkpoint

@@ -7,7 +7,7 @@ use Rattle.keycode.specs.Order.{bytes_cmp}
 use Rattle.row_map.specs.Rows.{Pairs}
 use Rattle.schema_version.specs.Held.{version_code}
 use Rattle.schema_version.specs.Version.{Version}
-use Rattle.checkpoint.specs.Checkpoint.{Checkpoint}
+use Rattle.checkpoint_check.specs.Checkpoint.{Checkpoint}
 use Rattle.replay.specs.declared.entry.Entry.{Entry}
 use Rattle.replay.specs.contracts.entry.Entry as entry
 use Rattle.world.specs.Snapshot.{Taken}

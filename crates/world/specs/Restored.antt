@@ -1,6 +1,6 @@
 -- Cited by the contracts of Checkpoint::restored.
 -- What the parts of a checkpoint are the parts of.
-use Rattle.checkpoint.specs.Checkpoint.{Checkpoint}
+use Rattle.checkpoint_check.specs.Checkpoint.{Checkpoint}
 use Rattle.world.specs.declared.restored.CheckpointParts.{CheckpointParts}
 
 abbrev pub checkpoint_with : CheckpointParts → Checkpoint

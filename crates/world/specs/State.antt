@@ -7,7 +7,7 @@ use Rattle.schema_version.specs.Version.{Version}
 use Rattle.element_state.specs.Consistent.{IsConsistent}
 use Rattle.replay.specs.declared.entry.Entry.{Entry}
 use Rattle.replay.specs.Replay.{Facts, after_all, pairs_by, version_at}
-use Rattle.checkpoint.specs.Checkpoint.{Checkpoint, said_by}
+use Rattle.checkpoint_check.specs.Checkpoint.{Checkpoint, said_by}
 
 pub record State : Type 0 where
   pub opening : Checkpoint

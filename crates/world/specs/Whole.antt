@@ -1,7 +1,7 @@
 -- Cited by the contracts of Log, World.
 -- A log as contracts see it: from where it goes on, how many of its entries are no longer in memory, and all of them.
 use Rattle.std.specs.Prelude.{ℕ, ◌+◌, ◌-◌, List, [], ◌∷◌, ◌++◌, drop, length}
-use Rattle.checkpoint.specs.Checkpoint.{Checkpoint}
+use Rattle.checkpoint_check.specs.Checkpoint.{Checkpoint}
 use Rattle.replay.specs.declared.entry.Entry.{Entry}
 use Rattle.world.specs.declared.log.Log.{Log}
 

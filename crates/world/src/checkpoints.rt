@@ -1,12 +1,12 @@
 //! Checkpoints: from which a log may go on in the place of all entries before.
 ghost use Rattle.std.specs.Prelude.{◌≡◌, IfOk};
-ghost use Rattle.checkpoint.specs.Checkpoint.{checkpoint_of};
+ghost use Rattle.checkpoint_check.specs.Checkpoint.{checkpoint_of};
 ghost use Rattle.world.specs.State.{facts_of, entry_count, opened};
 
 use crate::log::Log;
 use crate::origin::Origin;
 use crate::world::World;
-use checkpoint::lemma_checkpoints_keep;
+use checkpoint_check::checkpoint::lemma_checkpoints_keep;
 use collections::ArcValue;
 use lease::Timeline;
 use reorganise::Progress;
@@ -48,7 +48,7 @@ impl Drop for Checkpoint {
 }
 
 impl Model for Checkpoint {
-    ghost use Rattle.checkpoint.specs.Checkpoint.{Checkpoint as Said};
+    ghost use Rattle.checkpoint_check.specs.Checkpoint.{Checkpoint as Said};
     ghost use Rattle.world.specs.CheckpointCode.{checkpoint_code};
 
     ghost Value = { Said };

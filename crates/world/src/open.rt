@@ -9,7 +9,7 @@ ghost use Rattle.world.specs.declared.open.OpenFault.TheVariants.{Memory};
 use crate::checkpoints::Checkpoint;
 use crate::config::Config;
 use crate::world::World;
-use checkpoint::lemma_checkpoints_keep;
+use checkpoint_check::checkpoint::lemma_checkpoints_keep;
 use collections::ArcValue;
 use lease::{MAX_LENGTH, Timeline, TimelineFault};
 use schema_version::{DeclareFault, Schema};

@@ -1,7 +1,7 @@
 //! The checkpoint at which a log begins. It has no bytes, and only clauses read it.
 ghost use Rattle.std.specs.Prelude.{◌≡◌};
 ghost use Rattle.std.specs.Borrow.{ftrue};
-ghost use Rattle.checkpoint.specs.Checkpoint.{Checkpoint as Said};
+ghost use Rattle.checkpoint_check.specs.Checkpoint.{Checkpoint as Said};
 ghost use Rattle.world.specs.CheckpointCode.{checkpoint_code};
 
 use crate::checkpoints::Checkpoint;

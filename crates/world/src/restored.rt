@@ -2,14 +2,14 @@
 ghost use Rattle.std.specs.Option.{option_map};
 ghost use Rattle.std.specs.Prelude.{◌≡◌, ℕ, IfErr, IfOk, OnOk};
 ghost use Rattle.collections.specs.Refusal.{IsRefusal};
-ghost use Rattle.checkpoint.specs.Checkpoint.{IsWhole};
-ghost use Rattle.checkpoint.specs.Sound.{IsSound};
+ghost use Rattle.checkpoint_check.specs.Checkpoint.{IsWhole};
+ghost use Rattle.checkpoint_check.specs.Sound.{IsSound};
 ghost use Rattle.checkpoint_check.specs.Refusals.{Condition, rank};
 ghost use Rattle.checkpoint_check.specs.declared.fault.CheckpointFault.TheVariants.{Memory as OutOfMemory};
 ghost use Rattle.world.specs.Restored.{checkpoint_with};
 
 use crate::checkpoints::Checkpoint;
-use checkpoint::lemma_sound_is_whole;
+use checkpoint_check::checkpoint::lemma_sound_is_whole;
 use checkpoint_check::{CheckpointFault, check};
 use collections::ArcValue;
 use lease::Timeline;

@@ -9,8 +9,8 @@ use row_map::ColumnType;
 use row_write::{RowOp, RowOps};
 use schema_version::{ElementState, Kind, Move, Step};
 use server::Request;
+use shared_rollout::world::World;
 use std::alloc::{AllocError, Global};
-use world::World;
 
 /// insert t (ID) set a = ID, or, of a row that is there, update t (ID) set a = ID + 1
 pub(crate) fn request(alloc: Global, id: i64, is_there: bool) -> Result<Request, AllocError> {

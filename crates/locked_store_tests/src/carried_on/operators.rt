@@ -4,10 +4,10 @@
 use crate::carried_on::fixtures::{is_whole, states, with_changes};
 use crate::fixtures::mark;
 use collections::List;
-use rollout::{AdvanceFault, advance, complete};
 use schema_version::{ElementState, Move};
+use shared_rollout::rollout::{AdvanceFault, advance, complete};
+use shared_rollout::world::World;
 use std::alloc::Global;
-use world::World;
 
 // The index is filled in part, and then abandoned.
 fn abandon(alloc: Global, world: &mut World) -> Option<()> {

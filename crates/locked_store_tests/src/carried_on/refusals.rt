@@ -2,10 +2,10 @@
 
 use crate::carried_on::fixtures::{states, with_changes};
 use lease::MAX_MOMENT;
-use rollout::{AdvanceFault, advance, complete};
 use schema_version::ElementState;
+use shared_rollout::rollout::{AdvanceFault, advance, complete};
+use shared_rollout::world::World;
 use std::alloc::Global;
-use world::World;
 
 // Whether both calls refuse each row's moment, pieces and limit by its fault, and change nothing.
 fn are_refused(alloc: Global, world: &mut World) -> bool {

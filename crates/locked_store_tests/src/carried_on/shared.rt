@@ -4,18 +4,18 @@ ghost use Rattle.std.specs.Prelude.{◌≡◌};
 
 use crate::carried_on::fixtures::{is_whole, request, states, with_changes};
 use collections::List;
-use locked_store::{Handle, Shared, SharedLedger, reconcile};
 use replay::What;
 use schema_version::ElementState;
 use server::{Outcome, Request, Served, serve};
 use shared_rollout::complete;
+use shared_rollout::locked_store::{Handle, Shared, SharedLedger, reconcile};
+use shared_rollout::world::{Receipt, World};
 use std::alloc::{AllocError, Global};
 use std::marker::Brand;
 use std::sync::Wait;
 use std::sync::ledger::Blank;
 use std::thread::{Threads, join};
 use tasks::FreeGate;
-use world::{Receipt, World};
 
 /// How many updates and inserts the servers are asked for.
 const REQUESTS: i64 = 24;

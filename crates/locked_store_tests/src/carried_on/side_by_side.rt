@@ -2,10 +2,10 @@
 //! advances do the rest, at the moments that they report.
 
 use crate::carried_on::fixtures::{is_whole, states, with_changes};
-use rollout::{Advanced, advance};
 use schema_version::ElementState;
+use shared_rollout::rollout::{Advanced, advance};
+use shared_rollout::world::World;
 use std::alloc::Global;
-use world::World;
 
 // An act but for pieces, and its element, version or moment.
 fn act_of(advanced: &Advanced) -> Option<(&'static str, u64)> {

@@ -2,11 +2,11 @@
 -- What an attempt at a piece comes to, by what the lock answered. Only private functions cite this.
 use Rattle.std.specs.Prelude.{◌≡◌, ℕ, ◌+◌, Option, Some, None}
 use Rattle.reorganise.specs.declared.fault.ViewFault.TheVariants as view_fault
-use Rattle.world.specs.declared.piece.PieceFault.{PieceFault}
-use Rattle.world.specs.declared.piece.PieceFault.TheVariants.{MomentTooLarge, NotWanted, WrongElement, Moved, Conflict, Memory}
-use Rattle.world.specs.declared.piece.ReadFault.{ReadFault}
-use Rattle.world.specs.declared.piece.ReadFault.TheVariants as read_fault
-use Rattle.world.specs.State.{State}
+use Rattle.locked_store.specs.PieceFault.{PieceFault}
+use Rattle.locked_store.specs.PieceFault.TheVariants.{MomentTooLarge, NotWanted, WrongElement, Moved, Conflict, Memory}
+use Rattle.locked_store.specs.ReadFault.{ReadFault}
+use Rattle.locked_store.specs.ReadFault.TheVariants as read_fault
+use Rattle.locked_store.specs.State.{State}
 use Rattle.locked_store.specs.declared.fault.SharedFault.{SharedFault}
 use Rattle.locked_store.specs.declared.fault.SharedFault.TheVariants as shared
 use Rattle.reorganise_workers.specs.Ends.{WasUnread}

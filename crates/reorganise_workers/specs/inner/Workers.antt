@@ -1,8 +1,8 @@
 -- Cited by private functions alone: make_workers.
 -- Workers and their handles.
 use Rattle.std.specs.Prelude.{◌≡◌, ℕ, ◌≤◌, List, [], All}
-use Rattle.world.specs.declared.entry.Receipt.{Receipt}
-use Rattle.world.specs.State.{State}
+use Rattle.locked_store.specs.Receipt.{Receipt}
+use Rattle.locked_store.specs.State.{State}
 use Rattle.locked_store.specs.Known.{Known}
 use Rattle.reorganise_workers.specs.Ends.{HasSeen, IsPieceReceipt}
 use Rattle.reorganise_workers.specs.inner.Jobs.{IsJob}

@@ -4,8 +4,8 @@ use Rattle.std.specs.Prelude.{◌≡◌, ℕ, ◌+◌, ◌<◌, ◌≤◌, List,
 use Rattle.row_write.specs.declared.op.RowOp.{RowOp}
 use Rattle.lease.specs.declared.lease.Lease.{Lease}
 use Rattle.schema_version.specs.Version.{Version}
-use Rattle.world.specs.declared.entry.Receipt.{Receipt}
-use Rattle.world.specs.declared.commit.CommitFault.{CommitFault}
+use Rattle.locked_store.specs.Receipt.{Receipt}
+use Rattle.locked_store.specs.CommitFault.{CommitFault}
 use Rattle.server.specs.Outcomes.{Said, IsEnd, IsFailedTry, IsAgain, IsLeaseReceipt, IsTrueOf, receipts_of}
 use Rattle.server.specs.declared.request.Outcome.{Outcome}
 use Rattle.server.specs.declared.request.Request.{Request}

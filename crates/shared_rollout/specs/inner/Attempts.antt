@@ -4,23 +4,23 @@ use Rattle.std.specs.Prelude.{◌≡◌, ℕ, ◌+◌, ◌≤◌, ◌++◌, List
 use Rattle.std.specs.declared.alloc.AllocError.{AllocError}
 use Rattle.reorganise.specs.declared.fault.ViewFault.TheVariants as view_fault
 use Rattle.reorganise.specs.declared.read.Reading.{Reading}
-use Rattle.world.specs.declared.begin_reorg.BeginFault.{BeginFault}
-use Rattle.world.specs.declared.begin_reorg.BeginFault.TheVariants as begin_fault
-use Rattle.world.specs.declared.entry.PieceDone.{PieceDone}
-use Rattle.world.specs.declared.entry.Receipt.{Receipt}
-use Rattle.world.specs.declared.piece.PieceFault.{PieceFault}
-use Rattle.world.specs.declared.piece.PieceFault.TheVariants as piece_fault
-use Rattle.world.specs.declared.piece.ReadFault.{ReadFault}
-use Rattle.world.specs.declared.piece.ReadFault.TheVariants as read_fault
-use Rattle.world.specs.declared.publish.PublishFault.{PublishFault}
-use Rattle.world.specs.declared.publish.PublishFault.TheVariants as publish_fault
-use Rattle.world.specs.State.{State}
+use Rattle.locked_store.specs.BeginFault.{BeginFault}
+use Rattle.locked_store.specs.BeginFault.TheVariants as begin_fault
+use Rattle.locked_store.specs.PieceDone.{PieceDone}
+use Rattle.locked_store.specs.Receipt.{Receipt}
+use Rattle.locked_store.specs.PieceFault.{PieceFault}
+use Rattle.locked_store.specs.PieceFault.TheVariants as piece_fault
+use Rattle.locked_store.specs.ReadFault.{ReadFault}
+use Rattle.locked_store.specs.ReadFault.TheVariants as read_fault
+use Rattle.locked_store.specs.PublishFault.{PublishFault}
+use Rattle.locked_store.specs.PublishFault.TheVariants as publish_fault
+use Rattle.locked_store.specs.State.{State}
 use Rattle.locked_store.specs.Known.{Known}
 use Rattle.locked_store.specs.declared.fault.SharedFault.{SharedFault}
 use Rattle.locked_store.specs.declared.fault.SharedFault.TheVariants as shared
-use Rattle.rollout.specs.declared.act.Act.{Act}
-use Rattle.rollout.specs.declared.advanced.Advanced.{Advanced}
-use Rattle.rollout.specs.declared.advanced.Advanced.TheVariants as advanced
+use Rattle.locked_store.specs.Act.{Act}
+use Rattle.locked_store.specs.Advanced.{Advanced}
+use Rattle.locked_store.specs.Advanced.TheVariants as advanced
 use Rattle.shared_rollout.specs.Operator.{IsAdvanced, IsRefused, IsSeen, WasOvertaken, entries_of, next_of, receipts_of}
 use Rattle.shared_rollout.specs.declared.ask.Ask.{Ask}
 use Rattle.shared_rollout.specs.declared.fault.OperatorFault.{OperatorFault}

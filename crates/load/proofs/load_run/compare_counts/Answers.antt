@@ -1,6 +1,6 @@
 use Rattle.std.proofs.Common.{◌≡◌, ◌+◌, ◌<◌, length, arith, rules}
-use Rattle.locked_store.specs.Receipts.{AreAfter}
-use Rattle.world.specs.State.{entries_before, entries_kept}
+use Rattle.server.specs.Receipts.{AreAfter}
+use Rattle.server.specs.State.{entries_before, entries_kept}
 use Rattle.load.proofs.load_run.compare_counts.Goals as goal
 
 pub returns-in-Ok : goal.returns-in-Ok

@@ -1,7 +1,7 @@
 use Rattle.std.proofs.Common.{rules, arith, ◌≡◌, ◌<◌, ◌-◌, ◌+◌, ◌∙◌, length}
 use Rattle.std.specs.Prelude.{slice_get, slice_index_or, Some, true, false}
 use Rattle.std.proofs.lemmas.Option.{slice_get_within}
-use Rattle.world.specs.declared.entry.Receipt.{Receipt}
+use Rattle.rollout.specs.Receipt.{Receipt}
 use Rattle.locked_store.specs.Receipts.{Stands}
 use Rattle.locked_store.proofs.Marks.{at_lt, get_at, any_default, fine_more, marked_more, marks_more, first_amiss}
 use Rattle.locked_store.proofs.receipts.check_receipts.Goals as goal

@@ -1,8 +1,8 @@
 use Rattle.std.proofs.Common.{◌≡◌, ℕ, refl}
-use Rattle.world.specs.State.{State}
-use Rattle.script_session.specs.declared.session.Opened.{Opened}
-use Rattle.script_session.specs.declared.session.Session.TheVariants.{Running}
-use Rattle.script_session.specs.Session.{Session}
+use Rattle.handles.specs.State.{State}
+use Rattle.handles.specs.Opened.{Opened}
+use Rattle.handles.specs.SessionVariants.TheVariants.{Running}
+use Rattle.handles.specs.Session.{Session}
 use Rattle.operator_calls.specs.declared.advances.AdvanceOutcome.{AdvanceOutcome}
 use Rattle.operator_calls.specs.Advances.{AdvancesWorld, AdvancesIn}
 use Rattle.operator_calls.proofs.advances.advance_in.Goals as goal

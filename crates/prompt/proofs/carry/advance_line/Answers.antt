@@ -1,6 +1,6 @@
 use Rattle.std.proofs.Common.{refl, ◌∙◌, ap}
 use Rattle.schema_version.specs.Version.{Version}
-use Rattle.script_replies.specs.Texts.{line}
+use Rattle.script_json.specs.Texts.{line}
 use Rattle.prompt.specs.Carry.{advanced_words}
 use Rattle.prompt.proofs.carry.advance_line.Goals as goal
 

@@ -1,6 +1,6 @@
 use Rattle.std.proofs.Common.{string_bytes, subst}
-use Rattle.script_session.specs.Replies.{Reply}
-use Rattle.script_session.specs.Session.{empty}
+use Rattle.script_json.specs.Replies.{Reply}
+use Rattle.script_json.specs.Session.{empty}
 use Rattle.prompt.proofs.Replays.{replied_at}
 use Rattle.prompt.proofs.undo.replayed.Goals as goal
 

@@ -1,5 +1,5 @@
 use Rattle.std.proofs.Common.{take}
-use Rattle.script_session.specs.Session.{empty}
+use Rattle.script_json.specs.Session.{empty}
 use Rattle.prompt.specs.Undo.{AreReplied}
 use Rattle.prompt.proofs.undo.replayed.Given as goal
 

@@ -1,6 +1,6 @@
 use Rattle.std.proofs.Common.{rules, ap, sym, subst, ◌∙◌, ◌≤◌, All, List, []}
 use Rattle.std.proofs.lemmas.List.Elements.{All-push, All-same, All-nil}
-use Rattle.world.specs.declared.entry.Receipt.{Receipt}
+use Rattle.locked_store.specs.Receipt.{Receipt}
 use Rattle.reorganise_workers.specs.Ends.{IsPieceReceipt}
 use Rattle.reorganise_workers.specs.inner.Workers.{Filling}
 use Rattle.reorganise_workers.proofs.Reorganises.{handle_apart, receipts_apart, pieces_apart}

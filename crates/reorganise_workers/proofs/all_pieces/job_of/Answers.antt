@@ -1,8 +1,8 @@
 use Rattle.std.proofs.Common.{◌≡◌, ℕ, Option, Bool, sym, ◌∙◌}
 use Rattle.std.specs.Prelude.{Result, Ok, Err}
 use Rattle.schema_version.specs.declared.element.Work.{Work}
-use Rattle.world.specs.Piece.{standing_at}
-use Rattle.world.specs.State.{facts_of}
+use Rattle.locked_store.specs.Piece.{standing_at}
+use Rattle.locked_store.specs.State.{facts_of}
 use Rattle.locked_store.specs.declared.fault.WentBack.{WentBack}
 use Rattle.reorganise_workers.proofs.Ends.{stays_found}
 use Rattle.reorganise_workers.proofs.all_pieces.job_of.Goals as goal

@@ -1,9 +1,9 @@
 use Rattle.std.proofs.Common.{sym, subst}
 use Rattle.std.specs.Prelude.{Result, Ok, Err}
 use Rattle.reorganise.specs.declared.read.Reading.{Reading}
-use Rattle.world.specs.Piece.{PieceStep}
-use Rattle.world.specs.declared.entry.PieceDone.{PieceDone}
-use Rattle.world.specs.declared.piece.PieceFault.{PieceFault}
+use Rattle.locked_store.specs.Piece.{PieceStep}
+use Rattle.locked_store.specs.PieceDone.{PieceDone}
+use Rattle.locked_store.specs.PieceFault.{PieceFault}
 use Rattle.locked_store.specs.Answers.{piece_place}
 use Rattle.locked_store.specs.declared.fault.SharedFault.{SharedFault}
 use Rattle.reorganise_workers.specs.Ends.{IsAttempt}

@@ -1,8 +1,8 @@
 use Rattle.std.proofs.Common.{◌≡◌, Some, None, Option, Bool, rules}
 use Rattle.std.specs.Prelude.{Result, Ok, Err}
 use Rattle.schema_version.specs.declared.element.Work.{Work}
-use Rattle.world.specs.Piece.{piece_standing_at}
-use Rattle.world.specs.State.{facts_of}
+use Rattle.locked_store.specs.Piece.{piece_standing_at}
+use Rattle.locked_store.specs.State.{facts_of}
 use Rattle.locked_store.specs.declared.fault.WentBack.{WentBack}
 use Rattle.reorganise_workers.proofs.Ends.{stays_found, stood, stood_of_another_kind, stood_ended, stood_nowhere}
 use Rattle.reorganise_workers.proofs.attempt.look.Goals as goal

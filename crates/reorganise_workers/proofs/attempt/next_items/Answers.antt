@@ -1,8 +1,8 @@
 use Rattle.std.proofs.Common.{◌≡◌, sym, subst, ◌∙◌, Option, rules}
 use Rattle.std.specs.Prelude.{Result, Ok, Err}
 use Rattle.reorganise.specs.declared.read.Reading.{Reading}
-use Rattle.world.specs.Piece.{ReadStep}
-use Rattle.world.specs.declared.piece.ReadFault.{ReadFault}
+use Rattle.locked_store.specs.Piece.{ReadStep}
+use Rattle.locked_store.specs.ReadFault.{ReadFault}
 use Rattle.locked_store.specs.Answers.{no_place}
 use Rattle.locked_store.specs.declared.fault.SharedFault.{SharedFault}
 use Rattle.reorganise_workers.specs.declared.end.PieceEnd.{PieceEnd}

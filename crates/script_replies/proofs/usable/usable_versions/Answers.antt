@@ -1,6 +1,6 @@
 use Rattle.std.proofs.Common.{◌-◌, arith}
 use Rattle.script_replies.proofs.Uses.{some_version, one_usable, two_usable}
-use Rattle.world.specs.State.{facts_of}
+use Rattle.piece_work.specs.State.{facts_of}
 use Rattle.script_replies.proofs.usable.usable_versions.Goals as goal
 
 pub overflow_sub-before : goal.overflow_sub-before

@@ -1,5 +1,5 @@
 use Rattle.std.proofs.Common.{inr}
-use Rattle.world.specs.declared.commit.CommitFault.TheVariants as commit_fault
+use Rattle.locked_store.specs.CommitFault.TheVariants as commit_fault
 use Rattle.server.proofs.Says.{done_says, refused_says, back_says, fault_says, ended_last}
 use Rattle.server.proofs.one_request.committed_by.Goals as goal
 

@@ -1,5 +1,5 @@
 use Rattle.std.proofs.Common.{rules, arith, ap, subst, sym, ◌≡◌, ℕ, List, length}
-use Rattle.world.specs.declared.entry.Receipt.{Receipt}
+use Rattle.locked_store.specs.Receipt.{Receipt}
 use Rattle.server.specs.declared.tally.Tally.{Tally}
 use Rattle.server.specs.Outcomes.{Said}
 use Rattle.server.proofs.Ends.{unprepared_so, unprepared_ends}

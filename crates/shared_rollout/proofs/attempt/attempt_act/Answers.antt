@@ -1,5 +1,5 @@
 use Rattle.std.proofs.Common.{Ok, subst, refl, arith}
-use Rattle.rollout.specs.declared.advanced.Advanced.TheVariants as advanced
+use Rattle.locked_store.specs.Advanced.TheVariants as advanced
 use Rattle.shared_rollout.specs.Operator.{WasDue, WasDueAt}
 use Rattle.shared_rollout.proofs.Attempts.{due_quiet, later, looked, unseen, was_due, was_due_at}
 use Rattle.shared_rollout.proofs.attempt.attempt_act.Goals as goal

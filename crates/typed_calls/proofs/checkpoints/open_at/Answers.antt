@@ -1,6 +1,6 @@
 use Rattle.std.proofs.Common.{◌≡◌, refl, ap, ◌∙◌}
 use Rattle.checkpoint.specs.Checkpoint.{Checkpoint}
-use Rattle.world.specs.State.{opened}
+use Rattle.script_session.specs.State.{opened}
 use Rattle.typed_calls.specs.Opening.{session_over}
 use Rattle.typed_calls.specs.Statuses.{out_of_memory}
 use Rattle.typed_calls.proofs.Loads.{out_of_memory_alone}

@@ -1,6 +1,6 @@
 use Rattle.typed_calls.specs.Statuses.{not_opened, ok}
 use Rattle.std.proofs.Common.{◌≡◌, refl}
-use Rattle.world.specs.State.{cut_but}
+use Rattle.script_session.specs.State.{cut_but}
 use Rattle.typed_calls.proofs.Sessions.{in_running}
 use Rattle.typed_calls.proofs.cuts.cut.Goals as goal
 

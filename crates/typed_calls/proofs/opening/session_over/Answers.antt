@@ -5,7 +5,7 @@ use Rattle.schema_version.specs.declared.step.Move.{Move}
 use Rattle.script_session.specs.declared.session.Pending.{Pending}
 use Rattle.script_session.specs.declared.session.ServerLease.{ServerLease}
 use Rattle.script_session.specs.declared.session.Session.TheVariants.{Running}
-use Rattle.world.specs.State.{State}
+use Rattle.script_session.specs.State.{State}
 use Rattle.typed_calls.specs.Opening.{session_over}
 use Rattle.typed_calls.proofs.opening.session_over.Goals as goal
 

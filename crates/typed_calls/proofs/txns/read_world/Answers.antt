@@ -4,7 +4,7 @@ use Rattle.keycode.specs.Order.{bytes_cmp}
 use Rattle.row_map.specs.Expect.{View}
 use Rattle.row_write.specs.declared.op.RowOp.{RowOp}
 use Rattle.script_session.specs.declared.session.ServerLease.{ServerLease}
-use Rattle.world.specs.State.{State}
+use Rattle.script_session.specs.State.{State}
 use Rattle.typed_calls.specs.Pins.{IsPinnedView}
 use Rattle.typed_calls.specs.Txns.{ReadsWorld}
 use Rattle.typed_calls.specs.declared.txns.Txn.{Txn}

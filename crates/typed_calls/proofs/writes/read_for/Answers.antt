@@ -5,8 +5,8 @@ use Rattle.row_map.specs.Expect.{View}
 use Rattle.row_write.specs.declared.op.RowOp.{RowOp}
 use Rattle.schema_version.specs.Version.{Version}
 use Rattle.script_session.specs.declared.session.ServerLease.{ServerLease}
-use Rattle.world.specs.State.{State}
-use Rattle.world.specs.Calls.{IsReadView}
+use Rattle.script_session.specs.State.{State}
+use Rattle.script_session.specs.Calls.{IsReadView}
 use Rattle.typed_calls.specs.Txns.{AreReads}
 use Rattle.typed_calls.specs.Writes.{IsReadFor}
 use Rattle.typed_calls.proofs.writes.read_for.Goals as goal

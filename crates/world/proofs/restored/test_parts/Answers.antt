@@ -1,7 +1,7 @@
 use Rattle.std.proofs.Common.{◌≡◌, ℕ, Result, Ok, Err, subst, rules}
 use Rattle.std.specs.Prelude.{OnOk}
-use Rattle.checkpoint.specs.Checkpoint.{Checkpoint}
-use Rattle.checkpoint.specs.Sound.{IsSound}
+use Rattle.checkpoint_check.specs.Checkpoint.{Checkpoint}
+use Rattle.checkpoint_check.specs.Sound.{IsSound}
 use Rattle.checkpoint_check.specs.Given.{given}
 use Rattle.world.specs.Restored.{checkpoint_with}
 use Rattle.world.proofs.restored.test_parts.Goals as goal

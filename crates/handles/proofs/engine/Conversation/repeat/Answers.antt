@@ -1,9 +1,9 @@
 use Rattle.std.proofs.Common.{◌≡◌, ℕ, ℤ, List, refl, arith}
 use Rattle.std.proofs.lemmas.Int.{to_z-of_z}
-use Rattle.world.specs.State.{State}
-use Rattle.script_session.specs.declared.session.Opened.{Opened}
-use Rattle.script_session.specs.declared.session.Session.TheVariants.{Running}
-use Rattle.script_session.specs.Session.{Session}
+use Rattle.typed_calls.specs.State.{State}
+use Rattle.typed_calls.specs.Opened.{Opened}
+use Rattle.typed_calls.specs.SessionVariants.TheVariants.{Running}
+use Rattle.typed_calls.specs.Session.{Session}
 use Rattle.handles.specs.Calls.{RepeatsBytes, RepeatsIn}
 use Rattle.handles.proofs.engine.Conversation.repeat.Goals as goal
 

@@ -1,6 +1,6 @@
 use Rattle.std.proofs.Common.{subst, arith}
-use Rattle.world.specs.Calls.{CommitStep}
-use Rattle.world.specs.State.{State}
+use Rattle.rollout.specs.Calls.{CommitStep}
+use Rattle.rollout.specs.State.{State}
 use Rattle.locked_store.specs.Cores.{IsCore}
 use Rattle.locked_store.proofs.Growing.{commit}
 use Rattle.locked_store.proofs.locked.Locked.commit.Goals as goal

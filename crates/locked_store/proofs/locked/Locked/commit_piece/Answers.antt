@@ -1,6 +1,6 @@
 use Rattle.std.proofs.Common.{subst, arith}
-use Rattle.world.specs.Piece.{PieceStep}
-use Rattle.world.specs.State.{State}
+use Rattle.rollout.specs.Piece.{PieceStep}
+use Rattle.rollout.specs.State.{State}
 use Rattle.locked_store.specs.Cores.{IsCore}
 use Rattle.locked_store.proofs.Growing.{piece}
 use Rattle.locked_store.proofs.locked.Locked.commit_piece.Goals as goal

@@ -1,4 +1,4 @@
-use Rattle.world.specs.BeginReorg.{BeginStep}
+use Rattle.rollout.specs.BeginReorg.{BeginStep}
 use Rattle.locked_store.specs.Answers.{receipt_place}
 use Rattle.locked_store.proofs.Through.{answers_so}
 use Rattle.locked_store.proofs.shared.Shared.begin_reorg.Goals as goal

@@ -1,7 +1,7 @@
 use Rattle.std.proofs.Common.{◌≡◌}
 use Rattle.std.specs.Prelude.{IfOk}
 use Rattle.checkpoint.specs.Checkpoint.{checkpoint_of}
-use Rattle.world.specs.State.{entry_count, facts_of}
+use Rattle.rollout.specs.State.{entry_count, facts_of}
 use Rattle.locked_store.specs.Answers.{no_place}
 use Rattle.locked_store.proofs.Through.{answers_so}
 use Rattle.locked_store.proofs.shared.Shared.checkpoint.Goals as goal

@@ -1,4 +1,4 @@
-use Rattle.world.specs.Calls.{CommitStep}
+use Rattle.rollout.specs.Calls.{CommitStep}
 use Rattle.locked_store.specs.Answers.{commit_place}
 use Rattle.locked_store.proofs.Through.{answers_back_so}
 use Rattle.locked_store.proofs.shared.Shared.commit.Goals as goal

@@ -1,4 +1,4 @@
-use Rattle.world.specs.Piece.{PieceStep}
+use Rattle.rollout.specs.Piece.{PieceStep}
 use Rattle.locked_store.specs.Answers.{piece_place}
 use Rattle.locked_store.proofs.Through.{answers_back_so}
 use Rattle.locked_store.proofs.shared.Shared.commit_piece.Goals as goal

@@ -1,5 +1,5 @@
 use Rattle.std.proofs.Common.{◌≡◌}
-use Rattle.world.specs.State.{entries_before, entries_kept}
+use Rattle.rollout.specs.State.{entries_before, entries_kept}
 use Rattle.locked_store.proofs.Through.{only_found}
 use Rattle.locked_store.proofs.shared.Shared.cut.Goals as goal
 

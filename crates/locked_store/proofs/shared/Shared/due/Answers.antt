@@ -1,8 +1,8 @@
 use Rattle.std.proofs.Common.{◌≡◌}
 use Rattle.std.specs.Prelude.{IfOk}
-use Rattle.world.specs.Calls.{effective_moment}
+use Rattle.rollout.specs.Calls.{effective_moment}
 use Rattle.rollout.specs.Due.{IsDue}
-use Rattle.world.specs.State.{facts_of}
+use Rattle.rollout.specs.State.{facts_of}
 use Rattle.locked_store.specs.Answers.{no_place}
 use Rattle.locked_store.proofs.Through.{answers_so}
 use Rattle.locked_store.proofs.shared.Shared.due.Goals as goal

@@ -1,4 +1,4 @@
-use Rattle.world.specs.Calls.{LeaseStep}
+use Rattle.rollout.specs.Calls.{LeaseStep}
 use Rattle.locked_store.specs.Answers.{grant_place}
 use Rattle.locked_store.proofs.Through.{answers_so}
 use Rattle.locked_store.proofs.shared.Shared.lease.Goals as goal

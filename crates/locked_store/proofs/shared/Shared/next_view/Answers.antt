@@ -1,5 +1,5 @@
 use Rattle.std.proofs.Common.{◌≡◌}
-use Rattle.piece_work.specs.WorkOff.{NextStep}
+use Rattle.rollout.specs.WorkOff.{NextStep}
 use Rattle.locked_store.specs.Answers.{no_place}
 use Rattle.locked_store.proofs.Through.{answers_so}
 use Rattle.locked_store.proofs.shared.Shared.next_view.Goals as goal

@@ -1,4 +1,4 @@
-use Rattle.world.specs.Publish.{PublishStep}
+use Rattle.rollout.specs.Publish.{PublishStep}
 use Rattle.locked_store.specs.Answers.{publish_place}
 use Rattle.locked_store.proofs.Through.{answers_so}
 use Rattle.locked_store.proofs.shared.Shared.publish.Goals as goal

@@ -1,6 +1,6 @@
 use Rattle.std.proofs.Common.{◌≡◌}
 use Rattle.std.specs.Prelude.{IfOk}
-use Rattle.world.specs.State.{facts_of, recent}
+use Rattle.rollout.specs.State.{facts_of, recent}
 use Rattle.locked_store.specs.Answers.{no_place}
 use Rattle.locked_store.proofs.Through.{answers_so}
 use Rattle.locked_store.proofs.shared.Shared.schema.Goals as goal

@@ -1,5 +1,5 @@
 use Rattle.std.proofs.Common.{◌≡◌}
-use Rattle.world.specs.Snapshot.{SnapshotStep}
+use Rattle.rollout.specs.Snapshot.{SnapshotStep}
 use Rattle.locked_store.specs.Answers.{no_place}
 use Rattle.locked_store.proofs.Through.{answers_so}
 use Rattle.locked_store.proofs.shared.Shared.snapshot.Goals as goal

@@ -1,5 +1,5 @@
 use Rattle.std.proofs.Common.{ap, ◌∙◌}
-use Rattle.checkpoint.specs.Checkpoint.{checkpoint_of}
+use Rattle.checkpoint_check.specs.Checkpoint.{checkpoint_of}
 use Rattle.world.specs.Inside.{state_of}
 use Rattle.world.specs.State.{facts_of, entry_count, State}
 use Rattle.world.proofs.Wholes.{copied, whole_copied}
