@@ -77,7 +77,7 @@ class Sessions(unittest.TestCase):
         session = cagzhomul.open()
         with self.assertRaises(cagzhomul.BadLine) as bad:
             session.reply_to("what")
-        self.assertEqual((bad.exception.status, str(bad.exception)), (1, "bad line"))
+        self.assertEqual((bad.exception.status, str(bad.exception), bad.exception.place), (1, "bad line", None))
         with self.assertRaises(cagzhomul.NotUtf8) as no_text:
             session.reply_to(b"# \xff")
         self.assertEqual((no_text.exception.status, str(no_text.exception)), (4, "the line is not UTF-8"))
@@ -90,7 +90,7 @@ class Sessions(unittest.TestCase):
 
     def test_errors_are_pickled(self) -> None:
         errors = [kind(status) for status, kind in cagzhomul._ERRORS.items()]
-        errors += [cagzhomul.NotPublic("town"), cagzhomul.NotPublic(None), cagzhomul.NoRow(30, 2), cagzhomul.TooEarly(31, 10), cagzhomul.StillWaiting("drop index i on t")]
+        errors += [cagzhomul.BadLine(1, 7), cagzhomul.NotPublic("town"), cagzhomul.NotPublic(None), cagzhomul.NoRow(30, 2), cagzhomul.TooEarly(31, 10), cagzhomul.StillWaiting("drop index i on t")]
         for error in errors:
             for again in [pickle.loads(pickle.dumps(error, protocol)) for protocol in range(pickle.HIGHEST_PROTOCOL + 1)] + [copy.copy(error)]:
                 self.assertIs(type(again), type(error))

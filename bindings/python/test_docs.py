@@ -5,6 +5,7 @@ import unittest
 from typing import Optional
 
 import cagzhomul
+import cagzhomul.console
 from cagzhomul_layer import layer
 from cagzhomul_layer.memory import MemoryStore
 
@@ -24,6 +25,7 @@ def load_tests(_loader: unittest.TestLoader, tests: unittest.TestSuite, _pattern
     """Adds the examples to the tests."""
     tests.addTests(doctest.DocTestSuite(cagzhomul, setUp=in_memory))
     tests.addTests(doctest.DocTestSuite(layer, setUp=over_a_store))
+    tests.addTests(doctest.DocTestSuite(cagzhomul.console))
     tests.addTests(doctest.DocFileSuite("README.md"))
     return tests
 

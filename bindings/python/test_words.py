@@ -84,6 +84,20 @@ class Words(unittest.TestCase):
         finally:
             self.db._waiting = None
 
+    def test_a_mistake_has_its_place(self) -> None:
+        queries = [("what", 0), ("", 0), ("select", 6), ("select a from  ", 13), ("select a b from t", 9), ("select a from t;", 15), ("select a b from t;", 9),
+                   ("select a from t where", 21), ("select a from t where b ~ 1", 24), ("select a from t where b = 'x", 26), ("select a from t where b = 1x", 26),
+                   ("select a from t where a = 9223372036854775808", 26), ("select a from t where key = ()", 29), ("select a from t 7", 16), ("select \u00e4 from t", 7)]
+        changes = [("add", 3), ("add table t", 4), ("drop index i", 12), ("add column c float on t", 13), ("add column c int default on t", 25), ("abandon t i", 10),
+                   ("add index j on t ()", 18), (" drop index i on t b", 19)]
+        for words, place in queries + changes:
+            with self.subTest(words), self.assertRaises(cagzhomul.BadLine) as bad:
+                if (words, place) in queries:
+                    self.lease.query(0, words)
+                else:
+                    self.db.change(words, lambda: 1)
+            self.assertEqual((bad.exception.place, str(bad.exception)), (place, f"bad line: character {place}"))
+
     def test_long_words_are_read_in_time(self) -> None:
         for part in ("a", "1", "''", "'a'", "( ", "a ", " "):
             for end in (";", "'", ""):

@@ -184,7 +184,19 @@ class Dependent(_Numbered): """The element of this number stands against the ste
 class Unfinished(_Numbered): """The reorganisation of the element of this number is to end before the step."""
 class Duplicate(_RowRefusal): """A row that is inserted is there; `operation` is the first that is refused, from 0."""
 class NoRow(_RowRefusal): """A row that is changed is not there; `operation` is the first that is refused, from 0."""
-class BadLine(CagzhomulError): """The line, the query or the change is not of the language."""
+class BadLine(CagzhomulError):
+    """The line, the query or the change is not of the language. Of a query or a change in words `place` is
+    the character, from 0, at which what stands there cannot: the length of the words, without blanks at
+    their end, if they end too soon. Of a line it is None."""
+
+    def __init__(self, status: int = _BAD_LINE, place: Optional[int] = None) -> None:
+        super().__init__(status, text_of(status) + ("" if place is None else f": character {place}"))
+        self.place = place
+
+    def _parts(self) -> Tuple[Any, ...]:
+        return self.status, self.place
+
+
 class Closed(CagzhomulError): """The session, or the lease, was closed."""
 class AlreadyOpen(CagzhomulError): """The handle is open; no object of this module meets it."""
 class NotUtf8(CagzhomulError): """The line's bytes are not UTF-8."""
@@ -649,49 +661,55 @@ class _Words:
 
     def __init__(self, words: str) -> None:
         words = words.rstrip(" ")
-        if not _TOKENS.fullmatch(words):
-            raise BadLine(_BAD_LINE)
-        # the next one is the last, and "" is the end
-        self._tokens: List[str] = ["", *reversed(_EACH_TOKEN.findall(words))]
+        read = _TOKENS.match(words)
+        end = read.end() if read else 0
+        left = words[end:].lstrip(" ")
+        # each with its place; the next one is the last, "" is the end, and "?" stands for what is no token
+        self._tokens = [("?" if left else "", len(words) - len(left)), *reversed([(it[1], it.start(1)) for it in _EACH_TOKEN.finditer(words, 0, end)])]
+
+    def bad(self) -> BadLine:
+        """The refusal of what comes next."""
+        return BadLine(_BAD_LINE, self._tokens[-1][1])
 
     def take(self, token: str) -> bool:
         """Whether this token comes next, which then is read."""
-        if self._tokens[-1] != token:
+        if self._tokens[-1][0] != token:
             return False
         self._tokens.pop()
         return True
 
+    def one_of(self, *tokens: str) -> str:
+        """Reads one of these tokens."""
+        if self._tokens[-1][0] not in tokens:
+            raise self.bad()
+        return self._tokens.pop()[0]
+
     def expect(self, *tokens: str) -> None:
         """Reads these tokens."""
         for token in tokens:
-            if not self.take(token):
-                raise BadLine(_BAD_LINE)
+            self.one_of(token)
 
     def end(self) -> None:
         self.expect("")
 
-    def next(self) -> str:
-        """Reads any token."""
-        if not self._tokens[-1]:
-            raise BadLine(_BAD_LINE)
-        return self._tokens.pop()
-
     def name(self) -> str:
-        token = self.next()
-        if not token[0].isalpha():
-            raise BadLine(_BAD_LINE)
-        return token
+        if not self._tokens[-1][0][:1].isalpha():
+            raise self.bad()
+        return self._tokens.pop()[0]
 
     def value(self) -> bytes:
         """The code of a value."""
-        token = self.next()
-        if token[0] == "'":
-            return _value(token[1:-1].replace("''", "'"))
-        if token in _FIXED:
-            return _value(_FIXED[token])
-        if token.lstrip("-").isdigit() and -2**63 <= int(token) < 2**63:
-            return _value(int(token))
-        raise BadLine(_BAD_LINE)
+        token = self._tokens[-1][0]
+        if token[:1] == "'":
+            value: Value = token[1:-1].replace("''", "'")
+        elif token in _FIXED:
+            value = _FIXED[token]
+        elif token.lstrip("-").isdigit() and -2**63 <= int(token) < 2**63:
+            value = int(token)
+        else:
+            raise self.bad()
+        self._tokens.pop()
+        return _value(value)
 
     def all(self, item: Callable[[], _Result]) -> List[_Result]:
         """Reads items with a comma between each two."""
@@ -731,9 +749,7 @@ class _Words:
 
     def column(self) -> _Parts:
         """A column that is added: `NAME TYPE [default VALUE] on TABLE`."""
-        name, kind = self.name(), self.name()
-        if kind not in ("int", "text", "bool"):
-            raise BadLine(_BAD_LINE)
+        name, kind = self.name(), self.one_of("int", "text", "bool")
         default = self.value() if self.take("default") else None
         self.expect("on")
         return _Parts(2, self.name(), name, _column_kind(_KINDS[kind], default))
@@ -757,20 +773,19 @@ def _query_in(selection: str) -> _Asked:
 def _change_in(change: str) -> _Parts:
     """The change of words: `add index`, `add column`, `drop index`, `drop column` or `abandon`."""
     words = _Words(change)
-    act = (words.next(), words.next()) if not words.take("abandon") else ("abandon", "")
-    if act == ("add", "index"):
-        table, name = words.named()
-        parts = _Parts(0, table, name, _names_of(words.tuple(words.name)))
-    elif act == ("add", "column"):
-        parts = words.column()
-    elif act in (("drop", "index"), ("drop", "column")):
-        parts = _Parts(1 if act[1] == "index" else 3, *words.named())
-    elif act[0] == "abandon":
+    act = words.one_of("add", "drop", "abandon")
+    kind = "" if act == "abandon" else words.one_of("index", "column")
+    if act == "abandon":
         table = words.name()
         words.expect(".")
         parts = _Parts(4, table, words.name())
+    elif act == "drop":
+        parts = _Parts(1 if kind == "index" else 3, *words.named())
+    elif kind == "index":
+        table, name = words.named()
+        parts = _Parts(0, table, name, _names_of(words.tuple(words.name)))
     else:
-        raise BadLine(_BAD_LINE)
+        parts = words.column()
     words.end()
     return parts
 

@@ -43,6 +43,7 @@ mod change;
 mod code;
 mod db;
 mod error;
+mod exports;
 mod ffi;
 pub mod layer;
 mod lease;
