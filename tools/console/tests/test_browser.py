@@ -21,6 +21,11 @@ from selenium.webdriver.support.ui import Select, WebDriverWait
 
 HERE = pathlib.Path(__file__).resolve().parent.parent
 ROOT = HERE.parent.parent
+sys.path.insert(0, str(ROOT / "bindings/python"))
+
+import cagzhomul  # noqa: E402
+import cagzhomul.console  # noqa: E402
+
 EXAMPLES = sorted((ROOT / "examples").glob("*.script"))
 PICTURES = os.environ.get("CONSOLE_PICTURES")
 
@@ -215,6 +220,26 @@ class Browser(unittest.TestCase):
         self.assertIn("Unknown", self.one("#stage").text)
         self.one("#start").click()
         self.until("return document.getElementById('start').textContent === 'Start'", 30)
+
+    def test_the_store_of_a_program(self) -> None:
+        with cagzhomul.open({"people": {"id": "int key", "town": "text"}}) as db, db.lease(0) as lease:
+            with cagzhomul.console.watch(db, servers=lambda: {"<b>a</b>": lease}, every=0.05) as page:
+                self.page.get(page.url)
+                self.until("return document.getElementById('stands').textContent === 'version 1, in use 1; moment 0; 1 log entries'")
+                lease.insert("people", 1, town="Ulm")
+                db.publish(10, db.plan([cagzhomul.AddIndex("people", "by_town", ["town"])])[0].code)
+                self.until("return document.querySelectorAll('#elements tr').length === 2")
+                self.assertEqual([self.texts(f"#elements tr:nth-child({it}) td") for it in (1, 2)],
+                                 [["people", "town", "column str", "public", ""], ["people", "by_town", "index (town)", "delete-only, adding", ""]])
+                self.until("return document.querySelector('#servers td:nth-child(3)').className === 'ended'")
+                self.assertEqual(self.texts("#servers td"), ["<b>a</b>", "1", "10"])
+                self.until("return document.querySelectorAll('#marks line').length === 1")
+                self.page.execute_cdp_cmd("Emulation.setDeviceMetricsOverride", {"width": 390, "height": 800, "deviceScaleFactor": 1, "mobile": True})
+                self.assertLessEqual(self.page.execute_script("return document.documentElement.scrollWidth"), 390)
+                self.keep("store")
+                db.close()
+                self.until("return document.getElementById('stands').textContent === 'The store is closed.'")
+                self.page.get("about:blank")
 
 
 if __name__ == "__main__":
