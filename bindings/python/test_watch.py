@@ -60,7 +60,7 @@ class Pages(unittest.TestCase):
         self.db.publish(20, second.code)
         element = self.db.element("people", "again")
         self.db.begin_reorg(30, element, 1)
-        self.db.read_piece(element, 1, 2).prepare().commit(30)
+        self.db.read_piece(element, 0, 2).prepare().commit(30)
         facts = until(lambda it: it["log"] == 10, page.url)
         added = {"table": "people", "name": "again", "kind": "index (town)", "state": "write_only", "is_dropped": False, "work": {"left": 3, "all": 5}}
         self.assertEqual((facts["version"], facts["moment"], facts["elements"]), (3, 30, [*public, added]))
