@@ -7,8 +7,9 @@ import time
 
 ROOT = os.path.dirname(os.path.dirname(os.path.dirname(os.path.abspath(__file__))))
 PROGRAM = os.path.abspath(sys.argv[1]) if len(sys.argv) > 1 else os.path.join(ROOT, "crates/shell/out/shell")
-# A run that takes longer is stopped, and one that writes more too: its case fails. Random input is short.
-SECONDS = 60
+# A run that takes longer is stopped, and one that writes more too: its case fails. A million bad lines, each of which is reported, take a minute on a
+# slow machine. Random input is short.
+SECONDS = 240
 SHORT_SECONDS = 10
 BYTES = 64 * 1_024 * 1_024
 # What the processor's time may be above the bounds on its growth.
