@@ -82,7 +82,7 @@ class _Facts:
         leases = sorted(self._servers().items())
         return [{"name": name, "version": it and it.version, "until": it and it.until, "is_ended": it is not None and it.until <= moment} for name, it in leases]
 
-    def told(self) -> bytes:
+    def in_json(self) -> bytes:
         """All of it in JSON."""
         with self._lock:
             return json.dumps({**self._stands, "samples": list(self._samples)}).encode()
@@ -102,7 +102,7 @@ class _Handler(BaseHTTPRequestHandler):
         if self.headers.get("Host") not in self.hosts or origin not in (None, *(f"http://{it}" for it in self.hosts)):
             self._send(403, b"forbidden", "text/plain")
         elif path == "/facts":
-            self._send(200, self.facts.told(), "application/json")
+            self._send(200, self.facts.in_json(), "application/json")
         elif path in _FILES:
             name, kind = _FILES[path]
             self._send(200, (_FOLDER / name).read_bytes(), kind)
