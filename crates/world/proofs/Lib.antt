@@ -2,6 +2,7 @@ pub mod Invariant
 pub mod Left
 pub mod CallSteps
 pub mod Queries
+pub mod Pages
 pub mod Snapshots
 pub mod Views
 pub mod Awaited

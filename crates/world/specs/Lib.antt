@@ -1,6 +1,7 @@
 pub mod State
 pub mod Calls
 pub mod Query
+pub mod Page
 pub mod Snapshot
 pub mod Code
 pub mod Inside

@@ -72,11 +72,11 @@ impl From<AllocError> for SnapshotFault {
 /// versions and the pairs.
 pub struct Snapshot {
     /// The schema of the lease's version.
-    schema: ArcValue<Schema>,
+    pub(crate) schema: ArcValue<Schema>,
     /// The schema of the newest version.
     newest: ArcValue<Schema>,
     /// The pairs of the store, shared with it.
-    pairs: PairSnapshot,
+    pub(crate) pairs: PairSnapshot,
 }
 
 // By hand, so that a caller's proof sees one call and not each field's.

@@ -1,0 +1,5 @@
+pub mod Within
+pub mod Found
+pub mod Limits
+pub mod Whole
+pub mod Fits
