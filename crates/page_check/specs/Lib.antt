@@ -1,0 +1,4 @@
+pub mod Page
+pub mod Needs
+pub mod Whole
+pub mod inner
