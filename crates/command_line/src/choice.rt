@@ -2,16 +2,18 @@
 ghost use Rattle.std.specs.Prelude.{◌≡◌, ◌≤◌, IfOk};
 ghost use Rattle.clap.specs.Words.{kind_of};
 ghost use Rattle.command_line.specs.Choice.{IsChoiceOf, IsLoad, IsSoak, is_named};
-ghost use Rattle.command_line.specs.LoadSize.{IsLoadSize};
+ghost use Rattle.command_line.specs.LoadSize.{IsLoadSize, IsRate};
 ghost use Rattle.command_line.specs.SoakSize.{IsSoakSize};
 ghost use Rattle.command_line.specs.Status.{status_after};
 
-use crate::help;
-use crate::load_size::{LoadSize, MAX_LIMIT, MAX_PIECES, MAX_ROWS, MAX_SERVERS, MAX_WORKERS};
+use crate::commands::{command_of, load_command, soak_command};
+use crate::load_size::{
+    LoadSize, MAX_LIMIT, MAX_PIECES, MAX_RATE, MAX_ROWS, MAX_SERVERS, MAX_WORKERS,
+};
 use crate::number::count_in;
 use crate::soak_size::{MAX_UPDATES, SoakSize};
 use clap::error::ErrorKind;
-use clap::{Arg, ArgAction, ArgMatches, Command, Error, value_parser};
+use clap::{ArgMatches, Command, Error};
 use std::alloc::{AllocError, Global};
 
 /// What the program is to do. A file is that of the script; without one it is on standard input.
@@ -37,6 +39,10 @@ pub enum Chosen<'a> {
     Load {
         /// How many servers, rows, pieces and workers.
         size: LoadSize,
+        /// How many rows a second are to be inserted; as many as the servers can if it is left out.
+        rate: Option<u32>,
+        /// Whether standard output is to have lines of JSON while it runs.
+        is_sampled: bool,
         /// Whether standard error is to have the time and the rate.
         is_timed: bool,
     },
@@ -47,114 +53,6 @@ pub enum Chosen<'a> {
     },
     /// Let threads write rows while an operator carries three changes to their end.
     Rollout,
-}
-
-fn file_arg<'a>(alloc: Global) -> Arg<'a> {
-    Arg::new(alloc, "FILE").help(help::FILE)
-}
-
-// An option without a value.
-fn flag<'a>(alloc: Global, name: &'a str, short: char, about: &'a str) -> Arg<'a> {
-    Arg::new(alloc, name)
-        .short(short)
-        .long(name)
-        .action(ArgAction::SetTrue)
-        .help(about)
-}
-
-// The option of a file.
-fn file_option<'a>(alloc: Global, name: &'a str, about: &'a str) -> Arg<'a> {
-    Arg::new(alloc, name)
-        .long(name)
-        .value_name("FILE")
-        .help(about)
-}
-
-fn run_command<'a>(alloc: Global) -> Result<Command<'a>, AllocError> {
-    Command::new(alloc, "run")
-        .about(help::ABOUT_RUN)
-        .after_help(help::SCRIPTS)
-        .arg(flag(alloc, "stop", 's', help::STOP))?
-        .arg(file_arg(alloc))
-}
-
-fn prompt_command<'a>(alloc: Global) -> Result<Command<'a>, AllocError> {
-    Command::new(alloc, "prompt")
-        .about(help::ABOUT_PROMPT)
-        .after_help(help::PROMPTS)
-        .arg(file_option(alloc, "at", help::AT))?
-        .arg(flag(alloc, "json", 'j', help::JSON))?
-        .arg(file_arg(alloc))
-}
-
-// The option of a number from 1 to `most`.
-fn number<'a>(
-    alloc: Global,
-    name: &'a str,
-    short: char,
-    most: u32,
-    default: &'a str,
-    about: &'a str,
-) -> Arg<'a> {
-    Arg::new(alloc, name)
-        .short(short)
-        .long(name)
-        .value_name("N")
-        .value_parser(value_parser!(u32).range(1..=i64::from(most)))
-        .default_value(default)
-        .help(about)
-}
-
-// An option that is a number: long and short name, the greatest number, the default, and the help.
-type NumberOption = (&'static str, char, u32, &'static str, &'static str);
-
-// Those of `load`.
-const LOAD_NUMBERS: [NumberOption; 5] = [
-    ("servers", 's', MAX_SERVERS, "4", help::SERVERS),
-    ("rows", 'r', MAX_ROWS, "1000", help::ROWS),
-    ("pieces", 'p', MAX_PIECES, "6", help::PIECES),
-    ("workers", 'w', MAX_WORKERS, "3", help::WORKERS),
-    ("limit", 'l', MAX_LIMIT, "50", help::LIMIT),
-];
-
-// Those of `soak`.
-const SOAK_NUMBERS: [NumberOption; 3] = [
-    ("updates", 'u', MAX_UPDATES, "10000000", help::UPDATES),
-    ("rows", 'r', MAX_ROWS, "1000", help::SOAKED_ROWS),
-    ("servers", 's', MAX_SERVERS, "4", help::UPDATERS),
-];
-
-// The command with these options.
-fn with_numbers<'a>(
-    alloc: Global,
-    command: Command<'a>,
-    numbers: &[NumberOption],
-) -> Result<Command<'a>, AllocError> {
-    let mut command = command;
-    for (name, short, most, default, about) in numbers {
-        command = command.arg(number(alloc, name, *short, *most, default, about))?;
-    }
-    Ok(command)
-}
-
-fn load_command<'a>(alloc: Global) -> Result<Command<'a>, AllocError> {
-    let load = Command::new(alloc, "load")
-        .about(help::ABOUT_LOAD)
-        .after_help(help::LOADS);
-    with_numbers(alloc, load, &LOAD_NUMBERS)?.arg(flag(alloc, "time", 't', help::TIME))
-}
-
-fn soak_command<'a>(alloc: Global) -> Result<Command<'a>, AllocError> {
-    let soak = Command::new(alloc, "soak")
-        .about(help::ABOUT_SOAK)
-        .after_help(help::SOAKS);
-    with_numbers(alloc, soak, &SOAK_NUMBERS)
-}
-
-fn rollout_command<'a>(alloc: Global) -> Command<'a> {
-    Command::new(alloc, "rollout")
-        .about(help::ABOUT_ROLLOUT)
-        .after_help(help::ROLLOUTS)
 }
 
 // The number of an option, or else the name of that option.
@@ -180,6 +78,24 @@ fn load_size(matches: &ArgMatches<'_>) -> Result<LoadSize, &'static str>
         workers: number_of(matches, "workers", MAX_WORKERS)?,
         limit: number_of(matches, "limit", MAX_LIMIT)?,
     })
+}
+
+// The rate that a `load` asks for, if it does, or else the name of the option.
+fn load_rate(matches: &ArgMatches<'_>) -> Result<Option<u32>, &'static str>
+    ensures { IfOk result IsRate }
+{
+    match matches.get_str("rate") {
+        Some(_) => Ok(Some(number_of(matches, "rate", MAX_RATE)?)),
+        None => Ok(None),
+    }
+}
+
+// The size and the rate that a `load` asks for, or else the name of the first option that is no
+// number in its range.
+fn load_numbers(matches: &ArgMatches<'_>) -> Result<(LoadSize, Option<u32>), &'static str>
+    ensures { IfOk result (λ r. IsLoadSize r.0 × IsRate r.1) }
+{
+    Ok((load_size(matches)?, load_rate(matches)?))
 }
 
 // The same of a `soak`.
@@ -217,46 +133,6 @@ fn names(words: &[String], name: &str) -> bool
     }
 }
 
-// The subcommands.
-#[derive(Clone, Copy)]
-enum Task {
-    Run,
-    Prompt,
-    Load,
-    Soak,
-    Rollout,
-}
-
-fn subcommand_of<'a>(alloc: Global, task: Task) -> Result<Command<'a>, AllocError> {
-    match task {
-        Task::Run => run_command(alloc),
-        Task::Prompt => prompt_command(alloc),
-        Task::Load => load_command(alloc),
-        Task::Soak => soak_command(alloc),
-        Task::Rollout => Ok(rollout_command(alloc)),
-    }
-}
-
-fn command_of<'a>(alloc: Global) -> Result<Command<'a>, AllocError> {
-    let mut command = Command::new(alloc, "shell")
-        .bin_name("shell")?
-        .version(help::VERSION)
-        .about(help::ABOUT)
-        .after_help(help::STATUSES)
-        .subcommand_required(true);
-    for task in [
-        Task::Run,
-        Task::Prompt,
-        Task::Load,
-        Task::Soak,
-        Task::Rollout,
-    ] {
-        let subcommand = subcommand_of(alloc, task)?;
-        command = command.subcommand(subcommand)?;
-    }
-    Ok(command)
-}
-
 // The file that a subcommand names by this word, if it does.
 fn file_of<'a>(matches: &ArgMatches<'a>, name: &str, word: &str) -> Option<&'a str> {
     match matches.subcommand_matches(name) {
@@ -274,15 +150,16 @@ fn has_flag(matches: &ArgMatches<'_>, name: &str, option: &str) -> bool {
 }
 
 // What `load` chooses.
-fn load_choice<'a>(
-    alloc: Global,
-    matches: &ArgMatches<'a>,
-    is_timed: bool,
-) -> Result<Chosen<'a>, Error>
+fn load_choice<'a>(alloc: Global, matches: &ArgMatches<'a>) -> Result<Chosen<'a>, Error>
     ensures { IfOk result IsLoad }
 {
-    match load_size(matches) {
-        Ok(size) => Ok(Chosen::Load { size, is_timed }),
+    match load_numbers(matches) {
+        Ok((size, rate)) => Ok(Chosen::Load {
+            size,
+            rate,
+            is_sampled: matches.get_flag("samples"),
+            is_timed: matches.get_flag("time"),
+        }),
         Err(name) => {
             let load = load_command(alloc)?.bin_name("shell load")?;
             Err(refusal(alloc, load, matches, name)?)
@@ -331,9 +208,8 @@ fn choice_of<'a>(
     {
         return soak_choice(alloc, soak);
     }
-    let is_timed = has_flag(matches, "load", "time");
     match matches.subcommand_matches("load") {
-        Some(load) if names(words, "load") => load_choice(alloc, load, is_timed),
+        Some(load) if names(words, "load") => load_choice(alloc, load),
         _ => Err(command.error(
             ErrorKind::InvalidSubcommand,
             "none of 'run', 'prompt', 'load', 'soak' and 'rollout'",

@@ -153,6 +153,11 @@ pub(crate) const WORKERS: &str = "Threads that fill the index, 1 to 16";
 
 pub(crate) const LIMIT: &str = "Rows of a piece that are filled at a time, 1 to 1000";
 
+pub(crate) const RATE: &str =
+    "Rows a second over all servers, 1 to 1000000; without it as many as they can";
+
+pub(crate) const SAMPLES: &str = "Write lines of JSON while it runs, in place of the five lines";
+
 /// What a load does and prints, and the exit statuses of `load`.
 pub(crate) const LOADS: &str = "\
 It opens a store with the table t (id int key, a int) and no rows. The threads of --servers insert the
@@ -168,13 +173,26 @@ It prints five lines:
   receipts ok, or receipts NAME     whether each receipt stands in the log at a place of its own, or else
                                     why one does not: NoPlace, OtherEntry, Twice
 
+With --rate N row k is due k/N seconds after the start, and the steps of the index are due when a quarter, three
+eighths and a half of the rows are; without it the index is added at once.
+
+With --samples it prints objects in JSON, one a line, as things happen; `at` is the second since the start:
+  kind sample     at, rows, median_us, p999_us, longest_us: about each tenth of a second, how many writes ended
+                  since the last sample, and how many microseconds they took: the median, the 99.9 of 100 and
+                  the longest. No times if none ended. A write's time counts from when it was due, or without a
+                  rate from when a thread took it.
+  kind version    at, version, moment, state: a version was published, in which the index has this state
+  kind begin      at, moment: the fill of the index began
+  kind filled     at: all pieces of the fill are finished
+  kind audit      at, rows, missing, extra, counts, receipts: the last one, what the five lines say
+
 Numbers are written in digits alone. For example, `shell load --servers 8 --rows 20000`.
 
 Exit status (of several the first of 5, 4, 6):
   0  nothing is missing or extra, the counts are equal and the receipts ok
   2  a wrong command line
   4  a line could not be written
-  5  out of memory, of any call or thread; none of the five lines is printed
+  5  out of memory, of any call or thread; none of the five lines, or no audit, is printed
   6  a difference was found, a step was refused, or a thread came to another end than a committed row or
      a finished piece";
 

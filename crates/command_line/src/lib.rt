@@ -3,6 +3,7 @@
 #![tactic(auto)]
 
 mod choice;
+mod commands;
 mod help;
 mod load_size;
 mod number;
@@ -10,5 +11,7 @@ mod soak_size;
 
 pub use choice::{Chosen, options, status_of};
 pub use help::NOT_UTF8;
-pub use load_size::{LoadSize, MAX_LIMIT, MAX_PIECES, MAX_ROWS, MAX_SERVERS, MAX_WORKERS};
+pub use load_size::{
+    LoadSize, MAX_LIMIT, MAX_PIECES, MAX_RATE, MAX_ROWS, MAX_SERVERS, MAX_WORKERS,
+};
 pub use soak_size::{MAX_UPDATES, SoakSize};

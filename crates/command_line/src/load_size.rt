@@ -15,6 +15,9 @@ pub const MAX_WORKERS: u32 = 16;
 /// The most rows that are filled at a time.
 pub const MAX_LIMIT: u32 = 1_000;
 
+/// The most rows a second that may be asked for.
+pub const MAX_RATE: u32 = 1_000_000;
+
 /// The size of a load. Its numbers are in their ranges exactly when `IsLoadSize` says so.
 #[derive(Clone, Copy, PartialEq, Eq)]
 pub struct LoadSize {

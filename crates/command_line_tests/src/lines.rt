@@ -99,6 +99,19 @@ const OTHERS: [(&str, Chosen<'static>); 7] = [
     ("rollout", Chosen::Rollout),
 ];
 
+// Lines that choose a load of five rows, its rate, and whether it is sampled and timed.
+const RATES: [(&str, Option<u32>, bool, bool); 9] = [
+    ("load -r 5", None, false, false),
+    ("load --time -r 5", None, false, true),
+    ("load -r 5 -t", None, false, true),
+    ("load -r 5 --rate 1", Some(1), false, false),
+    ("load --rate 1000000 -r 5", Some(1_000_000), false, false),
+    ("load --rate=0200 -r 5", Some(200), false, false),
+    ("load --samples -r 5", None, true, false),
+    ("load -r 5 --samples --rate 8000", Some(8_000), true, false),
+    ("load --rate 7 -t -r 5 --samples", Some(7), true, true),
+];
+
 // Lines that choose a soak, and its size: updates, rows, servers.
 const SOAKS: [(&str, [u32; 3]); 9] = [
     ("soak", [10_000_000, 1_000, 4]),
@@ -125,15 +138,14 @@ fn chooses(alloc: Global, line: &str, wanted: Chosen<'_>) -> Result<bool, AllocE
     })
 }
 
-fn load([servers, rows, pieces, workers, limit]: [u32; 5], is_timed: bool) -> Chosen<'static> {
-    let size = LoadSize {
+fn load_size([servers, rows, pieces, workers, limit]: [u32; 5]) -> LoadSize {
+    LoadSize {
         servers,
         rows,
         pieces,
         workers,
         limit,
-    };
-    Chosen::Load { size, is_timed }
+    }
 }
 
 #[test]
@@ -152,14 +164,33 @@ fn what_lines_choose(rt: HostRuntime) {
         );
     }
     for (line, numbers) in LOADS {
+        let chosen = Chosen::Load {
+            size: load_size(numbers),
+            rate: None,
+            is_sampled: false,
+            is_timed: false,
+        };
         assert!(rt;
-            matches!(chooses(rt.alloc(), line, load(numbers, false)), Ok(true)),
+            matches!(chooses(rt.alloc(), line, chosen), Ok(true)),
             "{line}"
         );
     }
-    let timed = load([4, 5, 6, 3, 50], true);
-    assert!(rt; matches!(chooses(rt.alloc(), "load --time -r 5", timed), Ok(true)));
-    assert!(rt; matches!(chooses(rt.alloc(), "load -r 5 -t", timed), Ok(true)));
+}
+
+#[test]
+fn what_rates_and_flags_choose(rt: HostRuntime) {
+    for (line, rate, is_sampled, is_timed) in RATES {
+        let chosen = Chosen::Load {
+            size: load_size([4, 5, 6, 3, 50]),
+            rate,
+            is_sampled,
+            is_timed,
+        };
+        assert!(rt;
+            matches!(chooses(rt.alloc(), line, chosen), Ok(true)),
+            "{line}"
+        );
+    }
 }
 
 #[test]

@@ -2,6 +2,8 @@
 
 use crate::bar::Bar;
 use crate::fault::LoadFault;
+use crate::index_step::IndexStep;
+use crate::meter::Meter;
 use crate::table::{INDEX, index_step, state_step};
 use collections::List;
 use command_line::LoadSize;
@@ -12,6 +14,7 @@ use server::world::{BeginFault, GrantFault, PublishFault, Receipt};
 use std::alloc::Global;
 use std::sync::Wait;
 use std::thread::Threads;
+use std::time::Clock;
 
 /// What became of the index, and all that it was added with.
 #[derive(Drop)]
@@ -43,7 +46,7 @@ fn lease<L: SharedLedger, R: Wait>(
     }
 }
 
-// A step published at this moment.
+// A version published by this step at this moment; its number comes back with the receipt.
 fn publish<L: SharedLedger, R: Wait>(
     rt: &R,
     alloc: Global,
@@ -51,9 +54,9 @@ fn publish<L: SharedLedger, R: Wait>(
     me: &mut Handle<L>,
     moment: u64,
     step: &Step,
-) -> Result<Receipt, LoadFault> {
+) -> Result<(u64, Receipt), LoadFault> {
     match shared.publish(rt, alloc, me, moment, step) {
-        Ok((_, receipt)) => Ok(receipt),
+        Ok(published) => Ok(published),
         Err(SharedFault::World(PublishFault::Memory)) => Err(LoadFault::Memory),
         Err(_) => Err(LoadFault::Refused),
     }
@@ -65,75 +68,98 @@ fn begin<L: SharedLedger, R: Wait>(
     alloc: Global,
     shared: &Shared<L>,
     me: &mut Handle<L>,
+    moment: u64,
     pieces: u32,
 ) -> Result<Receipt, LoadFault> {
-    match shared.begin_reorg(rt, alloc, me, 30, INDEX, pieces) {
+    match shared.begin_reorg(rt, alloc, me, moment, INDEX, pieces) {
         Ok(receipt) => Ok(receipt),
         Err(SharedFault::World(BeginFault::Memory)) => Err(LoadFault::Memory),
         Err(_) => Err(LoadFault::Refused),
     }
 }
 
-/// What is done to the index before it is filled.
-#[derive(Clone, Copy)]
-enum Act {
-    /// It enters, at 10.
-    Enter,
-    /// It is written from 20 on.
-    Write,
-    /// Its fill begins, at 30.
-    Begin,
+// The steps before the fill: how many eighths of the rows are due then, and the moment of the lease
+// that is taken before it.
+const FIRST_STEPS: [(u64, u64, IndexStep); 3] = [
+    (2, 9, IndexStep::Enter),
+    (3, 19, IndexStep::Write),
+    (4, 29, IndexStep::Begin),
+];
+
+// The number of the write at which a step is due.
+fn number_at(eighths: u64, rows: u32) -> usize {
+    (u64::from(rows).saturating_mul(eighths) / 8) as usize
 }
 
-// These acts, each with the moment of the lease that is taken before it.
-const ACTS: [(u64, Act); 3] = [(9, Act::Enter), (19, Act::Write), (29, Act::Begin)];
-
-// One of these acts.
+// One step that is not the fill: the version that it publishes, 0 if it publishes none, and its
+// receipt.
 fn perform<L: SharedLedger, R: Wait>(
     rt: &R,
     alloc: Global,
     shared: &Shared<L>,
     me: &mut Handle<L>,
-    act: Act,
+    step: IndexStep,
     pieces: u32,
-) -> Result<Receipt, LoadFault> {
-    match act {
-        Act::Enter => publish(rt, alloc, shared, me, 10, &index_step(alloc)?),
-        Act::Write => {
-            let written = state_step(alloc, ElementState::WriteOnly)?;
-            publish(rt, alloc, shared, me, 20, &written)
+) -> Result<(u64, Receipt), LoadFault> {
+    let moment = step.moment();
+    let moves = match step {
+        IndexStep::Enter => index_step(alloc)?,
+        IndexStep::Write => state_step(alloc, ElementState::WriteOnly)?,
+        IndexStep::Open => state_step(alloc, ElementState::Public)?,
+        IndexStep::Begin | IndexStep::Fill => {
+            return Ok((0, begin(rt, alloc, shared, me, moment, pieces)?));
         }
-        Act::Begin => begin(rt, alloc, shared, me, pieces),
-    }
+    };
+    publish(rt, alloc, shared, me, moment, &moves)
 }
 
-// All of them, up to the begin of the fill.
-fn enter<L: SharedLedger, R: Wait>(
+// One step that is not the fill, whose receipt is kept and whose time is noted.
+fn perform_noted<L: SharedLedger, R: Wait + Clock>(
     rt: &R,
     alloc: Global,
     shared: &Shared<L>,
     me: &mut Handle<L>,
+    step: IndexStep,
     pieces: u32,
+    meter: &Meter,
     receipts: &mut Vec<Receipt>,
 ) -> Result<(), LoadFault> {
-    for (before, act) in ACTS {
-        receipts.push(lease(rt, alloc, shared, me, before)?)?;
-        receipts.push(perform(rt, alloc, shared, me, act, pieces)?)?;
-    }
-    Ok(())
+    let (version, receipt) = perform(rt, alloc, shared, me, step, pieces)?;
+    meter.note_step(rt, step, version);
+    Ok(receipts.push(receipt)?)
 }
 
-// The index goes public.
-fn open_up<L: SharedLedger, R: Wait>(
+// The steps up to the begin of the fill, each when it is due.
+fn enter<L: SharedLedger, R: Wait + Clock>(
     rt: &R,
     alloc: Global,
     shared: &Shared<L>,
     me: &mut Handle<L>,
+    size: LoadSize,
+    meter: &Meter,
     receipts: &mut Vec<Receipt>,
 ) -> Result<(), LoadFault> {
-    let public = state_step(alloc, ElementState::Public)?;
-    receipts.push(publish(rt, alloc, shared, me, 30, &public)?)?;
+    for (eighths, before, step) in FIRST_STEPS {
+        meter.wait_until_due(rt, number_at(eighths, size.rows));
+        receipts.push(lease(rt, alloc, shared, me, before)?)?;
+        perform_noted(rt, alloc, shared, me, step, size.pieces, meter, receipts)?;
+    }
     Ok(())
+}
+
+// The index goes public, now that its fill is finished.
+fn open_up<L: SharedLedger, R: Wait + Clock>(
+    rt: &R,
+    alloc: Global,
+    shared: &Shared<L>,
+    me: &mut Handle<L>,
+    size: LoadSize,
+    meter: &Meter,
+    receipts: &mut Vec<Receipt>,
+) -> Result<(), LoadFault> {
+    meter.note_step(rt, IndexStep::Fill, 0);
+    let step = IndexStep::Open;
+    perform_noted(rt, alloc, shared, me, step, size.pieces, meter, receipts)
 }
 
 // Whether every piece is finished.
@@ -193,8 +219,8 @@ fn fill<L: SharedLedger + Send + Sync, R: Threads + Wait + Eprint + Sync>(
     }
 }
 
-/// Adds the index while others write.
-pub(crate) fn add_index<L: SharedLedger + Send + Sync, R: Threads + Wait + Eprint + Sync>(
+/// Adds the index while others write, each step when it is due.
+pub(crate) fn add_index<L: SharedLedger + Send + Sync, R: Threads + Wait + Eprint + Clock + Sync>(
     rt: &R,
     alloc: Global,
     shared: &Shared<L>,
@@ -202,22 +228,24 @@ pub(crate) fn add_index<L: SharedLedger + Send + Sync, R: Threads + Wait + Eprin
     fill_handles: Vec<Handle<L>>,
     size: LoadSize,
     is_shown: bool,
+    meter: &Meter,
 ) -> Added<L> {
     let mut me = me;
     let mut receipts = Vec::new(alloc);
-    let entered = enter(rt, alloc, shared, &mut me, size.pieces, &mut receipts);
-    if entered.is_err() {
-        return Added {
-            me,
-            fill_handles,
-            receipts,
-            pieces: Vec::new(alloc),
-            outcome: entered,
-        };
-    }
-    let (fill_handles, pieces, filled) = fill(rt, alloc, shared, fill_handles, size, is_shown);
+    let (fill_handles, pieces, filled) = match enter(
+        rt,
+        alloc,
+        shared,
+        &mut me,
+        size,
+        meter,
+        &mut receipts,
+    ) {
+        Ok(()) => fill(rt, alloc, shared, fill_handles, size, is_shown),
+        Err(fault) => (fill_handles, Vec::new(alloc), Err(fault)),
+    };
     let outcome = match filled {
-        Ok(()) => open_up(rt, alloc, shared, &mut me, &mut receipts),
+        Ok(()) => open_up(rt, alloc, shared, &mut me, size, meter, &mut receipts),
         Err(fault) => Err(fault),
     };
     Added {

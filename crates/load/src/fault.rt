@@ -6,6 +6,8 @@ use std::alloc::{AllocError, AllocFailed};
 pub(crate) enum LoadFault {
     /// Out of memory, of any call or outcome.
     Memory,
+    /// A line could not be written.
+    Unwritten,
     /// A call was refused for another reason.
     Refused,
 }

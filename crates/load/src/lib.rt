@@ -5,9 +5,16 @@
 mod add_index;
 mod bar;
 mod fault;
+mod index_step;
 mod load_run;
+mod meter;
+mod options;
 mod pace;
+mod paced_gate;
 mod report;
+mod samples;
+mod settle;
 mod table;
 
 pub use load_run::{run_load, run_load_shown};
+pub use options::LoadOptions;

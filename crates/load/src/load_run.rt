@@ -7,16 +7,20 @@ ghost use Rattle.server.specs.State.{entries_before, entries_kept};
 use crate::add_index::{Added, add_index};
 use crate::bar::Bar;
 use crate::fault::LoadFault;
+use crate::meter::Meter;
+use crate::options::LoadOptions;
 use crate::pace::{Pace, now};
+use crate::paced_gate::PacedGate;
 use crate::report::Report;
+use crate::samples::{write_line, write_samples};
+use crate::settle::{gather, settle_served, worse};
 use crate::table::{inserts, open_world};
-use collections::List;
 use command_line::LoadSize;
 use server::locked_store::{
     Handle, ReceiptFault, Shared, SharedLedger, lemma_receipts_are_the_log, reconcile,
 };
 use server::world::{Receipt, World};
-use server::{Outcome, Request, ServeFault, Served, serve};
+use server::{Request, ServeFault, Served, serve};
 use std::alloc::{AllocError, Global};
 use std::io::Write;
 use std::marker::Brand;
@@ -28,6 +32,15 @@ use std::time::{Clock, Instant};
 /// How often a request is tried.
 const TRIES: u32 = 1_000;
 
+// What became of both sides, and when each had ended.
+#[derive(Drop)]
+struct Sides<L: SharedLedger> {
+    served: Result<Served<L>, (ServeFault, Vec<Handle<L>>)>,
+    added: Added<L>,
+    inserted: Option<Instant>,
+    filled: Option<Instant>,
+}
+
 // What came back of both sides: all handles, all receipts, whether all went well, and when the sides
 // had ended.
 #[derive(Drop)]
@@ -37,40 +50,6 @@ struct Done<L: SharedLedger> {
     outcome: Result<(), LoadFault>,
     inserted: Option<Instant>,
     filled: Option<Instant>,
-}
-
-// What became of a request, with its receipt kept.
-fn settle(outcome: Outcome, receipts: &mut Vec<Receipt>) -> Result<(), LoadFault> {
-    match outcome {
-        Outcome::Done(receipt) => Ok(receipts.push(receipt)?),
-        Outcome::Memory => Err(LoadFault::Memory),
-        _ => Err(LoadFault::Refused),
-    }
-}
-
-// All of them; out of memory is reported before another refusal.
-fn settle_all(
-    outcomes: Vec<(usize, Outcome)>,
-    receipts: &mut Vec<Receipt>,
-) -> Result<(), LoadFault> {
-    let mut all = Ok(());
-    for (_, outcome) in outcomes {
-        match settle(outcome, receipts) {
-            Ok(()) => {}
-            Err(LoadFault::Memory) => return Err(LoadFault::Memory),
-            Err(LoadFault::Refused) => all = Err(LoadFault::Refused),
-        }
-    }
-    all
-}
-
-// The receipts of all lists.
-fn gather(lists: Vec<List<Receipt>>, receipts: &mut Vec<Receipt>) -> Result<(), LoadFault> {
-    for list in lists {
-        let mut list = list.into_vec();
-        receipts.append(&mut list)?;
-    }
-    Ok(())
 }
 
 // The first handles for the servers, then one for the steps of the schema, and the last ones for
@@ -92,36 +71,6 @@ fn split_handles<L: SharedLedger>(
     }
 }
 
-// The worse of two outcomes.
-fn worse(one: Result<(), LoadFault>, other: Result<(), LoadFault>) -> Result<(), LoadFault> {
-    match (one, other) {
-        (Err(LoadFault::Memory), _) | (_, Err(LoadFault::Memory)) => Err(LoadFault::Memory),
-        (Err(LoadFault::Refused), _) | (_, Err(LoadFault::Refused)) => Err(LoadFault::Refused),
-        (Ok(()), Ok(())) => Ok(()),
-    }
-}
-
-// The handles of the servers, with their receipts kept, and whether all went well.
-fn settle_served<L: SharedLedger>(
-    served: Result<Served<L>, (ServeFault, Vec<Handle<L>>)>,
-    receipts: &mut Vec<Receipt>,
-) -> (Vec<Handle<L>>, Result<(), LoadFault>) {
-    match served {
-        Ok(
-            Served {
-                outcomes,
-                handles,
-                receipts: leases,
-            },
-        ) => {
-            let gathered = gather(leases, receipts);
-            (handles, worse(settle_all(outcomes, receipts), gathered))
-        }
-        Err((ServeFault::Memory, handles)) => (handles, Err(LoadFault::Memory)),
-        Err((ServeFault::BadCount, handles)) => (handles, Err(LoadFault::Refused)),
-    }
-}
-
 // All handles in one list.
 fn all_handles<L: SharedLedger>(
     servers: Vec<Handle<L>>,
@@ -134,13 +83,14 @@ fn all_handles<L: SharedLedger>(
     Ok(handles)
 }
 
-// Both sides put together, each with the moment at which it had ended.
-fn join_handles<L: SharedLedger>(
-    served: Result<Served<L>, (ServeFault, Vec<Handle<L>>)>,
-    added: Added<L>,
-    inserted: Option<Instant>,
-    filled: Option<Instant>,
-) -> Result<Done<L>, LoadFault> {
+// Both sides put together.
+fn join_handles<L: SharedLedger>(sides: Sides<L>) -> Result<Done<L>, LoadFault> {
+    let Sides {
+        served,
+        added,
+        inserted,
+        filled,
+    } = sides;
     let Added {
         me,
         fill_handles,
@@ -159,36 +109,93 @@ fn join_handles<L: SharedLedger>(
     })
 }
 
+// The lines of JSON, if they are asked for.
+fn sample_load<R: Clock + Wait, W: Write>(
+    rt: &R,
+    alloc: Global,
+    meter: &Meter,
+    is_sampled: bool,
+    writer: &mut W,
+) -> Result<(), LoadFault> {
+    if is_sampled {
+        write_samples(rt, alloc, meter, writer)
+    } else {
+        Ok(())
+    }
+}
+
 // Both sides at once.
-fn at_once<L: SharedLedger + Send + Sync, R: Threads + Wait + Eprint + Clock + Sync>(
+fn both_sides<L: SharedLedger + Send + Sync, R: Threads + Wait + Eprint + Clock + Sync>(
     rt: &R,
     alloc: Global,
     shared: &Shared<L>,
     handles: Vec<Handle<L>>,
+    me: Handle<L>,
+    fill_handles: Vec<Handle<L>>,
     requests: &[Request],
     size: LoadSize,
     is_shown: bool,
-) -> Result<Done<L>, LoadFault> {
-    let mut handles = handles;
-    let (me, fill_handles) = split_handles(alloc, &mut handles, size.workers)?;
+    meter: &Meter,
+) -> Sides<L> {
     let bar = Bar {
         rt,
         what: "rows",
         total: size.rows,
         is_shown,
     };
+    let gate = PacedGate { rt, bar, meter };
     let ((served, inserted), (added, filled)) = join(
         rt,
         move || {
-            let served = serve(rt, alloc, shared, handles, requests, TRIES, &bar);
+            let served = serve(rt, alloc, shared, handles, requests, TRIES, &gate);
             (served, now(rt))
         },
         move || {
-            let added = add_index(rt, alloc, shared, me, fill_handles, size, is_shown);
+            let added = add_index(rt, alloc, shared, me, fill_handles, size, is_shown, meter);
             (added, now(rt))
         },
     );
-    join_handles(served, added, inserted, filled)
+    Sides {
+        served,
+        added,
+        inserted,
+        filled,
+    }
+}
+
+// Both sides at once, and beside them the lines of JSON until both have ended.
+fn at_once<
+    L: SharedLedger + Send + Sync,
+    R: Threads + Wait + Eprint + Clock + Sync,
+    W: Write + Send,
+>(
+    rt: &R,
+    alloc: Global,
+    shared: &Shared<L>,
+    handles: Vec<Handle<L>>,
+    requests: &[Request],
+    size: LoadSize,
+    options: LoadOptions,
+    meter: &Meter,
+    writer: &mut W,
+) -> Result<Done<L>, LoadFault> {
+    let mut handles = handles;
+    let (me, fills) = split_handles(alloc, &mut handles, size.workers)?;
+    let (is_sampled, is_shown) = (options.is_sampled, options.is_shown);
+    let (sampled, sides) = join(
+        rt,
+        move || sample_load(rt, alloc, meter, is_sampled, writer),
+        move || {
+            let sides = both_sides(
+                rt, alloc, shared, handles, me, fills, requests, size, is_shown, meter,
+            );
+            meter.finish();
+            sides
+        },
+    );
+    let mut done = join_handles(sides)?;
+    done.outcome = worse(done.outcome, sampled);
+    Ok(done)
 }
 
 // Whether there are as many receipts as entries, and what is wrong with them, if anything is. If
@@ -219,8 +226,9 @@ fn check_receipts(
 ) -> Result<Report, LoadFault>
     ensures { IfOk result (λ r. r.is_counted ≡ true → r.receipts ≡ None → AreTheLog (entries_before world.now) (entries_kept world.now) 0 receipts.now) }
 {
-    if outcome == Err(LoadFault::Memory) {
-        return Err(LoadFault::Memory);
+    match outcome {
+        Ok(()) | Err(LoadFault::Refused) => {}
+        Err(fault) => return Err(fault),
     }
     let found = world.check(alloc)?;
     let (is_counted, fault) = compare_counts(alloc, world, receipts)?;
@@ -236,7 +244,11 @@ fn check_receipts(
 }
 
 // The whole load over a world that is shared among so many handles.
-fn load_in<L: SharedLedger + Send + Sync, R: Threads + Wait + Eprint + Clock + Sync>(
+fn load_in<
+    L: SharedLedger + Send + Sync,
+    R: Threads + Wait + Eprint + Clock + Sync,
+    W: Write + Send,
+>(
     rt: &R,
     alloc: Global,
     blank: Blank,
@@ -244,7 +256,9 @@ fn load_in<L: SharedLedger + Send + Sync, R: Threads + Wait + Eprint + Clock + S
     count: u64,
     requests: &[Request],
     size: LoadSize,
-    is_shown: bool,
+    options: LoadOptions,
+    meter: &Meter,
+    writer: &mut W,
 ) -> Result<Report, LoadFault>
     requires name { blank.name ≡ L.name }
     requires parts { blank.parts ≡ L.parts }
@@ -253,19 +267,20 @@ fn load_in<L: SharedLedger + Send + Sync, R: Threads + Wait + Eprint + Clock + S
     let Ok((shared, handles)) = Shared::<L>::new(alloc, blank, world, count) else {
         return Err(LoadFault::Memory);
     };
-    let begun = now(rt);
     let Done {
         handles,
         receipts,
         outcome,
         inserted,
         filled,
-    } = at_once(rt, alloc, &shared, handles, requests, size, is_shown)?;
+    } = at_once(
+        rt, alloc, &shared, handles, requests, size, options, meter, writer,
+    )?;
     let Ok(world) = shared.close(handles) else {
         return Err(LoadFault::Refused);
     };
     let pace = Pace {
-        begun,
+        begun: meter.begun,
         inserted,
         filled,
         settled: now(rt),
@@ -275,11 +290,12 @@ fn load_in<L: SharedLedger + Send + Sync, R: Threads + Wait + Eprint + Clock + S
 }
 
 // What a load of this size finds.
-fn load<R: Threads + Wait + Eprint + Clock + Sync>(
+fn load<R: Threads + Wait + Eprint + Clock + Sync, W: Write + Send>(
     rt: &R,
     alloc: Global,
     size: LoadSize,
-    is_shown: bool,
+    options: LoadOptions,
+    writer: &mut W,
 ) -> Result<Report, LoadFault>
     requires { IsLoadSize size }
 {
@@ -288,7 +304,10 @@ fn load<R: Threads + Wait + Eprint + Clock + Sync>(
     let count = u64::from(size.servers + size.workers + 1);
     let blank = Blank::new(count);
     let requests = requests.as_slice();
-    let mut report = load_in::<Brand, R>(rt, alloc, blank, world, count, requests, size, is_shown)?;
+    let meter = Meter::new(rt, alloc, size.rows, options)?;
+    let mut report = load_in::<Brand, R, W>(
+        rt, alloc, blank, world, count, requests, size, options, &meter, writer,
+    )?;
     report.pace.audited = now(rt);
     Ok(report)
 }
@@ -316,7 +335,7 @@ fn report_pace<R: Eprint>(rt: &R, alloc: Global, report: &Report, rows: u32) {
 /// refused for another reason than memory, or an outcome was another than a committed row or a
 /// finished piece; 4 if the lines could not be written; 5 if any call or outcome found no memory,
 /// and then nothing is written. Of several the first in the order 5, 4, 6 is answered.
-pub fn run_load<R: Threads + Wait + Eprint + Clock + Sync, W: Write>(
+pub fn run_load<R: Threads + Wait + Eprint + Clock + Sync, W: Write + Send>(
     rt: &R,
     alloc: Global,
     size: LoadSize,
@@ -324,37 +343,51 @@ pub fn run_load<R: Threads + Wait + Eprint + Clock + Sync, W: Write>(
 ) -> u8
     requires { IsLoadSize size }
 {
-    run_load_shown(rt, alloc, size, false, false, writer)
+    let options = LoadOptions {
+        rate: None,
+        is_sampled: false,
+        is_timed: false,
+        is_shown: false,
+    };
+    run_load_shown(rt, alloc, size, options, writer)
 }
 
-/// Runs a load as `run_load` does, and shows a bar on standard error while it runs: how many rows
-/// were inserted, and how many pieces of the index were filled.
+/// Runs a load as `run_load` does, and as its options say.
 ///
-/// - `is_shown`: whether someone is to see the bar.
-/// - `is_timed`: whether standard error gets a line that says how long the inserts, the index and the
-///   audit took, in milliseconds.
-pub fn run_load_shown<R: Threads + Wait + Eprint + Clock + Sync, W: Write>(
+/// - `options.rate`: with a rate of N rows a second row k is due k/N seconds after the start, and no
+///   server begins with it before; and the index enters when a quarter of the rows are due, is
+///   written from three eighths on, and its fill begins at a half. Without one nothing waits.
+/// - `options.is_sampled`: the writer gets an object in JSON, one a line: for each step of the index,
+///   about each tenth of a second for the writes that ended since, and in the end what the five lines
+///   say, in their place. A write's time counts from when it was due, or without a rate from when a
+///   server drew it. If a line cannot be written, no later one is, nothing waits any more until it is
+///   due, and the status is 4; if memory runs out, the last object is not written.
+/// - `options.is_timed`: whether standard error gets a line that says how long the inserts, the index
+///   and the audit took, in milliseconds.
+/// - `options.is_shown`: whether someone is to see a bar on standard error: how many rows were
+///   inserted, and how many pieces of the index were filled.
+pub fn run_load_shown<R: Threads + Wait + Eprint + Clock + Sync, W: Write + Send>(
     rt: &R,
     alloc: Global,
     size: LoadSize,
-    is_shown: bool,
-    is_timed: bool,
+    options: LoadOptions,
     writer: &mut W,
 ) -> u8
     requires { IsLoadSize size }
 {
-    let report = match load(rt, alloc, size, is_shown) {
+    let report = match load(rt, alloc, size, options, writer) {
         Ok(report) => report,
         Err(LoadFault::Memory) => return 5,
+        Err(LoadFault::Unwritten) => return 4,
         Err(LoadFault::Refused) => return 6,
     };
-    let Ok(text) = report.text(alloc) else {
+    let Ok(text) = report.text(alloc, options.is_sampled) else {
         return 5;
     };
-    if writer.write_all(text.as_bytes()).is_err() {
+    if write_line(writer, text.as_str()).is_err() {
         return 4;
     }
-    if is_timed {
+    if options.is_timed {
         report_pace(rt, alloc, &report, size.rows);
     }
     if report.is_good(size.rows) { 0 } else { 6 }

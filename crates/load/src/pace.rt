@@ -22,15 +22,20 @@ pub(crate) fn now<R: Clock>(rt: &R) -> Option<Instant> {
     Instant::now(rt).ok()
 }
 
-// The milliseconds from one moment to another; 0 if one of them is not known.
-fn millis(from: Option<Instant>, to: Option<Instant>) -> u64 {
+/// The nanoseconds from one moment to another; 0 if one of them is not known.
+pub(crate) fn nanos(from: Option<Instant>, to: Option<Instant>) -> u64 {
     let (Some(from), Some(to)) = (from, to) else {
         return 0;
     };
     let took = to.saturating_duration_since(from);
     took.as_secs()
-        .saturating_mul(1_000)
-        .saturating_add(u64::from(took.subsec_millis()))
+        .saturating_mul(1_000_000_000)
+        .saturating_add(u64::from(took.subsec_nanos()))
+}
+
+// The milliseconds from one moment to another; 0 if one of them is not known.
+fn millis(from: Option<Instant>, to: Option<Instant>) -> u64 {
+    nanos(from, to) / 1_000_000
 }
 
 impl Pace {

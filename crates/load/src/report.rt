@@ -1,6 +1,7 @@
 //! What a load found, and what it prints.
 
-use crate::pace::Pace;
+use crate::pace::{Pace, nanos};
+use crate::samples::seconds;
 use server::locked_store::ReceiptFault;
 use std::alloc::{AllocError, Global};
 
@@ -33,16 +34,22 @@ impl Report {
             && self.is_done
     }
 
-    /// The five lines.
-    pub(crate) fn text(&self, alloc: Global) -> Result<String, AllocError> {
+    /// The five lines, or in their place an object in JSON, which also has when the audit had ended.
+    /// Refused only when out of memory.
+    pub(crate) fn text(&self, alloc: Global, is_json: bool) -> Result<String, AllocError> {
         let counts = if self.is_counted { "equal" } else { "differ" };
-        format!(in alloc;
-            "rows {}\nmissing {}\nextra {}\ncounts {counts}\nreceipts {}\n",
-            self.rows,
-            self.missing,
-            self.extra,
-            name_of(&self.receipts)
-        )
+        let (rows, missing, extra) = (self.rows, self.missing, self.extra);
+        let receipts = name_of(&self.receipts);
+        if is_json {
+            let at = seconds(alloc, nanos(self.pace.begun, self.pace.audited))?;
+            format!(in alloc;
+                "{{\"kind\":\"audit\",\"at\":{at},\"rows\":{rows},\"missing\":{missing},\"extra\":{extra},\"counts\":\"{counts}\",\"receipts\":\"{receipts}\"}}\n"
+            )
+        } else {
+            format!(in alloc;
+                "rows {rows}\nmissing {missing}\nextra {extra}\ncounts {counts}\nreceipts {receipts}\n"
+            )
+        }
     }
 }
 

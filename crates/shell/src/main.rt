@@ -1,14 +1,16 @@
 //! The program: it runs the script on standard input, a load or a soak, as the command line chooses.
 #![tactic(auto)]
 
+ghost use Rattle.command_line.specs.LoadSize.{IsLoadSize};
+
 mod checkpoints;
 mod reports;
 
 use crate::checkpoints::{Folder, checkpoint_in};
 use crate::reports::Reports;
 use clap::Error;
-use command_line::{Chosen, NOT_UTF8, options, status_of};
-use load::run_load_shown;
+use command_line::{Chosen, LoadSize, NOT_UTF8, options, status_of};
+use load::{LoadOptions, run_load_shown};
 use prompt::{Form, Streams, converse, prompt_status};
 use rollout_example::rollout_report;
 use script::{Watch, run_watched, watched_status};
@@ -196,6 +198,19 @@ fn end_load(rt: &HostRuntime, status: u8, rows: u32, started: Option<Instant>) -
     status
 }
 
+/// Runs a load of this size, and answers the exit status.
+fn run_sized(rt: &HostRuntime, size: LoadSize, options: LoadOptions) -> u8
+    requires { IsLoadSize size }
+{
+    let started = if options.is_timed {
+        Instant::now(rt).ok()
+    } else {
+        None
+    };
+    let status = run_load_shown(rt, rt.alloc(), size, options, &mut io::writer(rt));
+    end_load(rt, status, size.rows, started)
+}
+
 /// Prints what a rollout of three changes did.
 fn print_rollout(rt: &HostRuntime, text: Option<String>) -> u8 {
     let Some(text) = text else {
@@ -218,16 +233,21 @@ fn main(rt: HostRuntime) -> ExitCode {
         Ok(Chosen::Prompt { file, at, is_json }) => {
             ExitCode::from(answer_from(&rt, file, at, is_json))
         }
-        Ok(Chosen::Load { size, is_timed }) => {
-            let started = if is_timed {
-                Instant::now(&rt).ok()
-            } else {
-                None
+        Ok(
+            Chosen::Load {
+                size,
+                rate,
+                is_sampled,
+                is_timed,
+            },
+        ) => {
+            let options = LoadOptions {
+                rate,
+                is_sampled,
+                is_timed,
+                is_shown: rt.stderr().is_terminal(),
             };
-            let is_shown = rt.stderr().is_terminal();
-            let mut output = io::writer(&rt);
-            let status = run_load_shown(&rt, alloc, size, is_shown, is_timed, &mut output);
-            ExitCode::from(end_load(&rt, status, size.rows, started))
+            ExitCode::from(run_sized(&rt, size, options))
         }
         Ok(Chosen::Soak { size }) => {
             let status = run_soak(&rt, alloc, size, &mut io::writer(&rt));
