@@ -1,41 +1,26 @@
-"""A load in a process of its own, so that the server does not slow it, and what it says."""
+"""`shell load --samples` in a process of its own, and what it says line by line."""
 
 from __future__ import annotations
 
-import array
-import base64
-import collections
-import itertools
 import json
-import os
-import pathlib
 import subprocess
 import sys
 import threading
-from typing import Any, Deque, Dict, List, Optional
+from typing import Any, Dict, List, Optional
 
-NUMBERS = {"writers": (1, 16), "rate": (0, 100_000), "preload": (0, 500_000), "lease": (100, 10_000), "limit": (1, 1000), "pause": (0, 1000)}
+from prompt import PromptGone
 
-
-def library_of(root: pathlib.Path) -> str:
-    """Where the library for C is, which the load calls: in CAGZHOMUL_LIBRARY, or where `tools/build_library` leaves it."""
-    return os.environ.get("CAGZHOMUL_LIBRARY") or str(root / "out/libcagzhomul.so")
+NUMBERS = {"servers": (1, 16), "rows": (1, 100_000), "rate": (0, 1_000_000), "pieces": (1, 64), "workers": (1, 16), "limit": (1, 1000)}
 
 
-def can_load(root: pathlib.Path) -> bool:
-    return os.path.isfile(library_of(root))
-
-
-def timed(sample: Dict[str, Any], second: Deque[array.array]) -> Dict[str, Any]:
-    """A sample with the times of its writes, in microseconds, in place of the writes."""
-    taken = array.array("f")
-    taken.frombytes(base64.b64decode(sample.pop("taken")))
-    second.append(taken)
-    sample["rows"] = len(taken)
-    if taken:
-        own, whole = sorted(taken), sorted(itertools.chain.from_iterable(second))
-        sample.update(median=round(own[len(own) // 2] * 1e6, 1), most=round(whole[int(len(whole) * 0.999)] * 1e6, 1), longest=round(own[-1] * 1e6, 1))
-    return sample
+def words_of(asked: Dict[str, Any]) -> List[str]:
+    """The words of the command line, with each number in its range. A rate of 0 is none."""
+    words = ["load", "--samples"]
+    for name, (low, high) in NUMBERS.items():
+        number = min(high, max(low, int(asked.get(name, 0)))) if name in asked else 0
+        if number:
+            words += [f"--{name}", str(number)]
+    return words
 
 
 class Delays:
@@ -46,7 +31,8 @@ class Delays:
     def __init__(self) -> None:
         self._run = subprocess.Popen([sys.executable, "-c", self.PROGRAM], stdout=subprocess.PIPE, stdin=subprocess.DEVNULL, text=True)
         self._longest = 0.0
-        threading.Thread(target=self._listen, daemon=True).start()
+        self._thread = threading.Thread(target=self._listen, daemon=True)
+        self._thread.start()
 
     def _listen(self) -> None:
         for line in self._run.stdout or ():
@@ -60,21 +46,20 @@ class Delays:
     def stop(self) -> None:
         self._run.kill()
         self._run.wait()
+        self._thread.join()
+        if self._run.stdout:
+            self._run.stdout.close()
 
 
 class LoadRun:
     """A load that runs, or has run."""
 
-    def __init__(self, asked: Dict[str, Any], root: pathlib.Path) -> None:
-        words = [sys.executable, str(pathlib.Path(__file__).resolve().parent / "load.py")]
-        for name, (low, high) in NUMBERS.items():
-            if name in asked:
-                words += [f"--{name}", str(min(high, max(low, int(asked[name]))))]
-        if asked.get("change"):
-            words.append(f"--change={asked['change']}")
-        path = os.pathsep.join(filter(None, [str(root / "bindings/python"), os.environ.get("PYTHONPATH", "")]))
-        environment = {**os.environ, "PYTHONPATH": path, "CAGZHOMUL_LIBRARY": library_of(root)}
-        self._run = subprocess.Popen(words, stdout=subprocess.PIPE, stderr=subprocess.STDOUT, stdin=subprocess.DEVNULL, env=environment, text=True)
+    def __init__(self, asked: Dict[str, Any], program: str) -> None:
+        words = [program, *words_of(asked)]
+        try:
+            self._run = subprocess.Popen(words, stdout=subprocess.PIPE, stderr=subprocess.STDOUT, stdin=subprocess.DEVNULL, text=True)
+        except OSError as error:
+            raise PromptGone(f"the shell program cannot be run: {error.strerror}") from None
         self._lines: List[str] = []
         self._more = threading.Condition()
         self.over = False
@@ -83,17 +68,19 @@ class LoadRun:
     def _listen(self) -> None:
         other: List[str] = []
         delays = Delays()
-        second: Deque[array.array] = collections.deque(maxlen=10)  # 99.9 of 100 needs more writes than a tenth of a second has
         for line in self._run.stdout or ():
-            if line.startswith('{"kind": "sample"'):
-                self._add(json.dumps({**timed(json.loads(line), second), "machine": delays.take()}))
+            if line.startswith('{"kind":"sample"'):
+                self._add(json.dumps({**json.loads(line), "machine_us": delays.take()}))
             elif line.startswith("{"):
                 self._add(line.strip())
             else:
                 other.append(line.rstrip())
         delays.stop()
-        if self._run.wait() and other:
-            self._add(json.dumps({"kind": "fault", "text": other[-1]}))
+        status = self._run.wait()
+        if self._run.stdout:
+            self._run.stdout.close()
+        if status > 0:  # it is below 0 if the load was stopped
+            self._add(json.dumps({"kind": "fault", "text": other[-1] if other else f"the load ended with status {status}"}))
         with self._more:
             self.over = True
             self._more.notify_all()

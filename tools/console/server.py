@@ -11,7 +11,7 @@ import time
 from http.server import BaseHTTPRequestHandler, ThreadingHTTPServer
 from typing import Any, Callable, Dict, List, Optional
 
-from load_run import LoadRun, can_load
+from load_run import LoadRun
 from prompt import PromptGone
 from session import Session
 
@@ -94,7 +94,7 @@ class Console:
         with self._lock:
             for it in self._loads.values():
                 it.stop()
-            self._loads = {name: LoadRun(asked, self.root)}
+            self._loads = {name: LoadRun(asked, self.program)}
         return name
 
     def load_of(self, name: str) -> LoadRun:
@@ -104,7 +104,7 @@ class Console:
 
     def about(self) -> Dict[str, Any]:
         files = sorted((self.root / "examples").glob("*.script"))
-        return {"load": can_load(self.root), "examples": [{"name": it.stem, "text": it.read_text("utf-8")} for it in files]}
+        return {"examples": [{"name": it.stem, "text": it.read_text("utf-8")} for it in files]}
 
     def close(self) -> None:
         for name in list(self._sessions):
@@ -204,7 +204,10 @@ class Handler(BaseHTTPRequestHandler):
             console.end(found[1])
             return {}
         if self.path == "/api/load":
-            return {"load": console.load(asked)}
+            try:
+                return {"load": console.load(asked)}
+            except PromptGone as error:
+                raise Gone(str(error)) from None
         if found := re.fullmatch(r"/api/load/(\w+)/stop", self.path):
             console.load_of(found[1]).stop()
             return {}

@@ -191,35 +191,36 @@ class Browser(unittest.TestCase):
                         self.assertGreater((light[1] - light[0]) * (1 if dark else -1), 350, "text is far from what is behind it")
                         self.keep(f"{view}-{width}-{'dark' if dark else 'light'}")
 
-    def test_a_load_goes_on_while_an_index_enters(self) -> None:
+    def load(self, **asked: int) -> None:
+        """Starts a load of these numbers."""
         self.one("#tab-load").click()
-        if not self.one("#start").is_enabled():
-            self.skipTest("the library is not built")
-        for name, value in (("preload", 5000), ("lease", 400), ("rate", 1000), ("limit", 1000), ("writers", 3)):
+        for name, value in asked.items():
             box = self.one(f"[name={name}]")
             box.clear()
             box.send_keys(str(value))
         self.one("#start").click()
-        self.until("return document.querySelector('#runs tbody tr')", 90)
-        self.assertIn("0 pairs missing, 0 extra", self.one("#stage").text)
-        self.assertEqual("no difference", self.one("#runs td.good").text)
-        marks = [it.split()[0] for it in self.texts("#rate svg text.soft")]
-        self.assertEqual(["v2", "v3", "v4"], marks)
-        self.keep("load")
 
-    def test_a_change_that_is_refused_is_said(self) -> None:
-        self.one("#tab-load").click()
-        if not self.one("#start").is_enabled():
-            self.skipTest("the library is not built")
-        for name, value in (("preload", "0"), ("rate", "100"), ("change", "drop index nothing on people")):
-            box = self.one(f"[name={name}]")
-            box.clear()
-            box.send_keys(value)
-        self.one("#start").click()
-        self.until("return document.getElementById('stage').textContent.startsWith('Refused')", 30)
-        self.assertIn("Unknown", self.one("#stage").text)
+    def test_a_load_goes_on_while_an_index_enters(self) -> None:
+        self.load(servers=3, rows=4000, rate=2000, pieces=4, limit=100)
+        self.until("return document.querySelector('#runs tbody tr')", 90)
+        self.assertEqual("Finished. Audit: 4,000 rows, 0 pairs missing, 0 extra; receipts against the log: counts equal, receipts ok.", self.one("#stage").text)
+        self.assertEqual("no difference", self.one("#runs td.good").text)
+        self.assertEqual(["v2 delete-only", "v3 write-only", "v4 public"], self.texts("#rate svg text.soft"))
+        self.assertEqual(1, len(self.all("#rate svg .fill-span")))
+        self.assertTrue(self.all("#latency svg circle"))
+        self.keep("load")
+        # without a rate all steps come at the start, and their names are below each other
+        self.load(rows=500, rate=0)
+        self.until("return document.querySelectorAll('#runs tbody tr').length === 2", 90)
+        self.assertEqual(["v2 delete-only", "v3 write-only", "v4 public"], self.texts("#rate svg text.soft"))
+        self.assertEqual("no difference", self.one("#runs td.good").text)
+
+    def test_a_load_is_stopped(self) -> None:
+        self.load(rows=100000, rate=100)
+        self.until("return document.getElementById('start').textContent === 'Stop'", 30)
         self.one("#start").click()
         self.until("return document.getElementById('start').textContent === 'Start'", 30)
+        self.assertEqual("Stopped.", self.one("#stage").text)
 
     def test_the_store_of_a_program(self) -> None:
         with cagzhomul.open({"people": {"id": "int key", "town": "text"}}) as db, db.lease(0) as lease:

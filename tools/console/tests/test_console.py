@@ -18,6 +18,7 @@ sys.path.insert(0, str(HERE))
 
 import pages  # noqa: E402
 import server  # noqa: E402
+from load_run import LoadRun, words_of  # noqa: E402
 from prompt import PromptGone  # noqa: E402
 from session import Session  # noqa: E402
 
@@ -140,6 +141,45 @@ class Orders(unittest.TestCase):
         self.assertEqual([(["1"], "removed")], [(it["key"], it["row"]) for it in pages.changes(old, left)])
 
 
+class Loads(unittest.TestCase):
+    def said(self, asked: Dict[str, Any], program: str = SHELL) -> List[Dict[str, Any]]:
+        """All that a load says."""
+        load, lines = LoadRun(asked, program), []
+        self.addCleanup(load.stop)
+        while (more := load.lines_from(len(lines))) is not None:
+            lines += more
+        return [json.loads(it) for it in lines]
+
+    def test_numbers_are_words_of_the_command_line(self) -> None:
+        asked = {"servers": 99, "rows": 300, "rate": 0, "pieces": -1, "limit": "7", "change": "drop"}
+        self.assertEqual(["load", "--samples", "--servers", "16", "--rows", "300", "--pieces", "1", "--limit", "7"], words_of(asked))
+        for wrong in ("x", None, [1]):
+            with self.assertRaises((ValueError, TypeError)):
+                words_of({"rows": wrong})
+
+    def test_a_load_is_clean_and_has_its_steps_in_order(self) -> None:
+        said = self.said({"servers": 3, "rows": 400, "rate": 1000, "pieces": 2, "workers": 2, "limit": 100})
+        steps = [(it["kind"], it.get("version"), it.get("moment"), it.get("state")) for it in said if it["kind"] not in ("sample", "audit")]
+        self.assertEqual([("version", 2, 10, "delete_only"), ("version", 3, 20, "write_only"), ("begin", None, 30, None), ("filled", None, None, None), ("version", 4, 30, "public")], steps)
+        samples = [it for it in said if it["kind"] == "sample"]
+        self.assertEqual(400, sum(it["rows"] for it in samples))
+        self.assertTrue(all(it["machine_us"] >= 0 for it in samples))
+        self.assertEqual(["audit", 400, 0, 0, "equal", "ok"], [said[-1][it] for it in ("kind", "rows", "missing", "extra", "counts", "receipts")])
+
+    def test_a_load_that_fails_is_said(self) -> None:
+        self.assertEqual([{"kind": "fault", "text": "the load ended with status 1"}], self.said({}, "/bin/false"))
+        with self.assertRaises(PromptGone):
+            LoadRun({}, "/no/such/program")
+
+    def test_a_load_that_is_stopped_says_nothing_more(self) -> None:
+        load = LoadRun({"rows": 1000, "rate": 1}, SHELL)
+        self.assertIsNotNone(load.lines_from(0))
+        load.stop()
+        while load.lines_from(1 << 30) is not None:
+            pass
+        self.assertNotIn("fault", "".join(load.lines_from(0) or []))
+
+
 class Served(unittest.TestCase):
     def setUp(self) -> None:
         self.server = server.make_server(0, SHELL, ROOT)
@@ -202,6 +242,17 @@ class Served(unittest.TestCase):
         self.assertEqual((404, {"fault": server.OVER}), self.send(names[1], "help"))
         for name in (names[0], names[2], last):
             self.assertEqual(200, self.send(name, "help")[0])
+
+    def test_a_load_is_served_line_by_line(self) -> None:
+        status, body, _ = self.ask("/api/load", {"rows": 30, "servers": 2})
+        self.assertEqual(200, status)
+        events = self.ask(f"/api/load/{body['load']}/events")[1].decode().split("\n\n")
+        self.assertEqual(["event: over\ndata: {}", ""], events[-2:])
+        lines = [it.split("\n") for it in events[:-2] if it.startswith("id: ")]
+        self.assertEqual([f"id: {it}" for it in range(len(lines))], [it[0] for it in lines])
+        self.assertEqual("audit", json.loads(lines[-1][1].removeprefix("data: "))["kind"])
+        self.assertEqual(404, self.ask("/api/load/none/events")[0])
+        self.assertEqual(400, self.ask("/api/load", {"rows": "many"})[0])
 
     def test_an_idle_session_is_ended(self) -> None:
         name = self.begin()

@@ -104,10 +104,6 @@ async function begin() {
     const about = await (await fetch("/api/about")).json();
     examples = about.examples;
     $("example").append(...examples.map((it) => make("option", { value: it.name }, it.name.replaceAll("_", " "))));
-    if (!about.load) {
-      $("start").disabled = true;
-      stage("A load needs the library: tools/build_library makes it, and CAGZHOMUL_LIBRARY names one elsewhere.");
-    }
   } catch (error) {
     fault(error.message);
   }
