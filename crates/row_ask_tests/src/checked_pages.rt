@@ -118,7 +118,7 @@ fn check_all(alloc: Global, pairs: Pairs, limit: usize) -> Result<Vec<Found>, Al
     let from = store(alloc, pairs)?;
     let mut found = Vec::new(alloc);
     let mut low = bytes(alloc, EMPTY)?;
-    loop {
+    for _i in 0..=pairs.len() {
         let to = end_of(&from, &low, limit)?;
         found.push(check_one(alloc, &schema, &from, &low, &to)?)?;
         match to {
@@ -126,6 +126,7 @@ fn check_all(alloc: Global, pairs: Pairs, limit: usize) -> Result<Vec<Found>, Al
             None => return Ok(found),
         }
     }
+    Err(AllocError)
 }
 
 /// Whether the pages of so many pairs count for these.
@@ -140,7 +141,11 @@ fn are_counted(alloc: Global, pairs: Pairs, limit: usize, wanted: &[Found]) -> b
 fn total(alloc: Global, pairs: Pairs, limit: usize) -> Result<(u64, u64, u64), AllocError> {
     let mut sums = (0u64, 0u64, 0u64);
     for (rows, missing, extra, _, _) in &check_all(alloc, pairs, limit)? {
-        sums = (sums.0 + *rows, sums.1 + *missing, sums.2 + *extra);
+        sums = (
+            sums.0.saturating_add(*rows),
+            sums.1.saturating_add(*missing),
+            sums.2.saturating_add(*extra),
+        );
     }
     Ok(sums)
 }
