@@ -1,4 +1,4 @@
--- Cited by the contracts of check and of what it calls.
+-- Cited by the contracts of check, check_page and of what they call.
 -- The audit of a store that was read whole.
 use Rattle.std.specs.Prelude.{◌≡◌, ◌⊎◌, Result, Ok, Err}
 use Rattle.audit.specs.Audit.{IsAudit}

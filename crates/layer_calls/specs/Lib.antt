@@ -6,4 +6,5 @@ pub mod Queries
 pub mod Changes
 pub mod Pieces
 pub mod Audits
+pub mod PageChecks
 pub mod Dues

@@ -20,7 +20,7 @@ fn counted(alloc: Global, version: &[u8], pairs: &[u8]) -> Result<CheckReport, L
 }
 
 // What it is reported as.
-fn check_outcome(answer: &Result<CheckReport, LayerOutcome>) -> CheckOutcome
+pub(crate) fn check_outcome(answer: &Result<CheckReport, LayerOutcome>) -> CheckOutcome
     ensures { result ≡ check_outcome answer.now }
 {
     match answer {
