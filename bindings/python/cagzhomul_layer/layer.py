@@ -25,10 +25,11 @@ from cagzhomul import Audit, Change, Conflict, Key, Query, Row, Schema, Tables, 
 from . import calls
 from .calls import Refusal, asked, version_key
 from .changes import Act, Operator, versions_of
+from .status import Piece, Status, status_of
 from .store import BadAnswer, Draft, Pair, Range, Refused, Store, Unknown
 from .txns import Server, Txn, Version, error_of, pause
 
-__all__ = ["Act", "Layer", "TooManyPairs", "Txn", "open"]
+__all__ = ["Act", "Layer", "Piece", "Status", "TooManyPairs", "Txn", "open"]
 
 _Result = TypeVar("_Result")
 _CHANGES = cagzhomul.AddIndex, cagzhomul.AddColumn, cagzhomul.DropIndex, cagzhomul.DropColumn, cagzhomul.Abandon
@@ -103,6 +104,18 @@ class Layer:
     def schema(self) -> Schema:
         """The schema of the newest version that this object knows of: of the last one that it met."""
         return self._server.version().names.schema
+
+    def status(self) -> Status:
+        """How the database stands at one moment, by one read of its control records: the open versions, the schema of the newest, and how far
+        each fill and clear has come.
+
+        Raises NotOpened if there is no database in the store any more; what reads of the store do.
+
+        >>> status = db.status()
+        >>> status.versions == [max(status.versions)], status.work
+        (True, {})
+        """
+        return status_of(self._server.store)
 
     # ---- transactions
 

@@ -1,15 +1,13 @@
 //! The program: it runs the script on standard input, a load or a soak, as the command line chooses.
 #![tactic(auto)]
 
-ghost use Rattle.command_line.specs.LoadSize.{IsLoadSize};
-
 mod checkpoints;
 mod reports;
 
 use crate::checkpoints::{Folder, checkpoint_in};
 use crate::reports::Reports;
 use clap::Error;
-use command_line::{Chosen, LoadSize, NOT_UTF8, options, status_of};
+use command_line::{Chosen, NOT_UTF8, options, status_of};
 use load::{LoadOptions, run_load_shown};
 use prompt::{Form, Streams, converse, prompt_status};
 use rollout_example::rollout_report;
@@ -198,17 +196,28 @@ fn end_load(rt: &HostRuntime, status: u8, rows: u32, started: Option<Instant>) -
     status
 }
 
-/// Runs a load of this size, and answers the exit status.
-fn run_sized(rt: &HostRuntime, size: LoadSize, options: LoadOptions) -> u8
-    requires { IsLoadSize size }
-{
-    let started = if options.is_timed {
+/// How a load goes; with a bar if standard error is a terminal.
+fn load_options(
+    rt: &HostRuntime,
+    rate: Option<u32>,
+    is_sampled: bool,
+    is_timed: bool,
+) -> LoadOptions {
+    LoadOptions {
+        rate,
+        is_sampled,
+        is_timed,
+        is_shown: rt.stderr().is_terminal(),
+    }
+}
+
+/// The moment by the clock, if it is asked for and can be read.
+fn started_at(rt: &HostRuntime, is_timed: bool) -> Option<Instant> {
+    if is_timed {
         Instant::now(rt).ok()
     } else {
         None
-    };
-    let status = run_load_shown(rt, rt.alloc(), size, options, &mut io::writer(rt));
-    end_load(rt, status, size.rows, started)
+    }
 }
 
 /// Prints what a rollout of three changes did.
@@ -228,11 +237,9 @@ fn main(rt: HostRuntime) -> ExitCode {
         Ok(words) => words,
         Err(status) => return ExitCode::from(status),
     };
-    match options(alloc, words.as_slice()) {
-        Ok(Chosen::Run { file, stops }) => ExitCode::from(run_input(&rt, file, stops)),
-        Ok(Chosen::Prompt { file, at, is_json }) => {
-            ExitCode::from(answer_from(&rt, file, at, is_json))
-        }
+    let status = match options(alloc, words.as_slice()) {
+        Ok(Chosen::Run { file, stops }) => run_input(&rt, file, stops),
+        Ok(Chosen::Prompt { file, at, is_json }) => answer_from(&rt, file, at, is_json),
         Ok(
             Chosen::Load {
                 size,
@@ -241,23 +248,21 @@ fn main(rt: HostRuntime) -> ExitCode {
                 is_timed,
             },
         ) => {
-            let options = LoadOptions {
-                rate,
-                is_sampled,
-                is_timed,
-                is_shown: rt.stderr().is_terminal(),
-            };
-            ExitCode::from(run_sized(&rt, size, options))
+            let how = load_options(&rt, rate, is_sampled, is_timed);
+            let started = started_at(&rt, is_timed);
+            let status = run_load_shown(&rt, alloc, size, how, &mut io::writer(&rt));
+            end_load(&rt, status, size.rows, started)
         }
         Ok(Chosen::Soak { size }) => {
             let status = run_soak(&rt, alloc, size, &mut io::writer(&rt));
             report_fault(&rt, status);
-            ExitCode::from(status)
+            status
         }
         Ok(Chosen::Rollout) => {
             let text = rollout_report(&rt, alloc);
-            ExitCode::from(print_rollout(&rt, text))
+            print_rollout(&rt, text)
         }
-        Err(error) => ExitCode::from(print_choice(&rt, &error)),
-    }
+        Err(error) => print_choice(&rt, &error),
+    };
+    ExitCode::from(status)
 }

@@ -25,6 +25,8 @@ sys.path.insert(0, str(ROOT / "bindings/python"))
 
 import cagzhomul  # noqa: E402
 import cagzhomul.console  # noqa: E402
+from cagzhomul_layer import layer  # noqa: E402
+from cagzhomul_layer.memory import MemoryStore  # noqa: E402
 
 EXAMPLES = sorted((ROOT / "examples").glob("*.script"))
 PICTURES = os.environ.get("CONSOLE_PICTURES")
@@ -241,6 +243,27 @@ class Browser(unittest.TestCase):
                 db.close()
                 self.until("return document.getElementById('stands').textContent === 'The store is closed.'")
                 self.page.get("about:blank")
+
+    def test_a_database_over_a_store(self) -> None:
+        store = MemoryStore()
+        db = layer.open(store, {"people": {"id": "int key", "town": "text"}})
+        db.insert("people", 1, town="Ulm")
+        with cagzhomul.console.watch(layer.Layer(store), every=0.05) as page:
+            self.page.get(page.url)
+            self.until("return document.getElementById('stands').textContent === 'version 1, open 1; 1 control records, not counting marks of transactions'")
+            self.assertEqual(["people", "town", "column str", "public", ""], self.texts("#elements td"))
+            self.assertEqual([False, True], [self.one(it).is_displayed() for it in ("#rate-section", "#note")])
+            acts = db.change([cagzhomul.AddIndex("people", "by_town", ["town"])])
+            self.assertIn("begin", (it.what for it in acts))
+            self.until("return document.querySelectorAll('#pieces tr').length === 1")
+            self.assertEqual(["people", "by_town", "index (town)", "write-only, adding", "1 of 1 pieces"], self.texts("#elements tr:nth-child(2) td"))
+            self.assertEqual(["people", "by_town", "1"], self.texts("#pieces td")[:3])
+            self.page.execute_cdp_cmd("Emulation.setDeviceMetricsOverride", {"width": 390, "height": 800, "deviceScaleFactor": 1, "mobile": True})
+            self.assertLessEqual(self.page.execute_script("return document.documentElement.scrollWidth"), 390)
+            self.keep("layer")
+            list(acts)
+            self.until("return document.getElementById('stands').textContent.startsWith('version 4,') && !document.querySelectorAll('#pieces tr').length")
+            self.page.get("about:blank")
 
 
 if __name__ == "__main__":

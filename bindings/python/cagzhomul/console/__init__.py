@@ -17,9 +17,13 @@ import time
 from collections import deque
 from http.server import BaseHTTPRequestHandler, ThreadingHTTPServer
 from types import TracebackType
-from typing import Any, Callable, Deque, Dict, List, Mapping, Optional, Tuple, Type
+from typing import TYPE_CHECKING, Any, Callable, Deque, Dict, List, Mapping, Optional, Tuple, Type, Union
 
-from cagzhomul import CagzhomulError, Closed, Db, Lease, NotWanted, SchemaElement, SchemaIndex
+from cagzhomul import CagzhomulError, Closed, Db, Lease, NotWanted, Schema, SchemaElement, SchemaIndex
+
+if TYPE_CHECKING:
+    from cagzhomul_layer.layer import Layer
+    from cagzhomul_layer.status import Piece
 
 __all__ = ["Watch", "watch"]
 
@@ -31,56 +35,111 @@ _SAMPLES = 240
 Servers = Callable[[], Mapping[str, Optional[Lease]]]
 
 
-class _Facts:
-    """What is known of a store: as it stands, and samples of its log and version. It only reads."""
+def _tables_of(schema: Schema) -> List[Dict[str, Any]]:
+    return [{"name": it.name, "key": [f"{name} {kind.__name__}" for name, kind in it.key.items()]} for it in schema.tables]
+
+
+def _element_of(element: SchemaElement, work: Optional[Dict[str, Any]]) -> Dict[str, Any]:
+    """An index or a column as it stands, with its fill or its clear, if one has begun."""
+    what = element.what
+    kind = f"index ({', '.join(what.columns)})" if isinstance(what, SchemaIndex) else f"column {what.kind.__name__}"
+    return {"table": element.table, "name": element.name, "kind": kind, "state": element.state, "is_dropped": element.is_dropped, "work": work}
+
+
+class _Over(Exception):
+    """Nothing more is seen, and why."""
+
+
+class _InMemory:
+    """What is seen of a store in memory."""
 
     def __init__(self, db: Db, servers: Servers) -> None:
         self._db, self._servers = db, servers
+
+    def stands(self) -> Dict[str, Any]:
+        """How it stands."""
+        try:
+            status, schema = self._db.status(), self._db.schema()
+            elements = [_element_of(it, self._work(it.number)) for it in schema.elements]
+        except Closed:
+            raise _Over("The store is closed.") from None
+        return {"version": status["version"], "moment": status["moment"], "usable": status["usable"], "log": status["log"],
+                "tables": _tables_of(schema), "elements": elements, "servers": self._leases(status["moment"])}
+
+    def _work(self, element: int) -> Optional[Dict[str, Any]]:
+        """What is left of the fill or the clear of an element, if it has begun."""
+        try:
+            progress = self._db.progress(element)
+        except NotWanted:
+            return None
+        return {"left": progress.left, "all": progress.all}
+
+    def _leases(self, moment: int) -> List[Dict[str, Any]]:
+        """The lease of each server that the program names."""
+        leases = sorted(self._servers().items())
+        return [{"name": name, "version": it and it.version, "until": it and it.until, "is_ended": it is not None and it.until <= moment} for name, it in leases]
+
+
+class _OverStore:
+    """What is seen of a database over a store that someone else runs: its control records, by one read each time. Such a store tells nothing of
+    how much is written."""
+
+    def __init__(self, db: Layer) -> None:
+        from cagzhomul_layer import StoreError
+
+        self._db = db
+        self._fault: Type[Exception] = StoreError
+        self._seen: Dict[str, Any] = {"log": None}
+
+    def stands(self) -> Dict[str, Any]:
+        """How it stands; if the store cannot be read, how it stood, and why."""
+        try:
+            status = self._db.status()
+        except self._fault as error:
+            return {**self._seen, "fault": f"The store was not read: {type(error).__name__}: {error}"}
+        elements = [_element_of(it, self._work(status.work.get(it.number))) for it in status.schema.elements]
+        self._seen = {"version": status.versions[-1], "usable": status.versions, "log": None, "records": status.records,
+                      "tables": _tables_of(status.schema), "elements": elements, "servers": []}
+        return self._seen
+
+    @staticmethod
+    def _work(pieces: Optional[List[Piece]]) -> Optional[Dict[str, Any]]:
+        """The pieces of a fill or a clear, with the keys between which each goes and that to which it has come."""
+        if pieces is None:
+            return None
+        return {"pieces": [{"low": it.low.hex(), "high": it.high.hex(), "cursor": it.cursor.hex(), "is_ended": it.is_ended} for it in pieces]}
+
+
+class _Facts:
+    """What is known of a store: as it stands, and samples of its log and version. It only reads."""
+
+    def __init__(self, store: Union[_InMemory, _OverStore]) -> None:
+        self._store = store
         self._lock = threading.Lock()
         self._begun = time.monotonic()
-        self._samples: Deque[Tuple[float, int, int]] = deque(maxlen=_SAMPLES)
+        self._samples: Deque[Tuple[float, Optional[int], int]] = deque(maxlen=_SAMPLES)
         self._stands: Dict[str, Any] = {"over": None}
 
     def look(self) -> bool:
         """Looks at the store once; False if it is closed."""
         try:
-            status, schema = self._db.status(), self._db.schema()
-            leases = self._leases(status["moment"])
-            elements = [self._element(it) for it in schema.elements]
-            tables = [{"name": it.name, "key": [f"{name} {kind.__name__}" for name, kind in it.key.items()]} for it in schema.tables]
-            stands = {"over": None, "version": status["version"], "moment": status["moment"], "usable": status["usable"], "log": status["log"],
-                      "tables": tables, "elements": elements, "servers": leases}
-        except Closed:
-            return self._end("The store is closed.")
+            stands = self._store.stands()
+        except _Over as over:
+            return self._end(str(over))
         except CagzhomulError:  # out of memory: what was seen stays
             return True
         except Exception as error:  # of the caller's function
             return self._end(f"The page no longer looks: {type(error).__name__}: {error}")
         with self._lock:
-            self._stands = stands
-            self._samples.append((time.monotonic() - self._begun, status["log"], status["version"]))
+            self._stands = {"over": None, **stands}
+            if "version" in stands and "fault" not in stands:
+                self._samples.append((time.monotonic() - self._begun, stands["log"], stands["version"]))
         return True
 
     def _end(self, why: str) -> bool:
         with self._lock:
             self._stands = {**self._stands, "over": why}
         return False
-
-    def _element(self, element: SchemaElement) -> Dict[str, Any]:
-        """An index or a column as it stands, with what is left of its fill or its clear, if one has begun."""
-        what = element.what
-        kind = f"index ({', '.join(what.columns)})" if isinstance(what, SchemaIndex) else f"column {what.kind.__name__}"
-        try:
-            progress = self._db.progress(element.number)
-            work: Optional[Dict[str, int]] = {"left": progress.left, "all": progress.all}
-        except NotWanted:
-            work = None
-        return {"table": element.table, "name": element.name, "kind": kind, "state": element.state, "is_dropped": element.is_dropped, "work": work}
-
-    def _leases(self, moment: int) -> List[Dict[str, Any]]:
-        """The lease of each server that the program names."""
-        leases = sorted(self._servers().items())
-        return [{"name": name, "version": it and it.version, "until": it and it.until, "is_ended": it is not None and it.until <= moment} for name, it in leases]
 
     def in_json(self) -> bytes:
         """All of it in JSON."""
@@ -122,8 +181,8 @@ class Watch:
     """A page that shows a store, by `watch`; `url` is where. It is there until `close`, or the end of a
     `with` block, and shows that the store is closed if it is."""
 
-    def __init__(self, db: Db, port: int, servers: Servers, every: float) -> None:
-        self._every, self._facts = every, _Facts(db, servers)
+    def __init__(self, store: Union[_InMemory, _OverStore], port: int, every: float) -> None:
+        self._every, self._facts = every, _Facts(store)
         self._facts.look()
         handler = type("_OwnHandler", (_Handler,), {"facts": self._facts})
         self._server = ThreadingHTTPServer(("127.0.0.1", port), handler)
@@ -156,7 +215,7 @@ class Watch:
         self.close()
 
 
-def watch(db: Db, *, port: int = 0, servers: Servers = dict, every: float = 0.5) -> Watch:
+def watch(db: Union[Db, Layer], *, port: int = 0, servers: Servers = dict, every: float = 0.5) -> Watch:
     """Shows a store on a page, from threads of its own: the newest version and those that may be in use,
     each index and column with its state and what is left of its fill or clear, and how many entries the
     log gets in a second. It only reads, and looks every `every` seconds.
@@ -165,6 +224,15 @@ def watch(db: Db, *, port: int = 0, servers: Servers = dict, every: float = 0.5)
     whoever has an account on the computer can see it. `servers` gives the leases to be shown, by the name
     of each server, with None for one that has none.
 
-    Raises OSError if the port is taken.
+    A database over a store (`cagzhomul_layer.layer.Layer`) is shown by its control records: the open
+    versions, each index and column with its state, and each piece of a fill or a clear with the key to
+    which it has come. A `Layer` is for one thread at a time: the page takes one over a store object of
+    its own. There are no leases and no log.
+
+    Raises OSError if the port is taken; TypeError if `servers` are given for a database over a store.
     """
-    return Watch(db, port, servers, every)
+    if isinstance(db, Db):
+        return Watch(_InMemory(db, servers), port, every)
+    if servers is not dict:
+        raise TypeError("a database over a store has no leases")
+    return Watch(_OverStore(db), port, every)

@@ -15,12 +15,25 @@ function row(...cells) {
   return made;
 }
 
-/** What is left of a fill or a clear. */
-const workOf = (work) => (work ? `${number(work.left)} of ${number(work.all)}` : "");
+/** What is left of a fill or a clear: rows or pairs, or of a store that someone else runs, pieces. */
+function workOf(work) {
+  if (work?.pieces) return `${number(work.pieces.filter((it) => !it.is_ended).length)} of ${number(work.pieces.length)} pieces`;
+  return work ? `${number(work.left)} of ${number(work.all)}` : "";
+}
 
 function drawElements(elements) {
   const state = (it) => [it.state.replace("_", "-") + (it.is_dropped ? ", dropping" : it.state === "public" ? "" : ", adding"), it.state];
   $("elements").replaceChildren(...elements.map((it) => row([it.table], [it.name], [it.kind], state(it), [workOf(it.work)])));
+}
+
+/** The begin of a key, in hexadecimal. */
+const keyOf = (hex) => (hex.length > 32 ? `${hex.slice(0, 32)}…` : hex);
+
+function drawPieces(elements) {
+  const worked = elements.filter((it) => it.work?.pieces);
+  const rows = worked.flatMap((it) => it.work.pieces.map((piece, i) => row([it.table], [it.name], [`${i + 1}`], [keyOf(piece.low)], piece.is_ended ? ["its end", "public"] : [keyOf(piece.cursor)], [keyOf(piece.high)])));
+  $("pieces-section").hidden = !rows.length;
+  $("pieces").replaceChildren(...rows);
 }
 
 function drawServers(servers) {
@@ -48,13 +61,22 @@ function mark(x, version) {
   return made;
 }
 
-function draw(facts) {
+/** How the store stands, in words. */
+function wordsOf(facts) {
   const usable = (facts.usable ?? []).join(" and ");
-  $("stands").textContent = facts.over ?? `version ${facts.version}, in use ${usable}; moment ${number(facts.moment)}; ${number(facts.log)} log entries`;
-  $("stands").className = facts.over ? "over" : "";
+  if (facts.log === null) return facts.fault ?? `version ${facts.version}, open ${usable}; ${number(facts.records)} control records, not counting marks of transactions`;
+  return `version ${facts.version}, in use ${usable}; moment ${number(facts.moment)}; ${number(facts.log)} log entries`;
+}
+
+function draw(facts) {
+  $("stands").textContent = facts.over ?? wordsOf(facts);
+  $("stands").className = facts.over || facts.fault ? "over" : "";
+  $("note").hidden = facts.log !== null;
+  $("rate-section").hidden = facts.log === null;
   drawElements(facts.elements ?? []);
+  drawPieces(facts.elements ?? []);
   drawServers(facts.servers ?? []);
-  drawChart(facts.samples);
+  if (facts.log !== null) drawChart(facts.samples);
 }
 
 async function look() {
