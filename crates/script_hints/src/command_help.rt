@@ -52,6 +52,7 @@ timeline|the versions with their moments, and what is in progress|timeline|\n\
 explain|by which path the query is answered; explain plan: .. shows the steps, and keeps \
 none|explain query a: select town from people where town = 'Ulm'|\n\
 help|what a command is for|help query|\n\
+try|what is wrong with a line, which is not run|try lease a|\n\
 undo|takes the last declaration back, before open|undo|\n\
 cut|gives the memory of the log's entries back; no reply changes|cut|\n\
 save|writes the state into a file, from which shell prompt --at FILE goes on|save people.saved|\n\

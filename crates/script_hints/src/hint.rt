@@ -4,10 +4,11 @@ use crate::declared::declared_hint;
 use crate::in_way::left_out;
 use crate::refused::{opening_hint, refusal_hint, refusal_of};
 use crate::rows::row_hint;
-use script_grammar::{Command, read_command};
+use script_grammar::{Command, is_silent, read_command};
 use script_mistakes::{column_of, unexpected};
 use script_progress::script_session::{Declarations, Session};
 use script_progress::script_views::push_nearest;
+use script_tokens::LineFault;
 use std::alloc::{AllocError, Global};
 
 /// The longest line, in bytes.
@@ -36,6 +37,42 @@ fn misplaced(alloc: Global, session: &Session, command: &Command) -> Result<Stri
         (Session::Declaring(_), _) => NOT_OPEN.to_string(alloc),
         (Session::Running(_), _) => "1: this line comes before open".to_string(alloc),
     }
+}
+
+// Whether a command names no table, before `open`, that is not declared.
+fn is_declared(declared: &Declarations, command: &Command) -> bool {
+    match command {
+        Command::Index { table, .. } => declared
+            .tables
+            .as_slice()
+            .iter()
+            .any(|definition| definition.name.as_str() == table.as_str()),
+        _ => true,
+    }
+}
+
+// Whether a command is on its side of `open`, and if it is an `index` line, of a declared table.
+fn is_in_place(session: &Session, command: &Command) -> bool {
+    let is_declaration = matches!(
+        command,
+        Command::Length(_) | Command::Table { .. } | Command::Index { .. } | Command::Open
+    );
+    match session {
+        Session::Declaring(declared) => is_declaration && is_declared(declared, command),
+        Session::Running(_) => !is_declaration,
+    }
+}
+
+// Whether a line is a command that may come now.
+fn is_good(alloc: Global, session: &Session, line: &str) -> Result<bool, AllocError> {
+    let read = read_command(alloc, line.as_bytes());
+    let is_good = match &read {
+        Ok(command) => Ok(is_in_place(session, command)),
+        Err(LineFault::Malformed) => Ok(false),
+        Err(LineFault::Memory) => Err(AllocError),
+    };
+    drop(read);
+    is_good
 }
 
 fn bad_hint(
@@ -139,6 +176,19 @@ pub fn hint_of(
         Some(refusal) => refused_hint(alloc, session, line, refusal.trim_end()),
         None => accepted_hint(alloc, session, line, reply),
     }
+}
+
+/// What is wrong with a line that is not given to the session: the hint that it would get as a bad
+/// line of a prompt; empty if it is blank, a remark, or a command that may come now. Whether the
+/// command would be refused is not said. Refused only when out of memory.
+///
+/// - `session`: the session, which is only read.
+/// - `line`: the line without its ending.
+pub fn mistake_in(alloc: Global, session: &Session, line: &str) -> Result<String, AllocError> {
+    if is_silent(line.as_bytes()) || is_good(alloc, session, line)? {
+        return Ok(String::new(alloc));
+    }
+    bad_hint(alloc, session, line, true)
 }
 
 /// The column of what is wrong with a bad line of a prompt, in characters from 1; `None` if the hint

@@ -14,5 +14,5 @@ mod rows;
 mod views;
 
 pub use before::Before;
-pub use hint::{bad_column, hint_of};
+pub use hint::{bad_column, hint_of, mistake_in};
 pub use views::view_of;
