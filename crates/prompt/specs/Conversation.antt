@@ -61,7 +61,7 @@ Replied old line reply bad new =
 abbrev pub is_view_word : List ℕ → Bool
 is_view_word word =
     (bytes_eq word (codes "help") || bytes_eq word (codes "describe") || bytes_eq word (codes "check") || bytes_eq word (codes "leases") || bytes_eq word (codes "progress"))
-    || (bytes_eq word (codes "plan") || bytes_eq word (codes "timeline") || bytes_eq word (codes "explain") || bytes_eq word (codes "advance") || bytes_eq word (codes "finish") || bytes_eq word (codes "rows"))
+    || (bytes_eq word (codes "plan") || bytes_eq word (codes "timeline") || bytes_eq word (codes "explain") || bytes_eq word (codes "advance") || bytes_eq word (codes "finish") || bytes_eq word (codes "rows") || bytes_eq word (codes "try"))
 
 -- such a line, whatever white space is around it
 abbrev pub is_view : List ℕ → Bool

@@ -4,6 +4,7 @@
 mod alone;
 mod carry;
 mod conversation;
+mod details;
 mod fault;
 mod form;
 mod handover;
@@ -14,6 +15,7 @@ mod moment;
 mod save;
 mod state;
 mod streams;
+mod try_line;
 mod undo;
 
 pub use conversation::{Summary, converse};

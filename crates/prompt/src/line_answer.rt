@@ -8,46 +8,49 @@ ghost use Rattle.prompt.specs.Save.{is_save};
 ghost use Rattle.prompt.specs.Undo.{is_undo};
 
 use crate::carry::{CarryLine, carry_of, carry_on};
+use crate::details::{carry_details, no_details, pairs_before, reply_details, view_details};
 use crate::form::Form;
-use crate::line_text::{LineAnswer, answer_of, no_details};
+use crate::line_text::{LineAnswer, answer_of};
 use crate::log_cut::{cut_log, cut_text, is_cut};
 use crate::moment::{given_line, is_foreign, is_view};
 use crate::save::{Files, is_save, saved_text};
 use crate::state::PromptState;
+use crate::try_line::{tried, try_text};
 use crate::undo::{is_undo, keep_declared, take_back, taken_text};
-use script_hints::{Before, bad_column, view_of};
+use script_hints::{Before, view_of};
+use script_json::PairsBefore;
 use script_json::script_progress::plan_dropped;
 use script_json::script_session::Session;
-use script_json::{Details, facts_of};
 use std::alloc::{AllocError, Global};
 
-// What an answer has in JSON besides the session's reply: where a bad line is wrong.
-fn reply_details(
+// The session's own reply to a line, the hint that goes with it, and what the line changed since these
+// pairs.
+fn reply_after(
     alloc: Global,
-    session: &Session,
-    line: &str,
-    is_bad: bool,
-    form: Form,
-) -> Result<Details, AllocError> {
-    let mut details = no_details();
-    if is_bad && form.is_json() {
-        details.column = bad_column(alloc, session, line)?;
-    }
-    Ok(details)
-}
-
-// What an answer has in JSON besides a view: the facts that it shows.
-fn view_details(
-    alloc: Global,
-    session: &Session,
+    state: &mut PromptState,
     line: &str,
     form: Form,
-) -> Result<Details, AllocError> {
-    let mut details = no_details();
-    if form.is_json() {
-        details.facts = facts_of(alloc, session, line)?;
-    }
-    Ok(details)
+    pairs: &PairsBefore,
+) -> Result<LineAnswer, AllocError>
+    requires calm { IsCalm state.old.session line.now }
+    ensures { IfOk result (λ answer. IsAnswered form state.old line.now answer.text.items answer.is_bad state.new) }
+{
+    let given = given_line(alloc, &state.session, line)?;
+    let before = Before::new(alloc, &state.session, given.as_str())?;
+    let answer = state.session.reply_to(alloc, given.as_str())?;
+    let reply = answer.text.as_str();
+    let hint = before.hint(alloc, &state.session, given.as_str(), reply)?;
+    let details = reply_details(
+        alloc,
+        &state.session,
+        given.as_str(),
+        answer.is_bad,
+        form,
+        pairs,
+    )?;
+    keep_declared(alloc, state, given, answer.is_bad)?;
+    let answer = answer_of(alloc, form, reply, answer.is_bad, hint.as_str(), &details)?;
+    Ok(answer)
 }
 
 // The session's own reply to a line, and the hint that goes with it.
@@ -60,14 +63,8 @@ fn reply_line(
     requires calm { IsCalm state.old.session line.now }
     ensures { IfOk result (λ answer. IsAnswered form state.old line.now answer.text.items answer.is_bad state.new) }
 {
-    let given = given_line(alloc, &state.session, line)?;
-    let before = Before::new(alloc, &state.session, given.as_str())?;
-    let answer = state.session.reply_to(alloc, given.as_str())?;
-    let reply = answer.text.as_str();
-    let hint = before.hint(alloc, &state.session, given.as_str(), reply)?;
-    let details = reply_details(alloc, &state.session, given.as_str(), answer.is_bad, form)?;
-    keep_declared(alloc, state, given, answer.is_bad)?;
-    let answer = answer_of(alloc, form, reply, answer.is_bad, hint.as_str(), &details)?;
+    let pairs = pairs_before(&state.session, form)?;
+    let answer = reply_after(alloc, state, line, form, &pairs)?;
     Ok(answer)
 }
 
@@ -80,10 +77,12 @@ fn view_shown(
 ) -> Result<Option<String>, AllocError>
     ensures { IfOk result (λ shown. IfSome shown (λ _. is_view line.now ≡ true)) }
 {
-    if is_view(line) {
-        view_of(alloc, session, line, form.is_shown())
-    } else {
-        Ok(None)
+    if !is_view(line) {
+        return Ok(None);
+    }
+    match tried(line) {
+        Some(line) => Ok(Some(try_text(alloc, session, line)?)),
+        None => view_of(alloc, session, line, form.is_shown()),
     }
 }
 
@@ -123,7 +122,38 @@ fn carry_asked(
     }
 }
 
-// Carries changes on as the line asks, and says so if that drops a plan.
+// Carries changes on as the line asks, and says so if that drops a plan, and what it changed since
+// these pairs.
+fn carry_after(
+    alloc: Global,
+    state: &mut PromptState,
+    line: &str,
+    carry: CarryLine,
+    form: Form,
+    pairs: &PairsBefore,
+) -> Result<LineAnswer, AllocError>
+    requires foreign { IsForeign line.now }
+    requires asked { carry_asked state.old.session line.now ≡ Some carry }
+    ensures { IfOk result (λ answer. IsAnswered form state.old line.now answer.text.items answer.is_bad state.new) }
+{
+    let Session::Running(opened) = &mut state.session else {
+        return Err(AllocError);
+    };
+    let dropped = plan_dropped(alloc, opened)?;
+    let text = carry_on(alloc, opened, carry)?;
+    let details = carry_details(alloc, opened, pairs)?;
+    let answer = answer_of(
+        alloc,
+        form,
+        text.as_str(),
+        false,
+        dropped.as_str(),
+        &details,
+    )?;
+    Ok(answer)
+}
+
+// Carries changes on as the line asks.
 fn carry_line(
     alloc: Global,
     state: &mut PromptState,
@@ -135,20 +165,8 @@ fn carry_line(
     requires asked { carry_asked state.old.session line.now ≡ Some carry }
     ensures { IfOk result (λ answer. IsAnswered form state.old line.now answer.text.items answer.is_bad state.new) }
 {
-    let Session::Running(opened) = &mut state.session else {
-        return Err(AllocError);
-    };
-    let dropped = plan_dropped(alloc, opened)?;
-    let text = carry_on(alloc, opened, carry)?;
-    let details = no_details();
-    let answer = answer_of(
-        alloc,
-        form,
-        text.as_str(),
-        false,
-        dropped.as_str(),
-        &details,
-    )?;
+    let pairs = pairs_before(&state.session, form)?;
+    let answer = carry_after(alloc, state, line, carry, form, &pairs)?;
     Ok(answer)
 }
 

@@ -47,14 +47,6 @@ fn push_remark(out: &mut Vec<u8>, remark: &[u8]) -> Result<(), AllocError>
     Ok(())
 }
 
-/// What an answer has in JSON besides its reply and remarks: nothing.
-pub(crate) fn no_details() -> Details {
-    Details {
-        column: None,
-        facts: None,
-    }
-}
-
 // A reply and the remark on it as text, which has no remark if that is empty.
 fn plain_text(alloc: Global, reply: &str, remark: &str) -> Result<Vec<u8>, AllocError>
     ensures { IfOk result (λ text. text.items ≡ reply.now ++ remark_text remark.now) }

@@ -83,7 +83,7 @@ fn is_view_word(word: &str) -> bool
 {
     match word {
         "help" | "describe" | "check" | "leases" | "progress" => true,
-        "plan" | "timeline" | "explain" | "advance" | "finish" | "rows" => true,
+        "plan" | "timeline" | "explain" | "advance" | "finish" | "rows" | "try" => true,
         _ => false,
     }
 }

@@ -11,12 +11,24 @@ use serde_json::{Map, Value};
 use std::alloc::{AllocError, Global};
 
 /// What an answer has besides its reply and its remarks.
-#[derive(Drop)]
 pub struct Details {
     /// The column of what is wrong with a bad line, in characters from 1, if it has one.
     pub column: Option<usize>,
     /// The facts behind a view, in JSON, if the line shows one.
     pub facts: Option<String>,
+    /// What the line put and removed, in JSON, if it was given to an opened world.
+    pub changes: Option<String>,
+}
+
+// By hand, so that a caller's proof sees one call and not each field's.
+impl Drop for Details {
+    fn drop(self) {
+        let Details {
+            column: _,
+            facts: _,
+            changes: _,
+        } = self;
+    }
 }
 
 fn push_line(alloc: Global, lines: &mut Vec<Value>, line: &str) -> Result<(), AllocError>
@@ -141,6 +153,18 @@ fn push_facts(out: &mut String, facts: &Option<String>) -> Result<(), AllocError
     }
 }
 
+fn push_changes(out: &mut String, changes: &Option<String>) -> Result<(), AllocError>
+    ensures { OnOk result (StartsWith (string_bytes out.old) (string_bytes out.new)) }
+{
+    match changes {
+        Some(changes) => {
+            out.push_str(",\"changes\":")?;
+            out.push_str(changes.as_str())
+        }
+        None => Ok(()),
+    }
+}
+
 // Adds all that is not the reply and the remarks.
 fn push_others(
     alloc: Global,
@@ -153,6 +177,7 @@ fn push_others(
     push_refusal(alloc, out, reply)?;
     push_column(out, details.column)?;
     push_facts(out, &details.facts)?;
+    push_changes(out, &details.changes)?;
     out.push_str("}\n")
 }
 
@@ -163,7 +188,7 @@ fn push_others(
 /// - `remarks`: the lines of the remarks.
 /// - `refused`: if the reply is a refusal, its `name`, and its `values`, each a number or, of a key, its
 ///   hexadecimal digits; else it is absent.
-/// - `column` and `facts`: as in the details, or absent.
+/// - `column`, `facts` and `changes`: as in the details, or absent.
 ///
 /// Refused only when out of memory.
 pub fn answer_text(

@@ -1,8 +1,9 @@
-//! What the prompt answers, as JSON: one object for each line of input, and the facts behind the views
-//! of an opened world. Each is made of a world or a session that is only read.
+//! What the prompt answers, as JSON: one object for each line of input, the facts behind the views of
+//! an opened world, and what a line changed in it. Each is made of a world or a session that is only read.
 #![tactic(auto)]
 
 mod answer;
+mod changes;
 mod describe;
 mod elements;
 mod facts;
@@ -13,6 +14,7 @@ mod pieces;
 mod rows;
 
 pub use answer::{Details, answer_text};
+pub use changes::{PairsBefore, changes_text};
 pub use facts::facts_of;
 
 // Crates whose items callers of this one name, so that they list this one alone.

@@ -5,28 +5,34 @@ use script_json::{Details, answer_text};
 use script_rows::read_rows_line;
 use std::alloc::Global;
 
-// A reply, its remarks, the column of a mistake, facts in JSON, and the line for them.
-const ANSWERS: [(&str, &str, Option<usize>, Option<&str>, &str); 6] = [
-    ("", "", None, None, "{\"reply\":[],\"remarks\":[]}\n"),
+// A reply, its remarks, the column of a mistake, facts and changes in JSON, and the line for them.
+const ANSWERS: [(&str, &str, Option<usize>, [Option<&str>; 2], &str); 7] = [
+    (
+        "",
+        "",
+        None,
+        [None, None],
+        "{\"reply\":[],\"remarks\":[]}\n",
+    ),
     (
         "ok\n",
         "",
         None,
-        None,
+        [None, None],
         "{\"reply\":[\"ok\"],\"remarks\":[]}\n",
     ),
     (
         "bad line\n",
         "1: expected a command",
         Some(1),
-        None,
+        [None, None],
         "{\"reply\":[\"bad line\"],\"remarks\":[\"1: expected a command\"],\"column\":1}\n",
     ),
     (
         "refused StillUsed 30\n",
         "two\nlines\n",
         None,
-        None,
+        [None, None],
         "{\"reply\":[\"refused StillUsed 30\"],\"remarks\":[\"two\",\"lines\"],\
          \"refused\":{\"name\":\"StillUsed\",\"values\":[30]}}\n",
     ),
@@ -34,7 +40,7 @@ const ANSWERS: [(&str, &str, Option<usize>, Option<&str>, &str); 6] = [
         "refused Conflict 52ab\n",
         "",
         None,
-        None,
+        [None, None],
         "{\"reply\":[\"refused Conflict 52ab\"],\"remarks\":[],\
          \"refused\":{\"name\":\"Conflict\",\"values\":[\"52ab\"]}}\n",
     ),
@@ -42,25 +48,39 @@ const ANSWERS: [(&str, &str, Option<usize>, Option<&str>, &str); 6] = [
         "row (1) a = '\"'\nok rows 1\n",
         "",
         None,
-        Some("{\"rows\":[]}"),
+        [Some("{\"rows\":[]}"), None],
         "{\"reply\":[\"row (1) a = '\\\"'\",\"ok rows 1\"],\"remarks\":[],\
          \"facts\":{\"rows\":[]}}\n",
     ),
+    (
+        "ok\n",
+        "",
+        None,
+        [None, Some("null")],
+        "{\"reply\":[\"ok\"],\"remarks\":[],\"changes\":null}\n",
+    ),
 ];
+
+// A text of its own, if there is one and memory for it.
+fn own(alloc: Global, text: Option<&str>) -> Option<String> {
+    text?.to_string(alloc).ok()
+}
 
 // Whether an answer is this line.
 fn is_answer(
     alloc: Global,
     texts: (&str, &str),
     column: Option<usize>,
-    facts: Option<&str>,
+    data: [Option<&str>; 2],
     due: &str,
 ) -> bool {
-    let facts = match facts {
-        Some(text) => text.to_string(alloc).ok(),
-        None => None,
+    let [facts, changes] = data;
+    let details = Details {
+        column,
+        facts: own(alloc, facts),
+        changes: own(alloc, changes),
     };
-    let Ok(line) = answer_text(alloc, texts.0, texts.1, &Details { column, facts }) else {
+    let Ok(line) = answer_text(alloc, texts.0, texts.1, &details) else {
         return false;
     };
     line.as_str() == due
@@ -68,9 +88,9 @@ fn is_answer(
 
 #[test]
 fn answers(rt: HostRuntime) {
-    for (reply, remark, column, facts, due) in ANSWERS {
+    for (reply, remark, column, data, due) in ANSWERS {
         assert!(rt;
-            is_answer(rt.alloc(), (reply, remark), column, facts, due),
+            is_answer(rt.alloc(), (reply, remark), column, data, due),
             "{due}"
         );
     }

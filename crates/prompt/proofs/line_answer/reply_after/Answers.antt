@@ -2,7 +2,7 @@ use Rattle.std.proofs.Common.{string_bytes, subst}
 use Rattle.script_json.specs.Replies.{Reply}
 use Rattle.prompt.specs.Conversation.{IsTextOf}
 use Rattle.prompt.proofs.AnswerKinds.{answered_by}
-use Rattle.prompt.proofs.line_answer.reply_line.Goals as goal
+use Rattle.prompt.proofs.line_answer.reply_after.Goals as goal
 
 pub returns : goal.returns
 returns c =

@@ -2,7 +2,7 @@ use Rattle.std.proofs.Common.{Some, string_bytes, refl, subst, sym}
 use Rattle.script_json.specs.SessionVariants.TheVariants.{Running}
 use Rattle.prompt.specs.Conversation.{CarriedBy, IsTextOf}
 use Rattle.prompt.proofs.AnswerKinds.{answered_carried}
-use Rattle.prompt.proofs.line_answer.carry_line.Goals as goal
+use Rattle.prompt.proofs.line_answer.carry_after.Goals as goal
 
 pub returns : goal.returns
 returns c =
