@@ -72,3 +72,27 @@ def changes(old: Dict[str, Any], new: Dict[str, Any]) -> List[Dict[str, Any]]:
         if row or moves:
             found.append({"key": list(key), "row": row, "moves": moves})
     return sorted(found, key=lambda it: order(it["key"]))
+
+
+def _keys(page: Dict[str, Any]) -> List[List[str]]:
+    return [it["key"] for it in page["rows"]]
+
+
+def changes_by_row(facts: Dict[str, Any], table: str, old: Dict[str, Any], new: Dict[str, Any]) -> List[Dict[str, Any]]:
+    """What a line changed on the rows of two pages of a table, before it and after it, as `changes` says it, from the facts
+    of its answer: the pairs that it put and removed. Rows on neither page are left out."""
+    shown = {tuple(key) for key in _keys(old) + _keys(new)}
+    found: Dict[Tuple[str, ...], Dict[str, Any]] = {}
+    for how in ("put", "removed"):
+        for it in facts[how]:
+            if it["table"] != table or tuple(it["key"]) not in shown:
+                continue
+            row = found.setdefault(tuple(it["key"]), {"key": it["key"], "row": "", "moves": {}})
+            if it["number"] == 0:
+                row["row"] = how
+                continue
+            kind = "pair" if "values" in it else "cell"
+            move = row["moves"].setdefault(it["number"], {"kind": kind, "element": it["number"], "put": None, "removed": None})
+            move[how] = it["values"] if kind == "pair" else it.get("value")
+    rows = [{**row, "moves": list(row["moves"].values())} for row in found.values()]
+    return sorted(rows, key=lambda it: order(it["key"]))

@@ -42,7 +42,9 @@ class Session:
         answer = {"reply": [], "remarks": [KEPT]} if QUITS.fullmatch(line) else self._prompt.ask(line)[0]
         before = self._pages
         state = self._state(line, answer["reply"])
-        changed = {name: pages.changes(before[name], page) for name, page in self._pages.items() if name in before}
+        facts = answer.get("changes")
+        changed = {name: pages.changes_by_row(facts, name, before[name], page) if facts else pages.changes(before[name], page)
+                   for name, page in self._pages.items() if name in before}
         return {"line": line, "number": self._number, "reply": answer["reply"], "remarks": answer["remarks"], "column": answer.get("column"),
                 "refused": answer.get("refused"), "state": state, "changed": {name: it for name, it in changed.items() if it}}
 

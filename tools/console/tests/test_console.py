@@ -104,6 +104,11 @@ class Sessions(unittest.TestCase):
         moves = {(*row["key"], move["kind"], *(move["put"] or ["-"]), *(move["removed"] or ["-"])) for row in answer["changed"]["people"] for move in row["moves"] if move["kind"] == "pair"}
         self.assertEqual({("1", "pair", "'Bonn'", "'Ulm'")}, moves)
 
+    def test_what_a_line_put_and_removed_is_that_of_its_answer(self) -> None:
+        answer = self.run_lines("table t (id int key, a int)", "open", "lease a at 0", "txn a: insert t (1) set a = 5", "txn a: insert t (2); update t (1) set a = 6")
+        self.assertEqual({"t": [{"key": ["1"], "row": "", "moves": [{"kind": "cell", "element": 1, "put": "6", "removed": "5"}]},
+                                {"key": ["2"], "row": "put", "moves": []}]}, answer["changed"])
+
     def test_each_piece_is_known(self) -> None:
         answer = self.run_to("take_back_an_add", "commit first at 30")
         self.assertEqual([True, False, False], [it["ended"] for it in answer["state"]["progress"][0]["pieces"]])
@@ -139,6 +144,14 @@ class Orders(unittest.TestCase):
         left = {"rows": [row(3), row(5)], "next": ["7"]}
         self.assertEqual([(["2"], "put")], [(it["key"], it["row"]) for it in pages.changes(old, came)])
         self.assertEqual([(["1"], "removed")], [(it["key"], it["row"]) for it in pages.changes(old, left)])
+
+    def test_what_a_line_changed_is_said_of_the_rows_that_are_shown(self) -> None:
+        page = {"rows": [{"key": ["1"], "cells": {1: "7"}, "pairs": {2: ["7"]}}], "next": ["2"]}
+        pair = lambda table, key, number, **what: {"table": table, "key": [key], "number": number, **what}  # noqa: E731
+        facts = {"put": [pair("t", "1", 1, value="7"), pair("t", "9", 0), pair("t", "1", 2, values=["7"]), pair("u", "1", 3, value="5")],
+                 "removed": [pair("t", "1", 1, value="6"), pair("t", "1", 2, values=["6"])]}
+        moves = [{"kind": "cell", "element": 1, "put": "7", "removed": "6"}, {"kind": "pair", "element": 2, "put": ["7"], "removed": ["6"]}]
+        self.assertEqual([{"key": ["1"], "row": "", "moves": moves}], pages.changes_by_row(facts, "t", page, page))
 
 
 class Loads(unittest.TestCase):
