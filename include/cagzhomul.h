@@ -40,7 +40,7 @@ extern "C" {
 
 /* The version of this header: a thousand times the major one, and the minor one. A program that was
  * compiled with it works with each library of the same major version that has no lower minor one. */
-#define CAGZHOMUL_VERSION 1002
+#define CAGZHOMUL_VERSION 1003
 
 /* The library's version. */
 uint32_t cagzhomul_version(void);

@@ -166,6 +166,40 @@ cagzhomul_due cagzhomul_layer_due(uint32_t before, const uint8_t *version, size_
 cagzhomul_checked cagzhomul_layer_check(const uint8_t *version, size_t version_length,
                                         const uint8_t *pairs, size_t pairs_length);
 
+/* A check page by page, for a store that is not read whole: a page is read, then what
+ * cagzhomul_layer_check_rows and, after that, cagzhomul_layer_check_given name; the counts of
+ * cagzhomul_layer_check_page, added up over pages that follow one another from the first key of rows
+ * and indexes (no byte) to the end, are those of cagzhomul_layer_check, if all was read at one moment.
+ *
+ * Which ranges a page needs besides its pairs: the rows that its keys name, unless they are all on the
+ * page; a row may be given several times. The page has all pairs from `low` to below `to`, of whatever
+ * length; an empty `to` says that it was read to the end. `pairs` has them by rising key, and what else
+ * it has does not matter. The code is that of pairs of a first key and one after the last.
+ * CAGZHOMUL_OK. Refusals: CAGZHOMUL_ALREADY_OPEN; CAGZHOMUL_BAD_CODE. */
+cagzhomul_layered cagzhomul_layer_check_rows(const uint8_t *version, size_t version_length,
+                                             const uint8_t *pairs, size_t pairs_length,
+                                             const uint8_t *low, size_t low_length,
+                                             const uint8_t *to, size_t to_length,
+                                             cagzhomul_handle *ranges);
+
+/* Which ranges it needs after those, whose pairs are now in `pairs`, too: the pairs that its rows give
+ * indexes and required columns, unless they are on the page. Each is the range of one key: the key, and
+ * the same with a byte 0 after it.
+ * CAGZHOMUL_OK. Refusals as of cagzhomul_layer_check_rows. */
+cagzhomul_layered cagzhomul_layer_check_given(const uint8_t *version, size_t version_length,
+                                              const uint8_t *pairs, size_t pairs_length,
+                                              const uint8_t *low, size_t low_length,
+                                              const uint8_t *to, size_t to_length,
+                                              cagzhomul_handle *ranges);
+
+/* Counts the rows of the page, the pairs that the store lacks for them, and the pairs on the page that it
+ * has too much: `pairs` has those of the page and of all ranges that it needs.
+ * CAGZHOMUL_OK. Refusals: CAGZHOMUL_BAD_CODE; CAGZHOMUL_OUT_OF_MEMORY. */
+cagzhomul_checked cagzhomul_layer_check_page(const uint8_t *version, size_t version_length,
+                                             const uint8_t *pairs, size_t pairs_length,
+                                             const uint8_t *low, size_t low_length,
+                                             const uint8_t *to, size_t to_length);
+
 #ifdef __cplusplus
 }
 #endif

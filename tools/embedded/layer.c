@@ -1,6 +1,7 @@
 /* The engine over a store of this program's own, which does nothing but compare and write: rows are inserted while an
    index enters, under two versions at once; a stale server, a draft that is handed in twice and a piece that was read too
-   long ago are refused; queries find the rows by key, by index and by a walk. Then the index leaves, by whatever is due.
+   long ago are refused; queries find the rows by key, by index and by a walk; checks by pages find what was taken away or
+   put in by hand. Then the index leaves, by whatever is due.
    Each allocation is refused in turn, one in each run: the call that met it answers CAGZHOMUL_OUT_OF_MEMORY, gave
    nothing, and is made again. It prints how many allocations were refused, and ends with 0 if all was as
    include/cagzhomul_layer.h says. */
@@ -241,6 +242,69 @@ static int is_clean(const store *of, const bytes *version, uint64_t rows) {
     return it.status == CAGZHOMUL_OK && it.rows == rows && it.missing == 0 && it.extra == 0;
 }
 
+/* ---- a check page by page */
+
+/* Adds the store's pairs in the ranges of a code to what was read. */
+static void add_ranges(store *to, const store *of, const code *ranges) {
+    reader from = {ranges->bytes + 1, ranges->length ? ranges->length - 1 : 0};
+    for (uint64_t many = get_number(&from, 8); many--;) {
+        bytes low = get_bytes(&from), high = get_bytes(&from);
+        for (size_t at = place_of(of, &low), end = place_of(of, &high); at < end; at++) put(to, &of->pairs[at].key, &of->pairs[at].value);
+    }
+}
+
+/* What a page counts for, of which all pairs were read; what it needs besides is read, too. */
+static cagzhomul_checked check_page(store *read, const store *of, const bytes *version, const bytes *low, const bytes *to) {
+    code pairs = pairs_code(read, 'R', 'X');
+    code rows = GIVES(CAGZHOMUL_OK, 0, cagzhomul_layer_check_rows(version->at, version->length, pairs.bytes, pairs.length, low->at, low->length, to->at, to->length, &handle));
+    add_ranges(read, of, &rows), pairs = pairs_code(read, 'R', 'X');
+    code given = GIVES(CAGZHOMUL_OK, 0, cagzhomul_layer_check_given(version->at, version->length, pairs.bytes, pairs.length, low->at, low->length, to->at, to->length, &handle));
+    add_ranges(read, of, &given), pairs = pairs_code(read, 'R', 'X');
+    cagzhomul_checked it = cagzhomul_layer_check_page(version->at, version->length, pairs.bytes, pairs.length, low->at, low->length, to->at, to->length);
+    if (is_short(it.status)) it = cagzhomul_layer_check_page(version->at, version->length, pairs.bytes, pairs.length, low->at, low->length, to->at, to->length);
+    return it;
+}
+
+/* Whether the pages of three pairs, of which there are so many, and the store as a whole count for these. */
+static int counts(const store *of, const bytes *version, size_t pages, uint64_t rows, uint64_t missing, uint64_t extra) {
+    static store read;
+    cagzhomul_checked sums = {0};
+    bytes low = {{0}, 0}, first = {{'R'}, 1}, last = {{'Y'}, 1};
+    size_t at = place_of(of, &first), end = place_of(of, &last), found = 0;
+    for (; at < end; found++) {
+        bytes to = at + 3 < end ? of->pairs[at + 3].key : (bytes){{0}, 0};
+        for (read.count = 0; at < end && read.count < 3; at++) put(&read, &of->pairs[at].key, &of->pairs[at].value);
+        cagzhomul_checked it = check_page(&read, of, version, &low, &to);
+        check(it.status == CAGZHOMUL_OK, "a page is checked");
+        sums.rows += it.rows, sums.missing += it.missing, sums.extra += it.extra, low = to;
+    }
+    code all = pairs_code(of, 'R', 'X');
+    cagzhomul_checked whole = cagzhomul_layer_check(version->at, version->length, all.bytes, all.length);
+    if (is_short(whole.status)) whole = cagzhomul_layer_check(version->at, version->length, all.bytes, all.length);
+    check(whole.status == CAGZHOMUL_OK && whole.rows == rows && whole.missing == missing && whole.extra == extra, "the store as a whole counts for these");
+    return found == pages && sums.rows == rows && sums.missing == missing && sums.extra == extra;
+}
+
+/* Three rows with a town, of which the first two of the index's pairs are taken away or put under a row that is not there: the one
+   and the other lack their pair, and one pair is of no row. */
+static void check_by_pages(const store *kept, const bytes *version) {
+    static store spoiled;
+    bytes first = {{'X'}, 1}, none = {{0}, 0};
+    check(counts(kept, version, 3, 3, 0, 0), "by pages nothing is missing, and nothing extra");
+    spoiled = *kept;
+    bytes gone = spoiled.pairs[place_of(&spoiled, &first)].key;
+    take(&spoiled, &gone);
+    check(counts(&spoiled, version, 3, 3, 1, 0), "by pages a pair is missing");
+    bytes moved = spoiled.pairs[place_of(&spoiled, &first)].key;
+    take(&spoiled, &moved), moved.at[moved.length - 1] = 9, put(&spoiled, &moved, &none);
+    check(counts(&spoiled, version, 3, 3, 2, 1), "by pages a second one is, and another is extra");
+    code bad = {{0}, 1};
+    cagzhomul_checked it = cagzhomul_layer_check_page(version->at, version->length, bad.bytes, bad.length, none.at, 0, none.at, 0);
+    check((it.status == CAGZHOMUL_BAD_CODE || is_short(it.status)) && it.rows == 0 && it.missing == 0 && it.extra == 0, "bytes that are no pairs are refused");
+    GIVES(CAGZHOMUL_BAD_CODE, 0, cagzhomul_layer_check_rows(version->at, version->length, bad.bytes, bad.length, none.at, 0, none.at, 0, &handle));
+    GIVES(CAGZHOMUL_BAD_CODE, 0, cagzhomul_layer_check_given(bad.bytes, bad.length, bad.bytes, bad.length, none.at, 0, none.at, 0, &handle));
+}
+
 /* What is due, by the control records whose keys begin with a byte from 0 up to `last`, of a plan of which so many steps have been published. */
 static cagzhomul_due due(const store *of, uint32_t before, uint8_t last, const code *plan, uint64_t published) {
     bytes version = record_of(of, key_of(0, before + 1));
@@ -392,6 +456,7 @@ static void play(void) {
     check(rows_found(&kept, &fourth, ask_code(2, 0, "Ulm"), 1) == 2, "the index finds two rows");
     check(rows_found(&kept, &fourth, ask_code(1, 0, ""), 0) == 1 && rows_found(&kept, &fourth, ask_code(1, 9, ""), 0) == 0, "a key finds one row, or none");
     check(is_clean(&kept, &fourth, 3), "nothing is missing, and nothing extra");
+    check_by_pages(&kept, &fourth);
     drop_index(&kept);
     bytes seventh = record_of(&kept, key_of(0, 7));
     check(is_clean(&kept, &seventh, 3) && pairs_code(&kept, 'X', 'X').length == 9, "the index is gone, with all its pairs");

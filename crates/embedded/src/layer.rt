@@ -9,6 +9,7 @@ ghost use Rattle.layer_calls.specs.Queries.{Asks, AsksRows, Answers};
 ghost use Rattle.layer_calls.specs.Changes.{newest_of, Plans, GivesReorgs, Publishes, Closes, Begins};
 ghost use Rattle.layer_calls.specs.Pieces.{PiecesAt};
 ghost use Rattle.layer_calls.specs.Audits.{Audits};
+ghost use Rattle.layer_calls.specs.PageChecks.{PageRows, PageGiven, AuditsPage};
 ghost use Rattle.layer_calls.specs.Dues.{Dues};
 
 use handles::{CheckOutcome, Handle};
@@ -198,4 +199,50 @@ pub extern "C" fn cagzhomul_layer_check(alloc: Global, version: &[u8], pairs: &[
     ensures { Audits version.now pairs.now result }
 {
     layer_calls::check(alloc, version, pairs)
+}
+
+/// `layer_calls::check_rows`.
+#[unsafe(no_mangle)]
+pub extern "C" fn cagzhomul_layer_check_rows(
+    alloc: Global,
+    version: &[u8],
+    pairs: &[u8],
+    low: &[u8],
+    to: &[u8],
+    ranges: &mut Handle,
+) -> LayerOutcome
+    ensures { (answer : Answer) × With GivesVersion (λ v a. With GivesPairs (PageRows v low.now to.now) pairs.now a) version.now answer × Keeps ranges.old.place.value answer result ranges.new.place.value }
+{
+    let answer = layer_calls::check_rows(alloc, version, pairs, low, to);
+    keep(alloc, ranges, answer)
+}
+
+/// `layer_calls::check_given`.
+#[unsafe(no_mangle)]
+pub extern "C" fn cagzhomul_layer_check_given(
+    alloc: Global,
+    version: &[u8],
+    pairs: &[u8],
+    low: &[u8],
+    to: &[u8],
+    ranges: &mut Handle,
+) -> LayerOutcome
+    ensures { (answer : Answer) × With GivesVersion (λ v a. With GivesPairs (PageGiven v low.now to.now) pairs.now a) version.now answer × Keeps ranges.old.place.value answer result ranges.new.place.value }
+{
+    let answer = layer_calls::check_given(alloc, version, pairs, low, to);
+    keep(alloc, ranges, answer)
+}
+
+/// `layer_calls::check_page`.
+#[unsafe(no_mangle)]
+pub extern "C" fn cagzhomul_layer_check_page(
+    alloc: Global,
+    version: &[u8],
+    pairs: &[u8],
+    low: &[u8],
+    to: &[u8],
+) -> CheckOutcome
+    ensures { AuditsPage version.now pairs.now low.now to.now result }
+{
+    layer_calls::check_page(alloc, version, pairs, low, to)
 }

@@ -26,9 +26,9 @@ use typed_calls::{PrepareOutcome, QueryOutcome};
 /// one.
 #[unsafe(no_mangle)]
 pub extern "C" fn cagzhomul_version() -> u32
-    ensures { result ≡ 1002 }
+    ensures { result ≡ 1003 }
 {
-    1002
+    1003
 }
 
 /// `Handle::open`.
