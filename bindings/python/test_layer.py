@@ -294,7 +294,7 @@ class Page(unittest.TestCase):
             name: [next(kind for words, kind in kinds.items() if it.strip().startswith(words)) for it in given.split(",")]
             for name, given in re.findall(r"\bcagzhomul_layer_(\w+)\(([^()]*)\);", header)
         }
-        library = {name: list(getattr(cagzhomul._library, f"cagzhomul_layer_{name}").argtypes) for name in (*calls._PARAMETERS, "check")}
+        library = {name: list(getattr(cagzhomul._library, f"cagzhomul_layer_{name}").argtypes) for name in (*calls._PARAMETERS, "check", "check_page")}
         self.assertEqual(library, functions)
 
     def test_the_example(self) -> None:

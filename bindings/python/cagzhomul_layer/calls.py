@@ -26,7 +26,7 @@ _CODE: List[Any] = [_BYTES, _SIZE]
 _PARAMETERS: Dict[str, List[Any]] = {
     "open": _CODE, "reads": 2 * _CODE, "txn": [_NUMBER, *4 * _CODE], "ranges": 2 * _CODE, "row_ranges": 3 * _CODE, "rows": 3 * _CODE, "plan": 2 * _CODE,
     "publish": [_SMALL, *3 * _CODE], "close": [_SMALL, *_CODE], "begin": [_SMALL, *_CODE, _SMALL, *_CODE], "piece": [*_CODE, _SMALL, *3 * _CODE],
-    "due": [_SMALL, *3 * _CODE, _NUMBER],
+    "due": [_SMALL, *3 * _CODE, _NUMBER], "check_rows": 4 * _CODE, "check_given": 4 * _CODE,
 }
 # what cagzhomul_layer_due says is due, by its number
 ACTS = "nothing", "begin", "close", "publish", "work"
@@ -40,6 +40,7 @@ def _declared() -> None:
             raise ImportError(f"the library has no cagzhomul_layer_{name}: it is older than this module")
         function.restype, function.argtypes = (_Due, parameters) if name == "due" else (_Layered, [*parameters, _HANDLE])
     _library.cagzhomul_layer_check.restype, _library.cagzhomul_layer_check.argtypes = _Checked, 2 * _CODE
+    _library.cagzhomul_layer_check_page.restype, _library.cagzhomul_layer_check_page.argtypes = _Checked, 4 * _CODE
 
 
 _declared()
@@ -85,13 +86,24 @@ def due(before: int, version: bytes, found: Iterable[Pair], steps: Iterable[byte
     return ACTS[done.act], int(done.element), int(done.piece)
 
 
-def check(version: bytes, pairs: Iterable[Pair]) -> cagzhomul.Audit:
-    """Audits all pairs of rows and indexes by a version's record. Raises Refusal."""
-    code = pairs_code(pairs)
-    done = _library.cagzhomul_layer_check(version, len(version), code, len(code))
+def _audit_of(done: _Checked) -> cagzhomul.Audit:
+    """What an audit found. Raises Refusal."""
     if done.status != OK:
         raise Refusal(int(done.status), 0, 0)
     return cagzhomul.Audit(int(done.rows), int(done.missing), int(done.extra))
+
+
+def check(version: bytes, pairs: Iterable[Pair]) -> cagzhomul.Audit:
+    """Audits all pairs of rows and indexes by a version's record. Raises Refusal."""
+    code = pairs_code(pairs)
+    return _audit_of(_library.cagzhomul_layer_check(version, len(version), code, len(code)))
+
+
+def check_page(version: bytes, pairs: Iterable[Pair], low: bytes, to: bytes) -> cagzhomul.Audit:
+    """What the page from `low` to below `to` counts for by a version's record; no bytes are the first key, and the end. The pairs are the
+    page's and all that it needs. Raises Refusal."""
+    code = pairs_code(pairs)
+    return _audit_of(_library.cagzhomul_layer_check_page(version, len(version), code, len(code), low, len(low), to, len(to)))
 
 
 # ---- codes that are written

@@ -22,11 +22,11 @@ from typing import Callable, Dict, Iterator, List, Mapping, Optional, Sequence, 
 import cagzhomul
 from cagzhomul import Audit, Change, Conflict, Key, Query, Row, Schema, Tables, Value
 
-from . import calls
+from . import calls, checks
 from .calls import Refusal, asked, version_key
 from .changes import Act, Operator, versions_of
 from .status import Piece, Status, status_of
-from .store import BadAnswer, Draft, Pair, Range, Refused, Store, Unknown
+from .store import BadAnswer, Draft, Range, Refused, Store, Unknown
 from .txns import Server, Txn, Version, error_of, pause
 
 __all__ = ["Act", "Layer", "Piece", "Status", "TooManyPairs", "Txn", "open"]
@@ -269,16 +269,23 @@ class Layer:
         store alone."""
         return Operator(self._server.store, pieces, limit).resume()
 
-    def check(self) -> Dict[int, Audit]:
-        """Audits all pairs by each open version: how many rows there are, and how many pairs are missing and extra. It reads them in
-        pages, which are of one moment only if nobody writes meanwhile; so it is for a store at rest."""
+    def check(self, limit: int = 1000) -> Dict[int, Audit]:
+        """Audits all pairs by each open version: how many rows there are, and how many pairs are missing and extra.
+
+        It reads pages of up to `limit` pairs, each at one moment with the rows and the pairs that it is judged by, and holds no more.
+        Each page is of another moment: over a store at rest the counts are exact. Beside writers nothing is missing or extra in
+        a sound store, and a row counts if it was there when its page was read. It begins again if a version opens or closes meanwhile.
+
+        Raises TooManyPairs for a row of more pairs than the database's own `limit`; OutOfMemory; what reads of the store do."""
+        if cagzhomul._whole("limit", limit, 63) < 1:
+            raise ValueError("a page of no pairs")
         while True:
             versions = versions_of(self._server.store)
-            pairs: List[Pair] = []
-            low = calls.PAIRS
-            while low < calls.END:
-                page = self._server.store.read([], [Range(low, calls.END, 5000)]).ranges[0]
-                pairs += page.pairs
-                low = page.end
-            if versions == versions_of(self._server.store):
-                return {number: calls.check(record, pairs) for number, record in versions.items()}
+            try:
+                counts = checks.check(self._server.store, versions, limit, self._limit + 1)
+            except checks.RowTooLarge:
+                raise TooManyPairs(self._limit) from None
+            except Refusal as refusal:
+                raise cagzhomul._ERRORS.get(refusal.status, cagzhomul.CagzhomulError)(refusal.status) from None
+            if counts is not None and versions == versions_of(self._server.store):
+                return counts
