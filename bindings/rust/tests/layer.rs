@@ -6,7 +6,7 @@ use cagzhomul::layer::{Draft, Layer, MemoryStore, Store, StoreError};
 use cagzhomul::Type::Int;
 use cagzhomul::{Error, Key, Query, SchemaChange, Table, Value};
 use layer_shared::How::{Gone, Late, Lost};
-use layer_shared::{number, opened, row, sound, tables, Dice, Scripted, TOWNS};
+use layer_shared::{damage_is_counted, number, opened, row, sound, tables, Dice, Scripted, TOWNS};
 use std::cell::Cell;
 
 type Db = Layer<MemoryStore>;
@@ -299,4 +299,12 @@ fn a_query_is_of_one_moment() {
     let of_bonn = Query::of("people").equal("town", "Bonn");
     assert_eq!(reader.query(&of_bonn).unwrap().len(), 10);
     assert_eq!(left.get(), 0);
+}
+
+#[test]
+fn checks_by_pages() {
+    damage_is_counted(MemoryStore::new());
+    let db = opened(3, MemoryStore::new()).limit(1);
+    let limit = 1;
+    assert_eq!(db.check_by(2), Err(Error::TooManyPairs { limit }));
 }

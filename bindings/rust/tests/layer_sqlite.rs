@@ -6,7 +6,7 @@ mod layer_shared;
 use cagzhomul::layer::{Act, Draft, Layer, Page, Pair, Range, SqliteStore, Store, StoreError};
 use cagzhomul::Type::{Int, Text};
 use cagzhomul::{Query, SchemaChange, Table};
-use layer_shared::{change_beside_writers, number, opened, row, sound};
+use layer_shared::{change_beside_writers, damage_is_counted, number, opened, row, sound};
 use std::collections::BTreeSet;
 use std::env;
 use std::fs;
@@ -65,6 +65,12 @@ fn filled(folder: &Folder) -> SqliteStore {
 fn pair(at: usize) -> Pair {
     let key = KEYS[at];
     (key.to_vec(), key.iter().copied().take(1).collect())
+}
+
+#[test]
+fn checks_by_pages_of_a_file() {
+    let folder = Folder::new("checks");
+    damage_is_counted(SqliteStore::open(folder.file()).unwrap());
 }
 
 #[test]

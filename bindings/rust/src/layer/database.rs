@@ -4,20 +4,18 @@ use crate::code;
 use crate::error::Error;
 use crate::layer::acts::{Act, Acts};
 use crate::layer::chance::{self, Mark};
-use crate::layer::codes::{both, draft_of, pairs_code, END, PAIRS};
+use crate::layer::codes::{draft_of, END};
 use crate::layer::draft::{ComparedRange, Draft};
 use crate::layer::ffi;
 use crate::layer::server::{refused, versions_of, Server, PAUSE};
-use crate::layer::store::{bad_answer, read_page, Pair, Range, Store, StoreError};
+use crate::layer::store::{bad_answer, Store, StoreError};
 use crate::layer::txn::Txn;
 use crate::library::check_library;
 use crate::plan::SchemaChange;
 use crate::rows::Row;
 use crate::schema::Schema;
-use crate::snapshot::Check;
 use crate::table::Table;
 use crate::value::{Cells, Key};
-use std::collections::BTreeMap;
 use std::fmt;
 use std::time::{Duration, Instant};
 
@@ -25,8 +23,6 @@ use std::time::{Duration, Instant};
 pub const DEFAULT_LIMIT: usize = 10_000;
 /// How long a transaction whose answer was lost is handed in again, if nothing else is said.
 pub const DEFAULT_PATIENCE: Duration = Duration::from_secs(30);
-/// How many pairs an audit reads at once.
-const AUDITED: usize = 5000;
 
 /// A database over a store that someone else runs. It keeps nothing but the newest version that it
 /// met, so any number of processes may do this at once; and threads may share one.
@@ -270,46 +266,6 @@ impl<S: Store> Layer<S> {
     pub fn resume(&self) -> Acts<'_, S> {
         Acts::resume(&self.server.store)
     }
-
-    /// Audits all pairs by each open version. It reads them in pages, which are of one moment only if
-    /// nobody writes meanwhile; so it is for a store at rest.
-    ///
-    /// Refusals: [`Error::OutOfMemory`]; [`Error::Store`], as reads of the store have it.
-    ///
-    /// ```
-    /// # use cagzhomul::layer::{Layer, MemoryStore};
-    /// # use cagzhomul::{Check, Table, Type};
-    /// # let db = Layer::open(MemoryStore::new(), [Table::new("t").key("id", Type::Int)])?;
-    /// db.insert("t", 1, ())?;
-    /// assert_eq!(db.check()?, [(1, Check { rows: 1, missing: 0, extra: 0 })].into());
-    /// # Ok::<(), cagzhomul::Error>(())
-    /// ```
-    pub fn check(&self) -> Result<BTreeMap<u64, Check>, Error> {
-        let store = &self.server.store;
-        loop {
-            let versions = versions_of(store)?;
-            let pairs = all_pairs(store)?;
-            if versions != versions_of(store)? {
-                continue;
-            }
-            let code = pairs_code(both(&pairs));
-            let audit = |(number, record): (u64, Vec<u8>)| {
-                Ok((number, Check::found(ffi::check(&record, code.as_bytes()))?))
-            };
-            return versions.into_iter().map(audit).collect();
-        }
-    }
-}
-
-/// All pairs of rows and indexes, in pages.
-fn all_pairs<S: Store>(store: &S) -> Result<Vec<Pair>, StoreError> {
-    let (mut pairs, mut low) = (Vec::new(), PAIRS.to_vec());
-    while low[..] < *END {
-        let page = read_page(store, Range::new(&low, END, AUDITED))?;
-        pairs.extend(page.pairs);
-        low = page.end;
-    }
-    Ok(pairs)
 }
 
 /// Opens a database with these tables in an empty store; false if nobody knows whether that was done.

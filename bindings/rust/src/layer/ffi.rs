@@ -162,11 +162,37 @@ unsafe extern "C" {
         plan_length: usize,
         published: u64,
     ) -> DueAct;
-    fn cagzhomul_layer_check(
+    fn cagzhomul_layer_check_rows(
         version: *const u8,
         version_length: usize,
         pairs: *const u8,
         pairs_length: usize,
+        low: *const u8,
+        low_length: usize,
+        to: *const u8,
+        to_length: usize,
+        ranges: *mut RawHandle,
+    ) -> Refusal;
+    fn cagzhomul_layer_check_given(
+        version: *const u8,
+        version_length: usize,
+        pairs: *const u8,
+        pairs_length: usize,
+        low: *const u8,
+        low_length: usize,
+        to: *const u8,
+        to_length: usize,
+        ranges: *mut RawHandle,
+    ) -> Refusal;
+    fn cagzhomul_layer_check_page(
+        version: *const u8,
+        version_length: usize,
+        pairs: *const u8,
+        pairs_length: usize,
+        low: *const u8,
+        low_length: usize,
+        to: *const u8,
+        to_length: usize,
     ) -> Checked;
 }
 
@@ -316,9 +342,44 @@ pub(super) fn due(before: u32, version: &[u8], found: &[u8], plan: &[u8]) -> Opt
     (due.status == OK).then_some(due)
 }
 
-/// The audit of all pairs of rows and indexes by a version.
-pub(super) fn check(version: &[u8], pairs: &[u8]) -> Checked {
+/// The ranges of the rows that the page from `low` to below `to` needs besides its pairs; no bytes are
+/// the first key, and the end.
+pub(super) fn check_rows(
+    version: &[u8],
+    pairs: &[u8],
+    low: &[u8],
+    to: &[u8],
+) -> Result<Given, Refusal> {
+    asked!(cagzhomul_layer_check_rows, [version], [pairs], [low], [to])
+}
+
+/// The ranges of the pairs that its rows give, which it needs after those.
+pub(super) fn check_given(
+    version: &[u8],
+    pairs: &[u8],
+    low: &[u8],
+    to: &[u8],
+) -> Result<Given, Refusal> {
+    asked!(cagzhomul_layer_check_given, [version], [pairs], [low], [to])
+}
+
+/// What the page counts for by a version, of which all was read that it needs.
+pub(super) fn check_page(version: &[u8], pairs: &[u8], low: &[u8], to: &[u8]) -> Checked {
     let (at, length) = (version.as_ptr(), version.len());
-    // SAFETY: both slices, as at the top of `ffi.rs`.
-    unsafe { cagzhomul_layer_check(at, length, pairs.as_ptr(), pairs.len()) }
+    let (low, low_length) = (low.as_ptr(), low.len());
+    let (to, to_length) = (to.as_ptr(), to.len());
+    let (pairs, pairs_length) = (pairs.as_ptr(), pairs.len());
+    // SAFETY: all slices, as at the top of `ffi.rs`.
+    unsafe {
+        cagzhomul_layer_check_page(
+            at,
+            length,
+            pairs,
+            pairs_length,
+            low,
+            low_length,
+            to,
+            to_length,
+        )
+    }
 }

@@ -29,6 +29,7 @@
 
 mod acts;
 mod chance;
+mod checks;
 mod codes;
 mod database;
 mod divisions;

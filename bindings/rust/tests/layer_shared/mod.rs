@@ -6,7 +6,7 @@ use cagzhomul::layer::{
     Act, Acts, Answer, Draft, Layer, Mark, MemoryStore, Range, Store, StoreError,
 };
 use cagzhomul::Type::{Int, Text};
-use cagzhomul::{Error, Query, Row, SchemaChange, Table, Value};
+use cagzhomul::{Check, Error, Query, Row, SchemaChange, Table, Value};
 use std::cell::RefCell;
 use std::collections::{BTreeSet, VecDeque};
 use std::sync::atomic::{AtomicBool, AtomicUsize, Ordering};
@@ -46,6 +46,69 @@ pub fn opened<S: Store>(rows: i64, store: S) -> Layer<S> {
 pub fn sound<S: Store>(db: &Layer<S>) {
     let audits = db.check().unwrap();
     assert!(audits.values().all(|it| it.is_clean()), "{audits:?}");
+}
+
+/// By pages of each of these sizes the newest version has this check.
+fn checks<S: Store>(db: &Layer<S>, due: Check) {
+    for pairs in [1, 2, 3, 7, 1000] {
+        let (_, found) = db.check_by(pairs).unwrap().pop_last().unwrap();
+        assert_eq!(found, due, "by {pairs}");
+    }
+    assert_eq!(db.check().unwrap().pop_last().unwrap().1, due);
+}
+
+/// A check by pages finds what was taken away or put in by hand.
+pub fn damage_is_counted<S: Store>(store: S) {
+    let db = opened(10, store);
+    db.complete(&[SchemaChange::add_index("people", "by_town", ["town"])])
+        .unwrap();
+    let due = |rows, missing, extra| Check {
+        rows,
+        missing,
+        extra,
+    };
+    checks(&db, due(10, 0, 0));
+    let whole = Range {
+        low: b"R".to_vec(),
+        high: b"Y".to_vec(),
+        limit: 1000,
+    };
+    let pairs = db
+        .store()
+        .read(&[], &[whole])
+        .unwrap()
+        .pages
+        .remove(0)
+        .pairs;
+    let write = |key: Vec<u8>, value: Option<Vec<u8>>| {
+        let write = [(key, value)].into();
+        let put = Draft {
+            write,
+            ..Draft::default()
+        };
+        db.store().apply(&put).unwrap();
+    };
+    let index: Vec<_> = pairs.iter().filter(|it| it.0.starts_with(b"X")).collect();
+    assert_eq!(index.len(), 10);
+    // a row without its pair of the index, and then a pair of the row 99, which is not there
+    write(index[0].0.clone(), None);
+    checks(&db, due(10, 1, 0));
+    let mut other = index[1].0.clone();
+    *other.last_mut().unwrap() = 99;
+    write(other, Some(Vec::new()));
+    checks(&db, due(10, 1, 1));
+    // keys of neither kind
+    write(b"\x04".to_vec(), Some(Vec::new()));
+    write(b"\xfe".to_vec(), Some(Vec::new()));
+    checks(&db, due(10, 1, 3));
+    // a key of a row is R, 4 bytes of its table, 9 of the id, and 4 of the column or 0: row 2 has a town, an age
+    // and a pair of the index, which are of no row without its `exists` pair
+    let exists = pairs
+        .iter()
+        .find(|it| it.0.ends_with(b"\x02\0\0\0\0"))
+        .unwrap();
+    write(exists.0.clone(), None);
+    checks(&db, due(9, 1, 6));
 }
 
 pub fn row<S: Store>(db: &Layer<S>, id: i64) -> Option<Row> {
