@@ -161,6 +161,13 @@ typedef struct cagzhomul_queried {
     uint32_t column; /* at CAGZHOMUL_NOT_PUBLIC the number that was named; else 0 */
 } cagzhomul_queried;
 
+/* What a page came to. */
+typedef struct cagzhomul_paged {
+    int32_t status;
+    uint32_t column; /* at CAGZHOMUL_NOT_PUBLIC the number that was named; else 0 */
+    uint32_t more;   /* 1 if the range has further rows that are asked for; else 0 */
+} cagzhomul_paged;
+
 /* What a schema change came to. */
 typedef struct cagzhomul_changed {
     int32_t status;
@@ -370,6 +377,32 @@ cagzhomul_queried cagzhomul_query(cagzhomul_handle *session, uint64_t moment,
  * in place of the four before it. A refusal leaves `rows` as it was. */
 cagzhomul_queried cagzhomul_snapshot_query(cagzhomul_handle *snapshot, const uint8_t *query,
                                            size_t query_length, cagzhomul_handle *rows);
+
+/* Answers a page of a query of the session's world under a lease: the bytes are the request's code,
+ * which has a range of keys, a limit and the query, and the closed handle `rows` then holds the code
+ * of the page's rows: the first, at most as many as the limit says, of those that cagzhomul_query
+ * answers and whose key is in the range, in the order of their primary keys. `more` says whether the
+ * range has further ones. The next page comes after the key of the last row: pages so asked of a
+ * snapshot are together the whole answer in the range. It takes time with the rows that it goes over,
+ * from the range's start to one row more than the page has, and with no others.
+ * CAGZHOMUL_OK. Refusals: as for cagzhomul_query, but that CAGZHOMUL_BAD_COUNT, of a limit that is
+ * not 1 to 1,000, comes after CAGZHOMUL_LEASE_ENDED, and CAGZHOMUL_WRONG_TYPE is also that of a key of
+ * the range with another number of values than the table's key, with a value of another type, or with
+ * null, after those of the query. A refusal leaves `rows` as it was. */
+cagzhomul_paged cagzhomul_query_page(cagzhomul_handle *session, uint64_t moment,
+                                     cagzhomul_handle *lease, const uint8_t *request,
+                                     size_t request_length, cagzhomul_handle *rows);
+
+/* Answers a page of a query of a snapshot, as it was taken, under the schema of the version of the
+ * lease that it was taken under, into the closed handle `rows`, as cagzhomul_query_page does. It takes
+ * no session, so it needs no lock of one. The snapshot stays.
+ * CAGZHOMUL_OK. Refusals: CAGZHOMUL_ALREADY_OPEN, of `rows`; CAGZHOMUL_CLOSED;
+ * CAGZHOMUL_WRONG_KIND; CAGZHOMUL_BAD_CODE; CAGZHOMUL_BAD_COUNT; CAGZHOMUL_NO_TABLE;
+ * CAGZHOMUL_NOT_PUBLIC, with the column, or CAGZHOMUL_WRONG_TYPE, as for cagzhomul_query_page;
+ * CAGZHOMUL_OUT_OF_MEMORY, which may come in place of the five before it. A refusal leaves `rows` as
+ * it was. */
+cagzhomul_paged cagzhomul_snapshot_query_page(cagzhomul_handle *snapshot, const uint8_t *request,
+                                              size_t request_length, cagzhomul_handle *rows);
 
 /* Writes the code of the rows, or of the checkpoint, that the handle holds, from its byte `from` on (the first is 0), as
  * far as it fits in `out`; the bytes of `out` after it stay. Nothing is written if `from` is the

@@ -182,6 +182,18 @@ static inline void cagzhomul_put_query(cagzhomul_writer *to, uint32_t table, siz
     cagzhomul_put_count(to, columns);
 }
 
+/* A request for a page, whose range follows: the key after which the rows come and then the key before
+ * which they end, each optional, with the count of its values and these; after them
+ * cagzhomul_put_paged. */
+static inline void cagzhomul_put_page(cagzhomul_writer *to) { cagzhomul_put_version(to); }
+
+/* After the range of a page: its limit, and a query as in cagzhomul_put_query. */
+static inline void cagzhomul_put_paged(cagzhomul_writer *to, uint32_t limit, uint32_t table, size_t columns) {
+    cagzhomul_put_u32(to, limit);
+    cagzhomul_put_u32(to, table);
+    cagzhomul_put_count(to, columns);
+}
+
 /* The condition that a row has the key of so many values, which follow. */
 static inline void cagzhomul_put_key_is(cagzhomul_writer *to, size_t values) {
     cagzhomul_put_byte(to, 0);

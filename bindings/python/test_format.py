@@ -50,6 +50,19 @@ class Format(unittest.TestCase):
         self.assertEqual(_library.cagzhomul_query(self.session, 5, self.lease, query, len(query), rows).status, 0)
         self.assertEqual(self.held(rows), self.codes["rows"])
 
+    def test_a_page_and_its_rows(self) -> None:
+        page, rows, snapshot = self.codes["page"], _Handle(), _Handle()
+        asked = _library.cagzhomul_query_page(self.session, 5, self.lease, page, len(page), rows)
+        self.assertEqual((asked.status, asked.column, asked.more), (0, 0, 0))
+        self.assertEqual(self.held(rows), self.codes["rows"])
+        self.assertEqual(_library.cagzhomul_snapshot(self.session, 5, self.lease, snapshot), 0)
+        asked = _library.cagzhomul_snapshot_query_page(snapshot, page, len(page), rows)
+        self.assertEqual((asked.status, asked.column, asked.more), (0, 0, 0))
+        self.assertEqual(self.held(rows), self.codes["rows"])
+        for code in (*(page[:length] for length in range(len(page))), page + b"\0"):
+            self.assertEqual(_library.cagzhomul_snapshot_query_page(snapshot, code, len(code), rows).status, 17, code)
+        _library.cagzhomul_close(snapshot)
+
     def test_changes_their_plan_and_all_entries(self) -> None:
         changes, step = self.codes["changes"], self.codes["step"]
         self.assertEqual(self.written_by(_library.cagzhomul_plan, self.session, changes, len(changes)), self.codes["plan"])

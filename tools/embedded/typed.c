@@ -303,6 +303,71 @@ static int snapshot_answers(cagzhomul_handle *snapshot, const code *asked, const
     return has_rows(query_snapshot(snapshot, asked, &rows), &rows, wanted);
 }
 
+static void put_bound(code *to, int64_t key) {
+    put_byte(to, key ? 1 : 0);
+    if (key) put_number(to, 1, 8), put_int(to, key);
+}
+
+/* A page of at most so many rows after a key and before another, of which 0 is none; conditions may follow. */
+static code page_code(int64_t after, int64_t before, uint32_t limit, uint32_t table, uint32_t column, uint64_t conditions) {
+    code it = {0};
+    put_byte(&it, 1), put_bound(&it, after), put_bound(&it, before), put_number(&it, limit, 4);
+    put_number(&it, table, 4), put_number(&it, 1, 8), put_number(&it, column, 4), put_number(&it, conditions, 8);
+    return it;
+}
+
+static cagzhomul_paged page(cagzhomul_handle *session, uint64_t moment, cagzhomul_handle *lease, const code *asked, cagzhomul_handle *rows) {
+    cagzhomul_paged it = cagzhomul_query_page(session, moment, lease, asked->bytes, asked->length, rows);
+    if (!is_short(it.status)) return it;
+    check(it.column == 0 && it.more == 0 && !rows->is_open, "nothing was answered");
+    return cagzhomul_query_page(session, moment, lease, asked->bytes, asked->length, rows);
+}
+
+static cagzhomul_paged page_snapshot(cagzhomul_handle *snapshot, const code *asked, cagzhomul_handle *rows) {
+    cagzhomul_paged it = cagzhomul_snapshot_query_page(snapshot, asked->bytes, asked->length, rows);
+    if (!is_short(it.status)) return it;
+    check(it.column == 0 && it.more == 0 && !rows->is_open, "nothing was answered");
+    return cagzhomul_snapshot_query_page(snapshot, asked->bytes, asked->length, rows);
+}
+
+/* Whether the handle holds the rows of this page, which says so of further ones. */
+static int is_page(cagzhomul_paged it, cagzhomul_handle *rows, const code *wanted, uint32_t more) {
+    cagzhomul_queried asked = {it.status, it.column};
+    return it.more == more && has_rows(asked, rows, wanted);
+}
+
+/* Whether the session under a lease and a snapshot answer this page. */
+static int pages(cagzhomul_handle *session, cagzhomul_handle *lease, cagzhomul_handle *snapshot, const code *asked, const code *wanted, uint32_t more) {
+    cagzhomul_handle rows = {0};
+    int is_it = is_page(page(session, 9, lease, asked, &rows), &rows, wanted, more);
+    return is_it && is_page(page_snapshot(snapshot, asked, &rows), &rows, wanted, more);
+}
+
+/* Rows 1 and 3, page by page: in ranges, and with a condition. */
+static void page_rows(cagzhomul_handle *session, cagzhomul_handle *lease) {
+    cagzhomul_handle snapshot = {0};
+    code all = rows_code(2), first = rows_code(1), last = rows_code(1), none = rows_code(0);
+    put_row(&all, 1, "Bonn"), put_row(&all, 3, "Ulm"), put_row(&first, 1, "Bonn"), put_row(&last, 3, "Ulm");
+    int32_t status = cagzhomul_snapshot(session, 9, lease, &snapshot);
+    if (is_short(status)) status = cagzhomul_snapshot(session, 9, lease, &snapshot);
+    check(status == CAGZHOMUL_OK, "a snapshot");
+    code asked = page_code(0, 0, 1, PEOPLE, TOWN, 0);
+    check(pages(session, lease, &snapshot, &asked, &first, 1), "the first page of one row");
+    asked = page_code(1, 0, 1, PEOPLE, TOWN, 0);
+    check(pages(session, lease, &snapshot, &asked, &last, 0), "the page after it is the last");
+    asked = page_code(3, 0, 1, PEOPLE, TOWN, 0);
+    check(pages(session, lease, &snapshot, &asked, &none, 0), "nothing comes after that");
+    asked = page_code(-5, 4, 1000, PEOPLE, TOWN, 0);
+    check(pages(session, lease, &snapshot, &asked, &all, 0), "keys that no row has are bounds");
+    asked = page_code(1, 3, 9, PEOPLE, TOWN, 0);
+    check(pages(session, lease, &snapshot, &asked, &none, 0), "there is no row between the two");
+    asked = page_code(0, 3, 9, PEOPLE, TOWN, 0);
+    check(pages(session, lease, &snapshot, &asked, &first, 0), "one is before the second");
+    asked = page_code(0, 0, 1, PEOPLE, TOWN, 1), put_equal(&asked, TOWN, "Ulm");
+    check(pages(session, lease, &snapshot, &asked, &last, 0), "a condition passes over the first");
+    check(cagzhomul_close(&snapshot) == CAGZHOMUL_OK, "it is closed");
+}
+
 /* Rows 1 and 3 are in Bonn and Ulm: by their keys and by a scan. */
 static void query_rows(cagzhomul_handle *session, cagzhomul_handle *lease) {
     code all = rows_code(2), first = rows_code(1), last = rows_code(1), none = rows_code(0);
@@ -355,6 +420,7 @@ static void play(void) {
     check(replies(&session, "check", "ok rows 2 missing 0 extra 0\n"), "no pair is missing");
     check(is_log(&session, 6) && is_check(&session, 2, 0, 0), "so do the calls");
     query_rows(&session, &lease);
+    page_rows(&session, &lease);
     add_index(&session, &lease);
     query_by_index(&session);
     cut_log(&session, cagzhomul_log_length(&session).length, 33);
@@ -666,6 +732,68 @@ static void look_at_queries(void) {
     cagzhomul_close(&snapshot), cagzhomul_close(&lease), cagzhomul_close(&session);
 }
 
+/* A page that is refused, of the session under the lease and of a snapshot that was taken under it. */
+static void is_no_page(cagzhomul_handle *session, cagzhomul_handle *lease, cagzhomul_handle *snapshot, const code *asked, int32_t status, uint32_t column) {
+    cagzhomul_handle rows = {0};
+    cagzhomul_paged it = page(session, 5, lease, asked, &rows), taken = page_snapshot(snapshot, asked, &rows);
+    check(it.status == status && it.column == column && it.more == 0 && !rows.is_open, "the page is refused");
+    check(taken.status == status && taken.column == column && taken.more == 0, "that of the snapshot, too");
+}
+
+static void look_at_page_faults(cagzhomul_handle *session, cagzhomul_handle *lease, cagzhomul_handle *snapshot) {
+    code asked = page_code(1, 2, 3, PEOPLE, TOWN, 1);
+    put_equal(&asked, TOWN, "Ulm");
+    for (size_t length = 0; length < asked.length; length++) {
+        code part = asked;
+        part.length = length;
+        is_no_page(session, lease, snapshot, &part, CAGZHOMUL_BAD_CODE, 0);
+    }
+    put_byte(&asked, 0);
+    is_no_page(session, lease, snapshot, &asked, CAGZHOMUL_BAD_CODE, 0);
+    asked = page_code(0, 0, 0, 7, 9, 0);
+    is_no_page(session, lease, snapshot, &asked, CAGZHOMUL_BAD_COUNT, 0);
+    asked = page_code(0, 0, 1001, PEOPLE, TOWN, 0);
+    is_no_page(session, lease, snapshot, &asked, CAGZHOMUL_BAD_COUNT, 0);
+    asked = page_code(0, 0, 1, 7, 9, 0);
+    is_no_page(session, lease, snapshot, &asked, CAGZHOMUL_NO_TABLE, 0);
+    asked = page_code(0, 0, 1, PEOPLE, 9, 0);
+    is_no_page(session, lease, snapshot, &asked, CAGZHOMUL_NOT_PUBLIC, 9);
+    asked = (code){0};
+    put_byte(&asked, 1), put_byte(&asked, 1), put_number(&asked, 1, 8), put_text(&asked, "a"), put_byte(&asked, 0), put_number(&asked, 1, 4);
+    put_number(&asked, PEOPLE, 4), put_number(&asked, 1, 8), put_number(&asked, TOWN, 4), put_number(&asked, 0, 8);
+    is_no_page(session, lease, snapshot, &asked, CAGZHOMUL_WRONG_TYPE, 0);
+    asked = (code){0};
+    put_byte(&asked, 1), put_byte(&asked, 0), put_byte(&asked, 1), put_number(&asked, 0, 8), put_number(&asked, 1, 4);
+    put_number(&asked, PEOPLE, 4), put_number(&asked, 1, 8), put_number(&asked, TOWN, 4), put_number(&asked, 0, 8);
+    is_no_page(session, lease, snapshot, &asked, CAGZHOMUL_WRONG_TYPE, 0);
+}
+
+static int32_t asks_page(cagzhomul_handle *session, uint64_t moment, cagzhomul_handle *lease, cagzhomul_handle *rows) {
+    code asked = page_code(0, 0, 1, PEOPLE, TOWN, 0);
+    return cagzhomul_query_page(session, moment, lease, asked.bytes, asked.length, rows).status;
+}
+
+static int32_t asks_page_of(cagzhomul_handle *snapshot, cagzhomul_handle *rows) {
+    code asked = page_code(0, 0, 1, PEOPLE, TOWN, 0);
+    return cagzhomul_snapshot_query_page(snapshot, asked.bytes, asked.length, rows).status;
+}
+
+/* Pages by leases and of moments that are none, of other kinds, and with faults. */
+static void look_at_pages(void) {
+    cagzhomul_handle session = {0}, lease = {0}, snapshot = {0}, blank = {0}, rows = {0};
+    code opening = opening_code(10, "town");
+    check(asks_page(&session, 5, &lease, &rows) == CAGZHOMUL_CLOSED && asks_page_of(&snapshot, &rows) == CAGZHOMUL_CLOSED, "no lease, no snapshot");
+    check(open_tables(&session, &opening) == CAGZHOMUL_OK && cagzhomul_open(&blank) == CAGZHOMUL_OK, "sessions");
+    check(cagzhomul_lease(&session, 5, &lease).status == CAGZHOMUL_OK && cagzhomul_snapshot(&session, 5, &lease, &snapshot) == CAGZHOMUL_OK, "a snapshot");
+    check(asks_page(&lease, 5, &session, &rows) == CAGZHOMUL_WRONG_KIND && asks_page(&session, 5, &blank, &rows) == CAGZHOMUL_WRONG_KIND, "kinds");
+    check(asks_page_of(&session, &rows) == CAGZHOMUL_WRONG_KIND && asks_page(&blank, 5, &lease, &rows) == CAGZHOMUL_NOT_OPENED, "no world");
+    check(asks_page(&session, 5, &lease, &snapshot) == CAGZHOMUL_ALREADY_OPEN && asks_page_of(&snapshot, &lease) == CAGZHOMUL_ALREADY_OPEN, "not over a lease");
+    check(asks_page(&session, (UINT64_C(1) << 62) + 1, &lease, &rows) == CAGZHOMUL_MOMENT_TOO_LARGE && asks_page(&session, 15, &lease, &rows) == CAGZHOMUL_LEASE_ENDED, "moments");
+    look_at_page_faults(&session, &lease, &snapshot);
+    check(!rows.is_open && asks_page_of(&snapshot, &rows) == CAGZHOMUL_OK && rows.is_open, "there are no rows");
+    cagzhomul_close(&rows), cagzhomul_close(&blank), cagzhomul_close(&snapshot), cagzhomul_close(&lease), cagzhomul_close(&session);
+}
+
 /* A query of what the transaction read that is refused. */
 static void is_unread(cagzhomul_handle *txn, const code *asked, int32_t status, uint32_t column) {
     cagzhomul_handle rows = {0};
@@ -744,6 +872,7 @@ int main(void) {
     look_at_codes();
     look_at_kinds();
     look_at_queries();
+    look_at_pages();
     look_at_reads();
     look_at_schemas();
     return refuse_each(play) | refuse_each(play_reads);

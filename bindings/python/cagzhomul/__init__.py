@@ -54,6 +54,8 @@ __all__ = [
 _MAJOR = 1
 # how many seconds pass between two looks at a clock that is waited for
 _PAUSE = 0.001
+# how many rows a page may have
+_MOST_ROWS = 1000
 _ROOM, _OK, _BAD_LINE, _CLOSED, _NOT_NEXT, _WAITING, _FINISHED = 4096, 0, 1, 2, 9, 10, 11
 _WRONG_STAGE, _BAD_CODE, _BAD_TABLE, _NOT_PUBLIC, _WRONG_TYPE, _DUPLICATE, _NO_ROW, _DEPENDENT, _OVER_LIMIT = 16, 17, 18, 21, 22, 29, 30, 35, 37
 
@@ -79,6 +81,7 @@ class _Written(ctypes.Structure): _fields_ = [("status", _STATUS), ("column", _S
 class _Pieced(ctypes.Structure): _fields_ = [("status", _STATUS), ("ended", ctypes.c_bool), ("place", _NUMBER)]
 class _Progressed(ctypes.Structure): _fields_ = [("status", _STATUS), ("ended", ctypes.c_bool), ("next", _SMALL), ("left", _NUMBER), ("all", _NUMBER)]
 class _Queried(ctypes.Structure): _fields_ = [("status", _STATUS), ("column", _SMALL)]
+class _Paged(ctypes.Structure): _fields_ = [("status", _STATUS), ("column", _SMALL), ("more", _SMALL)]
 class _Checked(ctypes.Structure): _fields_ = [("status", _STATUS), ("rows", _NUMBER), ("missing", _NUMBER), ("extra", _NUMBER)]
 class _Changed(ctypes.Structure): _fields_ = [("status", _STATUS), ("number", _NUMBER)]
 
@@ -93,7 +96,8 @@ _FUNCTIONS: Dict[str, Tuple[Any, List[Any]]] = {
     "operations": (_STATUS, [_HANDLE, _BYTES, _SIZE]), "query_read": (_Queried, [_HANDLE, _BYTES, _SIZE, _HANDLE]),
     "prepare": (_Prepared, [_HANDLE]), "commit": (_Committed, [_HANDLE, _NUMBER, _HANDLE]),
     "query": (_Queried, [_HANDLE, _NUMBER, _HANDLE, _BYTES, _SIZE, _HANDLE]), "rows_from": (_Outcome, [_HANDLE, _SIZE, _BYTES, _SIZE]),
-    "snapshot_query": (_Queried, [_HANDLE, _BYTES, _SIZE, _HANDLE]),
+    "snapshot_query": (_Queried, [_HANDLE, _BYTES, _SIZE, _HANDLE]), "snapshot_query_page": (_Paged, [_HANDLE, _BYTES, _SIZE, _HANDLE]),
+    "query_page": (_Paged, [_HANDLE, _NUMBER, _HANDLE, _BYTES, _SIZE, _HANDLE]),
     "snapshot": (_STATUS, [_HANDLE, _NUMBER, _HANDLE, _HANDLE]), "check": (_Checked, [_HANDLE]), "log_length": (_Outcome, [_HANDLE]),
     "log_start": (_Outcome, [_HANDLE]), "cut": (_STATUS, [_HANDLE, _SIZE]),
     "checkpoint": (_STATUS, [_HANDLE, _HANDLE]), "save": (_STATUS, [_HANDLE, _HANDLE]), "open_checkpoint": (_STATUS, [_HANDLE]), "version": (_SMALL, []), "open_at": (_STATUS, [_HANDLE, _BYTES, _SIZE]),
@@ -148,14 +152,16 @@ class CagzhomulError(Exception):
 
 
 class NotPublic(CagzhomulError):
-    """A named column is not a public column of its table in the lease's version: `column` is its name."""
+    """A named column is not a public column of its table in the lease's version: `column` is its name,
+    and `is_key` is whether it is a key column, which is given by the key alone."""
 
-    def __init__(self, column: Optional[str]) -> None:
-        super().__init__(_NOT_PUBLIC, text_of(_NOT_PUBLIC) + (f": {column}" if column else ""))
-        self.column = column
+    def __init__(self, column: Optional[str], is_key: bool = False) -> None:
+        named = f": {column}" if column else ""
+        super().__init__(_NOT_PUBLIC, text_of(_NOT_PUBLIC) + named + (", which is a key column" if is_key else ""))
+        self.column, self.is_key = column, is_key
 
     def _parts(self) -> Tuple[Any, ...]:
-        return (self.column,)
+        return self.column, self.is_key
 
 
 class _RowRefusal(CagzhomulError):
@@ -478,8 +484,35 @@ def _asked(query: Query) -> _Asked:
 
 
 def _query(asked: _Asked, columns: Iterable[int], names: _Names) -> bytes:
+    return b"\1" + _body(asked, columns, names)
+
+
+def _body(asked: _Asked, columns: Iterable[int], names: _Names) -> bytes:
+    """The code of a query without the version."""
     conditions = [it.kind + (b"" if it.column is None else _number(names.number(asked.table, it.column), 4)) + it.rest for it in asked.conditions]
-    return b"\1" + _number(names.tables.get(asked.table, 0), 4) + _list([_number(it, 4) for it in columns]) + _list(conditions)
+    return _number(names.tables.get(asked.table, 0), 4) + _list([_number(it, 4) for it in columns]) + _list(conditions)
+
+
+class _Range(NamedTuple):
+    """A part of a query's answer: the rows after a key and before another, by their codes, and at most so many."""
+    after: bytes
+    before: bytes
+    limit: int
+
+    def request(self, asked: _Asked, columns: Iterable[int], names: _Names) -> bytes:
+        """The code of a request for the page."""
+        return b"\1" + self.after + self.before + _number(self.limit, 4) + _body(asked, columns, names)
+
+
+def _bound(key: Optional[Key]) -> bytes:
+    return b"\0" if key is None else b"\1" + _key(key)
+
+
+def _range(after: Optional[Key], before: Optional[Key], limit: int) -> _Range:
+    if isinstance(limit, bool) or not isinstance(limit, int):
+        raise TypeError(f"the limit is an int, and not {type(limit).__name__}")
+    # a limit that the code has no room for is as bad as 0
+    return _Range(_bound(after), _bound(before), limit if 0 <= limit < 2**32 else 0)
 
 
 _TYPES: Tuple[Kind, ...] = (int, str, bool)
@@ -845,6 +878,11 @@ class _Names:
         """The numbers of the columns that a query names, or of all public ones."""
         return self.public.get(asked.table, []) if asked.columns is None else [self.number(asked.table, name) for name in asked.columns]
 
+    def not_public(self, asked: _Asked, column: int) -> NotPublic:
+        """That the column of this number, or the first name that its table does not have, is not public."""
+        name = self.by_number[column] if column else self.unknown(asked)
+        return NotPublic(name, name in self.keys.get(asked.table, ()))
+
     def unknown(self, asked: _Asked) -> Optional[str]:
         """The first name in a query that its table does not have."""
         named = (*(asked.columns or ()), *(it.column for it in asked.conditions if it.column is not None))
@@ -857,12 +895,43 @@ def _found(asked: _Asked, names: _Names, ask: Callable[[bytes, _Handle], Any]) -
     try:
         queried = ask(_query(asked, columns, names), rows)
         if queried.status == _NOT_PUBLIC:
-            raise NotPublic(names.by_number[queried.column] if queried.column else names.unknown(asked))
+            raise names.not_public(asked, queried.column)
         # only a text over 1,024 bytes makes a bad code of what this module writes
         _check(_WRONG_TYPE if queried.status == _BAD_CODE else queried.status)
         return _coded_rows(_code_of(rows), names.keys[asked.table], columns, names.by_number)
     finally:
         _library.cagzhomul_close(rows)
+
+
+def _page(asked: _Asked, names: _Names, within: _Range, ask: Callable[[bytes, _Handle], Any]) -> Tuple[List[Row], bool]:
+    """A page of the rows of a query, by a call that answers its request into a closed handle, and whether there are more."""
+    columns, rows = names.columns(asked), _Handle()
+    try:
+        paged = ask(within.request(asked, columns, names), rows)
+        if paged.status == _NOT_PUBLIC:
+            raise names.not_public(asked, paged.column)
+        # only a text over 1,024 bytes makes a bad code of what this module writes
+        _check(_WRONG_TYPE if paged.status == _BAD_CODE else paged.status)
+        return _coded_rows(_code_of(rows), names.keys[asked.table], columns, names.by_number), paged.more == 1
+    finally:
+        _library.cagzhomul_close(rows)
+
+
+def _pages(asked: _Asked, names: _Names, within: _Range, ask: Callable[[bytes, _Handle], Any]) -> Iterator[List[Row]]:
+    """Page after page, each after the last row of the one before; an empty one only if there are no rows at all."""
+    more = True
+    while more:
+        rows, more = _page(asked, names, within, ask)
+        yield rows
+        if more:
+            within = within._replace(after=_bound([rows[-1][name] for name in names.keys[asked.table]]))
+
+
+def _ranged(asked: _Asked, names: _Names, after: Optional[Key], before: Optional[Key], limit: Optional[int], ask: Callable[[bytes, _Handle], Any]) -> List[Row]:
+    """The rows of a query in a range: at most so many, or all if there is no limit."""
+    if limit is None:
+        return [row for rows in _pages(asked, names, _range(after, before, _MOST_ROWS), ask) for row in rows]
+    return _page(asked, names, _range(after, before, limit), ask)[0]
 
 
 def _code_of(rows: _Handle) -> bytes:
@@ -1008,17 +1077,49 @@ class Snapshot(_Audited):
         super().__init__()
         self._names = _names
 
-    def query(self, query: Query) -> List[Row]:
+    def query(self, query: Query, *, after: Optional[Key] = None, before: Optional[Key] = None, limit: Optional[int] = None) -> List[Row]:
         """The rows of a query by rising primary key, each a dict of its key columns and the columns
         that it selects. Other threads may write to the store at the same time.
 
-        Raises Closed; NoTable; of the first faulty column or condition NotPublic or WrongType, but a
-        text that is too long is WrongType before all but Closed; OutOfMemory.
+        With `after` and `before` only those whose key is above the one and below the other: keys of no
+        row do, too. With `limit` at most so many, 1 to 1,000: it takes time with the rows that it goes
+        over, and no longer the more there are after them.
+
+        Raises Closed; BadCount of the limit; NoTable; of the first faulty column or condition NotPublic
+        or WrongType, then WrongType of `after` and `before`, but a text that is too long is WrongType
+        before all but Closed; OutOfMemory.
+
+        >>> for id, town in (1, "Ulm"), (2, "Bonn"), (3, "Ulm"):
+        ...     receipt = lease.insert("people", id, town=town)
+        >>> with db.snapshot(lease, 0) as snapshot:
+        ...     snapshot.query(Query("people"), after=1, limit=1)
+        [{'id': 2, 'town': 'Bonn'}]
         """
-        def ask(code: bytes, rows: _Handle) -> Any:
-            with self._lock:
-                return _library.cagzhomul_snapshot_query(self._handle, code, len(code), rows)
-        return _found(_asked(query), self._names, ask)
+        if after is None and before is None and limit is None:
+            def ask(code: bytes, rows: _Handle) -> Any:
+                with self._lock:
+                    return _library.cagzhomul_snapshot_query(self._handle, code, len(code), rows)
+            return _found(_asked(query), self._names, ask)
+        return _ranged(_asked(query), self._names, after, before, limit, self._ask_page)
+
+    def pages(self, query: Query, *, size: int = 100, after: Optional[Key] = None, before: Optional[Key] = None) -> Iterator[List[Row]]:
+        """The rows of a query in pages of at most so many, 1 to 1,000, each asked after the last row of the
+        one before: together they are what `query` gives. Nothing is asked before the first page is taken.
+        There is one empty page if there are no rows.
+
+        Raises, as a page is taken, what `query` does.
+
+        >>> for id in 1, 2, 3:
+        ...     receipt = lease.insert("people", id)
+        >>> with db.snapshot(lease, 0) as snapshot:
+        ...     [[row["id"] for row in page] for page in snapshot.pages(Query("people"), size=2)]
+        [[1, 2], [3]]
+        """
+        return _pages(_asked(query), self._names, _range(after, before, size), self._ask_page)
+
+    def _ask_page(self, code: bytes, rows: _Handle) -> Any:
+        with self._lock:
+            return _library.cagzhomul_snapshot_query_page(self._handle, code, len(code), rows)
 
 
 class Session(_Audited):
@@ -1514,6 +1615,13 @@ class _Grant(_Owner):
                 return _library.cagzhomul_query(db._handle, moment, self._handle, code, len(code), rows)
         return _found(asked, self._names, ask)
 
+    def ranged(self, db: Db, moment: int, asked: _Asked, after: Optional[Key], before: Optional[Key], limit: Optional[int]) -> List[Row]:
+        """The same of a range, at most so many."""
+        def ask(code: bytes, rows: _Handle) -> Any:
+            with self._lock, db._lock:
+                return _library.cagzhomul_query_page(db._handle, moment, self._handle, code, len(code), rows)
+        return _ranged(asked, self._names, after, before, limit, ask)
+
 
 class Lease(_Grant):
     """A lease on a version, by `Db.lease`: until it ends, transactions and queries may run under it,
@@ -1607,19 +1715,23 @@ class Lease(_Grant):
             raise Closed(_CLOSED)
         return self.rows(self._db, _at(now), _query_of(query))
 
-    def find(self, query: Query, now: Optional[Moment] = None) -> List[Row]:
-        """The rows of a query as `Snapshot.query` gives them, at this moment or that of the lease.
+    def find(self, query: Query, now: Optional[Moment] = None, *, after: Optional[Key] = None, before: Optional[Key] = None, limit: Optional[int] = None) -> List[Row]:
+        """The rows of a query as `Snapshot.query` gives them, at this moment or that of the lease. Without
+        a limit a range is read in more than one call, and other threads may write between them.
 
-        Raises Closed, MomentTooLarge, BadLease, LeaseEnded, NoTable; of the first faulty column or
-        condition NotPublic or WrongType, but a text that is too long is WrongType before all but
-        Closed; OutOfMemory.
+        Raises Closed, MomentTooLarge, BadLease, LeaseEnded, BadCount of the limit, NoTable; of the first
+        faulty column or condition NotPublic or WrongType, then WrongType of `after` and `before`, but a
+        text that is too long is WrongType before all but Closed; OutOfMemory.
 
         >>> lease.insert("people", 1, town="Ulm")
         Receipt(place=2)
         >>> lease.find(Query("people", between={"town": ("A", None)}))
         [{'id': 1, 'town': 'Ulm'}]
         """
-        return self.rows(self._db, _at(self._now if now is None else now), _asked(query))
+        moment, asked = _at(self._now if now is None else now), _asked(query)
+        if after is None and before is None and limit is None:
+            return self.rows(self._db, moment, asked)
+        return self.ranged(self._db, moment, asked, after, before, limit)
 
 
 class Txn(_Owner):
@@ -1638,6 +1750,7 @@ class Txn(_Owner):
         self._lease, self._now = lease, now
         self._operations: List[bytes] = []
         self._unknown: Optional[str] = None
+        self._is_key_named = False
         # rows by their code: those that were got, with what they held, and those that operations write
         self._got: Dict[bytes, Optional[Row]] = {}
         self._written: Set[bytes] = set()
@@ -1711,6 +1824,7 @@ class Txn(_Owner):
             self._written.add(row)
             if self._unknown is None:
                 self._unknown = next((column for column in cells or () if not names.number(table, column)), None)
+                self._is_key_named = self._unknown in names.keys.get(table, ())
         return self
 
     def prepare(self) -> Txn:
@@ -1761,7 +1875,7 @@ class Txn(_Owner):
     def _accept(self, status: int, column: int) -> None:
         """Raises what a refused preparation does."""
         if status == _NOT_PUBLIC:
-            raise NotPublic(self._lease._names.by_number.get(column) if column else self._unknown)
+            raise NotPublic(self._lease._names.by_number.get(column) if column else self._unknown, not column and self._is_key_named)
         _check(status)
 
     def _received(self, status: int, place: int, operation: int) -> Receipt:

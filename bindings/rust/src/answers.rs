@@ -106,6 +106,15 @@ pub(crate) struct Queried {
     pub(crate) column: u32,
 }
 
+/// `cagzhomul_paged`.
+#[repr(C)]
+#[derive(Clone, Copy)]
+pub(crate) struct Paged {
+    pub(crate) status: i32,
+    pub(crate) column: u32,
+    pub(crate) more: u32,
+}
+
 /// `cagzhomul_checked`.
 #[repr(C)]
 #[derive(Clone, Copy)]

@@ -1,5 +1,6 @@
 //! Tables, queries, changes and values as bytes, as `crates/entry_code` describes them.
 
+use crate::pages::KeyRange;
 use crate::plan::{SchemaChange, State};
 use crate::query::Condition;
 use crate::table::{Table, Type};
@@ -114,6 +115,22 @@ impl Code {
         }
     }
 
+    fn query(
+        &mut self,
+        table: u32,
+        columns: &[u32],
+        conditions: &[Condition],
+        number: impl Fn(&str) -> u32,
+    ) {
+        self.small_number(table);
+        self.count(columns.len());
+        columns.iter().for_each(|column| self.small_number(*column));
+        self.count(conditions.len());
+        for condition in conditions {
+            self.condition(condition, &number);
+        }
+    }
+
     fn columns(&mut self, columns: &[(String, Type)]) {
         self.count(columns.len());
         for (name, kind) in columns {
@@ -185,13 +202,26 @@ pub(crate) fn query(
     number: impl Fn(&str) -> u32,
 ) -> Code {
     let mut code = Code::new();
-    code.small_number(table);
-    code.count(columns.len());
-    columns.iter().for_each(|column| code.small_number(*column));
-    code.count(conditions.len());
-    for condition in conditions {
-        code.condition(condition, &number);
+    code.query(table, columns, conditions, number);
+    code
+}
+
+/// The code of a request for a page: its range and its limit, and then the query.
+pub(crate) fn page(
+    range: &KeyRange,
+    limit: u32,
+    table: u32,
+    columns: &[u32],
+    conditions: &[Condition],
+    number: impl Fn(&str) -> u32,
+) -> Code {
+    let mut code = Code::new();
+    for key in [&range.after, &range.before] {
+        code.byte(u8::from(key.is_some()));
+        key.iter().for_each(|key| code.key(key));
     }
+    code.small_number(limit);
+    code.query(table, columns, conditions, number);
     code
 }
 

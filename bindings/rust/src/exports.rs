@@ -94,6 +94,20 @@ unsafe extern "C" {
         length: usize,
         rows: *mut RawHandle,
     ) -> Queried;
+    pub(crate) fn cagzhomul_query_page(
+        session: *mut RawHandle,
+        moment: u64,
+        lease: *mut RawHandle,
+        request: *const u8,
+        length: usize,
+        rows: *mut RawHandle,
+    ) -> Paged;
+    pub(crate) fn cagzhomul_snapshot_query_page(
+        snapshot: *mut RawHandle,
+        request: *const u8,
+        length: usize,
+        rows: *mut RawHandle,
+    ) -> Paged;
     pub(crate) fn cagzhomul_rows_from(
         rows: *mut RawHandle,
         from: usize,

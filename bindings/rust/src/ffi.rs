@@ -152,6 +152,27 @@ impl Handle {
         unsafe { cagzhomul_snapshot_query(self.raw(), query.as_ptr(), query.len(), rows.raw()) }
     }
 
+    /// Answers a page of this session's world under a lease, by the code of its request, into a closed
+    /// handle.
+    pub(crate) fn query_page(
+        &mut self,
+        moment: u64,
+        lease: &mut Handle,
+        request: &[u8],
+        rows: &mut Handle,
+    ) -> Paged {
+        let (at, length) = (request.as_ptr(), request.len());
+        // SAFETY: the three handles and the slice, as at the top of this file.
+        unsafe { cagzhomul_query_page(self.raw(), moment, lease.raw(), at, length, rows.raw()) }
+    }
+
+    /// Answers a page of this snapshot, by the code of its request, into a closed handle.
+    pub(crate) fn snapshot_query_page(&mut self, request: &[u8], rows: &mut Handle) -> Paged {
+        let (at, length) = (request.as_ptr(), request.len());
+        // SAFETY: both handles and the slice, as at the top of this file.
+        unsafe { cagzhomul_snapshot_query_page(self.raw(), at, length, rows.raw()) }
+    }
+
     /// Writes as much of the code of these rows to `out` as fits, from this byte on.
     pub(crate) fn rows_from(&mut self, from: usize, out: &mut [u8]) -> Outcome {
         // SAFETY: the handle and the slice, as at the top of this file.

@@ -4,6 +4,7 @@ use crate::db::Db;
 use crate::error::Error;
 use crate::ffi::{Granted, Handle};
 use crate::names::Names;
+use crate::pages::{find_page, KeyRange, Page};
 use crate::query::{find, Query};
 use crate::rows::Row;
 use crate::schema::Schema;
@@ -231,6 +232,24 @@ impl<'db> Lease<'db> {
     /// ```
     pub fn find(&self, now: u64, query: &Query) -> Result<Vec<Row>, Error> {
         self.grant.find(self.db.session(), now, query)
+    }
+
+    /// A page of the rows of a query, as [`Snapshot::page`] gives it: the first, at most as many as
+    /// `limit` says, 1 to 1,000, of those whose key is in the range.
+    ///
+    /// Refusals: as for [`find`](Lease::find), but that [`Error::BadCount`] of the limit comes after
+    /// [`Error::LeaseEnded`].
+    pub fn page(
+        &self,
+        now: u64,
+        query: &Query,
+        range: &KeyRange,
+        limit: u32,
+    ) -> Result<Page, Error> {
+        find_page(query, range, limit, self.names(), |code, rows| {
+            let mut session = self.db.session().lock();
+            session.query_page(now, &mut self.lock(), code, rows)
+        })
     }
 
     /// What the store holds now, for queries and audits that need no lock of it.

@@ -4,6 +4,7 @@ use crate::code::{self, Code};
 use crate::error::Error;
 use crate::ffi::{self, Handle, Queried};
 use crate::names::Names;
+use crate::pages::KeyRange;
 use crate::rows::{rows_of, Row};
 use crate::session::fetch;
 use crate::value::{Key, Value};
@@ -117,6 +118,13 @@ impl Query {
         let number = |column: &str| names.element(&self.table, column);
         let (table, columns) = (names.table(&self.table), self.selected(names));
         code::query(table, &columns, &self.conditions, number)
+    }
+
+    /// The code of a request for a page of it in a version.
+    pub(crate) fn request(&self, range: &KeyRange, limit: u32, names: &Names) -> Code {
+        let number = |column: &str| names.element(&self.table, column);
+        let (table, columns) = (names.table(&self.table), self.selected(names));
+        code::page(range, limit, table, &columns, &self.conditions, number)
     }
 
     /// Why it was refused, by the status and the number of a column beside it.

@@ -3,6 +3,7 @@
 use crate::error::Error;
 use crate::ffi::{Checked, Handle};
 use crate::names::Names;
+use crate::pages::{find_page, KeyRange, Page, Pages};
 use crate::query::{find, Query};
 use crate::rows::Row;
 use crate::session::done;
@@ -81,6 +82,48 @@ impl Snapshot {
         find(query, &self.names, |code, rows| {
             self.lock().snapshot_query(code, rows)
         })
+    }
+
+    /// A page of the rows of a query: the first, at most as many as `limit` says, 1 to 1,000, of those
+    /// whose key is in the range, by rising primary key.
+    ///
+    /// Refusals: [`Error::BadCount`] of the limit; then those of [`query`](Snapshot::query);
+    /// [`Error::WrongType`] of the range comes after the query's own.
+    ///
+    /// ```
+    /// # use cagzhomul::{Db, KeyRange, Query, Table, Type};
+    /// # let db = Db::open([Table::new("t").key("id", Type::Int)])?;
+    /// # let lease = db.lease(0)?;
+    /// # lease.txn().insert("t", 1, ()).insert("t", 2, ()).insert("t", 3, ()).commit(0)?;
+    /// let page = lease.snapshot(0)?.page(&Query::of("t"), &KeyRange::all().after(1), 1)?;
+    /// assert_eq!((page.rows[0].key(), page.more), (&[2.into()][..], true));
+    /// # Ok::<(), cagzhomul::Error>(())
+    /// ```
+    pub fn page(&self, query: &Query, range: &KeyRange, limit: u32) -> Result<Page, Error> {
+        find_page(query, range, limit, &self.names, |code, rows| {
+            self.lock().snapshot_query_page(code, rows)
+        })
+    }
+
+    /// The rows of a query in a range in pages of at most so many, each asked after the last row of the
+    /// one before: together they are the whole answer in the range. There is one empty page if there
+    /// are no rows, and none after a refusal, which is as of [`page`](Snapshot::page).
+    ///
+    /// ```
+    /// # use cagzhomul::{Db, KeyRange, Query, Table, Type};
+    /// # let db = Db::open([Table::new("t").key("id", Type::Int)])?;
+    /// # let lease = db.lease(0)?;
+    /// # lease.txn().insert("t", 1, ()).insert("t", 2, ()).insert("t", 3, ()).commit(0)?;
+    /// let snapshot = lease.snapshot(0)?;
+    /// let mut lengths = Vec::new();
+    /// for rows in snapshot.pages(&Query::of("t"), &KeyRange::all(), 2) {
+    ///     lengths.push(rows?.len());
+    /// }
+    /// assert_eq!(lengths, [2, 1]);
+    /// # Ok::<(), cagzhomul::Error>(())
+    /// ```
+    pub fn pages<'a>(&'a self, query: &'a Query, range: &KeyRange, size: u32) -> Pages<'a> {
+        Pages::of(self, query, range.clone(), size)
     }
 
     /// Audits all of its pairs, which takes time with their number.

@@ -6,6 +6,7 @@
 mod changes;
 mod layer;
 mod logs;
+mod pages;
 
 ghost use Rattle.std.specs.Prelude.{◌≡◌};
 ghost use Rattle.handles.specs.Calls.{Opens, RepliesTo, RepliesFrom, Closes, ShowsText};

@@ -25,5 +25,6 @@ pub mod Snapshots
 pub mod Cuts
 pub mod Checkpoints
 pub mod Queries
+pub mod Pages
 pub mod Writes
 pub mod Schemas

@@ -22,6 +22,7 @@ pub mod Snapshots
 pub mod Cuts
 pub mod Checkpoints
 pub mod Queries
+pub mod Pages
 pub mod ReadQueries
 pub mod inner
 pub mod Changes
