@@ -1,5 +1,5 @@
 -- Pages that follow one another come to the audit of the store.
-use Rattle.std.proofs.Common.{◌≡◌, ℕ, ◌+◌, ◌&&◌, Bool, true, false, not, cond, List, [], ◌∷◌, Option, Some, None, refl, sym, ap, subst, ◌∙◌, arith, add-zero, true≢false}
+use Rattle.std.proofs.Common.{◌≡◌, ℕ, ◌+◌, ◌≤◌, ◌&&◌, Bool, true, false, not, cond, List, [], ◌∷◌, Option, Some, None, refl, sym, ap, subst, ◌∙◌, arith, add-zero, true≢false}
 use Rattle.std.specs.Prelude.{count_by, sum_by}
 use Rattle.std.specs.FinMap as map
 use Rattle.std.specs.Ordering.{is_le, is_lt}
@@ -13,7 +13,7 @@ use Rattle.audit.specs.declared.report.CheckReport.{CheckReport}
 use Rattle.audit.specs.Audit.{Pair, IsAudit, is_exists_pair, missing_beside, has_reason}
 use Rattle.page_check.specs.Page.{is_on_page, on_page, page_of, IsPageAudit}
 use Rattle.page_check.specs.Needs.{IsPageRead}
-use Rattle.page_check.specs.Whole.{CheckedPage, IsChecked, AreChecked, total, PagesAreTheAudit}
+use Rattle.page_check.specs.Whole.{CheckedPage, IsChecked, AreChecked, total, PagesAreTheAudit, NoPageCountsMore}
 use Rattle.page_check.proofs.Same.{page_same}
 
 -- ---- a part of the store, and what comes after
@@ -50,6 +50,23 @@ module _ (f : Pair → ℕ) where
     where
       parts : (a b c x y z p q r : ℕ) → a ≡ x + p → b ≡ y + q → c ≡ z + r → x ≡ y + z → p ≡ q + r → a ≡ b + c
       parts a b c x y z p q r e f g h i = omega (arith, e, f, g, h, i)
+
+at_most : (b : Bool) (n : ℕ) → cond b n 0 ≤ n
+at_most true n = omega arith
+at_most false n = omega arith
+
+-- a page is a part of the store
+part : (f : Pair → ℕ) (low : Bytes) (to : Option Bytes) (es : List Pair) → sum_by f (on_page low to es) ≤ sum_by f es
+part f low to [] = omega arith
+part f low to (e ∷ es) =
+    let whole : sum_by f (e ∷ es) ≡ f e + sum_by f es = sum_by-cons f e es in
+    let here : sum_by f (on_page low to (e ∷ es)) ≡ cond (is_on_page low to e.0) (f e) 0 + sum_by f (on_page low to es) = taken f (is_on_page low to e.0) e (on_page low to es) in
+    let own : cond (is_on_page low to e.0) (f e) 0 ≤ f e = at_most (is_on_page low to e.0) (f e) in
+    let rest = part f low to es in
+    within _ _ _ _ _ _ whole here own rest
+  where
+    within : (a b x y p q : ℕ) → a ≡ x + p → b ≡ y + q → y ≤ x → q ≤ p → b ≤ a
+    within a b x y p q e f g h = omega (arith, e, f, g, h)
 
 not_below : (key : Bytes) → is_on_page [] None key ≡ true
 not_below [] = refl
@@ -94,3 +111,14 @@ pages_are_the_audit version store pages sound h =
     let all : IsPageAudit version store (map.entries store) (total pages) =
     subst (λ (pairs : List Pair). IsPageAudit version store pairs (total pages)) (all_from (map.entries store)) (pages_from version sound store [] pages h) in
     record { rows = all.rows; missing = all.missing; extra = all.extra }
+
+pub no_page_counts_more : NoPageCountsMore
+no_page_counts_more version store low page report sound h audit =
+    let own : IsPageAudit version store (page_of store low page.to) page.report = one_page version sound store low page h in (
+      less _ _ _ _ own.rows audit.rows (part (λ pair. cond (is_exists_pair pair) 1 0) low page.to (map.entries store)),
+      less _ _ _ _ own.missing audit.missing (part (missing_beside version store) low page.to (map.entries store)),
+      less _ _ _ _ own.extra audit.extra (part (λ pair. cond (not (has_reason version store pair)) 1 0) low page.to (map.entries store)),
+    )
+  where
+    less : (a b p q : ℕ) → a ≡ p → b ≡ q → p ≤ q → a ≤ b
+    less a b p q e f g = omega (arith, e, f, g)

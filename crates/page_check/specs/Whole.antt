@@ -1,6 +1,6 @@
--- Cited by the contracts of lemma_ranges_are_enough, lemma_pages_are_the_audit.
+-- Cited by the contracts of lemma_ranges_are_enough, lemma_pages_are_the_audit, lemma_no_page_counts_more.
 -- Pages that follow one another, and what they count for together.
-use Rattle.std.specs.Prelude.{◌≡◌, ◌+◌, true, List, [], ◌∷◌, Option, Some, None}
+use Rattle.std.specs.Prelude.{◌≡◌, ◌≤◌, ◌+◌, true, List, [], ◌∷◌, Option, Some, None}
 use Rattle.std.specs.Ordering.{is_le}
 use Rattle.keycode.specs.Order.{bytes_cmp}
 use Rattle.row_map.specs.Rows.{Bytes, Pairs}
@@ -42,3 +42,8 @@ total (page ∷ pages) = record { rows = page.report.rows + (total pages).rows; 
 -- the pages from the first key on are the audit of the store
 abbrev pub PagesAreTheAudit : Type 0
 PagesAreTheAudit = (version : Version) (store : Pairs) (pages : List CheckedPage) → IsSoundVersion version → AreChecked version store [] pages → IsAudit version store (total pages)
+
+-- a page of a store has no more rows, missing pairs and extra pairs than the store
+abbrev pub NoPageCountsMore : Type 0
+NoPageCountsMore = (version : Version) (store : Pairs) (low : Bytes) (page : CheckedPage) (report : CheckReport) → IsSoundVersion version → IsChecked version store low page → IsAudit version store report
+    → (page.report.rows ≤ report.rows) × (page.report.missing ≤ report.missing) × (page.report.extra ≤ report.extra)

@@ -1,5 +1,5 @@
 //! What pages come to, each a function whose contract says it: calling it does nothing.
-ghost use Rattle.page_check.specs.Whole.{PagesAreTheAudit, RangesAreEnough};
+ghost use Rattle.page_check.specs.Whole.{NoPageCountsMore, PagesAreTheAudit, RangesAreEnough};
 
 /// The ranges that `row_ranges` and `given_ranges` give are all that a page needs: each row that its
 /// keys name, and the key of each pair that its rows give indexes and required columns.
@@ -16,4 +16,10 @@ pub fn lemma_ranges_are_enough()
 /// What was read for a page may be of the page alone; what else it has does not matter.
 pub fn lemma_pages_are_the_audit()
     ensures { PagesAreTheAudit }
+{}
+
+/// No page has more missing or extra pairs than the store that it was read of. So pages that are each
+/// read at a moment of their own, with what they need, count none of a store that has none at any.
+pub fn lemma_no_page_counts_more()
+    ensures { NoPageCountsMore }
 {}

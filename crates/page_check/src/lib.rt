@@ -10,6 +10,6 @@ mod needs;
 mod page;
 mod reason;
 
-pub use laws::{lemma_pages_are_the_audit, lemma_ranges_are_enough};
+pub use laws::{lemma_no_page_counts_more, lemma_pages_are_the_audit, lemma_ranges_are_enough};
 pub use needs::{given_ranges, row_ranges};
 pub use page::check_page;
