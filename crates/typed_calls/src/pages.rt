@@ -69,7 +69,14 @@ fn page_world(
 ) -> Result<CodedPage, QueryOutcome>
     ensures { PagesWorld world.now moment lease.now asked.now result }
 {
-    match world.query_page(alloc, moment, lease, &asked.query, &asked.range, asked.limit) {
+    match world.query_page(
+        alloc,
+        moment,
+        lease,
+        &asked.query,
+        &asked.range,
+        asked.limit,
+    ) {
         Ok(page) => coded(alloc, &page),
         Err(refusal) => Err(page_refusal(refusal)),
     }
