@@ -13,7 +13,7 @@ from prompt import Prompt
 
 STATES = ("absent", "delete_only", "write_only", "public")
 QUITS = re.compile(r" *(quit|exit|\. *quit) *|\\q")
-QUESTIONS = ("status", "describe", "leases", "progress", "timeline", "check")
+QUESTIONS = ("status", "describe", "leases", "progress", "timeline")
 KEPT = "the console keeps its session; Start again begins a new one"
 
 
@@ -41,8 +41,9 @@ class Session:
         self._number += 1
         answer = {"reply": [], "remarks": [KEPT]} if QUITS.fullmatch(line) else self._prompt.ask(line)[0]
         before = self._pages
-        state = self._state(line, answer["reply"])
         facts = answer.get("changes")
+        # an answer in a world of many rows has `changes` null: what goes over all pairs is not asked there
+        state = self._state(line, answer["reply"], "changes" in answer and facts is None)
         changed = {name: pages.changes_by_row(facts, name, before[name], page) if facts else pages.changes(before[name], page)
                    for name, page in self._pages.items() if name in before}
         return {"line": line, "number": self._number, "reply": answer["reply"], "remarks": answer["remarks"], "column": answer.get("column"),
@@ -64,8 +65,8 @@ class Session:
         [answer] = self._prompt.ask("describe")
         return answer["facts"]["tables"] if "facts" in answer else []
 
-    def _state(self, line: str, reply: List[str]) -> Dict[str, Any]:
-        status, described, leases, progress, timeline, check = self._prompt.ask(*QUESTIONS)
+    def _state(self, line: str, reply: List[str], is_large: bool) -> Dict[str, Any]:
+        status, described, leases, progress, timeline = self._prompt.ask(*QUESTIONS)
         if "facts" not in described:
             return {"open": False}
         state: Dict[str, Any] = {"open": True, **json.loads(status["reply"][0]), "tables": described["facts"]["tables"]}
@@ -75,7 +76,8 @@ class Session:
         self._keep_leases(leases["facts"]["leases"])
         self._keep_write(line, reply)
         self._moment = state["moment"]
-        audit = re.fullmatch(r"ok rows (\d+) missing (\d+) extra (\d+)", check["reply"][0])
+        check = [] if is_large else self._prompt.ask("check")[0]["reply"]
+        audit = re.fullmatch(r"ok rows (\d+) missing (\d+) extra (\d+)", check[0]) if check else None
         state.update(length=timeline["facts"]["length"], progress=progress["facts"]["progress"], names=dict(self._names), versions=list(self._versions),
                      leases=[dict(it) for it in self._leases.values()], writes=list(self._writes), pages=self._read_pages(state["tables"]),
                      audit=dict(zip(("rows", "missing", "extra"), map(int, audit.groups()))) if audit else None)

@@ -10,5 +10,5 @@ use Rattle.prompt.specs.declared.state.PromptState.{PromptState}
 
 -- Nothing is declared; or a session is opened at a checkpoint: no server has a lease, nothing is prepared, and no plan is kept.
 abbrev pub start_at : Option Checkpoint → PromptState
-start_at None = record { session = empty; declared = [] }
-start_at (Some c) = record { session = Running (record { world = opened c; leases = map.empty; pending = map.empty; plan = [] }); declared = [] }
+start_at None = record { session = empty; declared = []; gone = [] }
+start_at (Some c) = record { session = Running (record { world = opened c; leases = map.empty; pending = map.empty; plan = [] }); declared = []; gone = [] }

@@ -1,6 +1,7 @@
 //! What an answer has in JSON besides its reply and remarks.
 use crate::form::Form;
 use crate::try_line::{tried, try_column};
+use keycode::Text;
 use script_hints::bad_column;
 use script_json::script_session::{Opened, Session};
 use script_json::{Details, PairsBefore, changes_text, facts_of};
@@ -59,6 +60,7 @@ pub(crate) fn reply_details(
 pub(crate) fn view_details(
     alloc: Global,
     session: &Session,
+    gone: &[(u32, Text)],
     line: &str,
     form: Form,
 ) -> Result<Details, AllocError> {
@@ -66,7 +68,7 @@ pub(crate) fn view_details(
     if form.is_json() {
         match tried(line) {
             Some(line) => details.column = try_column(alloc, session, line)?,
-            None => details.facts = facts_of(alloc, session, line)?,
+            None => details.facts = facts_of(alloc, session, gone, line)?,
         }
     }
     Ok(details)

@@ -7,6 +7,7 @@ mod conversation;
 mod details;
 mod fault;
 mod form;
+mod gone;
 mod handover;
 mod line_answer;
 mod line_text;

@@ -10,6 +10,7 @@ ghost use Rattle.prompt.specs.Undo.{is_undo};
 use crate::carry::{CarryLine, carry_of, carry_on};
 use crate::details::{carry_details, no_details, pairs_before, reply_details, view_details};
 use crate::form::Form;
+use crate::gone::{keep_gone, keep_gone_of, newest_of};
 use crate::line_text::{LineAnswer, answer_of};
 use crate::log_cut::{cut_log, cut_text, is_cut};
 use crate::moment::{given_line, is_foreign, is_view};
@@ -17,6 +18,9 @@ use crate::save::{Files, is_save, saved_text};
 use crate::state::PromptState;
 use crate::try_line::{tried, try_text};
 use crate::undo::{is_undo, keep_declared, take_back, taken_text};
+use collections::ArcValue;
+use keycode::Text;
+use schema_version::Schema;
 use script_hints::{Before, view_of};
 use script_json::PairsBefore;
 use script_json::script_progress::plan_dropped;
@@ -24,13 +28,14 @@ use script_json::script_session::Session;
 use std::alloc::{AllocError, Global};
 
 // The session's own reply to a line, the hint that goes with it, and what the line changed since these
-// pairs.
+// pairs; the names of elements that left this version with it are kept.
 fn reply_after(
     alloc: Global,
     state: &mut PromptState,
     line: &str,
     form: Form,
     pairs: &PairsBefore,
+    newest: &Option<ArcValue<Schema>>,
 ) -> Result<LineAnswer, AllocError>
     requires calm { IsCalm state.old.session line.now }
     ensures { IfOk result (λ answer. IsAnswered form state.old line.now answer.text.items answer.is_bad state.new) }
@@ -49,6 +54,7 @@ fn reply_after(
         pairs,
     )?;
     keep_declared(alloc, state, given, answer.is_bad)?;
+    keep_gone_of(alloc, &mut state.gone, newest, &state.session)?;
     let answer = answer_of(alloc, form, reply, answer.is_bad, hint.as_str(), &details)?;
     Ok(answer)
 }
@@ -64,7 +70,8 @@ fn reply_line(
     ensures { IfOk result (λ answer. IsAnswered form state.old line.now answer.text.items answer.is_bad state.new) }
 {
     let pairs = pairs_before(&state.session, form)?;
-    let answer = reply_after(alloc, state, line, form, &pairs)?;
+    let newest = newest_of(&state.session)?;
+    let answer = reply_after(alloc, state, line, form, &pairs, &newest)?;
     Ok(answer)
 }
 
@@ -72,6 +79,7 @@ fn reply_line(
 fn view_shown(
     alloc: Global,
     session: &Session,
+    gone: &[(u32, Text)],
     line: &str,
     form: Form,
 ) -> Result<Option<String>, AllocError>
@@ -82,7 +90,7 @@ fn view_shown(
     }
     match tried(line) {
         Some(line) => Ok(Some(try_text(alloc, session, line)?)),
-        None => view_of(alloc, session, line, form.is_shown()),
+        None => view_of(alloc, session, gone, line, form.is_shown()),
     }
 }
 
@@ -100,8 +108,9 @@ fn view_line(
     requires no_save { is_save line.now ≡ false }
     ensures { IfOk result (λ answer. IsAnswered form state.old line.now answer.text.items answer.is_bad state.new) }
 {
-    if let Some(view) = view_shown(alloc, &state.session, line, form)? {
-        let details = view_details(alloc, &state.session, line, form)?;
+    let gone = state.gone.as_slice();
+    if let Some(view) = view_shown(alloc, &state.session, gone, line, form)? {
+        let details = view_details(alloc, &state.session, gone, line, form)?;
         let answer = answer_of(alloc, form, "", false, view.as_str(), &details)?;
         return Ok(answer);
     }
@@ -123,7 +132,7 @@ fn carry_asked(
 }
 
 // Carries changes on as the line asks, and says so if that drops a plan, and what it changed since
-// these pairs.
+// these pairs; the names of elements that left this version with it are kept.
 fn carry_after(
     alloc: Global,
     state: &mut PromptState,
@@ -131,6 +140,7 @@ fn carry_after(
     carry: CarryLine,
     form: Form,
     pairs: &PairsBefore,
+    newest: &Option<ArcValue<Schema>>,
 ) -> Result<LineAnswer, AllocError>
     requires foreign { IsForeign line.now }
     requires asked { carry_asked state.old.session line.now ≡ Some carry }
@@ -142,6 +152,7 @@ fn carry_after(
     let dropped = plan_dropped(alloc, opened)?;
     let text = carry_on(alloc, opened, carry)?;
     let details = carry_details(alloc, opened, pairs)?;
+    keep_gone(alloc, &mut state.gone, newest, &opened.world)?;
     let answer = answer_of(
         alloc,
         form,
@@ -166,7 +177,8 @@ fn carry_line(
     ensures { IfOk result (λ answer. IsAnswered form state.old line.now answer.text.items answer.is_bad state.new) }
 {
     let pairs = pairs_before(&state.session, form)?;
-    let answer = carry_after(alloc, state, line, carry, form, &pairs)?;
+    let newest = newest_of(&state.session)?;
+    let answer = carry_after(alloc, state, line, carry, form, &pairs, &newest)?;
     Ok(answer)
 }
 

@@ -9,12 +9,14 @@ use script_json::script_session::{Opened, Session};
 use script_json::world::{Checkpoint, World};
 use std::alloc::Global;
 
-/// The session, and the lines that declared what is declared in it.
+/// The session, the lines that declared what is declared in it, and what has left it.
 pub(crate) struct PromptState {
     /// The session.
     pub(crate) session: Session,
     /// The lines, of which `undo` takes the last back; none after `open`.
     pub(crate) declared: List<Text>,
+    /// The names of elements that have left, by their numbers, for the lines that show earlier versions.
+    pub(crate) gone: List<(u32, Text)>,
 }
 
 // By hand, so that a caller's proof sees one call and not each field's.
@@ -23,6 +25,7 @@ impl Drop for PromptState {
         let PromptState {
             session: _,
             declared: _,
+            gone: _,
         } = self;
     }
 }
@@ -53,6 +56,7 @@ impl PromptState {
         PromptState {
             session,
             declared: List::new(Vec::new(alloc)),
+            gone: List::new(Vec::new(alloc)),
         }
     }
 }

@@ -38,7 +38,7 @@ fn shows(alloc: Global, session: &Session, line: &str) -> Result<bool, AllocErro
     if !is_view(line) {
         return Ok(false);
     }
-    Ok(view_of(alloc, session, line, false)?.is_some())
+    Ok(view_of(alloc, session, &[], line, false)?.is_some())
 }
 
 // Whether a line that no script has is one of the prompt's own.

@@ -6,6 +6,7 @@ ghost use Rattle.script_progress.specs.Explain.{ShowsPath, ShowsPathIn};
 use crate::command_help::help_text;
 use crate::explain_plan::plan_explanation;
 use crate::hint::NOT_OPEN;
+use keycode::Text;
 use script_progress::script_session::{Opened, Session};
 use script_progress::script_views::{explanation, named_pairs, named_view};
 use script_progress::{description, leases_text, plan_left, progress, timeline};
@@ -28,6 +29,7 @@ fn element_view(alloc: Global, opened: &Opened, name: &str) -> Result<Option<Str
 fn opened_view(
     alloc: Global,
     opened: &Opened,
+    gone: &[(u32, Text)],
     line: &str,
     is_shown: bool,
 ) -> Result<Option<String>, AllocError> {
@@ -40,7 +42,7 @@ fn opened_view(
         ("progress", "") => Ok(Some(progress(alloc, opened, is_shown)?)),
         ("plan", "") => Ok(Some(plan_left(alloc, opened)?)),
         ("rows", _) => Ok(Some(rows_view(alloc, opened, line)?)),
-        ("timeline", "") => Ok(Some(timeline(alloc, opened, is_shown)?)),
+        ("timeline", "") => Ok(Some(timeline(alloc, opened, gone, is_shown)?)),
         ("explain", line) if line.starts_with("plan") => {
             Ok(Some(plan_explanation(alloc, opened, line)?))
         }
@@ -61,10 +63,11 @@ fn trimmed(alloc: Global, view: Option<String>) -> Result<Option<String>, AllocE
 fn view_by_words(
     alloc: Global,
     opened: &Opened,
+    gone: &[(u32, Text)],
     line: &str,
     is_shown: bool,
 ) -> Result<Option<String>, AllocError> {
-    let view = opened_view(alloc, opened, line, is_shown)?;
+    let view = opened_view(alloc, opened, gone, line, is_shown)?;
     trimmed(alloc, view)
 }
 
@@ -72,6 +75,7 @@ fn view_by_words(
 fn running_view(
     alloc: Global,
     opened: &Opened,
+    gone: &[(u32, Text)],
     line: &str,
     is_shown: bool,
 ) -> Result<Option<String>, AllocError>
@@ -80,7 +84,7 @@ fn running_view(
 {
     match named_view(alloc, opened, line)? {
         Some(text) => Ok(Some(text)),
-        None => view_by_words(alloc, opened, line, is_shown),
+        None => view_by_words(alloc, opened, gone, line, is_shown),
     }
 }
 
@@ -110,11 +114,13 @@ fn declaring_view(alloc: Global, line: &str) -> Result<Option<String>, AllocErro
 /// of them. White space around the line does not matter. Refused only when out of memory.
 ///
 /// - `session`: the session, which is only read.
+/// - `gone`: names of elements that have left, by their numbers.
 /// - `line`: the line without its ending.
 /// - `is_shown`: whether someone sees it on a terminal: `progress` and `timeline` have bars then.
 pub fn view_of(
     alloc: Global,
     session: &Session,
+    gone: &[(u32, Text)],
     line: &str,
     is_shown: bool,
 ) -> Result<Option<String>, AllocError>
@@ -123,7 +129,7 @@ pub fn view_of(
 {
     let line = line.trim();
     match session {
-        Session::Running(opened) => running_view(alloc, opened, line, is_shown),
+        Session::Running(opened) => running_view(alloc, opened, gone, line, is_shown),
         Session::Declaring(_) => declaring_view(alloc, line),
     }
 }

@@ -1,5 +1,6 @@
 //! The versions on a line of moments as JSON.
 use crate::object::{Object, put_list, put_number, put_text};
+use keycode::Text;
 use schema_version::{Move, NewElement, Step};
 use script_grammar::state_word;
 use script_progress::script_session::Opened;
@@ -7,11 +8,12 @@ use script_progress::{Happened, History, history_of, push_moved};
 use serde_json::{Map, Value};
 use std::alloc::{AllocError, Global};
 
-// Whose names the moves of steps have: the world, the number of the first element that entered, and all
-// that entered.
+// Whose names the moves of steps have: the world, the names of elements that have left, the number of
+// the first element that entered, and all that entered.
 #[derive(Clone, Copy)]
 struct Names<'a> {
     opened: &'a Opened,
+    gone: &'a [(u32, Text)],
     entered: (u32, &'a [&'a NewElement]),
 }
 
@@ -23,7 +25,7 @@ fn put_moved(
     number: u32,
 ) -> Result<(), AllocError> {
     let mut name = String::new(alloc);
-    push_moved(&mut name, names.opened, names.entered, number)?;
+    push_moved(&mut name, names.opened, names.gone, names.entered, number)?;
     put_text(alloc, out, "element", name.as_str())?;
     put_number(alloc, out, "number", u64::from(number))
 }
@@ -125,11 +127,16 @@ fn put_timeline(
     alloc: Global,
     out: &mut Object,
     opened: &Opened,
+    gone: &[(u32, Text)],
     history: &History<'_>,
 ) -> Result<(), AllocError> {
     let line = opened.world.timeline();
     let entered = (history.first, history.entered.as_slice());
-    let names = Names { opened, entered };
+    let names = Names {
+        opened,
+        gone,
+        entered,
+    };
     put_number(alloc, out, "length", line.length())?;
     put_number(alloc, out, "now", opened.world.moment())?;
     put_number(alloc, out, "earliest", line.earliest())?;
@@ -143,9 +150,16 @@ fn put_timeline(
 /// which the next version may be published, the `versions` (each with `version`, `moment`, and `moves` if its
 /// step is in memory), and the begins of fills and clears, `reorganisations`. Refused only when out of
 /// memory.
-pub(crate) fn timeline_value(alloc: Global, opened: &Opened) -> Result<Value, AllocError> {
+///
+/// - `opened`: the world.
+/// - `gone`: names of elements that have left, by their numbers.
+pub(crate) fn timeline_value(
+    alloc: Global,
+    opened: &Opened,
+    gone: &[(u32, Text)],
+) -> Result<Value, AllocError> {
     let history = history_of(alloc, opened)?;
     let mut out = Map::new(alloc);
-    put_timeline(alloc, &mut out, opened, &history)?;
+    put_timeline(alloc, &mut out, opened, gone, &history)?;
     Ok(Value::Object(out))
 }

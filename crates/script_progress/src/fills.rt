@@ -61,7 +61,7 @@ fn push_read(
         return Ok(());
     };
     write!(out, "\nstep {step}: the fill of ")?;
-    push_moved(out, opened, entered, number)?;
+    push_moved(out, opened, &[], entered, number)?;
     write!(out, " would read {rows} rows")
 }
 

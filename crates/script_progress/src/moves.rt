@@ -1,5 +1,6 @@
 //! The moves of steps, with the names of their elements.
 use change_plan::PlanStep;
+use keycode::Text;
 use schema_version::{Move, NewElement, Schema, Step};
 use script_grammar::state_word;
 use script_views::push_element;
@@ -54,14 +55,40 @@ fn older_with(opened: &Opened, number: u32) -> Option<&Schema> {
     None
 }
 
+// The name of an element that has left, if it was kept.
+fn gone_name(gone: &[(u32, Text)], number: u32) -> Option<&str> {
+    for (left, name) in gone {
+        if *left == number {
+            return Some(name.as_str());
+        }
+    }
+    None
+}
+
+// Adds the name of an element that has left.
+fn push_gone(
+    out: &mut String,
+    opened: &Opened,
+    gone: &[(u32, Text)],
+    number: u32,
+) -> Result<(), AllocError> {
+    if let Some(name) = gone_name(gone, number) {
+        return out.push_str(name);
+    }
+    let newest = opened.world.newest().get();
+    push_element(out, older_with(opened, number).unwrap_or(newest), number)
+}
+
 /// Adds the name of an element of the newest version, of one that enters, or of one that has left
-/// since. One that was there at the opening is `element N` if no version at hand has it. Refused only
-/// when out of memory.
+/// since. One that was there at the opening is `element N` if neither `gone` nor a version at hand has it.
+/// Refused only when out of memory.
 ///
+/// - `gone`: names of elements that have left, by their numbers.
 /// - `entered`: the number of the first that enters, and all that enter.
 pub fn push_moved(
     out: &mut String,
     opened: &Opened,
+    gone: &[(u32, Text)],
     entered: (u32, &[&NewElement]),
     number: u32,
 ) -> Result<(), AllocError> {
@@ -72,13 +99,14 @@ pub fn push_moved(
     let place = number.wrapping_sub(entered.0) as usize;
     match entered.1.get(place) {
         Some(fresh) => push_fresh(out, schema, *fresh),
-        None => push_element(out, older_with(opened, number).unwrap_or(schema), number),
+        None => push_gone(out, opened, gone, number),
     }
 }
 
 fn push_move(
     out: &mut String,
     opened: &Opened,
+    gone: &[(u32, Text)],
     entered: (u32, &[&NewElement]),
     made: &Move,
 ) -> Result<(), AllocError> {
@@ -89,12 +117,12 @@ fn push_move(
             out.push_str(state_word(*to))
         }
         Move::Go { element, to } => {
-            push_moved(out, opened, entered, *element)?;
+            push_moved(out, opened, gone, entered, *element)?;
             out.push_str(" ")?;
             out.push_str(state_word(*to))
         }
         Move::Turn { element } => {
-            push_moved(out, opened, entered, *element)?;
+            push_moved(out, opened, gone, entered, *element)?;
             out.push_str(" dropping")
         }
     }
@@ -102,10 +130,12 @@ fn push_move(
 
 /// Adds the moves of a step in one line.
 ///
+/// - `gone`: names of elements that have left, by their numbers.
 /// - `entered`: the number of the first element that enters, and all that enter.
 pub(crate) fn push_step(
     out: &mut String,
     opened: &Opened,
+    gone: &[(u32, Text)],
     entered: (u32, &[&NewElement]),
     step: &Step,
 ) -> Result<(), AllocError> {
@@ -113,7 +143,7 @@ pub(crate) fn push_step(
         if i > 0 {
             out.push_str(", ")?;
         }
-        push_move(out, opened, entered, made)?;
+        push_move(out, opened, gone, entered, made)?;
     }
     out.push_str("\n")
 }

@@ -88,7 +88,7 @@ pub fn plan_left(alloc: Global, opened: &Opened) -> Result<String, AllocError> {
     let entered = entered(alloc, opened.plan.as_slice())?;
     for step in opened.plan.as_slice() {
         let entered = (schema.next_number(), entered.as_slice());
-        push_step(&mut out, opened, entered, step)?;
+        push_step(&mut out, opened, &[], entered, step)?;
     }
     if out.is_empty() {
         return "no step of a plan is left".to_string(alloc);

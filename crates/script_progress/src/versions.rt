@@ -1,6 +1,7 @@
 //! The versions on a line of moments.
 use crate::moves::{push_entered, push_moved, push_step};
 use crate::unfinished::progress;
+use keycode::Text;
 use replay::What;
 use schema_version::{NewElement, Step};
 use script_views::script_session::Opened;
@@ -138,6 +139,7 @@ pub fn history_of<'a>(alloc: Global, opened: &'a Opened) -> Result<History<'a>, 
 fn push_event(
     out: &mut String,
     opened: &Opened,
+    gone: &[(u32, Text)],
     entered: (u32, &[&NewElement]),
     event: &Event<'_>,
 ) -> Result<(), AllocError> {
@@ -152,11 +154,11 @@ fn push_event(
             step: Some(step),
         } => {
             write!(out, "@{moment}  version {version}: ")?;
-            push_step(out, opened, entered, step)
+            push_step(out, opened, gone, entered, step)
         }
         Happened::Begin { element, pieces } => {
             write!(out, "@{moment}  reorganise ")?;
-            push_moved(out, opened, entered, element)?;
+            push_moved(out, opened, gone, entered, element)?;
             write!(out, " pieces {pieces}\n")
         }
     }
@@ -167,13 +169,19 @@ fn push_event(
 /// Refused only when out of memory.
 ///
 /// - `opened`: the world.
+/// - `gone`: names of elements that have left, by their numbers.
 /// - `is_shown`: whether someone sees it on a terminal.
-pub fn timeline(alloc: Global, opened: &Opened, is_shown: bool) -> Result<String, AllocError> {
+pub fn timeline(
+    alloc: Global,
+    opened: &Opened,
+    gone: &[(u32, Text)],
+    is_shown: bool,
+) -> Result<String, AllocError> {
     let history = history_of(alloc, opened)?;
     let entered = (history.first, history.entered.as_slice());
     let mut out = String::new(alloc);
     for event in history.events.as_slice() {
-        push_event(&mut out, opened, entered, event)?;
+        push_event(&mut out, opened, gone, entered, event)?;
     }
     let moment = opened.world.moment();
     let now = progress(alloc, opened, is_shown)?;

@@ -124,6 +124,19 @@ class Sessions(unittest.TestCase):
         self.assertEqual((["bad line"], 7), (answer["reply"], answer["column"]))
         self.assertEqual(f"'{script}'", answer["state"]["pages"]["t"]["rows"][0]["cells"][1])
 
+    def test_a_world_of_many_rows_is_not_gone_over(self) -> None:
+        self.run_lines("table t (id int key)", "open", "lease a at 0")
+        asked, ask = [], self.session._prompt.ask
+
+        def ask_large(*lines: str) -> List[Dict[str, Any]]:
+            asked.extend(lines)
+            return [{**it, "changes": None} for it in ask(*lines)]
+
+        self.session._prompt.ask = ask_large  # type: ignore[method-assign]
+        state = self.session.line("txn a at 0: insert t (1)")["state"]
+        self.assertEqual((None, [["1"]]), (state["audit"], [it["key"] for it in state["pages"]["t"]["rows"]]))
+        self.assertNotIn("check", asked)
+
     def test_a_program_that_has_ended_is_said(self) -> None:
         self.session._prompt._run.kill()
         with self.assertRaises(PromptGone):
