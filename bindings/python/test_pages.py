@@ -2,7 +2,7 @@
 
 import pickle
 import unittest
-from typing import Any, List, Optional, Tuple
+from typing import Any, Callable, List, Optional, Tuple
 
 import cagzhomul
 from cagzhomul import Query
@@ -101,10 +101,11 @@ class Pages(unittest.TestCase):
             next(self.snapshot.pages(Query("t")))
 
     def test_a_key_column_is_said_to_be_one(self) -> None:
-        for call in (
+        calls: Tuple[Callable[[], object], ...] = (
             lambda: self.snapshot.query(Query("t", ["id"])), lambda: self.lease.find(Query("t", equal={"id": 1}), limit=2),
             lambda: self.db.query(0, "select id from t"), lambda: self.lease.update("t", (1, 1), id=2),
-        ):
+        )
+        for call in calls:
             with self.assertRaises(cagzhomul.NotPublic) as raised:
                 call()
             error = raised.exception
