@@ -1,5 +1,5 @@
-"""A log of slots in an etcd cluster, over its JSON interface: each slot is written once. Beside it stands the newest checkpoint, and the
-slots before that may be deleted."""
+"""A log of slots in an etcd cluster, over its JSON interface: each slot is written once, after the one before it. Beside it stands the newest
+checkpoint, and the slots before that may be deleted, but for the last of them."""
 
 from __future__ import annotations
 
@@ -58,9 +58,14 @@ class Slots:
         return answered == self.cluster
 
     def write(self, slot: int, data: bytes) -> bool:
-        """Writes a slot if nobody did. False: it has been written, perhaps by this very call's first try."""
+        """Writes a slot if nobody did, and the one before it is there: so one that was written and deleted is not written again. False: it has been
+        written, perhaps by this very call's first try."""
         key = _coded(_key(slot))
         compare = [{"target": "VERSION", "result": "EQUAL", "key": key, "version": "0"}]
+        if slot:
+            compare.append({"target": "VERSION", "result": "GREATER", "key": _coded(_key(slot - 1)), "version": "0"})
+        else:
+            compare.append({"target": "VERSION", "result": "EQUAL", "key": _coded(b"checkpoint"), "version": "0"})
         put = [{"requestPut": {"key": key, "value": _coded(data)}}]
         return bool(self._ask("/v3/kv/txn", {"compare": compare, "success": put}).get("succeeded"))
 
@@ -102,6 +107,6 @@ class Slots:
         return None
 
     def forget_before(self, slot: int) -> None:
-        """Deletes the slots before this one, and the parts of older checkpoints."""
-        for first, last in ((_key(0), _key(slot)), (b"part/", b"part/%012d/" % slot)):
+        """Deletes the slots before this one, but for the last, and the parts of older checkpoints."""
+        for first, last in ((_key(0), _key(max(slot - 1, 0))), (b"part/", b"part/%012d/" % slot)):
             self._ask("/v3/kv/deleterange", {"key": _coded(first), "range_end": _coded(last)})

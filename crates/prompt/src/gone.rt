@@ -25,7 +25,8 @@ fn push_name(
 ) -> Result<(), AllocError> {
     let mut name = String::new(alloc);
     push_element(&mut name, before, number)?;
-    gone.push((number, Text::new(name)))
+    gone.push((number, Text::new(name)))?;
+    Ok(())
 }
 
 // Keeps the names of elements that a version lacks, and the one before it had.
