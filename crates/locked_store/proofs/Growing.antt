@@ -18,7 +18,7 @@ use Rattle.rollout.specs.BeginReorg.{BeginStep}
 use Rattle.rollout.specs.Calls.{Appends, LeaseStep, CommitStep}
 use Rattle.rollout.specs.Piece.{PieceStep}
 use Rattle.rollout.specs.Publish.{PublishStep}
-use Rattle.rollout.specs.State.{State, cut_here}
+use Rattle.rollout.specs.State.{State, cut_here, entries_before}
 use Rattle.locked_store.specs.Cores.{GrewFrom}
 
 pub at_start : (start world : State) → start ≡ world → GrewFrom start world
@@ -59,3 +59,29 @@ begin start found left moment element pieces (Err why) grew step = unchanged sta
 pub piece : (start found left : State) (moment : ℕ) (read : Reading) (answer : Result PieceDone (PieceFault × Reading)) → GrewFrom start found → PieceStep found moment read answer left → GrewFrom start left
 piece start found left moment read (Ok done) grew step = appended start found left _ _ done.receipt grew step.2
 piece start found left moment read (Err refusal) grew step = unchanged start found left grew step.0.1
+
+-- ---- no call but a cut lets entries go
+
+appended_before : (found left : State) (now : ℕ) (what : What) (receipt : Receipt) → Appends found now what receipt left → entries_before left ≡ entries_before found
+appended_before found left now what receipt appends = ap entries_before appends.state
+
+pub lease_before : (found left : State) (moment : ℕ) (answer : Result Grant GrantFault) → LeaseStep found moment answer left → entries_before left ≡ entries_before found
+lease_before found left moment (Ok given) step = appended_before found left _ _ given.receipt step.3
+lease_before found left moment (Err why) step = ap entries_before step.1
+
+pub commit_before : (found left : State) (moment : ℕ) (prepared : PreparedTxn) (answer : Result Committed (CommitFault × PreparedTxn)) → CommitStep found moment prepared answer left → entries_before left ≡ entries_before found
+commit_before found left moment prepared (Ok (committed.Done receipt)) step = appended_before found left _ _ receipt step.2
+commit_before found left moment prepared (Ok (committed.Refused op why)) step = ap entries_before step.2
+commit_before found left moment prepared (Err refusal) step = ap entries_before step.0.1
+
+pub publish_before : (found left : State) (moment : ℕ) (move : List Move) (answer : Result (ℕ × Receipt) PublishFault) → PublishStep found moment move answer left → entries_before left ≡ entries_before found
+publish_before found left moment move (Ok done) step = appended_before found left _ _ done.1 step.2
+publish_before found left moment move (Err why) step = ap entries_before step.1
+
+pub begin_before : (found left : State) (moment element pieces : ℕ) (answer : Result Receipt BeginFault) → BeginStep found moment element pieces answer left → entries_before left ≡ entries_before found
+begin_before found left moment element pieces (Ok receipt) step = appended_before found left _ _ receipt step.1
+begin_before found left moment element pieces (Err why) step = ap entries_before step.1
+
+pub piece_before : (found left : State) (moment : ℕ) (read : Reading) (answer : Result PieceDone (PieceFault × Reading)) → PieceStep found moment read answer left → entries_before left ≡ entries_before found
+piece_before found left moment read (Ok done) step = appended_before found left _ _ done.receipt step.2
+piece_before found left moment read (Err refusal) step = ap entries_before step.0.1

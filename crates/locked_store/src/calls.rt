@@ -2,7 +2,7 @@
 //! refused before it with `WentBack` if the log is shorter than the handle's front. The front then
 //! stays; else it is the length of the log after the call, also if the world refuses.
 ghost use Rattle.std.specs.Prelude.{◌≡◌, IfOk};
-ghost use Rattle.locked_store.specs.Answers.{Answers, AnswersBack, Finds, reported, to_fault, no_place, grant_place, commit_place, publish_place, receipt_place, piece_place};
+ghost use Rattle.locked_store.specs.Answers.{Answers, AnswersBack, Empties, Finds, reported, to_fault, no_place, grant_place, commit_place, publish_place, receipt_place, piece_place};
 ghost use Rattle.rollout.specs.BeginReorg.{BeginStep};
 ghost use Rattle.rollout.specs.WorkOff.{NextStep};
 ghost use Rattle.rollout.specs.Due.{IsDue};
@@ -235,8 +235,8 @@ impl<L: SharedLedger> Shared<L> {
         through(locked.due(alloc, me, moment))
     }
 
-    /// The checkpoint of the world, as `World::checkpoint` makes it. The pairs are shared, and none is
-    /// copied.
+    /// The checkpoint of the world, as `World::checkpoint` makes it. The pairs are shared, and none
+    /// is copied.
     ///
     /// Refused in this order: `WentBack` if the log is shorter than the handle's front; `World`
     /// when out of memory.
@@ -254,16 +254,17 @@ impl<L: SharedLedger> Shared<L> {
     }
 
     /// Hands out the entries that are in memory, with how many there were before them, as
-    /// `World::take_log` does; they are freed outside of the lock. Refused with `WentBack` alone, if the
-    /// log is shorter than the handle's front. No contract through the lock speaks of the world that a
-    /// call leaves there: that all entries are handed out, and gone then, `locked_store_tests` shows.
-    #[tactic(auto, using(crate::proofs::Through::finds))]
+    /// `World::take_log` does; they are freed outside of the lock. The handle counts them, and knows
+    /// from then on that the log begins after them; at `close` it begins where all takes together have
+    /// led it, so no entry is lost, and none is handed out twice. Refused with `WentBack` alone, if the
+    /// log is shorter than the handle's front.
+    #[tactic(auto, using(crate::proofs::Through::takes_out))]
     pub fn take_log(
         &self,
         rt: &impl Wait,
         me: &mut Handle<L>,
     ) -> Result<(u64, Vec<Entry>), WentBack>
-        ensures { Finds L.start me.old result me.new (λ c x. (x.0 ≡ entries_before c) × (x.1.items ≡ entries_kept c)) }
+        ensures { Empties L.start me.old result me.new (λ c x. (x.0 ≡ entries_before c) × (x.1.items ≡ entries_kept c)) }
     {
         let mut locked = self.locked.lock(rt);
         locked.check_front(me)?;
@@ -271,11 +272,11 @@ impl<L: SharedLedger> Shared<L> {
     }
 
     /// Gives the memory of all entries back, as `World::cut` does: they are taken in one critical
-    /// section and freed outside of it. Refused with `WentBack` alone, if the log is shorter than the
-    /// handle's front. That they are gone `locked_store_tests` shows.
-    #[tactic(auto, using(crate::proofs::Through::only_found))]
+    /// section and freed outside of it. The handle counts them, as `take_log` says. Refused with
+    /// `WentBack` alone, if the log is shorter than the handle's front.
+    #[tactic(auto, using(crate::proofs::Through::only_taken))]
     pub fn cut(&self, rt: &impl Wait, me: &mut Handle<L>) -> Result<(), WentBack>
-        ensures { Finds L.start me.old result me.new (λ c x. x ≡ tt) }
+        ensures { Empties L.start me.old result me.new (λ c x. x ≡ tt) }
     {
         match self.take_log(rt, me) {
             Ok(_taken) => Ok(()),

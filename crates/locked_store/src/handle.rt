@@ -2,17 +2,20 @@
 ghost use Rattle.std.specs.Prelude.{◌≡◌, ◌<◌, length};
 ghost use Rattle.locked_store.specs.Known.{IsLeastFront};
 
+use crate::rights::Rights;
 use crate::shared_ledger::SharedLedger;
+use high_water::Reached;
 use std::marker::Model;
-use std::sync::ledger::Share;
 
-/// A right to call a shared world. It has a number, its share of the count of entries, and a front:
-/// the length of the log as it last saw it.
+/// A right to call a shared world. It has a number, a front: the length of the log as it last saw it,
+/// its shares of the count of entries, of those that were taken out of the log, and of refused
+/// commits, and what it knows of where the log begins.
 #[derive(Drop)]
 pub struct Handle<L: SharedLedger> {
     pub(crate) id: u64,
     pub(crate) front: u64,
-    pub(crate) share: Share<L>,
+    pub(crate) rights: Rights<L>,
+    pub(crate) cut: Reached,
 }
 
 impl<L: SharedLedger> Model for Handle<L> {
@@ -21,9 +24,9 @@ impl<L: SharedLedger> Model for Handle<L> {
 
     ghost Value = { Known };
 
-    ghost view = { λ h. record { id = h.id; front = h.front; count = h.share.amount } };
+    ghost view = { λ h. record { id = h.id; front = h.front; count = h.rights.added.amount; taken = h.rights.taken.amount; refused = h.rights.refused.amount; cut = h.cut.at } };
 
-    ghost invariant = { λ h. h.share.parts ≡ 1 };
+    ghost invariant = { λ h. (h.rights.added.parts ≡ 1) × (h.cut.name ≡ L.cut_name) };
 }
 
 impl<L: SharedLedger> Handle<L> {

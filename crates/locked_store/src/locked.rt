@@ -1,6 +1,6 @@
 //! What lies behind the lock, and the calls of one critical section: each is one call of the world.
-ghost use Rattle.std.specs.Prelude.{◌≡◌, ◌+◌, ◌<◌, ◌≤◌, length, IfOk, IfErr, OnOk, option_map};
-ghost use Rattle.locked_store.specs.Answers.{Takes, Found, no_place, grant_place, commit_place, publish_place, receipt_place, piece_place};
+ghost use Rattle.std.specs.Prelude.{◌≡◌, ◌+◌, ◌<◌, ◌≤◌, length, IfOk, IfErr, None, OnOk, option_map};
+ghost use Rattle.locked_store.specs.Answers.{Counts, Takes, TakesBack, TakesOut, Found, no_place, grant_place, commit_place, publish_place, receipt_place, piece_place};
 ghost use Rattle.locked_store.specs.Cores.{IsCore, WasLength};
 ghost use Rattle.rollout.specs.BeginReorg.{BeginStep};
 ghost use Rattle.rollout.specs.WorkOff.{NextStep};
@@ -16,6 +16,7 @@ ghost use Rattle.rollout.specs.State.{cut_here, entries_before, entries_kept, en
 use crate::counted::{commit_counted, log_len, piece_counted};
 use crate::fault::WentBack;
 use crate::handle::Handle;
+use crate::rights::Books;
 use crate::shared_ledger::SharedLedger;
 use collections::{ArcValue, List};
 use lease::Lease;
@@ -33,24 +34,25 @@ use row_write::Prepared;
 use schema_version::{Schema, Step};
 use std::alloc::{AllocError, Global};
 use std::marker::Model;
-use std::sync::ledger::Book;
 
-/// The world, and how many entries its calls added since it was shared. Contracts see it as the
-/// state of the world.
+/// The world, how many handles it has, and how many entries its calls added since it was shared.
+/// Contracts see it as the state of the world.
 ///
 /// Whenever the lock is free, the pairs are the replay of the log and agree with the rows for every
 /// version that a lease may still use, and the handles' shares add up to the entries that were
-/// added.
+/// added, and to those that were taken out of the log, which begins where they end.
 #[derive(Drop)]
 pub(crate) struct Locked<L: SharedLedger> {
     pub(crate) world: World,
+    /// How many handles there are.
+    pub(crate) handles: u64,
     pub(crate) added: u64,
-    pub(crate) book: Book<L>,
+    pub(crate) books: Books<L>,
 }
 
 impl<L: SharedLedger> Model for Locked<L> {
-    ghost use Rattle.std.specs.Prelude.{◌≡◌, ◌+◌};
-    ghost use Rattle.rollout.specs.State.{State, entry_count};
+    ghost use Rattle.std.specs.Prelude.{◌≡◌, ◌+◌, ◌<◌};
+    ghost use Rattle.rollout.specs.State.{State, entries_before, entry_count};
     ghost use Rattle.rollout.specs.Code.{state_code};
     ghost use Rattle.locked_store.specs.Cores.{IsCore};
 
@@ -60,7 +62,7 @@ impl<L: SharedLedger> Model for Locked<L> {
 
     ghost view = { λ l. l.world };
 
-    ghost invariant = { λ l. IsCore L.start l.world × (entry_count l.world ≡ entry_count L.start + l.added) × (l.book.total ≡ l.added) × (L.handles ≡ L.parts) };
+    ghost invariant = { λ l. IsCore L.start l.world × (entry_count l.world ≡ entry_count L.start + l.added) × (l.books.added.total ≡ l.added) × (L.handles ≡ L.parts) × (entries_before l.world ≡ entries_before L.start + l.books.taken.total) × (l.books.cut.at ≡ entries_before l.world) × (l.books.cut.name ≡ L.cut_name) × (l.handles ≡ L.handles) × (0 < l.handles) };
 }
 
 // An owner more of a schema.
@@ -97,13 +99,13 @@ impl<L: SharedLedger> Locked<L> {
     fn look(&self, me: &mut Handle<L>)
         ensures core { IsCore L.start self.now }
         ensures front { me.new.front ≡ entry_count self.now }
-        ensures same { (me.new.id ≡ me.old.id) × (me.new.count ≡ me.old.count) }
+        ensures same { Counts me.old None me.new }
     {
         me.front = log_len(&self.world);
         self.lemma_is_core();
     }
 
-    #[tactic(auto, using(crate::proofs::Growing::lease))]
+    #[tactic(auto, using(crate::proofs::Growing::lease, crate::proofs::Growing::lease_before))]
     pub(crate) fn lease(
         &mut self,
         alloc: Global,
@@ -114,11 +116,16 @@ impl<L: SharedLedger> Locked<L> {
         ensures { Takes L.start me.old self.old result self.new me.new (λ c r d. LeaseStep c moment r d) grant_place }
     {
         self.lemma_is_core();
-        let Locked { world, added, book } = self;
+        let Locked {
+            world,
+            handles: _,
+            added,
+            books,
+        } = self;
         let result = world.lease(alloc, moment);
         let len = log_len(world);
         if result.is_ok() {
-            book.add(&mut me.share, 1);
+            books.added.add(&mut me.rights.added, 1);
             *added += 1;
         }
         me.front = len;
@@ -159,11 +166,16 @@ impl<L: SharedLedger> Locked<L> {
         prepared: Prepared,
     ) -> Result<Committed, (CommitFault, Prepared)>
         requires { me.old.front ≤ entry_count self.old }
-        ensures { Takes L.start me.old self.old result self.new me.new (λ c r d. CommitStep c moment prepared r d) commit_place }
+        ensures { TakesBack L.start me.old self.old result self.new me.new (λ c r d. CommitStep c moment prepared r d) commit_place }
     {
         self.lemma_is_core();
-        let Locked { world, added, book } = self;
-        let result = commit_counted(alloc, world, added, book, me, moment, prepared);
+        let Locked {
+            world,
+            handles: _,
+            added,
+            books,
+        } = self;
+        let result = commit_counted(alloc, world, added, books, me, moment, prepared);
         world.lemma_agrees();
         result
     }
@@ -196,7 +208,7 @@ impl<L: SharedLedger> Locked<L> {
         self.world.snapshot(moment, lease)
     }
 
-    #[tactic(auto, using(crate::proofs::Growing::publish))]
+    #[tactic(auto, using(crate::proofs::Growing::publish, crate::proofs::Growing::publish_before))]
     pub(crate) fn publish(
         &mut self,
         alloc: Global,
@@ -208,11 +220,16 @@ impl<L: SharedLedger> Locked<L> {
         ensures { Takes L.start me.old self.old result self.new me.new (λ c r d. PublishStep c moment step.now r d) publish_place }
     {
         self.lemma_is_core();
-        let Locked { world, added, book } = self;
+        let Locked {
+            world,
+            handles: _,
+            added,
+            books,
+        } = self;
         let result = world.publish(alloc, moment, step);
         let len = log_len(world);
         if result.is_ok() {
-            book.add(&mut me.share, 1);
+            books.added.add(&mut me.rights.added, 1);
             *added += 1;
         }
         me.front = len;
@@ -220,7 +237,7 @@ impl<L: SharedLedger> Locked<L> {
         result
     }
 
-    #[tactic(auto, using(crate::proofs::Growing::begin))]
+    #[tactic(auto, using(crate::proofs::Growing::begin, crate::proofs::Growing::begin_before))]
     pub(crate) fn begin_reorg(
         &mut self,
         alloc: Global,
@@ -233,11 +250,16 @@ impl<L: SharedLedger> Locked<L> {
         ensures { Takes L.start me.old self.old result self.new me.new (λ c r d. BeginStep c moment element pieces r d) receipt_place }
     {
         self.lemma_is_core();
-        let Locked { world, added, book } = self;
+        let Locked {
+            world,
+            handles: _,
+            added,
+            books,
+        } = self;
         let result = world.begin_reorg(alloc, moment, element, pieces);
         let len = log_len(world);
         if result.is_ok() {
-            book.add(&mut me.share, 1);
+            books.added.add(&mut me.rights.added, 1);
             *added += 1;
         }
         me.front = len;
@@ -269,17 +291,23 @@ impl<L: SharedLedger> Locked<L> {
     #[tactic(auto, using(crate::proofs::Growing::taken))]
     pub(crate) fn take_log(&mut self, me: &mut Handle<L>) -> (u64, Vec<Entry>)
         requires { me.old.front ≤ entry_count self.old }
-        ensures found { Found L.start me.old self.old result me.new (λ c x. (x.0 ≡ entries_before c) × (x.1.items ≡ entries_kept c)) }
+        ensures found { TakesOut L.start me.old self.old result me.new (λ c x. (x.0 ≡ entries_before c) × (x.1.items ≡ entries_kept c)) }
         ensures state { self.new ≡ cut_here self.old }
     {
         self.look(me);
         let Locked {
             world,
+            handles: _,
             added: _,
-            book: _,
+            books,
         } = self;
+        books.cut.compare(&mut me.cut);
         let start = world.log_start();
+        let end = world.log_len();
         let entries = world.take_log();
+        books.taken.add(&mut me.rights.taken, entries.len() as u64);
+        books.cut.raise(end);
+        me.cut = books.cut.reached();
         world.lemma_agrees();
         (start, entries)
     }
@@ -342,11 +370,16 @@ impl<L: SharedLedger> Locked<L> {
         prepared: PreparedPiece,
     ) -> Result<PieceDone, (PieceFault, PreparedPiece)>
         requires { me.old.front ≤ entry_count self.old }
-        ensures { Takes L.start me.old self.old result self.new me.new (λ c r d. PieceStep c moment prepared r d) piece_place }
+        ensures { TakesBack L.start me.old self.old result self.new me.new (λ c r d. PieceStep c moment prepared r d) piece_place }
     {
         self.lemma_is_core();
-        let Locked { world, added, book } = self;
-        let result = piece_counted(alloc, world, added, book, me, moment, prepared);
+        let Locked {
+            world,
+            handles: _,
+            added,
+            books,
+        } = self;
+        let result = piece_counted(alloc, world, added, books, me, moment, prepared);
         world.lemma_agrees();
         result
     }

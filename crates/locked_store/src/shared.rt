@@ -1,19 +1,20 @@
 //! The lock: how a world is shared, and how it comes back.
-ghost use Rattle.std.specs.Prelude.{◌≡◌, ◌+◌, ◌<◌, ◌≤◌, length, IfOk, IfErr, MatchOption, vec_len, []};
+ghost use Rattle.std.specs.Prelude.{◌≡◌, ◌+◌, ◌<◌, ◌≤◌, All, length, IfOk, IfErr, MatchOption, vec_len, []};
 ghost use Rattle.locked_store.specs.Cores.{IsCore};
-ghost use Rattle.locked_store.specs.Known.{total_count, AreFresh};
+ghost use Rattle.locked_store.specs.Known.{total_count, total_taken, AreFresh};
 ghost use Rattle.locked_store.specs.Sharing.{IsCount, IsRefused};
-ghost use Rattle.rollout.specs.State.{entry_count};
+ghost use Rattle.rollout.specs.State.{entries_before, entry_count};
 
 use crate::counted::log_len;
 use crate::fault::{Missing, ShareFault};
 use crate::handle::Handle;
 use crate::locked::Locked;
-use crate::shared_ledger::SharedLedger;
+use crate::rights::{Rights, open_books};
+use crate::shared_ledger::{Blanks, SharedLedger};
+use high_water::HighWater;
 use rollout::world::World;
 use std::alloc::Global;
 use std::sync::Mutex;
-use std::sync::ledger::{Blank, Share};
 
 /// The greatest number of handles.
 const MAX_HANDLES: u64 = 64;
@@ -22,10 +23,7 @@ const MAX_HANDLES: u64 = 64;
 /// the world.
 #[derive(Drop)]
 pub struct Shared<L: SharedLedger> {
-    handles: u64,
     pub(crate) locked: Mutex<Locked<L>>,
-    ghost handles_is: { handles ≡ L.handles },
-    ghost some: { 0 < handles },
 }
 
 impl<L: SharedLedger> Shared<L> {
@@ -36,14 +34,14 @@ impl<L: SharedLedger> Shared<L> {
     #[tactic(auto, using(crate::proofs::Growing::at_start))]
     pub fn new(
         alloc: Global,
-        blank: Blank,
+        blanks: Blanks,
         world: World,
         count: u64,
     ) -> Result<(Shared<L>, Vec<Handle<L>>), (ShareFault, World)>
-        requires name { blank.name ≡ L.name }
-        requires parts { blank.parts ≡ L.parts }
+        requires names { (blanks.added.name ≡ L.name) × (blanks.taken.name ≡ L.taken_name) × (blanks.refused.name ≡ L.refused_name) × (blanks.cut.name ≡ L.cut_name) }
+        requires parts { (blanks.added.parts ≡ L.parts) × (blanks.taken.parts ≡ L.parts) × (blanks.refused.parts ≡ L.parts) }
         requires picked { (L.handles ≡ count) × (L.handles ≡ L.parts) × (L.start ≡ world) }
-        ensures fresh { IfOk result (λ r. IsCount count × AreFresh count (entry_count world) r.1.items) }
+        ensures fresh { IfOk result (λ r. IsCount count × AreFresh count (entry_count world) (entries_before world) r.1.items) }
         ensures refused { IfErr result (λ r. IsRefused count r.0) }
         ensures back { IfErr result (λ r. r.1 ≡ world) }
     {
@@ -53,31 +51,34 @@ impl<L: SharedLedger> Shared<L> {
         let Ok(mut handles) = Vec::with_capacity(alloc, count as usize) else {
             return Err((ShareFault::Memory, world));
         };
-        let (book, mut share) = blank.open::<L>();
+        let (mut books, mut rights) = open_books::<L>(blanks, world.log_start());
         let since = log_len(&world);
         for id in 0..count {
-            let share = share.split_off(1, 0);
+            let rights = rights.split_one();
+            let cut = books.cut.reached();
             handles.push_reserved(Handle {
                 id,
                 front: since,
-                share,
+                rights,
+                cut,
             });
         }
         world.lemma_agrees();
         let locked = Locked {
             world,
+            handles: count,
             added: 0,
-            book,
+            books,
         };
         let shared = Shared {
-            handles: count,
             locked: Mutex::new(locked),
         };
         Ok((shared, handles))
     }
 
     /// Takes the world back once all handles are handed in. Their shares then add up to the entries
-    /// since it was shared.
+    /// since it was shared, and to those that were taken out of the log since then; and the log begins
+    /// no earlier than any of them has cut it.
     ///
     /// Refused with `Missing` if handles are short, with how many were handed in and how many there
     /// are; the handles and the lock then come back.
@@ -87,49 +88,64 @@ impl<L: SharedLedger> Shared<L> {
     ) -> Result<World, (Missing, Shared<L>, Vec<Handle<L>>)>
         ensures core { IfOk result (λ w. IsCore L.start w) }
         ensures counted { IfOk result (λ w. entry_count w ≡ entry_count L.start + total_count handles.items) }
+        ensures taken { IfOk result (λ w. entries_before w ≡ entries_before L.start + total_taken handles.items) }
+        ensures cut { IfOk result (λ w. All (λ h. h.cut ≤ entries_before w) handles.items) }
         ensures all { IfOk result (λ _. L.handles ≤ vec_len handles) }
         ensures short { IfErr result (λ r. (r.0.held ≡ vec_len handles) × (r.0.want ≡ L.handles) × (r.0.held < r.0.want)) }
         ensures back { IfErr result (λ r. r.2.items ≡ handles.items) }
     {
         let held = handles.len() as u64;
-        if held < self.handles {
-            let want = self.handles;
-            return Err((Missing { held, want }, self, handles));
-        }
-        let Shared { handles: _, locked } = self;
+        let Shared { locked } = self;
         let inner = locked.into_inner();
+        let want = inner.handles;
+        if held < want {
+            let locked = Mutex::new(inner);
+            return Err((Missing { held, want }, Shared { locked }, handles));
+        }
         let Locked {
             world,
+            handles: _,
             added: _,
-            mut book,
+            mut books,
         } = inner;
-        let Some(mut all) = merge_shares(handles) else {
+        let Some(mut all) = merge_rights(&mut books.cut, handles) else {
             unreachable!()
         };
-        book.audit(&mut all);
+        books.added.audit(&mut all.added);
+        books.taken.audit(&mut all.taken);
         world.lemma_agrees();
         Ok(world)
     }
 }
 
-// All shares of the handles as one.
-fn merge_shares<L: SharedLedger>(mut handles: Vec<Handle<L>>) -> Option<Share<L>>
-    ensures { MatchOption result (handles.items ≡ []) (λ s. (s.parts ≡ vec_len handles) × (s.parts ≤ L.parts) × (s.amount ≡ total_count handles.items)) }
+// All shares of the handles as one. None of them has cut the log after its beginning.
+fn merge_rights<L: SharedLedger>(
+    cut: &mut HighWater,
+    mut handles: Vec<Handle<L>>,
+) -> Option<Rights<L>>
+    requires named { cut.old.name ≡ L.cut_name }
+    ensures same { cut.new ≡ cut.old }
+    ensures cut { All (λ h. h.cut ≤ cut.old.at) handles.items }
+    ensures all { MatchOption result (handles.items ≡ []) (λ r. (r.added.parts ≡ vec_len handles) × (r.added.parts ≤ L.parts) × (r.added.amount ≡ total_count handles.items) × (r.taken.amount ≡ total_taken handles.items)) }
 {
     let Handle {
         id: _,
         front: _,
-        share: mut first,
+        rights: mut first,
+        cut: mut known,
     } = handles.pop()?;
+    cut.compare(&mut known);
     let mut all = first.empty();
     all.merge(first);
     while let Some(handle) = handles.pop() {
         let Handle {
             id: _,
             front: _,
-            share,
+            rights,
+            cut: mut known,
         } = handle;
-        all.merge(share);
+        cut.compare(&mut known);
+        all.merge(rights);
     }
     Some(all)
 }

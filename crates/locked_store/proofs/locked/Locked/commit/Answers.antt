@@ -1,8 +1,8 @@
-use Rattle.std.proofs.Common.{subst, arith}
+use Rattle.std.proofs.Common.{ap, ◌∙◌, subst, arith}
 use Rattle.rollout.specs.Calls.{CommitStep}
 use Rattle.rollout.specs.State.{State}
 use Rattle.locked_store.specs.Cores.{IsCore}
-use Rattle.locked_store.proofs.Growing.{commit}
+use Rattle.locked_store.proofs.Growing.{commit, commit_before}
 use Rattle.locked_store.proofs.locked.Locked.commit.Goals as goal
 
 pub invariant_of-self : goal.invariant_of-self
@@ -16,7 +16,7 @@ invariant_of-self g c =
       agrees = c.lemma_agrees.ensures.agrees;
       kept = c.lemma_agrees.ensures.kept;
     } in
-    (core, omega (arith, done.ensures.added, c.self.invariant.1), omega (arith, done.ensures.total, c.self.invariant.2), c.self.invariant.3)
+    (core, omega (arith, done.ensures.added, c.self.invariant.1), omega (arith, done.ensures.total, c.self.invariant.2), c.self.invariant.3, omega (arith, commit_before c.self.inside.world done.new.world c.args.moment c.args.prepared done.result done.ensures.step, done.ensures.taken.0, c.self.invariant.4), omega (arith, commit_before c.self.inside.world done.new.world c.args.moment c.args.prepared done.result done.ensures.step, ap (λ w. w.at) done.ensures.taken.1, c.self.invariant.5), ap (λ w. w.name) done.ensures.taken.1 ∙ c.self.invariant.6, c.self.invariant.7, c.self.invariant.8)
 
 pub returns : goal.returns
 returns g c =

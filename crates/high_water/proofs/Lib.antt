@@ -1,0 +1,3 @@
+mod Bounds
+mod Token
+mod Walks
