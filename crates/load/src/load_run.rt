@@ -17,7 +17,7 @@ use crate::settle::{gather, settle_served, worse};
 use crate::table::{inserts, open_world};
 use command_line::LoadSize;
 use server::locked_store::{
-    Handle, ReceiptFault, Shared, SharedLedger, lemma_receipts_are_the_log, reconcile,
+    Blanks, Handle, ReceiptFault, Shared, SharedLedger, lemma_receipts_are_the_log, reconcile,
 };
 use server::world::{Receipt, World};
 use server::{Request, ServeFault, Served, serve};
@@ -25,7 +25,6 @@ use std::alloc::{AllocError, Global};
 use std::io::Write;
 use std::marker::Brand;
 use std::sync::Wait;
-use std::sync::ledger::Blank;
 use std::thread::{Threads, join};
 use std::time::{Clock, Instant};
 
@@ -251,7 +250,7 @@ fn load_in<
 >(
     rt: &R,
     alloc: Global,
-    blank: Blank,
+    blanks: Blanks,
     world: World,
     count: u64,
     requests: &[Request],
@@ -260,11 +259,11 @@ fn load_in<
     meter: &Meter,
     writer: &mut W,
 ) -> Result<Report, LoadFault>
-    requires name { blank.name ≡ L.name }
-    requires parts { blank.parts ≡ L.parts }
+    requires names { (blanks.added.name ≡ L.name) × (blanks.taken.name ≡ L.taken_name) × (blanks.refused.name ≡ L.refused_name) × (blanks.cut.name ≡ L.cut_name) }
+    requires parts { (blanks.added.parts ≡ L.parts) × (blanks.taken.parts ≡ L.parts) × (blanks.refused.parts ≡ L.parts) }
     requires picked { (L.handles ≡ count) × (L.handles ≡ L.parts) × (L.start ≡ world) }
 {
-    let Ok((shared, handles)) = Shared::<L>::new(alloc, blank, world, count) else {
+    let Ok((shared, handles)) = Shared::<L>::new(alloc, blanks, world, count) else {
         return Err(LoadFault::Memory);
     };
     let Done {
@@ -302,11 +301,11 @@ fn load<R: Threads + Wait + Eprint + Clock + Sync, W: Write + Send>(
     let requests = inserts(alloc, size.rows)?;
     let world = open_world(alloc)?;
     let count = u64::from(size.servers + size.workers + 1);
-    let blank = Blank::new(count);
+    let blanks = Blanks::new(count);
     let requests = requests.as_slice();
     let meter = Meter::new(rt, alloc, size.rows, options)?;
     let mut report = load_in::<Brand, R, W>(
-        rt, alloc, blank, world, count, requests, size, options, &meter, writer,
+        rt, alloc, blanks, world, count, requests, size, options, &meter, writer,
     )?;
     report.pace.audited = now(rt);
     Ok(report)

@@ -8,12 +8,11 @@ use crate::handle_port::{HandlePort, Read, inserted, read_for};
 use keycode::Value;
 use row_map::{ColumnType, ReadView, column_key, read_typed_value};
 use row_write::{Prepared, prepare};
-use shared_rollout::locked_store::{Handle, Shared, SharedFault, SharedLedger};
+use shared_rollout::locked_store::{Blanks, Handle, Shared, SharedFault, SharedLedger};
 use shared_rollout::world::{CommitFault, Committed, Receipt, World};
 use std::alloc::Global;
 use std::marker::Brand;
 use std::sync::Wait;
-use std::sync::ledger::Blank;
 use std::thread::{Threads, join};
 
 // How often each handle increments.
@@ -137,14 +136,14 @@ fn counted<L: SharedLedger + Send + Sync, R: Threads + Wait + Sync>(
 fn both_at_once<L: SharedLedger + Send + Sync, R: Threads + Wait + Sync>(
     rt: &R,
     alloc: Global,
-    blank: Blank,
+    blanks: Blanks,
     world: World,
 ) -> Option<(World, Option<Counts>)>
-    requires name { blank.name ≡ L.name }
-    requires parts { blank.parts ≡ L.parts }
+    requires names { (blanks.added.name ≡ L.name) × (blanks.taken.name ≡ L.taken_name) × (blanks.refused.name ≡ L.refused_name) × (blanks.cut.name ≡ L.cut_name) }
+    requires parts { (blanks.added.parts ≡ L.parts) × (blanks.taken.parts ≡ L.parts) × (blanks.refused.parts ≡ L.parts) }
     requires picked { (L.handles ≡ 2) × (L.handles ≡ L.parts) × (L.start ≡ world) }
 {
-    let (shared, mut handles) = Shared::<L>::new(alloc, blank, world, 2).ok()?;
+    let (shared, mut handles) = Shared::<L>::new(alloc, blanks, world, 2).ok()?;
     let counts = counted(rt, alloc, &shared, &mut handles);
     Some((shared.close(handles).ok()?, counts))
 }
@@ -162,7 +161,7 @@ fn no_increment_is_lost(rt: HostRuntime) {
     let Ok(world) = opened(alloc, &["a"]) else {
         panic!(rt; "no world");
     };
-    let Some((world, counts)) = both_at_once::<Brand, _>(&rt, alloc, Blank::new(2), world) else {
+    let Some((world, counts)) = both_at_once::<Brand, _>(&rt, alloc, Blanks::new(2), world) else {
         panic!(rt; "a call was refused");
     };
     assert!(rt; counts == Some((Some(TIMES), Some(TIMES))));

@@ -12,13 +12,12 @@ use audit::CheckReport;
 use reorganise::Work::Fill;
 use schema_version::ElementState::{Absent, Public, WriteOnly};
 use shared_rollout::locked_store::{
-    Handle, ReceiptFault, ShareFault, Shared, SharedFault, SharedLedger, reconcile,
+    Blanks, Handle, ReceiptFault, ShareFault, Shared, SharedFault, SharedLedger, reconcile,
 };
 use shared_rollout::world::{Entry, Receipt, World};
 use std::alloc::{AllocError, Global};
 use std::marker::Brand;
 use std::sync::Wait;
-use std::sync::ledger::Blank;
 
 // The length of the log and the number of rows.
 type Seen = (u64, u64);
@@ -153,15 +152,15 @@ fn closed<L: SharedLedger, R: Wait>(
 fn shared<L: SharedLedger, R: Wait>(
     rt: &R,
     alloc: Global,
-    blank: Blank,
+    blanks: Blanks,
     world: World,
     rows: &[(Act, Seen)],
 ) -> Result<Option<(World, usize)>, World>
-    requires name { blank.name ≡ L.name }
-    requires parts { blank.parts ≡ L.parts }
+    requires names { (blanks.added.name ≡ L.name) × (blanks.taken.name ≡ L.taken_name) × (blanks.refused.name ≡ L.refused_name) × (blanks.cut.name ≡ L.cut_name) }
+    requires parts { (blanks.added.parts ≡ L.parts) × (blanks.taken.parts ≡ L.parts) × (blanks.refused.parts ≡ L.parts) }
     requires picked { (L.handles ≡ 1) × (L.handles ≡ L.parts) × (L.start ≡ world) }
 {
-    match Shared::<L>::new(alloc, blank, world, 1) {
+    match Shared::<L>::new(alloc, blanks, world, 1) {
         Ok((shared, handles)) => Ok(closed(rt, alloc, shared, handles, rows)),
         Err((ShareFault::Memory, world)) => Err(world),
         Err(_) => Ok(None),
@@ -174,7 +173,7 @@ fn shared_once<R: Wait>(
     world: World,
     rows: &[(Act, Seen)],
 ) -> Result<Option<(World, usize)>, World> {
-    shared::<Brand, R>(rt, alloc, Blank::new(1), world, rows)
+    shared::<Brand, R>(rt, alloc, Blanks::new(1), world, rows)
 }
 
 fn shared_twice<R: Wait>(
@@ -190,19 +189,24 @@ fn shared_twice<R: Wait>(
 }
 
 // The world that comes back if there may not be so many handles.
-fn unshared<L: SharedLedger>(alloc: Global, blank: Blank, world: World, count: u64) -> Option<World>
-    requires name { blank.name ≡ L.name }
-    requires parts { blank.parts ≡ L.parts }
+fn unshared<L: SharedLedger>(
+    alloc: Global,
+    blanks: Blanks,
+    world: World,
+    count: u64,
+) -> Option<World>
+    requires names { (blanks.added.name ≡ L.name) × (blanks.taken.name ≡ L.taken_name) × (blanks.refused.name ≡ L.refused_name) × (blanks.cut.name ≡ L.cut_name) }
+    requires parts { (blanks.added.parts ≡ L.parts) × (blanks.taken.parts ≡ L.parts) × (blanks.refused.parts ≡ L.parts) }
     requires picked { (L.handles ≡ count) × (L.handles ≡ L.parts) × (L.start ≡ world) }
 {
-    match Shared::<L>::new(alloc, blank, world, count) {
+    match Shared::<L>::new(alloc, blanks, world, count) {
         Err((ShareFault::BadCount, world)) => Some(world),
         _ => None,
     }
 }
 
 fn unshared_once(alloc: Global, world: World, count: u64) -> Option<World> {
-    unshared::<Brand>(alloc, Blank::new(count), world, count)
+    unshared::<Brand>(alloc, Blanks::new(count), world, count)
 }
 
 // A world is shared by 1 to 64 handles.

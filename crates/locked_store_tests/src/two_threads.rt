@@ -4,13 +4,12 @@ ghost use Rattle.std.specs.Prelude.{◌≡◌};
 use crate::fixtures::{FIRST, opened, prepared_in, whole_table};
 use crate::handle_port::{HandlePort, inserted};
 use shared_rollout::locked_store::{
-    Handle, Missing, ReceiptFault, Shared, SharedFault, SharedLedger, reconcile,
+    Blanks, Handle, Missing, ReceiptFault, Shared, SharedFault, SharedLedger, reconcile,
 };
 use shared_rollout::world::{Committed, Entry, Grant, GrantFault, Receipt, Snapshot, What, World};
 use std::alloc::Global;
 use std::marker::Brand;
 use std::sync::Wait;
-use std::sync::ledger::Blank;
 use std::thread::{Threads, join};
 
 // A snapshot that a thread took, and how long the log then was.
@@ -152,14 +151,14 @@ fn at_once<L: SharedLedger + Send + Sync, R: Threads + Wait + Sync>(
 fn two_at_once<L: SharedLedger + Send + Sync, R: Threads + Wait + Sync>(
     rt: &R,
     alloc: Global,
-    blank: Blank,
+    blanks: Blanks,
     world: World,
 ) -> Option<(World, Found)>
-    requires name { blank.name ≡ L.name }
-    requires parts { blank.parts ≡ L.parts }
+    requires names { (blanks.added.name ≡ L.name) × (blanks.taken.name ≡ L.taken_name) × (blanks.refused.name ≡ L.refused_name) × (blanks.cut.name ≡ L.cut_name) }
+    requires parts { (blanks.added.parts ≡ L.parts) × (blanks.taken.parts ≡ L.parts) × (blanks.refused.parts ≡ L.parts) }
     requires picked { (L.handles ≡ 2) × (L.handles ≡ L.parts) × (L.start ≡ world) }
 {
-    let (shared, mut handles) = Shared::<L>::new(alloc, blank, world, 2).ok()?;
+    let (shared, mut handles) = Shared::<L>::new(alloc, blanks, world, 2).ok()?;
     let found = at_once(rt, alloc, &shared, &mut handles);
     let world = closed(shared, handles)?;
     Some((world, found?))
@@ -276,7 +275,7 @@ fn a_second_world_repeats_two_threads(rt: HostRuntime) {
     let Ok(world) = opened(alloc, &["a"]) else {
         panic!(rt; "no world");
     };
-    let Some((world, mut found)) = two_at_once::<Brand, _>(&rt, alloc, Blank::new(2), world) else {
+    let Some((world, mut found)) = two_at_once::<Brand, _>(&rt, alloc, Blanks::new(2), world) else {
         panic!(rt; "a call was refused");
     };
     assert!(rt; agrees(alloc, &world, &found));

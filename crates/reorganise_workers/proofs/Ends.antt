@@ -21,12 +21,12 @@ use Rattle.locked_store.specs.ReadFault.TheVariants as read_fault
 use Rattle.locked_store.specs.declared.fault.SharedFault.{SharedFault}
 use Rattle.locked_store.specs.declared.fault.SharedFault.TheVariants as shared
 use Rattle.locked_store.specs.declared.fault.WentBack.{WentBack}
-use Rattle.locked_store.specs.Answers.{Answers, AnswersBack, BackBy, Finds, WentBackTo, no_place, piece_place}
+use Rattle.locked_store.specs.Answers.{Answers, AnswersBack, BackBy, Counts, Finds, WentBackTo, no_place, piece_place}
 use Rattle.locked_store.specs.Cores.{IsCore, IsCoreSince}
-use Rattle.locked_store.specs.Known.{Known}
+use Rattle.locked_store.specs.Known.{Known, own_of}
 use Rattle.locked_store.proofs.Logging.{piece_logged}
-use Rattle.reorganise_workers.specs.Ends.{HasSeen, WasShorter, IsEndOf, IsEndOfOne, IsAttempt, IsPieceReceipt, IsFailedTry, FailedSoOften, Stood, WasRead, WasCommitted, WasUncommitted}
-use Rattle.reorganise_workers.specs.inner.Attempts.{WasSpent, unread_end, attempt_of, IsCounted}
+use Rattle.reorganise_workers.specs.Ends.{HasSeen, WasShorter, IsEndOf, IsEndOfOne, IsAttempt, IsPieceReceipt, IsFailedTry, FailedSoOften, Stood, WasRead, WasCommitted, WasUncommitted, tries_of}
+use Rattle.reorganise_workers.specs.inner.Attempts.{WasSpent, unread_end, attempt_of, failed_by}
 use Rattle.reorganise_workers.specs.declared.end.PieceEnd.{PieceEnd}
 use Rattle.reorganise_workers.specs.declared.end.PieceEnd.TheVariants as piece_end
 use Rattle.reorganise_workers.specs.declared.job.Job.{Job}
@@ -61,6 +61,50 @@ stays_back {E = E} start most v w prepared (Err refusal) step place a has = go r
     go : (fault : SharedFault E) → BackBy start v fault refusal.1 prepared w step place → HasSeen start most w.front
     go (shared.World e) b = inr (b.1, b.2.1, sym b.2.4)
     go (shared.WentBack seen) b = subst (λ (k : Known). HasSeen start most k.front) (sym b.0.2) has
+
+-- ---- what a handle counts
+
+abbrev Own : Known → Known → Type 0
+Own v w = own_of w ≡ own_of v
+
+own : (v w : Known) → w.id ≡ v.id → w.taken ≡ v.taken → Own v w
+own v w id taken = λ i. (id i, taken i)
+
+counts_own : (v w : Known) (place : Option ℕ) → Counts v place w → Own v w
+counts_own v w (Some place) c = own v w c.0 c.4
+counts_own v w None c = own v w c.0 c.2
+
+counts_refused : (v w : Known) (place : Option ℕ) → Counts v place w → w.refused ≡ v.refused
+counts_refused v w (Some place) c = c.5
+counts_refused v w None c = c.3
+
+pub own_back : {T E P : Type 0} (start : State) (v w : Known) (prepared : P) (answer : Result T (SharedFault E × P)) (step : State → Result T (E × P) → State → Type 0) (place : T → Option ℕ)
+    → AnswersBack start v prepared answer w step place → Own v w
+own_back {E = E} start v w prepared (Ok x) step place a = counts_own v w (place x) a.2.5
+own_back {E = E} start v w prepared (Err refusal) step place a = go refusal.0 a
+  where
+    go : (fault : SharedFault E) → BackBy start v fault refusal.1 prepared w step place → Own v w
+    go (shared.World e) b = own v w b.2.5.0 b.2.5.2
+    go (shared.WentBack seen) b = ap own_of b.0.2
+
+-- a commit that goes through is not counted as refused
+pub unrefused : {T E P : Type 0} (start : State) (v w : Known) (prepared : P) (done : T) (step : State → Result T (E × P) → State → Type 0) (place : T → Option ℕ)
+    → AnswersBack start v prepared (let r : Result T (SharedFault E × P) = Ok done in r) w step place → w.refused ≡ v.refused
+unrefused start v w prepared done step place a = counts_refused v w (place done) a.2.5
+
+failed_once : (fault : PieceFault) → failed_by (attempt_of (let f : SharedFault PieceFault = shared.World fault in f)) ≤ 1
+failed_once MomentTooLarge = omega arith
+failed_once NotWanted = omega arith
+failed_once WrongElement = omega arith
+failed_once (Moved cursor) = omega arith
+failed_once (Conflict key) = omega arith
+failed_once Memory = omega arith
+
+-- a failed try is a commit that was refused
+pub refused_back : {T P : Type 0} (start : State) (v w : Known) (prepared back : P) (fault : SharedFault PieceFault) (step : State → Result T (PieceFault × P) → State → Type 0) (place : T → Option ℕ)
+    → AnswersBack start v prepared (let r : Result T (SharedFault PieceFault × P) = Err (fault, back) in r) w step place → v.refused + failed_by (attempt_of fault) ≤ w.refused
+refused_back start v w prepared back (shared.World e) step place b = omega (arith, failed_once e, b.2.5.3)
+refused_back start v w prepared back (shared.WentBack seen) step place b = omega (arith, ap (λ (k : Known). k.refused) b.0.2)
 
 -- ---- reading
 
@@ -215,14 +259,14 @@ end_of_one start job piece piece_end.Held is = is
 end_of_one start job piece (piece_end.WentBack seen) is = is
 end_of_one start job piece piece_end.Memory is = is
 
--- a single attempt does not end a piece as Busy, so any count will do
-pub any_count : (start : State) (job : Job) (piece before : ℕ) (end : PieceEnd) (after : ℕ) → IsEndOfOne start job piece end → IsCounted before end after
-any_count start job piece before piece_end.Finished after is = tt
-any_count start job piece before (piece_end.Busy tries) after is = absurd is
-any_count start job piece before (piece_end.Refused fault) after is = tt
-any_count start job piece before piece_end.Held after is = tt
-any_count start job piece before (piece_end.WentBack seen) after is = tt
-any_count start job piece before piece_end.Memory after is = tt
+-- a single attempt does not end a piece as Busy
+pub tells_none : (start : State) (job : Job) (piece : ℕ) (end : PieceEnd) → IsEndOfOne start job piece end → tries_of end ≡ 0
+tells_none start job piece piece_end.Finished is = refl
+tells_none start job piece (piece_end.Busy tries) is = absurd is
+tells_none start job piece (piece_end.Refused fault) is = refl
+tells_none start job piece piece_end.Held is = refl
+tells_none start job piece (piece_end.WentBack seen) is = refl
+tells_none start job piece piece_end.Memory is = refl
 
 -- so many failed tries as were allowed
 pub busy : (start : State) (job : Job) (piece failed : ℕ) → failed < job.tries → job.tries ≤ failed + 1 → FailedSoOften start job piece (failed + 1) → IsEndOf start job piece (piece_end.Busy job.tries)

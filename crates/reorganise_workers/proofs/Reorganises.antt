@@ -15,10 +15,11 @@ use Rattle.locked_store.specs.Piece.{standing, standing_at}
 use Rattle.locked_store.specs.State.{State, facts_of}
 use Rattle.locked_store.specs.Receipt.{Receipt}
 use Rattle.locked_store.specs.Cores.{IsCore}
-use Rattle.locked_store.specs.Known.{Known, total_count, IsLeastFront, OfLast}
+use Rattle.locked_store.specs.Known.{Known, own_of, total_count, total_refused, IsLeastFront, OfLast}
+use Rattle.locked_store.specs.Answers.{Counts}
 use Rattle.locked_store.proofs.Fronts.{back_risen, risen_on, one_risen}
 use Rattle.reorganise_workers.specs.inner.Workers.{Filling, AreIdle}
-use Rattle.reorganise_workers.specs.Ends.{HasSeen, IsEndOf, IsPieceReceipt}
+use Rattle.reorganise_workers.specs.Ends.{HasSeen, IsEndOf, IsPieceReceipt, tries_of}
 use Rattle.reorganise_workers.specs.ReorganiseAll.{IsCount, IsMostFront, IsRefused, Reorganises, IsWorkedOff, WasBegun, WasRefused, Stays, right, asked}
 use Rattle.reorganise_workers.specs.declared.all_pieces.ReorganiseFault.{ReorganiseFault}
 use Rattle.reorganise_workers.specs.declared.all_pieces.ReorganiseFault.TheVariants as fault
@@ -40,18 +41,21 @@ planned job ws idle i d lt = ap (λ (j : Job). j.pieces) (idle i d lt).1
 shares : (handles : List Known) (ws : List Filling) → map (λ w. w.handle) ws ≡ reverse handles → total_count handles ≡ sum_by (λ w. w.handle.count) ws
 shares handles ws staff = sym (sum_reverse (λ (h : Known). h.count) handles) ∙ ap (sum_by (λ (h : Known). h.count)) (sym staff) ∙ sum_map (λ (h : Known). h.count) (λ (w : Filling). w.handle) ws
 
-numbers : (handles : List Known) (ws : List Filling) → handles ≡ reverse (map (λ w. w.handle) ws) → map (λ h. h.id) handles ≡ reverse (map (λ w. w.handle.id) ws)
+refusals : (handles : List Known) (ws : List Filling) → map (λ w. w.handle) ws ≡ reverse handles → total_refused handles ≡ sum_by (λ w. w.handle.refused) ws
+refusals handles ws staff = sym (sum_reverse (λ (h : Known). h.refused) handles) ∙ ap (sum_by (λ (h : Known). h.refused)) (sym staff) ∙ sum_map (λ (h : Known). h.refused) (λ (w : Filling). w.handle) ws
+
+numbers : (handles : List Known) (ws : List Filling) → handles ≡ reverse (map (λ w. w.handle) ws) → map own_of handles ≡ reverse (map (λ w. own_of w.handle) ws)
 numbers handles ws is =
-    ap (map (λ (h : Known). h.id)) is ∙ map_reverse (λ (h : Known). h.id) (map (λ (w : Filling). w.handle) ws) ∙ ap reverse (map_map (λ (h : Known). h.id) (λ (w : Filling). w.handle) ws)
+    ap (map own_of) is ∙ map_reverse own_of (map (λ (w : Filling). w.handle) ws) ∙ ap reverse (map_map own_of (λ (w : Filling). w.handle) ws)
 
 -- ends hold no receipt
 none_held : (ends : List (ℕ × PieceEnd)) → held_in (λ (e : PieceEnd). 0) ends ≡ 0
 none_held [] = refl
 none_held (e ∷ ends) = omega (arith, none_held ends)
 
--- which worker it is: its handle's number, and the front with which the handle came
-abbrev which : Filling → ℕ × ℕ
-which w = (w.handle.id, w.first_front)
+-- which worker it is: its handle, and the front with which the handle came
+abbrev which : Filling → (ℕ × ℕ) × ℕ
+which w = (own_of w.handle, w.first_front)
 
 pub reorganises : (start : State) (job : Job) (handles : List Known) (ws ps : List Filling) (ends : List (ℕ × PieceEnd)) (back : List Known) (receipts : List (List Receipt))
     → map (λ w. w.handle) ws ≡ reverse handles → AreIdle job ws → IsRow job.pieces ends
@@ -59,15 +63,16 @@ pub reorganises : (start : State) (job : Job) (handles : List Known) (ws ps : Li
     → map which ps ≡ map which ws
     → ((plan : Job) → All (λ w. w.job ≡ plan) ws → All (λ w. w.job ≡ plan) ps)
     → sum_by (λ w. w.handle.count) ps + sum_by (λ w. length w.kept_receipts) ws ≡ sum_by (λ w. w.handle.count) ws + sum_by (λ w. length w.kept_receipts) ps + held_in (λ (e : PieceEnd). 0) ends
+    → sum_by (λ w. w.handle.refused) ws + held_in tries_of ends ≤ sum_by (λ w. w.handle.refused) ps
     → back ≡ reverse (map (λ w. w.handle) ps) → All (λ w. w.first_front ≤ w.handle.front) ps → length receipts ≡ length ps → sum_by length receipts ≡ sum_by (λ w. length w.kept_receipts) ps
     → ((plan : Job) → All (λ w. w.job ≡ plan) ps → All (All (IsPieceReceipt start plan)) receipts)
     → Reorganises start job handles ends back receipts
-reorganises start job handles ws ps ends back receipts staff idle row fits same plans counted back_is risen lists kept_receipts pieces =
+reorganises start job handles ws ps ends back receipts staff idle row fits same plans counted tried back_is risen lists kept_receipts pieces =
     let first : handles ≡ reverse (map (λ (w : Filling). w.handle) ws) = sym (given_back handles ws staff) in
-    let ids : map (λ (w : Filling). w.handle.id) ps ≡ map (λ (w : Filling). w.handle.id) ws =
-    sym (map_map (λ (p : ℕ × ℕ). p.0) which ps) ∙ ap (map (λ (p : ℕ × ℕ). p.0)) same ∙ map_map (λ (p : ℕ × ℕ). p.0) which ws in
+    let ids : map (λ (w : Filling). own_of w.handle) ps ≡ map (λ (w : Filling). own_of w.handle) ws =
+    sym (map_map (λ (p : (ℕ × ℕ) × ℕ). p.0) which ps) ∙ ap (map (λ (p : (ℕ × ℕ) × ℕ). p.0)) same ∙ map_map (λ (p : (ℕ × ℕ) × ℕ). p.0) which ws in
     let firsts : map (λ (w : Filling). w.first_front) ps ≡ map (λ (w : Filling). w.first_front) ws =
-    sym (map_map (λ (p : ℕ × ℕ). p.1) which ps) ∙ ap (map (λ (p : ℕ × ℕ). p.1)) same ∙ map_map (λ (p : ℕ × ℕ). p.1) which ws in
+    sym (map_map (λ (p : (ℕ × ℕ) × ℕ). p.1) which ps) ∙ ap (map (λ (p : (ℕ × ℕ) × ℕ). p.1)) same ∙ map_map (λ (p : (ℕ × ℕ) × ℕ). p.1) which ws in
     let staff_back : map (λ (w : Filling). w.handle) ps ≡ reverse back = sym (ap reverse back_is ∙ reverse-reverse (map (λ (w : Filling). w.handle) ps)) in
     record {
       each = row;
@@ -75,7 +80,8 @@ reorganises start job handles ws ps ends back receipts staff idle row fits same 
       same = numbers back ps back_is ∙ ap reverse ids ∙ sym (numbers handles ws first);
       risen = back_risen (λ (w : Filling). w.handle) (λ (w : Filling). w.first_front) handles back ws ps staff (λ i d lt. (idle i d lt).2) firsts risen back_is;
       counted = omega (arith, counted, idle_none job ws idle, shares handles ws staff, shares back ps staff_back, kept_receipts, none_held ends);
-      lists = lists ∙ sym (length-map ps which) ∙ ap (λ (l : List (ℕ × ℕ)). length l) same ∙ length-map ws which ∙ sym (length-map ws (λ (w : Filling). w.handle)) ∙ ap (λ (l : List Known). length l) staff ∙ length-reverse handles;
+      tried = omega (arith, tried, refusals handles ws staff, refusals back ps staff_back);
+      lists = lists ∙ sym (length-map ps which) ∙ ap (λ (l : List ((ℕ × ℕ) × ℕ)). length l) same ∙ length-map ws which ∙ sym (length-map ws (λ (w : Filling). w.handle)) ∙ ap (λ (l : List Known). length l) staff ∙ length-reverse handles;
       pieces = pieces job (plans job (λ i d lt. (idle i d lt).1));
     }
 
@@ -115,22 +121,32 @@ pieces_apart start job own all left w kept_receipts receipts new all_is new_is o
 
 -- ---- the look at the progress, which moves one front
 
-pub stays_ids : (old new : List Known) → Stays old new → map (λ h. h.id) new ≡ map (λ h. h.id) old
-stays_ids old new s = sym (map_map (λ (p : ℕ × ℕ). p.0) right new) ∙ ap (map (λ (p : ℕ × ℕ). p.0)) s.0 ∙ map_map (λ (p : ℕ × ℕ). p.0) right old
+abbrev Right : Type 0
+Right = (ℕ × ℕ) × (ℕ × ℕ)
+
+pub stays_ids : (old new : List Known) → Stays old new → map own_of new ≡ map own_of old
+stays_ids old new s = sym (map_map (λ (p : Right). p.0) right new) ∙ ap (map (λ (p : Right). p.0)) s.0 ∙ map_map (λ (p : Right). p.0) right old
+
+-- what is read off each of them adds up to the same
+stays_sum : (f : Right → ℕ) (old new : List Known) → Stays old new → sum_by (λ h. f (right h)) new ≡ sum_by (λ h. f (right h)) old
+stays_sum f old new s = sym (sum_map f right new) ∙ ap (sum_by f) s.0 ∙ sum_map f right old
 
 pub stays_count : (old new : List Known) → Stays old new → total_count new ≡ total_count old
-stays_count old new s = sym (sum_map (λ (p : ℕ × ℕ). p.1) right new) ∙ ap (sum_by (λ (p : ℕ × ℕ). p.1)) s.0 ∙ sum_map (λ (p : ℕ × ℕ). p.1) right old
+stays_count old new s = stays_sum (λ p. p.1.0) old new s
+
+pub stays_refused : (old new : List Known) → Stays old new → total_refused new ≡ total_refused old
+stays_refused old new s = stays_sum (λ p. p.1.1) old new s
 
 stays_length : (old new : List Known) → Stays old new → length new ≡ length old
-stays_length old new s = sym (length-map new right) ∙ ap (λ (l : List (ℕ × ℕ)). length l) s.0 ∙ length-map old right
+stays_length old new s = sym (length-map new right) ∙ ap (λ (l : List Right). length l) s.0 ∙ length-map old right
 
-pair_same : (a b c d : ℕ) → a ≡ c → b ≡ d → (let p : ℕ × ℕ = (a, b) in p) ≡ (c, d)
-pair_same a b c d e f = cc
+right_same : (before after : Known) → Counts before None after → right after ≡ right before
+right_same before after c = λ i. ((c.0 i, c.2 i), (c.1 i, c.3 i))
 
 -- the last handle looked, and is the last again
-pub looked : (old popped new : List Known) (before after : Known) → old ≡ popped ++ before ∷ [] → new ≡ popped ++ after ∷ [] → after.id ≡ before.id → after.count ≡ before.count → before.front ≤ after.front → Stays old new
-looked old popped new before after old_is new_is id count rises = (
-  ap (map right) new_is ∙ map_push right popped after ∙ ap (λ (p : ℕ × ℕ). map right popped ++ p ∷ []) (pair_same _ _ _ _ id count)
+pub looked : (old popped new : List Known) (before after : Known) → old ≡ popped ++ before ∷ [] → new ≡ popped ++ after ∷ [] → Counts before None after → before.front ≤ after.front → Stays old new
+looked old popped new before after old_is new_is same rises = (
+  ap (map right) new_is ∙ map_push right popped after ∙ ap (λ (p : Right). map right popped ++ p ∷ []) (right_same before after same)
       ∙ sym (map_push right popped before) ∙ sym (ap (map right) old_is),
   one_risen old new popped before after old_is new_is rises,
 )
@@ -191,6 +207,7 @@ worked_off start moment element limit tries job handles mid ends back receipts s
         own = subst (λ (j : Job). All (λ e. IsEndOf start j e.0 e.1) ends) is r.own;
         same = r.same ∙ stays_ids handles mid s;
         counted = omega (arith, r.counted, stays_count handles mid s);
+        tried = omega (arith, r.tried, stays_refused handles mid s);
         risen = risen_on handles mid back (stays_length handles mid s) s.1 r.risen;
         lists = r.lists ∙ stays_length handles mid s;
         pieces = subst (λ (j : Job). All (All (IsPieceReceipt start j)) receipts) is r.pieces;

@@ -136,6 +136,15 @@ IsEndOf start job piece piece_end.Held = Unit {0}
 IsEndOf start job piece (piece_end.WentBack seen) = WasShorter start job.most seen
 IsEndOf start job piece piece_end.Memory = Unit {0}
 
+-- how many failed tries an end tells of
+abbrev pub tries_of : PieceEnd → ℕ
+tries_of piece_end.Finished = 0
+tries_of (piece_end.Busy tries) = tries
+tries_of (piece_end.Refused fault) = 0
+tries_of piece_end.Held = 0
+tries_of (piece_end.WentBack seen) = 0
+tries_of piece_end.Memory = 0
+
 -- how a single attempt may end a piece: Busy takes all tries
 abbrev pub IsEndOfOne : State → Job → ℕ → PieceEnd → Type 0
 IsEndOfOne start job piece piece_end.Finished = IsEndOf start job piece piece_end.Finished

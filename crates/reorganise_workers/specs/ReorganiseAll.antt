@@ -6,11 +6,11 @@ use Rattle.locked_store.specs.Piece.{standing_at}
 use Rattle.locked_store.specs.State.{State, facts_of}
 use Rattle.locked_store.specs.Receipt.{Receipt}
 use Rattle.locked_store.specs.Cores.{IsCoreSince, WasLength}
-use Rattle.locked_store.specs.Known.{Known, total_count, HaveRisen, IsLeastFront, OfLast}
-use Rattle.tasks.specs.Outcomes.{IsRow}
+use Rattle.locked_store.specs.Known.{Known, own_of, total_count, total_refused, HaveRisen, IsLeastFront, OfLast}
+use Rattle.tasks.specs.Outcomes.{IsRow, held_in}
 use Rattle.tasks.specs.declared.fault.TaskFault.{TaskFault}
 use Rattle.tasks.specs.declared.fault.TaskFault.TheVariants as task_fault
-use Rattle.reorganise_workers.specs.Ends.{IsEndOf, IsPieceReceipt}
+use Rattle.reorganise_workers.specs.Ends.{IsEndOf, IsPieceReceipt, tries_of}
 use Rattle.reorganise_workers.specs.declared.end.PieceEnd.{PieceEnd}
 use Rattle.reorganise_workers.specs.declared.job.Job.{Job}
 use Rattle.reorganise_workers.specs.declared.all_pieces.ReorganiseFault.{ReorganiseFault}
@@ -44,11 +44,11 @@ IsRefused start element limit tries handles fault.NotBegun = IsCount (length han
 IsRefused start element limit tries handles fault.Memory =
     IsCount (length handles) limit tries × ((kind : Work) × (pieces : ℕ) × OfLast handles (λ last. WasBegun start element kind pieces last.front))
 
--- a handle by its number and its share
-abbrev pub right : Known → ℕ × ℕ
-right handle = (handle.id, handle.count)
+-- a handle by all but its front
+abbrev pub right : Known → (ℕ × ℕ) × (ℕ × ℕ)
+right handle = (own_of handle, (handle.count, handle.refused))
 
--- the handles are the same, and so are their shares; a front may have risen
+-- the handles are the same, and so is what they count; a front may have risen
 abbrev pub Stays : List Known → List Known → Type 0
 Stays old new = (map right new ≡ map right old) × HaveRisen old new
 
@@ -57,13 +57,15 @@ asked moment element kind pieces limit tries front most =
     record { moment = moment; element = element; kind = kind; pieces = pieces; limit = limit; tries = tries; front = front; most = most }
 
 -- one end for each piece, by rising number, as its calls answered; all handles are back, in their order, none with a lower front, and their
--- shares rose together by the receipts: a list for each handle, of pieces of this element alone
+-- shares rose together by the receipts: a list for each handle, of pieces of this element alone; the failed tries that ends tell of are
+-- different ones, each a commit that was refused meanwhile
 pub record Reorganises (start : State) (job : Job) (handles : List Known) (ends : List (ℕ × PieceEnd)) (back : List Known) (receipts : List (List Receipt)) : Type 0 where
   pub each : IsRow job.pieces ends
   pub own : All (λ e. IsEndOf start job e.0 e.1) ends
-  pub same : map (λ h. h.id) back ≡ map (λ h. h.id) handles
+  pub same : map own_of back ≡ map own_of handles
   pub risen : HaveRisen handles back
   pub counted : total_count back ≡ total_count handles + sum_by length receipts
+  pub tried : total_refused handles + held_in tries_of ends ≤ total_refused back
   pub lists : length receipts ≡ length handles
   pub pieces : All (All (IsPieceReceipt start job)) receipts
 

@@ -1,5 +1,6 @@
 //! All pieces of a begun reorganisation, by as many workers as there are handles.
-ghost use Rattle.std.specs.Prelude.{◌≡◌, ℕ, ◌≤◌, All, length, map, reverse, sum_by, vec_len, vec_capacity, [], Decides, IfOk, IfErr};
+ghost use Rattle.std.specs.Prelude.{◌≡◌, ℕ, ◌≤◌, All, length, map, reverse, sum_by, vec_len, vec_capacity, [], Decides, IfOk, IfErr, None};
+ghost use Rattle.locked_store.specs.Answers.{Counts};
 ghost use Rattle.locked_store.specs.Known.{IsLeastFront, OfLast};
 ghost use Rattle.reorganise_workers.specs.Ends.{HasSeen, IsPieceReceipt};
 ghost use Rattle.reorganise_workers.specs.inner.Jobs.{IsJob};
@@ -7,7 +8,6 @@ ghost use Rattle.reorganise_workers.specs.inner.Workers.{AreIdle};
 ghost use Rattle.reorganise_workers.specs.declared.job.Job.{Job};
 ghost use Rattle.reorganise_workers.specs.ReorganiseAll.{asked, IsCount, IsMostFront, IsRefused, Reorganises, IsWorkedOff, WasBegun, WasRefused, to_fault, Stays};
 
-use crate::attempt::FailedTries;
 use crate::end::PieceEnd;
 use crate::job::Job;
 use crate::worker::PieceWorker;
@@ -86,7 +86,7 @@ fn job_of<L: SharedLedger, R: Wait>(
     most: u64,
 ) -> Result<Job, ReorganiseFault>
     requires counts { (1 ≤ limit) × (limit ≤ 1000) × (1 ≤ tries) × (tries ≤ 1000000) }
-    ensures same { (me.new.id ≡ me.old.id) × (me.new.count ≡ me.old.count) }
+    ensures same { Counts me.old None me.new }
     ensures rises { me.old.front ≤ me.new.front }
     ensures stays { (m : ℕ) → HasSeen L.start m me.old.front → HasSeen L.start m me.new.front }
     ensures job { IfOk result (λ job. IsJob job × (job ≡ asked moment element job.kind job.pieces limit tries front most)) }
@@ -135,7 +135,6 @@ fn make_workers<'a, L: SharedLedger, R: Wait>(
             handle,
             first_front,
             kept_receipts: Vec::new(alloc),
-            failed_tries: FailedTries::none(),
             job,
         });
     }
@@ -164,7 +163,6 @@ fn into_parts<L: SharedLedger, R: Wait>(
             handle,
             first_front: _,
             kept_receipts,
-            failed_tries: _,
             job: _,
         } = worker;
         handles.push_reserved(handle);
@@ -287,7 +285,8 @@ fn look_again<L: SharedLedger, R: Wait>(
 /// - `element`: the number of the element whose reorganisation it is.
 /// - `limit`: how many items each commit may have, from 1 to 1,000.
 /// - `tries`: after how many tries that ended in a conflict, or found the piece moved, a piece is
-///   given up, from 1 to 1,000,000.
+///   given up, from 1 to 1,000,000. The failed tries that all ends tell of are different ones: each is
+///   a commit of one of the handles, of which the handle counts how many were refused.
 /// - `gate`: it is asked up to 10,000,000 times before a piece; if it never lets pass, the piece's
 ///   end is `Held`.
 ///

@@ -1,5 +1,7 @@
 //! The attempts of one piece: its next items are read, prepared and committed.
-ghost use Rattle.std.specs.Prelude.{◌≡◌, ◌+◌, ◌<◌, ◌≤◌, ◌^◌, length, All, IfOk, IfErr};
+ghost use Rattle.std.specs.Prelude.{◌≡◌, ◌+◌, ◌≤◌, length, All, IfOk, IfErr, None};
+ghost use Rattle.locked_store.specs.Answers.{Counts};
+ghost use Rattle.locked_store.specs.Known.{own_of};
 ghost use Rattle.reorganise_workers.specs.Ends.{HasSeen, IsAttempt, IsPieceReceipt, WasRead};
 ghost use Rattle.reorganise_workers.specs.inner.Attempts.{WasSpent, failed_by, unread_end, attempt_of};
 
@@ -24,21 +26,6 @@ pub(crate) enum Attempt {
     Ended(PieceEnd),
 }
 
-/// How many tries failed. Only an attempt counts one more.
-#[derive(Drop)]
-pub(crate) struct FailedTries {
-    count: u64,
-}
-
-impl FailedTries {
-    /// None yet.
-    pub(crate) fn none() -> FailedTries
-        ensures { result.count ≡ 0 }
-    {
-        FailedTries { count: 0 }
-    }
-}
-
 // The next items of a piece, if the work is of the kind with which the call began; an `Err` is what
 // the attempt came to without them.
 fn next_items<L: SharedLedger, R: Wait>(
@@ -51,13 +38,14 @@ fn next_items<L: SharedLedger, R: Wait>(
 ) -> Result<PieceView, Attempt>
     requires seen { job.now.front ≤ me.old.front }
     requires had { HasSeen L.start job.now.most me.old.front }
-    ensures same { (me.new.id ≡ me.old.id) × (me.new.count ≡ me.old.count) }
+    ensures same { Counts me.old None me.new }
     ensures rises { me.old.front ≤ me.new.front }
     ensures had { HasSeen L.start job.now.most me.new.front }
     ensures own { IfOk result (λ view. view.piece ≡ piece) }
     ensures kind { IfOk result (λ view. view.kind ≡ job.now.kind) }
     ensures read { IfOk result (λ view. WasRead L.start job.now piece view) }
     ensures attempt { IfErr result (λ attempt. IsAttempt L.start job.now piece attempt) }
+    ensures unfailed { IfErr result (λ attempt. failed_by attempt ≡ 0) }
 {
     match shared.read_piece(rt, alloc, me, job.element, piece, job.limit) {
         Ok(view) => {
@@ -102,10 +90,11 @@ fn look<L: SharedLedger, R: Wait>(
     requires seen { job.now.front ≤ me.old.front }
     requires had { HasSeen L.start job.now.most me.old.front }
     requires spent { WasSpent L.start job.now piece }
-    ensures same { (me.new.id ≡ me.old.id) × (me.new.count ≡ me.old.count) }
+    ensures same { Counts me.old None me.new }
     ensures rises { me.old.front ≤ me.new.front }
     ensures had { HasSeen L.start job.now.most me.new.front }
     ensures attempt { IsAttempt L.start job.now piece result }
+    ensures unfailed { failed_by result ≡ 0 }
 {
     match shared.piece_progress(rt, me, job.element, piece) {
         Ok(Some((kind, ended))) => {
@@ -144,6 +133,7 @@ fn refused(fault: SharedFault<PieceFault>) -> Attempt
 }
 
 // Prepares what was read, outside of any lock, and commits it. The receipt's room is made first.
+#[tactic(auto, using(crate::proofs::Ends::own_back, crate::proofs::Ends::refused_back, crate::proofs::Ends::unrefused))]
 fn commit_items<L: SharedLedger, R: Wait>(
     rt: &R,
     alloc: Global,
@@ -157,7 +147,8 @@ fn commit_items<L: SharedLedger, R: Wait>(
     requires had { HasSeen L.start job.now.most me.old.front }
     requires kind { view.kind ≡ job.now.kind }
     requires read { WasRead L.start job.now view.piece view }
-    ensures same { me.new.id ≡ me.old.id }
+    ensures own { own_of me.new ≡ own_of me.old }
+    ensures refusals { me.old.refused + failed_by result ≤ me.new.refused }
     ensures rises { me.old.front ≤ me.new.front }
     ensures had { HasSeen L.start job.now.most me.new.front }
     ensures counted { me.new.count + length kept_receipts.old.items ≡ me.old.count + length kept_receipts.new.items }
@@ -183,8 +174,8 @@ fn commit_items<L: SharedLedger, R: Wait>(
     }
 }
 
-// Reads a piece's next items, and commits them.
-fn read_and_commit<L: SharedLedger, R: Wait>(
+/// One attempt: reads a piece's next items, and commits them. A failed try is a commit that was refused.
+pub(crate) fn make_attempt<L: SharedLedger, R: Wait>(
     rt: &R,
     alloc: Global,
     shared: &Shared<L>,
@@ -195,7 +186,8 @@ fn read_and_commit<L: SharedLedger, R: Wait>(
 ) -> Attempt
     requires seen { job.now.front ≤ me.old.front }
     requires had { HasSeen L.start job.now.most me.old.front }
-    ensures same { me.new.id ≡ me.old.id }
+    ensures own { own_of me.new ≡ own_of me.old }
+    ensures refusals { me.old.refused + failed_by result ≤ me.new.refused }
     ensures rises { me.old.front ≤ me.new.front }
     ensures had { HasSeen L.start job.now.most me.new.front }
     ensures counted { me.new.count + length kept_receipts.old.items ≡ me.old.count + length kept_receipts.new.items }
@@ -206,42 +198,4 @@ fn read_and_commit<L: SharedLedger, R: Wait>(
         Ok(view) => commit_items(rt, alloc, shared, me, kept_receipts, job, view),
         Err(attempt) => attempt,
     }
-}
-
-// How many failed tries an attempt is.
-fn failed_by(attempt: &Attempt) -> u64
-    ensures is { result ≡ failed_by attempt.now }
-    ensures one { result ≤ 1 }
-{
-    match attempt {
-        Attempt::Again => 1,
-        Attempt::More | Attempt::Reread | Attempt::Ended(_) => 0,
-    }
-}
-
-/// One attempt; a failed try is counted.
-pub(crate) fn make_attempt<L: SharedLedger, R: Wait>(
-    rt: &R,
-    alloc: Global,
-    shared: &Shared<L>,
-    me: &mut Handle<L>,
-    kept_receipts: &mut Vec<Receipt>,
-    failed: &mut FailedTries,
-    job: &Job,
-    piece: u32,
-) -> Attempt
-    requires seen { job.now.front ≤ me.old.front }
-    requires had { HasSeen L.start job.now.most me.old.front }
-    requires room { failed.old.count < 2 ^ 63 }
-    ensures same { me.new.id ≡ me.old.id }
-    ensures rises { me.old.front ≤ me.new.front }
-    ensures had { HasSeen L.start job.now.most me.new.front }
-    ensures counted { me.new.count + length kept_receipts.old.items ≡ me.old.count + length kept_receipts.new.items }
-    ensures pieces { All (IsPieceReceipt L.start job.now) kept_receipts.old.items → All (IsPieceReceipt L.start job.now) kept_receipts.new.items }
-    ensures attempt { IsAttempt L.start job.now piece result }
-    ensures tried { failed.new.count ≡ failed.old.count + failed_by result }
-{
-    let attempt = read_and_commit(rt, alloc, shared, me, kept_receipts, job, piece);
-    failed.count += failed_by(&attempt);
-    attempt
 }

@@ -1,10 +1,10 @@
 //! One worker: a handle that works on pieces.
-ghost use Rattle.std.specs.Prelude.{◌≡◌, ◌+◌, ◌≤◌, ◌^◌, length, All};
-ghost use Rattle.reorganise_workers.specs.Ends.{HasSeen, IsEndOf, IsPieceReceipt};
-ghost use Rattle.reorganise_workers.specs.inner.Attempts.{IsCounted};
+ghost use Rattle.std.specs.Prelude.{◌≡◌, ◌+◌, ◌≤◌, length, All};
+ghost use Rattle.locked_store.specs.Known.{own_of};
+ghost use Rattle.reorganise_workers.specs.Ends.{HasSeen, IsEndOf, IsPieceReceipt, tries_of};
 ghost use Rattle.reorganise_workers.specs.inner.Jobs.{IsJob};
 
-use crate::attempt::{Attempt, FailedTries, make_attempt};
+use crate::attempt::{Attempt, make_attempt};
 use crate::end::PieceEnd;
 use crate::job::Job;
 use locked_store::world::Receipt;
@@ -23,8 +23,6 @@ pub(crate) struct PieceWorker<'a, L: SharedLedger, R: Wait> {
     /// The front with which the handle came.
     pub(crate) first_front: u64,
     pub(crate) kept_receipts: Vec<Receipt>,
-    /// Of the piece at hand.
-    pub(crate) failed_tries: FailedTries,
     pub(crate) job: Job,
 }
 
@@ -45,34 +43,23 @@ fn work_piece<L: SharedLedger, R: Wait>(
     shared: &Shared<L>,
     me: &mut Handle<L>,
     kept_receipts: &mut Vec<Receipt>,
-    failed_tries: &mut FailedTries,
     job: &Job,
     piece: u32,
 ) -> PieceEnd
     requires job { IsJob job.now }
     requires seen { job.now.front ≤ me.old.front }
     requires had { HasSeen L.start job.now.most me.old.front }
-    requires room { failed_tries.old.count ≤ 2 ^ 62 }
-    ensures same { me.new.id ≡ me.old.id }
+    ensures own { own_of me.new ≡ own_of me.old }
     ensures rises { me.old.front ≤ me.new.front }
     ensures had { HasSeen L.start job.now.most me.new.front }
     ensures counted { me.new.count + length kept_receipts.old.items ≡ me.old.count + length kept_receipts.new.items }
     ensures pieces { All (IsPieceReceipt L.start job.now) kept_receipts.old.items → All (IsPieceReceipt L.start job.now) kept_receipts.new.items }
     ensures end { IsEndOf L.start job.now piece result }
-    ensures tried { IsCounted failed_tries.old.count result failed_tries.new.count }
+    ensures tried { me.old.refused + tries_of result ≤ me.new.refused }
 {
     let mut failed = 0u32;
     for _i in rt.forever() {
-        match make_attempt(
-            rt,
-            alloc,
-            shared,
-            me,
-            kept_receipts,
-            failed_tries,
-            job,
-            piece,
-        ) {
+        match make_attempt(rt, alloc, shared, me, kept_receipts, job, piece) {
             Attempt::More => {}
             Attempt::Reread => {}
             Attempt::Again => {
@@ -89,7 +76,8 @@ fn work_piece<L: SharedLedger, R: Wait>(
 
 impl<'a, L: SharedLedger, R: Wait> Worker for PieceWorker<'a, L, R> {
     ghost use Rattle.std.specs.Prelude.{ℕ, length};
-    ghost use Rattle.reorganise_workers.specs.Ends.{IsEndOf};
+    ghost use Rattle.locked_store.specs.Known.{own_of};
+    ghost use Rattle.reorganise_workers.specs.Ends.{IsEndOf, tries_of};
     ghost use Rattle.reorganise_workers.specs.declared.job.Job.{Job};
 
     type Outcome = PieceEnd;
@@ -100,15 +88,19 @@ impl<'a, L: SharedLedger, R: Wait> Worker for PieceWorker<'a, L, R> {
 
     ghost total = { λ job. job.pieces };
 
-    ghost Id = { ℕ × ℕ };
+    ghost Id = { (ℕ × ℕ) × ℕ };
 
-    ghost id = { λ w. (w.handle.id, w.first_front) };
+    ghost id = { λ w. (own_of w.handle, w.first_front) };
 
     ghost count = { λ w. w.handle.count };
 
     ghost kept_receipts = { λ w. length w.kept_receipts };
 
     ghost held = { λ end. 0 };
+
+    ghost failed = { λ w. w.handle.refused };
+
+    ghost reported = { tries_of };
 
     ghost fits = { IsEndOf L.start };
 
@@ -118,21 +110,10 @@ impl<'a, L: SharedLedger, R: Wait> Worker for PieceWorker<'a, L, R> {
             shared,
             handle,
             kept_receipts,
-            failed_tries,
             job,
             ..
         } = self;
-        *failed_tries = FailedTries::none();
-        work_piece(
-            rt,
-            alloc,
-            shared,
-            handle,
-            kept_receipts,
-            failed_tries,
-            job,
-            number as u32,
-        )
+        work_piece(rt, alloc, shared, handle, kept_receipts, job, number as u32)
     }
 
     fn held_back() -> PieceEnd {

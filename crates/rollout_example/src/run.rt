@@ -5,12 +5,11 @@ use crate::operate::{operate, report_step};
 use crate::table::{inserts, world_with_changes};
 use server::tasks::FreeGate;
 use server::{Outcome, Request, Served, serve};
-use shared_rollout::locked_store::{Handle, Shared, SharedLedger};
+use shared_rollout::locked_store::{Blanks, Handle, Shared, SharedLedger};
 use shared_rollout::world::World;
 use std::alloc::Global;
 use std::marker::Brand;
 use std::sync::Wait;
-use std::sync::ledger::Blank;
 use std::thread::{Threads, join};
 
 /// How many rows there are at first, and how many the servers add.
@@ -59,7 +58,7 @@ where
 fn share<L, R>(
     rt: &R,
     alloc: Global,
-    blank: Blank,
+    blanks: Blanks,
     world: World,
     requests: &[Request],
     out: &mut String,
@@ -67,11 +66,11 @@ fn share<L, R>(
 where
     L: SharedLedger + Send + Sync,
     R: Threads + Wait + Sync,
-    requires name { blank.name ≡ L.name }
-    requires parts { blank.parts ≡ L.parts }
+    requires names { (blanks.added.name ≡ L.name) × (blanks.taken.name ≡ L.taken_name) × (blanks.refused.name ≡ L.refused_name) × (blanks.cut.name ≡ L.cut_name) }
+    requires parts { (blanks.added.parts ≡ L.parts) × (blanks.taken.parts ≡ L.parts) × (blanks.refused.parts ≡ L.parts) }
     requires picked { (L.handles ≡ 5) × (L.handles ≡ L.parts) × (L.start ≡ world) }
 {
-    let (shared, mut servers) = Shared::<L>::new(alloc, blank, world, 5).ok()?;
+    let (shared, mut servers) = Shared::<L>::new(alloc, blanks, world, 5).ok()?;
     let operator = servers.pop()?;
     let (handles, done) = at_once(rt, alloc, &shared, servers, operator, requests, out)?;
     Some((shared.close(handles).ok()?, done))
@@ -83,8 +82,8 @@ where
     R: Threads + Wait + Sync,
 {
     let requests = inserts(alloc, ROWS, ROWS).ok()?;
-    let blank = Blank::new(5);
-    share::<Brand, R>(rt, alloc, blank, world, requests.as_slice(), out)
+    let blanks = Blanks::new(5);
+    share::<Brand, R>(rt, alloc, blanks, world, requests.as_slice(), out)
 }
 
 // Reports how many requests were committed, and what the world has.

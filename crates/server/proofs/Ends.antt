@@ -1,5 +1,5 @@
 -- How a try ends.
-use Rattle.std.proofs.Common.{◌≡◌, ℕ, ◌+◌, List, [], ◌∷◌, ◌++◌, ⊎_elim, refl, subst, sym, ap, ◌∙◌, arith}
+use Rattle.std.proofs.Common.{◌≡◌, ℕ, ◌+◌, ◌≤◌, List, [], ◌∷◌, ◌++◌, ⊎_elim, refl, subst, sym, ap, ◌∙◌, arith}
 use Rattle.std.specs.Prelude.{◌↔◌, Option, Some, None, Result, Ok, Err}
 use Rattle.std.specs.FinMap as map
 use Rattle.std.proofs.lemmas.List.Elements.{All-append, All-cons, All-nil, All-same}
@@ -22,7 +22,8 @@ use Rattle.server.specs.declared.request.Request.{Request}
 use Rattle.server.specs.declared.tally.Tally.{Tally}
 use Rattle.server.specs.declared.tally.Last.{Last}
 use Rattle.server.specs.declared.tally.Last.TheVariants as last
-use Rattle.server.specs.Outcomes.{Said, WasGranted, Keys, Keeps, IsEnd, IsLeaseReceipt, IsServed, IsTrueOf, IsFailedTry, FailedSoOften, unprepared_by, receipts_of}
+use Rattle.server.specs.Outcomes.{Said, WasGranted, Keys, Keeps, IsEnd, IsLeaseReceipt, IsServed, IsTrueOf, IsFailedTry, FailedSoOften, unprepared_by, receipts_of, tries_of}
+use Rattle.server.specs.Tallies.{tally}
 use Rattle.server.specs.inner.Tries.{HasFailed, IsTrueOfTry, StayLeases, receipts_in, retries_after}
 
 -- a refusal that is not for memory has its condition
@@ -82,6 +83,17 @@ served tries before (outcome.Busy n) after e = absurd e
 served tries before outcome.Held after e = e
 served tries before (outcome.WentBack seen) after e = e
 served tries before outcome.Memory after e = e
+
+-- the failed tries that the outcome tells of are among those that were counted
+pub reported_by : (tries : ℕ) (first : Last) (o : Outcome) (after : Tally) → IsServed tries (tally 0 first) o after → tries_of o ≤ after.retries
+reported_by tries first (outcome.Done receipt) after s = omega arith
+reported_by tries first (outcome.Row op why) after s = omega arith
+reported_by tries first (outcome.Unprepared fault) after s = omega arith
+reported_by tries first (outcome.Rejected fault) after s = omega arith
+reported_by tries first (outcome.Busy n) after s = omega (arith, s.0, s.1)
+reported_by tries first outcome.Held after s = omega arith
+reported_by tries first (outcome.WentBack seen) after s = omega arith
+reported_by tries first outcome.Memory after s = omega arith
 
 -- no try failed yet
 pub none_failed : (may : Said → Type 0) (moment : ℕ) (ops : List RowOp) → FailedSoOften may moment ops 0

@@ -1,5 +1,5 @@
 -- What the lock answers, as a port's answers.
-use Rattle.std.proofs.Common.{◌≡◌, ℕ, ◌<◌, ◌≤◌, List, ⊎_elim, inr, refl, sym, subst, ap, arith}
+use Rattle.std.proofs.Common.{◌≡◌, ℕ, ◌+◌, ◌<◌, ◌≤◌, List, ⊎_elim, inr, refl, sym, subst, ap, arith}
 use Rattle.std.specs.Prelude.{Option, Some, None, Result, Ok, Err, IfOk}
 use Rattle.std.specs.declared.alloc.AllocError.{AllocError}
 use Rattle.collections.specs.Refusal.{IsRefusal}
@@ -23,30 +23,67 @@ use Rattle.locked_store.specs.declared.fault.SharedFault.{SharedFault}
 use Rattle.locked_store.specs.declared.fault.SharedFault.TheVariants as shared
 use Rattle.locked_store.specs.Answers.{Answers, AnswersBack, BackBy, WentBackTo, Counts, grant_place, commit_place, no_place}
 use Rattle.locked_store.specs.Cores.{IsCore, IsCoreSince}
-use Rattle.locked_store.specs.Known.{Known}
+use Rattle.locked_store.specs.Known.{Known, own_of}
 use Rattle.locked_store.proofs.Logging.{lease_logged, commit_logged}
 use Rattle.server.specs.HandlePorts.{HasSeen, WasShorter, SaidByCore, WasCommitted, WasUncommitted, lease_and_schema, kept_with}
 use Rattle.server.specs.Outcomes.{Said, Sees, Keys, GrantSays, Keeps, ReadSays, CommitSays, RefusalSays, FaultSays}
+use Rattle.server.specs.Tallies.{retried, last_of_fault, last_by, last_of_commit}
 
--- a call goes through the same handle
-counts_id : (v w : Known) (place : Option ℕ) → Counts v place w → w.id ≡ v.id
-counts_id v w (Some place) c = c.0
-counts_id v w None c = c.0
+-- a call goes through the same handle, and takes nothing out of the log
+abbrev Own : Known → Known → Type 0
+Own v w = own_of w ≡ own_of v
+
+own : (v w : Known) → w.id ≡ v.id → w.taken ≡ v.taken → Own v w
+own v w id taken = λ i. (id i, taken i)
+
+counts_own : (v w : Known) (place : Option ℕ) → Counts v place w → Own v w
+counts_own v w (Some place) c = own v w c.0 c.4
+counts_own v w None c = own v w c.0 c.2
 
 pub same_id : {T E : Type 0} (start : State) (v w : Known) (answer : Result T (SharedFault E)) (step : State → Result T E → State → Type 0) (place : T → Option ℕ) → Answers start v answer w step place
-    → w.id ≡ v.id
-same_id start v w (Ok x) step place a = counts_id v w (place x) a.2.5
-same_id start v w (Err (shared.World e)) step place a = a.2.5.0
-same_id start v w (Err (shared.WentBack seen)) step place a = ap (λ (k : Known). k.id) a.2
+    → Own v w
+same_id start v w (Ok x) step place a = counts_own v w (place x) a.2.5
+same_id start v w (Err (shared.World e)) step place a = counts_own v w None a.2.5
+same_id start v w (Err (shared.WentBack seen)) step place a = ap own_of a.2
 
 pub same_id_back : {T E P : Type 0} (start : State) (v w : Known) (prepared : P) (answer : Result T (SharedFault E × P)) (step : State → Result T (E × P) → State → Type 0) (place : T → Option ℕ)
-    → AnswersBack start v prepared answer w step place → w.id ≡ v.id
-same_id_back {E = E} start v w prepared (Ok x) step place a = counts_id v w (place x) a.2.5
+    → AnswersBack start v prepared answer w step place → Own v w
+same_id_back {E = E} start v w prepared (Ok x) step place a = counts_own v w (place x) a.2.5
 same_id_back {E = E} start v w prepared (Err refusal) step place a = go refusal.0 a
   where
-    go : (fault : SharedFault E) → BackBy start v fault refusal.1 prepared w step place → w.id ≡ v.id
-    go (shared.World e) b = b.2.5.0
-    go (shared.WentBack seen) b = ap (λ (k : Known). k.id) b.0.2
+    go : (fault : SharedFault E) → BackBy start v fault refusal.1 prepared w step place → Own v w
+    go (shared.World e) b = own v w b.2.5.0 b.2.5.2
+    go (shared.WentBack seen) b = ap own_of b.0.2
+
+-- a call that is no commit counts no refusal
+counts_refused : (v w : Known) (place : Option ℕ) → Counts v place w → w.refused ≡ v.refused
+counts_refused v w (Some place) c = c.5
+counts_refused v w None c = c.3
+
+pub same_refused : {T E : Type 0} (start : State) (v w : Known) (answer : Result T (SharedFault E)) (step : State → Result T E → State → Type 0) (place : T → Option ℕ) → Answers start v answer w step place
+    → w.refused ≡ v.refused
+same_refused start v w (Ok x) step place a = counts_refused v w (place x) a.2.5
+same_refused start v w (Err (shared.World e)) step place a = counts_refused v w None a.2.5
+same_refused start v w (Err (shared.WentBack seen)) step place a = ap (λ (k : Known). k.refused) a.2
+
+-- a commit that is to be tried again is one that was refused
+retried_fault : (fault : CommitFault) → retried (last_of_fault fault) ≤ 1
+retried_fault commit_fault.MomentTooLarge = omega arith
+retried_fault commit_fault.BadLease = omega arith
+retried_fault (commit_fault.LeaseEnded until now) = omega arith
+retried_fault commit_fault.WrongSchema = omega arith
+retried_fault (commit_fault.Conflict key) = omega arith
+retried_fault commit_fault.Memory = omega arith
+
+pub refused_back : (start : State) (v w : Known) (prepared : PreparedTxn) (answer : Result Committed (SharedFault CommitFault × PreparedTxn)) (step : State → Result Committed (CommitFault × PreparedTxn) → State → Type 0)
+    → AnswersBack start v prepared answer w step commit_place → v.refused + retried (last_of_commit answer) ≤ w.refused
+refused_back start v w prepared (Ok (committed.Done receipt)) step a = omega (arith, counts_refused v w (Some receipt.place) a.2.5)
+refused_back start v w prepared (Ok (committed.Refused op why)) step a = omega (arith, counts_refused v w None a.2.5)
+refused_back start v w prepared (Err refusal) step a = go refusal.0 a
+  where
+    go : (fault : SharedFault CommitFault) → BackBy start v fault refusal.1 prepared w step commit_place → v.refused + retried (last_by fault) ≤ w.refused
+    go (shared.World e) b = omega (arith, retried_fault e, b.2.5.3)
+    go (shared.WentBack seen) b = omega (arith, ap (λ (k : Known). k.refused) b.0.2)
 
 -- the core of a call has at least as many entries as were seen before it
 since : (start : State) (front : ℕ) (v : Known) (core : State) → IsCore start core → v.front ≤ entry_count core → front ≤ v.front → IsCoreSince start front core

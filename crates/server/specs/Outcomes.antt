@@ -235,6 +235,17 @@ receipts_of outcome.Held = 0
 receipts_of (outcome.WentBack seen) = 0
 receipts_of outcome.Memory = 0
 
+-- how many failed tries an outcome tells of
+abbrev pub tries_of : Outcome → ℕ
+tries_of (outcome.Done receipt) = 0
+tries_of (outcome.Row op why) = 0
+tries_of (outcome.Unprepared fault) = 0
+tries_of (outcome.Rejected fault) = 0
+tries_of (outcome.Busy n) = n
+tries_of outcome.Held = 0
+tries_of (outcome.WentBack seen) = 0
+tries_of outcome.Memory = 0
+
 abbrev pub receipts_by : {T : Type 0} → Result T Outcome → ℕ
 receipts_by (Ok x) = 0
 receipts_by (Err o) = receipts_of o

@@ -43,13 +43,16 @@ fn kept_apart(
 }
 
 impl<'a, L: SharedLedger, R: Wait> Port for HandlePort<'a, L, R> {
+    ghost use Rattle.locked_store.specs.Known.{own_of};
     ghost use Rattle.server.specs.HandlePorts.{HasSeen, SaidByCore};
 
-    ghost id = { λ d. d.handle.id };
+    ghost id = { λ d. own_of d.handle };
 
     ghost tally = { λ d. d.tally };
 
     ghost count = { λ d. d.handle.count };
+
+    ghost refused = { λ d. d.handle.refused };
 
     ghost front = { λ d. d.handle.front };
 
@@ -59,7 +62,7 @@ impl<'a, L: SharedLedger, R: Wait> Port for HandlePort<'a, L, R> {
 
     ghost may = { SaidByCore L.start };
 
-    #[tactic(auto, using(crate::proofs::HandlePorts::same_id))]
+    #[tactic(auto, using(crate::proofs::HandlePorts::same_id, crate::proofs::HandlePorts::same_refused))]
     fn lease(
         &mut self,
         alloc: Global,
@@ -75,14 +78,14 @@ impl<'a, L: SharedLedger, R: Wait> Port for HandlePort<'a, L, R> {
         answer
     }
 
-    #[tactic(auto, using(crate::proofs::HandlePorts::same_id))]
+    #[tactic(auto, using(crate::proofs::HandlePorts::same_id, crate::proofs::HandlePorts::same_refused))]
     fn read(&mut self, alloc: Global, keys: &ReadSet) -> Result<ReadView, SharedFault<AllocError>> {
         let answer = self.shared.read(self.rt, alloc, &mut self.handle, keys);
         self.tally.note(last_of_read(&answer));
         answer
     }
 
-    #[tactic(auto, using(crate::proofs::HandlePorts::same_id_back))]
+    #[tactic(auto, using(crate::proofs::HandlePorts::same_id_back, crate::proofs::HandlePorts::refused_back))]
     fn commit(
         &mut self,
         alloc: Global,

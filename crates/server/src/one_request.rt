@@ -28,6 +28,7 @@ fn held_or_new<P: Port>(
     ensures own { (f m n : ℕ) (requests : List Asked) → Sees P.has_seen f m (P.front port.old) → IfErr result (λ o. IsTrueOf (P.may f m) requests request.now.moment request.now.ops n o) }
     ensures retries { (P.tally port.new).retries ≡ (P.tally port.old).retries }
     ensures own_handle { P.id port.new ≡ P.id port.old }
+    ensures refusals { P.refused port.old + (P.tally port.new).retries ≤ P.refused port.new + (P.tally port.old).retries }
     ensures rises { P.front port.old ≤ P.front port.new }
     ensures stays { (m : ℕ) → P.has_seen m (P.front port.old) → P.has_seen m (P.front port.new) }
     ensures counted { P.count port.new + length (P.kept_receipts port.old) ≡ P.count port.old + length (P.kept_receipts port.new) + receipts_by result }
@@ -78,6 +79,7 @@ fn prepared_by<P: Port>(
     ensures own { (f m n : ℕ) (requests : List Asked) → Sees P.has_seen f m (P.front port.old) → WasGranted (P.may f m) requests lease schema.now → IfErr result (λ o. IsTrueOf (P.may f m) requests request.now.moment request.now.ops n o) }
     ensures retries { (P.tally port.new).retries ≡ (P.tally port.old).retries }
     ensures own_handle { P.id port.new ≡ P.id port.old }
+    ensures refusals { P.refused port.old + (P.tally port.new).retries ≤ P.refused port.new + (P.tally port.old).retries }
     ensures rises { P.front port.old ≤ P.front port.new }
     ensures stays { (m : ℕ) → P.has_seen m (P.front port.old) → P.has_seen m (P.front port.new) }
     ensures counted { P.count port.new + length (P.kept_receipts port.old) ≡ P.count port.old + length (P.kept_receipts port.new) + receipts_by result }
@@ -119,6 +121,7 @@ fn committed_by<P: Port>(
     ensures more { IfOk result (λ _. (P.tally port.new).retries ≡ (P.tally port.old).retries + 1) }
     ensures once { IfErr result (λ _. (P.tally port.new).retries ≡ (P.tally port.old).retries) }
     ensures own_handle { P.id port.new ≡ P.id port.old }
+    ensures refusals { P.refused port.old + (P.tally port.new).retries ≤ P.refused port.new + (P.tally port.old).retries }
     ensures rises { P.front port.old ≤ P.front port.new }
     ensures stays { (m : ℕ) → P.has_seen m (P.front port.old) → P.has_seen m (P.front port.new) }
     ensures counted { P.count port.new + length (P.kept_receipts port.old) ≡ P.count port.old + length (P.kept_receipts port.new) + receipts_by result }
@@ -159,6 +162,7 @@ fn try_under<P: Port>(
     ensures more { IfOk result (λ _. (P.tally port.new).retries ≡ (P.tally port.old).retries + 1) }
     ensures once { IfErr result (λ _. (P.tally port.new).retries ≡ (P.tally port.old).retries) }
     ensures own_handle { P.id port.new ≡ P.id port.old }
+    ensures refusals { P.refused port.old + (P.tally port.new).retries ≤ P.refused port.new + (P.tally port.old).retries }
     ensures rises { P.front port.old ≤ P.front port.new }
     ensures stays { (m : ℕ) → P.has_seen m (P.front port.old) → P.has_seen m (P.front port.new) }
     ensures counted { P.count port.new + length (P.kept_receipts port.old) ≡ P.count port.old + length (P.kept_receipts port.new) + receipts_by result }
@@ -181,6 +185,7 @@ fn try_once<P: Port>(
     ensures own { (f m n : ℕ) (requests : List Asked) → Sees P.has_seen f m (P.front port.old) → Contains requests request.now → IsHeld (P.may f m) requests held → IsTrueOfTry (P.may f m) requests request.now.moment request.now.ops n result.0 }
     ensures retries { (P.tally port.new).retries ≡ retries_after (P.tally port.old).retries result.0 }
     ensures own_handle { P.id port.new ≡ P.id port.old }
+    ensures refusals { P.refused port.old + (P.tally port.new).retries ≤ P.refused port.new + (P.tally port.old).retries }
     ensures rises { P.front port.old ≤ P.front port.new }
     ensures stays { (m : ℕ) → P.has_seen m (P.front port.old) → P.has_seen m (P.front port.new) }
     ensures counted { P.count port.new + length (P.kept_receipts port.old) ≡ P.count port.old + length (P.kept_receipts port.new) + receipts_in result.0 }
@@ -243,6 +248,7 @@ pub fn serve_under<P: Port>(
     ensures none { IsInForce request.now.moment held → (P.tally port.new).retries ≡ (P.tally port.old).retries → P.kept_receipts port.new ≡ P.kept_receipts port.old }
     ensures few { (P.tally port.new).retries ≤ (P.tally port.old).retries + tries }
     ensures own_handle { P.id port.new ≡ P.id port.old }
+    ensures refusals { P.refused port.old + (P.tally port.new).retries ≤ P.refused port.new + (P.tally port.old).retries }
     ensures rises { P.front port.old ≤ P.front port.new }
     ensures stays { (m : ℕ) → P.has_seen m (P.front port.old) → P.has_seen m (P.front port.new) }
     ensures counted { P.count port.new + length (P.kept_receipts port.old) ≡ P.count port.old + length (P.kept_receipts port.new) + receipts_of result.0 }
@@ -283,6 +289,7 @@ pub fn serve_one<P: Port>(alloc: Global, port: &mut P, request: &Request, tries:
     ensures own { (f m : ℕ) → Sees P.has_seen f m (P.front port.old) → IsTrueOf (P.may f m) (request.now ∷ []) request.now.moment request.now.ops tries result }
     ensures few { (P.tally port.new).retries ≤ (P.tally port.old).retries + tries }
     ensures own_handle { P.id port.new ≡ P.id port.old }
+    ensures refusals { P.refused port.old + (P.tally port.new).retries ≤ P.refused port.new + (P.tally port.old).retries }
     ensures rises { P.front port.old ≤ P.front port.new }
     ensures stays { (m : ℕ) → P.has_seen m (P.front port.old) → P.has_seen m (P.front port.new) }
     ensures counted { P.count port.new + length (P.kept_receipts port.old) ≡ P.count port.old + length (P.kept_receipts port.new) + receipts_of result }

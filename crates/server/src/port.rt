@@ -19,21 +19,25 @@ use std::alloc::{AllocError, Global};
 /// Each answer is of a state of the world that is no older than what the port had seen before the
 /// call: the lease that it grants, the pairs that it reads, the receipt of an entry that came
 /// after, and each refusal but `WentBack`, which has a length of the log below what the port had
-/// seen, and `Memory`.
+/// seen, and `Memory`. Each answer that the tally counts is of a commit that was refused, so it is
+/// not counted twice.
 pub trait Port {
     ghost use Rattle.std.specs.Prelude.{ℕ, List};
     ghost use Rattle.locked_store.specs.Receipt.{Receipt};
     ghost use Rattle.server.specs.Outcomes.{Said};
     ghost use Rattle.server.specs.declared.tally.Tally.{Tally};
 
-    // through which handle it calls
-    ghost id: { Self → ℕ };
+    // through which handle it calls, and how many entries that has taken out of the log
+    ghost id: { Self → ℕ × ℕ };
 
     // its tally
     ghost tally: { Self → Tally };
 
     // how many entries its calls added
     ghost count: { Self → ℕ };
+
+    // how many of its commits were refused
+    ghost refused: { Self → ℕ };
 
     // the length of the log that it last saw
     ghost front: { Self → ℕ };
@@ -60,6 +64,7 @@ pub trait Port {
         requires { (tally self.old).retries < 2 ^ 63 }
         ensures tallied { tally self.new ≡ tally_of (tally self.old).retries (last_of_grant result) }
         ensures own_handle { id self.new ≡ id self.old }
+        ensures refusals { refused self.old + (tally self.new).retries ≤ refused self.new + (tally self.old).retries }
         ensures rises { front self.old ≤ front self.new }
         ensures stays { (m : ℕ) → has_seen m (front self.old) → has_seen m (front self.new) }
         ensures counted { count self.new + length (kept_receipts self.old) ≡ count self.old + length (kept_receipts self.new) }
@@ -71,6 +76,7 @@ pub trait Port {
         requires { (tally self.old).retries < 2 ^ 63 }
         ensures tallied { tally self.new ≡ tally_of (tally self.old).retries (last_of_read result) }
         ensures own_handle { id self.new ≡ id self.old }
+        ensures refusals { refused self.old + (tally self.new).retries ≤ refused self.new + (tally self.old).retries }
         ensures same { (count self.new ≡ count self.old) × (kept_receipts self.new ≡ kept_receipts self.old) }
         ensures rises { front self.old ≤ front self.new }
         ensures stays { (m : ℕ) → has_seen m (front self.old) → has_seen m (front self.new) }
@@ -88,6 +94,7 @@ pub trait Port {
         requires { (tally self.old).retries < 2 ^ 63 }
         ensures tallied { tally self.new ≡ tally_of ((tally self.old).retries + retried (last_of_commit result)) (last_of_commit result) }
         ensures own_handle { id self.new ≡ id self.old }
+        ensures refusals { refused self.old + (tally self.new).retries ≤ refused self.new + (tally self.old).retries }
         ensures counted { (count self.new ≡ count self.old + given_by result) × (kept_receipts self.new ≡ kept_receipts self.old) }
         ensures rises { front self.old ≤ front self.new }
         ensures stays { (m : ℕ) → has_seen m (front self.old) → has_seen m (front self.new) }

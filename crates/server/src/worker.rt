@@ -2,8 +2,9 @@
 ghost use Rattle.std.specs.Prelude.{◌≡◌, ℕ, ◌+◌, ◌≤◌, List, length, All};
 ghost use Rattle.std.specs.List.{Contains};
 ghost use Rattle.server.specs.declared.request.Request.{Request as Asked};
+ghost use Rattle.locked_store.specs.Known.{own_of};
 ghost use Rattle.server.specs.HandlePorts.{HasSeen, SaidByCore};
-ghost use Rattle.server.specs.Outcomes.{IsHeld, IsLeaseReceipt, IsServed, Sees, receipts_of};
+ghost use Rattle.server.specs.Outcomes.{IsHeld, IsLeaseReceipt, IsServed, Sees, receipts_of, tries_of};
 ghost use Rattle.server.specs.Tallies.{tally};
 ghost use Rattle.server.specs.Works.{Orders, IsOutcomeOf, IsOutcomeAt};
 
@@ -49,6 +50,7 @@ impl<'a, L: SharedLedger, R: Wait> Model for RequestWorker<'a, L, R> {
 }
 
 // The outcome of one request, by a tally of its own, and the lease at hand then.
+#[tactic(auto, using(crate::proofs::Ends::reported_by))]
 fn outcome_of<L: SharedLedger, R: Wait>(
     alloc: Global,
     port: &mut HandlePort<L, R>,
@@ -63,7 +65,8 @@ fn outcome_of<L: SharedLedger, R: Wait>(
     ensures leases { (f m : ℕ) → Sees (HasSeen L.start) f m port.old.handle.front → All (IsLeaseReceipt (SaidByCore L.start f m)) port.old.kept_receipts.items → All (IsLeaseReceipt (SaidByCore L.start f m)) port.new.kept_receipts.items }
     ensures rises { port.old.handle.front ≤ port.new.handle.front }
     ensures stays { (m : ℕ) → HasSeen L.start m port.old.handle.front → HasSeen L.start m port.new.handle.front }
-    ensures same { port.new.handle.id ≡ port.old.handle.id }
+    ensures same { own_of port.new.handle ≡ own_of port.old.handle }
+    ensures refusals { port.old.handle.refused + tries_of result.0 ≤ port.new.handle.refused }
     ensures counted { port.new.handle.count + length port.old.kept_receipts.items ≡ port.old.handle.count + length port.new.kept_receipts.items + receipts_of result.0 }
 {
     port.tally = Tally {
@@ -75,7 +78,8 @@ fn outcome_of<L: SharedLedger, R: Wait>(
 
 impl<'a, L: SharedLedger, R: Wait> Worker for RequestWorker<'a, L, R> {
     ghost use Rattle.std.specs.Prelude.{ℕ, length};
-    ghost use Rattle.server.specs.Outcomes.{receipts_of};
+    ghost use Rattle.locked_store.specs.Known.{own_of};
+    ghost use Rattle.server.specs.Outcomes.{receipts_of, tries_of};
     ghost use Rattle.server.specs.Works.{Orders, IsOutcomeAt};
 
     type Outcome = Outcome;
@@ -86,15 +90,19 @@ impl<'a, L: SharedLedger, R: Wait> Worker for RequestWorker<'a, L, R> {
 
     ghost total = { λ orders. length orders.requests };
 
-    ghost Id = { ℕ × ℕ };
+    ghost Id = { (ℕ × ℕ) × ℕ };
 
-    ghost id = { λ w. (w.handle.id, w.first_front) };
+    ghost id = { λ w. (own_of w.handle, w.first_front) };
 
     ghost count = { λ w. w.handle.count };
 
     ghost kept_receipts = { λ w. length w.kept_receipts };
 
     ghost held = { receipts_of };
+
+    ghost failed = { λ w. w.handle.refused };
+
+    ghost reported = { tries_of };
 
     ghost fits = { IsOutcomeAt L.start };
 
@@ -114,6 +122,7 @@ impl<'a, L: SharedLedger, R: Wait> Worker for RequestWorker<'a, L, R> {
     fn held_back() -> Outcome
         ensures is { result ≡ Outcome.Held }
         ensures none { receipts_of result ≡ 0 }
+        ensures untried { tries_of result ≡ 0 }
         ensures fits { (orders : Orders) (number : ℕ) → IsOutcomeAt L.start orders number result }
     {
         Outcome::Held
@@ -122,6 +131,7 @@ impl<'a, L: SharedLedger, R: Wait> Worker for RequestWorker<'a, L, R> {
     fn undrawn() -> Outcome
         ensures is { result ≡ Outcome.Memory }
         ensures none { receipts_of result ≡ 0 }
+        ensures untried { tries_of result ≡ 0 }
         ensures fits { (orders : Orders) (number : ℕ) → IsOutcomeAt L.start orders number result }
     {
         Outcome::Memory

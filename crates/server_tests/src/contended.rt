@@ -6,14 +6,13 @@ use crate::fills::filling;
 use crate::table::update;
 use collections::List;
 use reorganise_workers::{PieceEnd, ReorganiseFault, Reorganised, reorganise_all};
-use server::locked_store::{Handle, Shared, SharedLedger};
+use server::locked_store::{Blanks, Handle, Shared, SharedLedger};
 use server::world::{Receipt, World};
 use server::{Request, Served, serve};
 use std::alloc::Global;
 use std::marker::Brand;
 use std::sync::Wait;
 use std::sync::atomic::{AtomicU64, Ordering};
-use std::sync::ledger::Blank;
 use std::thread::{Threads, join};
 use tasks::{FreeGate, Gate};
 
@@ -110,16 +109,16 @@ fn at_once<L: SharedLedger + Send + Sync, R: Threads + Wait + Sync>(
 fn contended<L: SharedLedger + Send + Sync, R: Threads + Wait + Sync>(
     rt: &R,
     alloc: Global,
-    blank: Blank,
+    blanks: Blanks,
     world: World,
     requests: &[Request],
     tries: u32,
 ) -> Option<(World, Option<bool>)>
-    requires name { blank.name ≡ L.name }
-    requires parts { blank.parts ≡ L.parts }
+    requires names { (blanks.added.name ≡ L.name) × (blanks.taken.name ≡ L.taken_name) × (blanks.refused.name ≡ L.refused_name) × (blanks.cut.name ≡ L.cut_name) }
+    requires parts { (blanks.added.parts ≡ L.parts) × (blanks.taken.parts ≡ L.parts) × (blanks.refused.parts ≡ L.parts) }
     requires picked { (L.handles ≡ 2) × (L.handles ≡ L.parts) × (L.start ≡ world) }
 {
-    let (shared, mut writer) = Shared::<L>::new(alloc, blank, world, 2).ok()?;
+    let (shared, mut writer) = Shared::<L>::new(alloc, blanks, world, 2).ok()?;
     let worker = vec![in alloc; writer.pop()?].ok()?;
     let handles = (writer, worker);
     let (handles, is_busy) = at_once(rt, alloc, &shared, handles, requests, tries)?;
@@ -158,7 +157,14 @@ fn beside<R: Threads + Wait + Sync>(
     tries: u32,
 ) -> Option<bool> {
     let world = filling(alloc, i64::from(rows), 1)?;
-    let (world, is_busy) = contended::<Brand, R>(rt, alloc, Blank::new(2), world, requests, tries)?;
+    let (world, is_busy) = contended::<Brand, R>(
+        rt,
+        alloc,
+        Blanks::new(2),
+        world,
+        requests,
+        tries,
+    )?;
     let outcome = outcome(alloc, &world, rows, is_busy);
     drop(world);
     outcome

@@ -2,14 +2,13 @@
 ghost use Rattle.std.specs.Prelude.{◌≡◌};
 
 use crate::table::{insert, opened};
-use server::locked_store::{Shared, SharedLedger};
+use server::locked_store::{Blanks, Shared, SharedLedger};
 use server::world::World;
 use server::{Gate, Outcome, Request, Served, serve};
 use std::alloc::Global;
 use std::marker::Brand;
 use std::sync::Wait;
 use std::sync::atomic::{AtomicU64, Ordering};
-use std::sync::ledger::Blank;
 use std::thread::{Threads, yield_now};
 
 /// Holds request 0 until request 1 is answered.
@@ -93,16 +92,16 @@ fn counted(alloc: Global, done: Option<u64>, world: &World) -> Option<[u64; 3]> 
 fn serves<L: SharedLedger + Send + Sync, G: Gate + Sync, R: Threads + Wait + Sync>(
     rt: &R,
     alloc: Global,
-    blank: Blank,
+    blanks: Blanks,
     world: World,
     requests: &[Request],
     gate: &G,
 ) -> Option<[u64; 3]>
-    requires name { blank.name ≡ L.name }
-    requires parts { blank.parts ≡ L.parts }
+    requires names { (blanks.added.name ≡ L.name) × (blanks.taken.name ≡ L.taken_name) × (blanks.refused.name ≡ L.refused_name) × (blanks.cut.name ≡ L.cut_name) }
+    requires parts { (blanks.added.parts ≡ L.parts) × (blanks.taken.parts ≡ L.parts) × (blanks.refused.parts ≡ L.parts) }
     requires picked { (L.handles ≡ 2) × (L.handles ≡ L.parts) × (L.start ≡ world) }
 {
-    let (shared, handles) = Shared::<L>::new(alloc, blank, world, 2).ok()?;
+    let (shared, handles) = Shared::<L>::new(alloc, blanks, world, 2).ok()?;
     let Served {
         outcomes,
         handles,
@@ -130,7 +129,7 @@ fn found<G: Gate + Sync, R: Threads + Wait + Sync>(
     gate: &G,
 ) -> Option<[u64; 3]> {
     let (world, requests) = two_inserts(alloc)?;
-    serves::<Brand, G, R>(rt, alloc, Blank::new(2), world, requests.as_slice(), gate)
+    serves::<Brand, G, R>(rt, alloc, Blanks::new(2), world, requests.as_slice(), gate)
 }
 
 // Both are committed, and each server took a lease: two rows, four entries.

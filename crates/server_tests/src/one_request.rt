@@ -133,11 +133,13 @@ fn with_digit(used: u64, lease: &Lease) -> u64 {
 impl Port for Stubborn {
     ghost use Rattle.std.specs.Prelude.{◌+◌, length};
 
-    ghost id = { λ p. 0 };
+    ghost id = { λ p. (0, 0) };
 
     ghost tally = { λ p. p.tally };
 
     ghost count = { λ p. length p.committed.items + length p.kept_receipts.items };
+
+    ghost refused = { λ p. p.tally.retries };
 
     ghost front = { λ p. 0 };
 

@@ -8,13 +8,12 @@ use crate::gates::{Behind, Together};
 use crate::table::{insert, mark};
 use reorganise::Work;
 use reorganise_workers::{PieceEnd, ReorganiseFault, Reorganised, reorganise_all};
-use server::locked_store::{Handle, Shared, SharedLedger};
+use server::locked_store::{Blanks, Handle, Shared, SharedLedger};
 use server::world::World;
 use server::{FreeGate, Gate, Outcome, Request, ServeFault, Served, serve};
 use std::alloc::{AllocError, Global};
 use std::marker::Brand;
 use std::sync::Wait;
-use std::sync::ledger::Blank;
 use std::thread::Threads;
 
 // 1 if a request is committed, 0 if memory was short, also for the thread that its gate waits for,
@@ -157,15 +156,15 @@ fn fill_and_serve<L: SharedLedger + Send + Sync, R: Threads + Wait + Sync + Prin
 fn works<L: SharedLedger + Send + Sync, R: Threads + Wait + Sync + Print>(
     rt: &R,
     alloc: Global,
-    blank: Blank,
+    blanks: Blanks,
     world: World,
     requests: [&[Request]; 2],
 ) -> Option<World>
-    requires name { blank.name ≡ L.name }
-    requires parts { blank.parts ≡ L.parts }
+    requires names { (blanks.added.name ≡ L.name) × (blanks.taken.name ≡ L.taken_name) × (blanks.refused.name ≡ L.refused_name) × (blanks.cut.name ≡ L.cut_name) }
+    requires parts { (blanks.added.parts ≡ L.parts) × (blanks.taken.parts ≡ L.parts) × (blanks.refused.parts ≡ L.parts) }
     requires picked { (L.handles ≡ 2) × (L.handles ≡ L.parts) × (L.start ≡ world) }
 {
-    let (shared, handles) = Shared::<L>::new(alloc, blank, world, 2).ok()?;
+    let (shared, handles) = Shared::<L>::new(alloc, blanks, world, 2).ok()?;
     let handles = fill_and_serve(rt, alloc, &shared, handles, requests)?;
     shared.close(handles).ok()
 }
@@ -197,7 +196,7 @@ fn is_worked_off<R: Threads + Wait + Sync + Print>(rt: &R, alloc: Global) -> Opt
     let second = inserts(alloc, 5, 6).ok()?;
     let requests = [first.as_slice(), second.as_slice()];
     let world = filling(alloc, 2, 2)?;
-    let world = works::<Brand, R>(rt, alloc, Blank::new(2), world, requests)?;
+    let world = works::<Brand, R>(rt, alloc, Blanks::new(2), world, requests)?;
     Some(is_filled(alloc, &world))
 }
 

@@ -9,11 +9,10 @@ use reorganise::Work;
 use reorganise_workers::{PieceEnd, Reorganised, reorganise_all};
 use schema_version::ElementState::{DeleteOnly, WriteOnly};
 use schema_version::Step;
-use server::locked_store::{Handle, Shared, SharedLedger};
+use server::locked_store::{Blanks, Handle, Shared, SharedLedger};
 use server::world::{PieceFault, Receipt, World};
 use std::alloc::Global;
 use std::marker::Brand;
-use std::sync::ledger::Blank;
 use std::sync::{Mutex, Wait};
 use std::thread::Threads;
 use tasks::{FreeGate, Gate};
@@ -233,15 +232,15 @@ fn and_back<L: SharedLedger + Send + Sync, R: Threads + Wait + Sync>(
 fn turned<L: SharedLedger + Send + Sync, R: Threads + Wait + Sync>(
     rt: &R,
     alloc: Global,
-    blank: Blank,
+    blanks: Blanks,
     world: World,
     steps: &Steps,
 ) -> Option<(World, Option<(u64, u64)>)>
-    requires name { blank.name ≡ L.name }
-    requires parts { blank.parts ≡ L.parts }
+    requires names { (blanks.added.name ≡ L.name) × (blanks.taken.name ≡ L.taken_name) × (blanks.refused.name ≡ L.refused_name) × (blanks.cut.name ≡ L.cut_name) }
+    requires parts { (blanks.added.parts ≡ L.parts) × (blanks.taken.parts ≡ L.parts) × (blanks.refused.parts ≡ L.parts) }
     requires picked { (L.handles ≡ 3) × (L.handles ≡ L.parts) × (L.start ≡ world) }
 {
-    let (shared, mut handles) = Shared::<L>::new(alloc, blank, world, 3).ok()?;
+    let (shared, mut handles) = Shared::<L>::new(alloc, blanks, world, 3).ok()?;
     let me = handles.pop()?;
     let (turner, handles) = fill_held(rt, alloc, &shared, handles, me, steps);
     let (handles, given) = and_back(rt, alloc, &shared, turner, handles, steps)?;
@@ -273,7 +272,7 @@ fn is_left(alloc: Global, world: &World, clears: bool) -> bool {
 fn turns<R: Threads + Wait + Sync>(rt: &R, alloc: Global, clears: bool) -> Option<bool> {
     let steps = steps_of(alloc, clears)?;
     let world = filling(alloc, 3, 3)?;
-    let turned = turned::<Brand, R>(rt, alloc, Blank::new(3), world, &steps);
+    let turned = turned::<Brand, R>(rt, alloc, Blanks::new(3), world, &steps);
     drop(steps);
     let (world, given) = turned?;
     Some(given == Some((4, 10)) && is_left(alloc, &world, clears))

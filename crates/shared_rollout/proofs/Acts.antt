@@ -10,7 +10,7 @@ use Rattle.std.proofs.Math.Nat.{le-max_left}
 use Rattle.lease.specs.Timeline.{max_moment}
 use Rattle.locked_store.specs.Receipt.{Receipt}
 use Rattle.locked_store.specs.State.{State, facts_of}
-use Rattle.locked_store.specs.Known.{Known}
+use Rattle.locked_store.specs.Known.{Known, own_of}
 use Rattle.locked_store.specs.Receipts.{IsLogged}
 use Rattle.locked_store.specs.Act.TheVariants as act
 use Rattle.locked_store.specs.Advanced.{Advanced}
@@ -25,10 +25,10 @@ use Rattle.shared_rollout.specs.declared.fault.OperatorFault.TheVariants as faul
 
 -- a handle by which no entry was added since
 abbrev pub IsStill : Known → Known → Type 0
-IsStill v w = (w.id ≡ v.id) × (w.count ≡ v.count) × (v.front ≤ w.front)
+IsStill v w = (own_of w ≡ own_of v) × (w.count ≡ v.count) × (v.front ≤ w.front)
 
 pub still_same : (v w : Known) → w ≡ v → IsStill v w
-still_same v w is = (ap (λ (k : Known). k.id) is, ap (λ (k : Known). k.count) is, omega (arith, ap (λ (k : Known). k.front) is))
+still_same v w is = (ap own_of is, ap (λ (k : Known). k.count) is, omega (arith, ap (λ (k : Known). k.front) is))
 
 pub too_late : (start : State) (ask : Ask) (v w : Known) → w ≡ v → max_moment < ask.moment → Acts start ask v (Err fault.MomentTooLarge) w
 too_late start ask v w is late = let s = still_same v w is in record { same = s.0; rises = s.2; says = (inl late, s.1) }
@@ -137,7 +137,7 @@ push_kept old acts done =
 
 -- some acts, the last of which left the handle so
 pub record Went (start : State) (pieces limit tries moment : ℕ) (v : Known) (old : List Receipt) (now : ℕ) (w : Known) (new : List Receipt) : Type 0 where
-  pub same : w.id ≡ v.id
+  pub same : own_of w ≡ own_of v
   pub rises : v.front ≤ w.front
   pub counted : w.count + length old ≡ v.count + length new
   pub logged : All (IsLogged start v.front) old → All (IsLogged start v.front) new
@@ -180,12 +180,12 @@ finds_nothing start ask front advanced.Finished none at = (refl, at)
 
 -- the handle's number, its share and front, and the receipts, after the last look
 pub record Ended (start : State) (v : Known) (old : List Receipt) (w : Known) (new : List Receipt) : Type 0 where
-  pub same : w.id ≡ v.id
+  pub same : own_of w ≡ own_of v
   pub rises : v.front ≤ w.front
   pub counted : w.count + length old ≡ v.count + length new
   pub logged : All (IsLogged start v.front) old → All (IsLogged start v.front) new
 
-nothing_more : (start : State) (pieces limit tries moment now : ℕ) (v u w : Known) (old mid new : List Receipt) → new ≡ mid → w.id ≡ u.id → u.front ≤ w.front → w.count + length mid ≡ u.count + length new
+nothing_more : (start : State) (pieces limit tries moment now : ℕ) (v u w : Known) (old mid new : List Receipt) → new ≡ mid → own_of w ≡ own_of u → u.front ≤ w.front → w.count + length mid ≡ u.count + length new
     → Went start pieces limit tries moment v old now u mid → Ended start v old w new
 nothing_more start pieces limit tries moment now v u w old mid new is id front counted went =
     record {

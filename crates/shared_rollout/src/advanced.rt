@@ -1,5 +1,6 @@
 //! One act that is due, done through the lock.
 ghost use Rattle.std.specs.Prelude.{◌≡◌, ◌+◌, ◌≤◌, ◌↔◌, IfOk, IfErr};
+ghost use Rattle.locked_store.specs.Known.{own_of};
 ghost use Rattle.shared_rollout.specs.Operator.{AreNumbers, IsAdvanced, IsRefused, IsSeen, asked, entries_in};
 ghost use Rattle.shared_rollout.specs.declared.fault.OperatorFault.TheVariants.{BadCount};
 ghost use Rattle.shared_rollout.specs.inner.Attempts.{Acts};
@@ -72,7 +73,7 @@ pub fn advance<L: SharedLedger, R: Wait>(
     ensures order { IfErr result (λ fault. (fault ≡ BadCount) ↔ (¬ (AreNumbers pieces limit tries))) }
     ensures refused { IfErr result (λ fault. IsRefused L.start (asked moment pieces limit tries me.old.front) me.new.front fault) }
     ensures counted { me.new.count ≡ me.old.count + entries_in result }
-    ensures same { me.new.id ≡ me.old.id }
+    ensures same { own_of me.new ≡ own_of me.old }
     ensures rises { me.old.front ≤ me.new.front }
 {
     if !are_numbers(pieces, limit, tries) {

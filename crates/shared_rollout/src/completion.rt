@@ -1,5 +1,6 @@
 //! All changes that are under way, brought to their end through the lock.
 ghost use Rattle.std.specs.Prelude.{◌≡◌, ◌+◌, ◌<◌, ◌≤◌, ◌++◌, ◌↔◌, All, IfOk, IfErr, length, vec_len, vec_capacity};
+ghost use Rattle.locked_store.specs.Known.{own_of};
 ghost use Rattle.locked_store.specs.Receipts.{IsLogged};
 ghost use Rattle.shared_rollout.specs.Operator.{AreNumbers, HasCompleted, HasStopped, next_of, receipts_of};
 ghost use Rattle.shared_rollout.specs.declared.fault.OperatorFault.TheVariants.{BadCount};
@@ -93,7 +94,7 @@ pub fn complete<L: SharedLedger, R: Wait>(
     ensures stopped { IfErr result (λ fault. HasStopped L.start pieces limit tries me.old.front moment receipts.old.items fault me.new.front receipts.new.items) }
     ensures counted { me.new.count + length receipts.old.items ≡ me.old.count + length receipts.new.items }
     ensures logged { All (IsLogged L.start me.old.front) receipts.old.items → All (IsLogged L.start me.old.front) receipts.new.items }
-    ensures same { me.new.id ≡ me.old.id }
+    ensures same { own_of me.new ≡ own_of me.old }
     ensures rises { me.old.front ≤ me.new.front }
 {
     if !are_numbers(pieces, limit, tries) {

@@ -7,13 +7,12 @@ use crate::requests::{Verb, moment_of, requests};
 use crate::round::{Handles, serve_all, serve_beside};
 use crate::table::{LENGTH, open_world};
 use command_line::SoakSize;
-use shared_rollout::locked_store::{Shared, SharedLedger};
+use shared_rollout::locked_store::{Blanks, Shared, SharedLedger};
 use shared_rollout::world::World;
 use std::alloc::Global;
 use std::io::Write;
 use std::marker::Brand;
 use std::sync::Wait;
-use std::sync::ledger::Blank;
 use std::thread::Threads;
 
 /// How many updates a round has.
@@ -88,18 +87,18 @@ fn write_rows<L: SharedLedger + Send + Sync, R: Threads + Wait + Sync, W: Write>
 fn soak_in<L: SharedLedger + Send + Sync, R: Threads + Wait + Sync, W: Write>(
     rt: &R,
     alloc: Global,
-    blank: Blank,
+    blanks: Blanks,
     world: World,
     count: u64,
     size: SoakSize,
     writer: &mut W,
 ) -> Result<World, SoakFault>
     requires size { IsSoakSize size }
-    requires name { blank.name ≡ L.name }
-    requires parts { blank.parts ≡ L.parts }
+    requires names { (blanks.added.name ≡ L.name) × (blanks.taken.name ≡ L.taken_name) × (blanks.refused.name ≡ L.refused_name) × (blanks.cut.name ≡ L.cut_name) }
+    requires parts { (blanks.added.parts ≡ L.parts) × (blanks.taken.parts ≡ L.parts) × (blanks.refused.parts ≡ L.parts) }
     requires picked { (L.handles ≡ count) × (L.handles ≡ L.parts) × (L.start ≡ world) }
 {
-    let Ok((shared, mut servers)) = Shared::<L>::new(alloc, blank, world, count) else {
+    let Ok((shared, mut servers)) = Shared::<L>::new(alloc, blanks, world, count) else {
         return Err(SoakFault::Memory);
     };
     let Some(operator) = servers.pop() else {
@@ -143,8 +142,8 @@ fn soak<R: Threads + Wait + Sync, W: Write>(
 {
     let world = open_world(alloc)?;
     let count = u64::from(size.servers) + 1;
-    let blank = Blank::new(count);
-    let world = soak_in::<Brand, R, W>(rt, alloc, blank, world, count, size, writer)?;
+    let blanks = Blanks::new(count);
+    let world = soak_in::<Brand, R, W>(rt, alloc, blanks, world, count, size, writer)?;
     report(alloc, &world, size, writer)
 }
 

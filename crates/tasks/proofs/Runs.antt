@@ -1,5 +1,5 @@
 -- What each worker slot's run keeps, all keep.
-use Rattle.std.proofs.Common.{◌≡◌, ℕ, ◌+◌, ◌<◌, List, [], ◌∷◌, length, map, All, suc, refl, ◌∙◌, sum_by, sym, subst, arith}
+use Rattle.std.proofs.Common.{◌≡◌, ℕ, ◌+◌, ◌<◌, ◌≤◌, List, [], ◌∷◌, length, map, All, suc, refl, ◌∙◌, sum_by, sym, subst, arith}
 use Rattle.std.proofs.lemmas.List.Sums.{sum_by-cons}
 use Rattle.std.specs.Prelude.{slice_index_or}
 use Rattle.tasks.specs.Outcomes.{held_in, held_all, AreFit, IsOnPlan, StaysOnPlan}
@@ -41,4 +41,21 @@ all_count worker done count kept_receipts held (v ∷ vs) (w ∷ ws) e each =
       sum_by-cons count (worker w) (map worker ws),
       sum_by-cons kept_receipts (worker v) (map worker vs),
       sum_by-cons kept_receipts (worker w) (map worker ws),
+    )
+
+-- the failed tries rise by at least those that the outcomes tell of
+pub all_tried : {S W O : Type 0} (worker : S → W) (done : S → List (ℕ × O)) (failed : W → ℕ) (reported : O → ℕ) (vs ws : List S) → length ws ≡ length vs
+    → ((i : ℕ) (d : S) → i < length vs
+    → failed (worker (slice_index_or vs i d)) + held_in reported (done (slice_index_or ws i d)) ≤ failed (worker (slice_index_or ws i d)) + held_in reported (done (slice_index_or vs i d)))
+    → sum_by failed (map worker vs) + held_all reported (map done ws) ≤ sum_by failed (map worker ws) + held_all reported (map done vs)
+all_tried worker done failed reported [] [] e each = omega arith
+all_tried worker done failed reported [] (w ∷ ws) e each = absurd (omega arith)
+all_tried worker done failed reported (v ∷ vs) [] e each = absurd (omega arith)
+all_tried worker done failed reported (v ∷ vs) (w ∷ ws) e each =
+    omega (
+      arith,
+      each 0 v (omega arith),
+      all_tried worker done failed reported vs ws (omega arith) (λ i d lt. each (suc i) d (omega arith)),
+      sum_by-cons failed (worker v) (map worker vs),
+      sum_by-cons failed (worker w) (map worker ws),
     )

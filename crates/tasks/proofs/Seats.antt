@@ -1,5 +1,5 @@
 -- Lists of worker slots, of which the last worker comes first.
-use Rattle.std.proofs.Common.{◌≡◌, ℕ, ◌+◌, ◌<◌, List, [], ◌∷◌, ◌++◌, length, map, reverse, All, zero, suc, ◌-◌, refl, sym, ap, ◌∙◌, subst, sum_by, arith}
+use Rattle.std.proofs.Common.{◌≡◌, ℕ, ◌+◌, ◌<◌, ◌≤◌, List, [], ◌∷◌, ◌++◌, length, map, reverse, All, zero, suc, ◌-◌, refl, sym, ap, ◌∙◌, subst, sum_by, arith}
 use Rattle.std.proofs.lemmas.List.{map-append, reverse-append, reverse-reverse, length-reverse, get_or-reverse}
 use Rattle.std.proofs.lemmas.List.Elements.{All-same, All-nil}
 use Rattle.std.proofs.lemmas.List.Sums.{sum_by-append, sum_by-cons}
@@ -71,6 +71,15 @@ counted_back worker done count kept_receipts held ss zs handed back total from t
     let counts_back : sum_by count back ≡ sum_by count (map worker zs) = ap (sum_by count) to ∙ sum_reverse count (map worker zs) in
     let keeps_back : sum_by kept_receipts back ≡ sum_by kept_receipts (map worker zs) = ap (sum_by kept_receipts) to ∙ sum_reverse kept_receipts (map worker zs) in
     omega (arith, none_held held done ss idle)
+
+pub tried_back : {S W O : Type 0} (worker : S → W) (done : S → List (ℕ × O)) (failed : W → ℕ) (reported : O → ℕ) (ss zs : List S) (handed back : List W) (total : ℕ)
+    → reverse (map worker ss) ≡ handed → back ≡ reverse (map worker zs) → All (λ s. done s ≡ []) ss → total ≡ held_all reported (map done zs)
+    → sum_by failed (map worker ss) + held_all reported (map done zs) ≤ sum_by failed (map worker zs) + held_all reported (map done ss)
+    → sum_by failed handed + total ≤ sum_by failed back
+tried_back worker done failed reported ss zs handed back total from to idle total_is work =
+    let fails : sum_by failed handed ≡ sum_by failed (map worker ss) = ap (sum_by failed) (sym from) ∙ sum_reverse failed (map worker ss) in
+    let fails_back : sum_by failed back ≡ sum_by failed (map worker zs) = ap (sum_by failed) to ∙ sum_reverse failed (map worker zs) in
+    omega (arith, none_held reported done ss idle)
 
 each_mapped : {S W : Type 0} (f : S → W) (P : W → Type 0) (ss : List S) → All P (map f ss) → All (λ s. P (f s)) ss
 each_mapped f P [] all k d lt = absurd (omega arith)

@@ -3,7 +3,7 @@
 use Rattle.std.specs.Prelude.{◌≡◌, ℕ, ◌+◌, ◌<◌, ◌≤◌, List, [], ◌∷◌, length, All, slice_index_or, nat_lt, if◌then◌else◌}
 use Rattle.claims.specs.Draws.{times}
 
--- the receipts in all these outcomes
+-- what all these outcomes hold, by this measure
 abbrev pub held_in : {O : Type 0} → (O → ℕ) → List (ℕ × O) → ℕ
 held_in held [] = 0
 held_in held (o ∷ os) = held o.1 + held_in held os
@@ -38,7 +38,7 @@ StaysOnPlan plan_of fits v os w ps = (plan_of w ≡ plan_of v) × (AreFit (fits 
 abbrev pub IsRow : {O : Type 0} → ℕ → List (ℕ × O) → Type 0
 IsRow n os = (length os ≡ n) × ((k : ℕ) (d : ℕ × _) → k < n → (slice_index_or os k d).0 ≡ k)
 
--- whatever stands at these places holds no receipt
+-- whatever stands at these places holds nothing, by this measure
 abbrev pub AreFree : {O : Type 0} → (O → ℕ) → List ℕ → List (ℕ × O) → Type 0
 AreFree held numbers os = (x : ℕ) (d : ℕ × _) → 0 < times x numbers → x < length os → held (slice_index_or os x d).1 ≡ 0
 

@@ -34,6 +34,9 @@ pub struct Performed<W: Worker> {
 ///
 /// Workers that share a plan still have it when they come back.
 ///
+/// The failed tries that outcomes tell of are different ones: the workers' failed tries rose by at
+/// least as many as all outcomes together tell of.
+///
 /// Refused in this order, with the workers: `BadCount` if there are more than 1,000,000 tasks, or
 /// if the number of workers is not from 1 to 64; `Memory`. All room is made before the first
 /// task, and nothing is refused from then on.
@@ -50,6 +53,7 @@ pub fn perform_all<W: Worker + Send, G: Gate + Sync, R: Threads + Sync>(
     ensures back { IfOk result (λ p. map W.id p.workers.items ≡ map W.id workers.items) }
     ensures plans { (plan : W.Plan) → All (λ w. W.plan w ≡ plan) workers.items → IfOk result (λ p. All (λ w. W.plan w ≡ plan) p.workers.items) }
     ensures counted { IfOk result (λ p. sum_by W.count p.workers.items + sum_by W.kept_receipts workers.items ≡ sum_by W.count workers.items + sum_by W.kept_receipts p.workers.items + held_in W.held p.outcomes.items) }
+    ensures tried { IfOk result (λ p. sum_by W.failed workers.items + held_in W.reported p.outcomes.items ≤ sum_by W.failed p.workers.items) }
     ensures counts { IfOk result (λ _. IsCount total (vec_len workers)) }
     ensures refused { IfErr result (λ r. IsRefused total (vec_len workers) r.0) }
     ensures unchanged { IfErr result (λ r. r.1.items ≡ workers.items) }
@@ -78,6 +82,7 @@ fn perform_in<W: Worker + Send, T: Drawing + Send + Sync, G: TaskGate<W> + Sync,
     ensures back { IfOk result (λ p. map W.id p.workers.items ≡ map W.id workers.items) }
     ensures plans { (plan : W.Plan) → All (λ w. W.plan w ≡ plan) workers.items → IfOk result (λ p. All (λ w. W.plan w ≡ plan) p.workers.items) }
     ensures counted { IfOk result (λ p. sum_by W.count p.workers.items + sum_by W.kept_receipts workers.items ≡ sum_by W.count workers.items + sum_by W.kept_receipts p.workers.items + held_in W.held p.outcomes.items) }
+    ensures tried { IfOk result (λ p. sum_by W.failed workers.items + held_in W.reported p.outcomes.items ≤ sum_by W.failed p.workers.items) }
     ensures memory { IfErr result (λ r. IsRefused total (vec_len workers) r.0) }
     ensures unchanged { IfErr result (λ r. r.1.items ≡ workers.items) }
 {
@@ -112,13 +117,15 @@ fn run<W: Worker + Send, T: Drawing + Send + Sync, G: TaskGate<W> + Sync, R: Thr
     requires planned { All (λ w. W.total (W.plan w) ≡ total) workers.items }
     requires seats { AreIdle (vec_len workers) seats.items × (vec_len workers ≤ vec_capacity seats) }
     requires room { (room.items ≡ []) × (vec_len workers ≤ vec_capacity room) }
-    requires row { IsRow total outcomes.items × (held_in W.held outcomes.items ≡ 0) }
+    requires row { IsRow total outcomes.items }
+    requires none { (held_in W.held outcomes.items ≡ 0) × (held_in W.reported outcomes.items ≡ 0) }
     requires blank { (plan : W.Plan) → All (λ o. W.fits plan o.0 o.1) outcomes.items }
     ensures each { IsRow total result.outcomes.items }
     ensures fits { (plan : W.Plan) → All (λ w. W.plan w ≡ plan) workers.items → All (λ o. W.fits plan o.0 o.1) result.outcomes.items }
     ensures back { map W.id result.workers.items ≡ map W.id workers.items }
     ensures plans { (plan : W.Plan) → All (λ w. W.plan w ≡ plan) workers.items → All (λ w. W.plan w ≡ plan) result.workers.items }
     ensures counted { sum_by W.count result.workers.items + sum_by W.kept_receipts workers.items ≡ sum_by W.count workers.items + sum_by W.kept_receipts result.workers.items + held_in W.held result.outcomes.items }
+    ensures tried { sum_by W.failed workers.items + held_in W.reported result.outcomes.items ≤ sum_by W.failed result.workers.items }
 {
     let mut workers = workers;
     let mut seats = seats;

@@ -61,6 +61,7 @@ fn outcome_of<W: Worker, G: TaskGate<W>>(
     requires inside { number < W.total (W.plan worker.old) }
     ensures same { (W.plan worker.new ≡ W.plan worker.old) × (W.id worker.new ≡ W.id worker.old) }
     ensures counted { W.count worker.new + W.kept_receipts worker.old ≡ W.count worker.old + W.kept_receipts worker.new + W.held result }
+    ensures tried { W.failed worker.old + W.reported result ≤ W.failed worker.new }
     ensures fits { W.fits (W.plan worker.old) number result }
 {
     if has_passed::<W, G>(gate, number) {
@@ -80,6 +81,7 @@ fn outcome_told<W: Worker, G: TaskGate<W>>(
     requires inside { number < W.total (W.plan worker.old) }
     ensures same { (W.plan worker.new ≡ W.plan worker.old) × (W.id worker.new ≡ W.id worker.old) }
     ensures counted { W.count worker.new + W.kept_receipts worker.old ≡ W.count worker.old + W.kept_receipts worker.new + W.held result }
+    ensures tried { W.failed worker.old + W.reported result ≤ W.failed worker.new }
     ensures fits { W.fits (W.plan worker.old) number result }
 {
     let outcome = outcome_of(alloc, gate, worker, number);
@@ -103,6 +105,7 @@ fn perform_drawn<W: Worker, T: Drawing, G: TaskGate<W>>(
     ensures same { (W.plan worker.new ≡ W.plan worker.old) × (W.id worker.new ≡ W.id worker.old) }
     ensures fits { AreFit (W.fits (W.plan worker.old)) done.old.items → AreFit (W.fits (W.plan worker.old)) done.new.items }
     ensures counted { W.count worker.new + W.kept_receipts worker.old + held_in W.held done.old.items ≡ W.count worker.old + W.kept_receipts worker.new + held_in W.held done.new.items }
+    ensures tried { W.failed worker.old + held_in W.reported done.new.items ≤ W.failed worker.new + held_in W.reported done.old.items }
 {
     for _i in 0..total + 1 {
         if done.reserve(1).is_err() {
@@ -129,6 +132,7 @@ fn work<W: Worker, T: Drawing, G: TaskGate<W>>(
     ensures id { W.id worker_slot.new.worker ≡ W.id worker_slot.old.worker }
     ensures stays { StaysOnPlan W.plan W.fits worker_slot.old.worker worker_slot.old.done.items worker_slot.new.worker worker_slot.new.done.items }
     ensures counted { W.count worker_slot.new.worker + W.kept_receipts worker_slot.old.worker + held_in W.held worker_slot.old.done.items ≡ W.count worker_slot.old.worker + W.kept_receipts worker_slot.new.worker + held_in W.held worker_slot.new.done.items }
+    ensures tried { W.failed worker_slot.old.worker + held_in W.reported worker_slot.new.done.items ≤ W.failed worker_slot.new.worker + held_in W.reported worker_slot.old.done.items }
 {
     let WorkerSlot { worker, seat, done } = worker_slot;
     perform_drawn(alloc, gate, claims, total, worker, seat, done);
@@ -148,6 +152,7 @@ fn work_each<W: Worker + Send, T: Drawing + Send + Sync, G: TaskGate<W> + Sync, 
     ensures ids { map (λ s. W.id s.worker) worker_slots.new ≡ map (λ s. W.id s.worker) worker_slots.old }
     ensures fits { (plan : W.Plan) → All (λ s. IsOnPlan W.plan W.fits plan s.worker s.done.items) worker_slots.old → All (λ s. IsOnPlan W.plan W.fits plan s.worker s.done.items) worker_slots.new }
     ensures counted { sum_by W.count (map (λ s. s.worker) worker_slots.new) + sum_by W.kept_receipts (map (λ s. s.worker) worker_slots.old) + held_all W.held (map (λ s. s.done.items) worker_slots.old) ≡ sum_by W.count (map (λ s. s.worker) worker_slots.old) + sum_by W.kept_receipts (map (λ s. s.worker) worker_slots.new) + held_all W.held (map (λ s. s.done.items) worker_slots.new) }
+    ensures tried { sum_by W.failed (map (λ s. s.worker) worker_slots.old) + held_all W.reported (map (λ s. s.done.items) worker_slots.new) ≤ sum_by W.failed (map (λ s. s.worker) worker_slots.new) + held_all W.reported (map (λ s. s.done.items) worker_slots.old) }
 {
     let threads = worker_slots.len();
     thread::for_each_mut(
@@ -180,6 +185,7 @@ pub(crate) fn work_all<
     ensures ids { map (λ s. W.id s.worker) worker_slots.new.items ≡ map (λ s. W.id s.worker) worker_slots.old.items }
     ensures fits { (plan : W.Plan) → All (λ s. IsOnPlan W.plan W.fits plan s.worker s.done.items) worker_slots.old.items → All (λ s. IsOnPlan W.plan W.fits plan s.worker s.done.items) worker_slots.new.items }
     ensures counted { sum_by W.count (map (λ s. s.worker) worker_slots.new.items) + sum_by W.kept_receipts (map (λ s. s.worker) worker_slots.old.items) + held_all W.held (map (λ s. s.done.items) worker_slots.old.items) ≡ sum_by W.count (map (λ s. s.worker) worker_slots.old.items) + sum_by W.kept_receipts (map (λ s. s.worker) worker_slots.new.items) + held_all W.held (map (λ s. s.done.items) worker_slots.new.items) }
+    ensures tried { sum_by W.failed (map (λ s. s.worker) worker_slots.old.items) + held_all W.reported (map (λ s. s.done.items) worker_slots.new.items) ≤ sum_by W.failed (map (λ s. s.worker) worker_slots.new.items) + held_all W.reported (map (λ s. s.done.items) worker_slots.old.items) }
 {
     work_each(rt, alloc, gate, claims, total, worker_slots.as_mut_slice());
 }

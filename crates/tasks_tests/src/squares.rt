@@ -41,6 +41,10 @@ impl Worker for Squarer {
 
     ghost held = { λ _. 0 };
 
+    ghost failed = { λ _. 0 };
+
+    ghost reported = { λ _. 0 };
+
     ghost fits = { λ _ _ _. Unit {0} };
 
     fn perform(&mut self, _alloc: Global, number: usize) -> Answer {

@@ -8,12 +8,11 @@ use replay::What;
 use schema_version::ElementState;
 use server::{Outcome, Request, Served, serve};
 use shared_rollout::complete;
-use shared_rollout::locked_store::{Handle, Shared, SharedLedger, reconcile};
+use shared_rollout::locked_store::{Blanks, Handle, Shared, SharedLedger, reconcile};
 use shared_rollout::world::{Receipt, World};
 use std::alloc::{AllocError, Global};
 use std::marker::Brand;
 use std::sync::Wait;
-use std::sync::ledger::Blank;
 use std::thread::{Threads, join};
 use tasks::FreeGate;
 
@@ -150,16 +149,16 @@ fn at_once<L: SharedLedger + Send + Sync, R: Threads + Wait + Sync>(
 fn driven<L: SharedLedger + Send + Sync, R: Threads + Wait + Sync>(
     rt: &R,
     alloc: Global,
-    blank: Blank,
+    blanks: Blanks,
     world: World,
     requests: &[Request],
     pace: (u32, u32),
 ) -> Option<(World, Vec<Receipt>)>
-    requires name { blank.name ≡ L.name }
-    requires parts { blank.parts ≡ L.parts }
+    requires names { (blanks.added.name ≡ L.name) × (blanks.taken.name ≡ L.taken_name) × (blanks.refused.name ≡ L.refused_name) × (blanks.cut.name ≡ L.cut_name) }
+    requires parts { (blanks.added.parts ≡ L.parts) × (blanks.taken.parts ≡ L.parts) × (blanks.refused.parts ≡ L.parts) }
     requires picked { (L.handles ≡ 6) × (L.handles ≡ L.parts) × (L.start ≡ world) }
 {
-    let (shared, mut servers) = Shared::<L>::new(alloc, blank, world, 6).ok()?;
+    let (shared, mut servers) = Shared::<L>::new(alloc, blanks, world, 6).ok()?;
     let operators = (servers.pop()?, servers.pop()?);
     let Done { handles, receipts } = at_once(
         rt, alloc, &shared, servers, operators, requests, pace,
@@ -188,7 +187,7 @@ fn round<R: Threads + Wait + Sync>(rt: &R, alloc: Global, pace: (u32, u32)) -> O
     let since = world.log().len();
     let all = requests(alloc).ok()?;
     let requests = all.as_slice();
-    let driven = driven::<Brand, R>(rt, alloc, Blank::new(6), world, requests, pace);
+    let driven = driven::<Brand, R>(rt, alloc, Blanks::new(6), world, requests, pace);
     drop(all);
     let (world, receipts) = driven?;
     let is_counted = since.checked_add(receipts.len()) == Some(world.log().len());

@@ -1,4 +1,4 @@
--- Cited by private functions alone: unread_end, look, refused, failed_by and 2 more.
+-- Cited by private functions alone: unread_end, look, refused, commit_items, make_attempt.
 -- What an attempt at a piece comes to, by what the lock answered. Only private functions cite this.
 use Rattle.std.specs.Prelude.{◌≡◌, ℕ, ◌+◌, Option, Some, None}
 use Rattle.reorganise.specs.declared.fault.ViewFault.TheVariants as view_fault
@@ -45,12 +45,3 @@ failed_by attempt.More = 0
 failed_by attempt.Again = 1
 failed_by attempt.Reread = 0
 failed_by (attempt.Ended end) = 0
-
--- Busy comes only after that many failed tries, each of them counted
-abbrev pub IsCounted : ℕ → PieceEnd → ℕ → Type 0
-IsCounted before piece_end.Finished after = Unit {0}
-IsCounted before (piece_end.Busy tries) after = after ≡ before + tries
-IsCounted before (piece_end.Refused fault) after = Unit {0}
-IsCounted before piece_end.Held after = Unit {0}
-IsCounted before (piece_end.WentBack seen) after = Unit {0}
-IsCounted before piece_end.Memory after = Unit {0}

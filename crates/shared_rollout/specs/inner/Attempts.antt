@@ -15,7 +15,7 @@ use Rattle.locked_store.specs.ReadFault.TheVariants as read_fault
 use Rattle.locked_store.specs.PublishFault.{PublishFault}
 use Rattle.locked_store.specs.PublishFault.TheVariants as publish_fault
 use Rattle.locked_store.specs.State.{State}
-use Rattle.locked_store.specs.Known.{Known}
+use Rattle.locked_store.specs.Known.{Known, own_of}
 use Rattle.locked_store.specs.declared.fault.SharedFault.{SharedFault}
 use Rattle.locked_store.specs.declared.fault.SharedFault.TheVariants as shared
 use Rattle.locked_store.specs.Act.{Act}
@@ -83,7 +83,7 @@ Says start ask v (Ok None) w = ((what : Act) × WasOvertaken start ask what) × 
 Says start ask v (Err why) w = IsRefused start ask w.front why × (w.count ≡ v.count)
 
 pub record Attempts (start : State) (ask : Ask) (v : Known) (attempt : Attempt) (w : Known) : Type 0 where
-  pub same : w.id ≡ v.id
+  pub same : own_of w ≡ own_of v
   pub rises : v.front ≤ w.front
   pub says : Says start ask v attempt w
 
@@ -94,7 +94,7 @@ ActSays start ask v (Ok done) w = IsAdvanced start ask done × IsSeen start ask.
 ActSays start ask v (Err why) w = IsRefused start ask w.front why × (w.count ≡ v.count)
 
 pub record Acts (start : State) (ask : Ask) (v : Known) (result : Result Advanced OperatorFault) (w : Known) : Type 0 where
-  pub same : w.id ≡ v.id
+  pub same : own_of w ≡ own_of v
   pub rises : v.front ≤ w.front
   pub says : ActSays start ask v result w
 
@@ -112,7 +112,7 @@ KeptSays start ask old (Ok next) front new = IsKept start ask old next front new
 KeptSays start ask old (Err why) front new = IsRefused start ask front why × (new ≡ old)
 
 pub record ActsAndKeeps (start : State) (ask : Ask) (v : Known) (old : List Receipt) (answer : Result (Option ℕ) OperatorFault) (w : Known) (new : List Receipt) : Type 0 where
-  pub same : w.id ≡ v.id
+  pub same : own_of w ≡ own_of v
   pub rises : v.front ≤ w.front
   pub counted : w.count + length old ≡ v.count + length new
   pub says : KeptSays start ask old answer w.front new

@@ -18,6 +18,7 @@ returns g c =
           c.in-Err.ensures.refused c.unprepared_outcome.result c.unprepared_outcome.ensures;
       retries = ap (λ (t : Tally). t.retries) c.read.ensures.tallied;
       own_handle = c.read.ensures.own_handle;
+      refusals = c.read.ensures.refusals;
       rises = c.read.ensures.rises;
       stays = c.read.ensures.stays;
       counted = omega (arith, c.read.ensures.same.0, ap (λ (rs : List Receipt). length rs) c.read.ensures.same.1, end.1);

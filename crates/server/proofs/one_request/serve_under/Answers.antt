@@ -28,6 +28,7 @@ loop-i-preserved g c =
       rises = omega (arith, c.loop-i.invariant.rises, c.try_once-outcome.ensures.rises);
       stays = λ m has. c.try_once-outcome.ensures.stays m (c.loop-i.invariant.stays m has);
       counted = omega (arith, c.loop-i.invariant.counted, c.try_once-outcome.ensures.counted, none_holds_none c.try_once-outcome.result.0 c.in_default.is);
+      refusals = omega (arith, c.loop-i.invariant.refusals, c.try_once-outcome.ensures.refusals);
       own_handle = c.try_once-outcome.ensures.own_handle ∙ c.loop-i.invariant.own_handle;
       kept_receipts = λ f m at all. c.try_once-outcome.ensures.kept_receipts f m (omega (arith, at.0, c.loop-i.invariant.rises), c.loop-i.invariant.stays m at.1) (c.loop-i.invariant.kept_receipts f m at all);
     }

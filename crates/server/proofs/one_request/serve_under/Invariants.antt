@@ -15,6 +15,7 @@ invariant-loop-i g l =
       rises : g.P.Port.front l.fn.port ≤ g.P.Port.front l.port;
       stays : (m : ℕ) → g.P.Port.has_seen m (g.P.Port.front l.fn.port) → g.P.Port.has_seen m (g.P.Port.front l.port);
       counted : g.P.Port.count l.port + length (g.P.Port.kept_receipts l.fn.port) ≡ g.P.Port.count l.fn.port + length (g.P.Port.kept_receipts l.port);
+      refusals : g.P.Port.refused l.fn.port + (g.P.Port.tally l.port).retries ≤ g.P.Port.refused l.port + (g.P.Port.tally l.fn.port).retries;
       own_handle : g.P.Port.id l.port ≡ g.P.Port.id l.fn.port;
       kept_receipts : (f m : ℕ) → Sees g.P.Port.has_seen f m (g.P.Port.front l.fn.port) → StayLeases (g.P.Port.may f m) (g.P.Port.kept_receipts l.fn.port) (g.P.Port.kept_receipts l.port);
     }

@@ -11,7 +11,7 @@ loop-number-preserved g c =
     let is = c.push_reserved.ensures.items in
     record {
       row = row_more n os _ o is c.loop-number.invariant.row;
-      none = none_more g.W.Worker.held os _ n o is c.loop-number.invariant.none c.undrawn.ensures.none;
+      none = (none_more g.W.Worker.held os _ n o is c.loop-number.invariant.none.0 c.undrawn.ensures.none, none_more g.W.Worker.reported os _ n o is c.loop-number.invariant.none.1 c.undrawn.ensures.untried);
       fits = λ plan. fit_more (g.W.Worker.fits plan) os _ n o is (c.loop-number.invariant.fits plan) (c.undrawn.ensures.fits plan n);
       room = search rules;
     }

@@ -17,10 +17,10 @@ loop-worker_slot-init g c = record {
   len = search rules;
   room = search rules;
   workers = search rules;
-  row = c.requires.row.0;
+  row = c.requires.row;
   fits = λ plan on old. (on, old);
-  free = λ x d none lt. held_none g.W.Worker.held c.args.outcomes.now.items c.requires.row.1 x d lt;
-  counted = λ once. omega (arith, c.requires.row.1);
+  free = λ held empty x d none lt. held_none held c.args.outcomes.now.items empty x d lt;
+  counted = λ held empty once. omega arith;
 }
 
 pub place-requires-clause-inside : goal.place-requires-clause-inside
@@ -38,7 +38,6 @@ loop-worker_slot-preserved g c =
     let is : c.loop-worker_slot.worker_slots.items ≡ ss ++ worker_slot ∷ [] = search rules in
     let more = c.push_reserved-in-Some.ensures.items in
     let t = g.T.Drawing.total in
-    let held = g.W.Worker.held in
     let os = c.loop-worker_slot.outcomes.items in
     let size : vec_len c.loop-worker_slot.outcomes ≡ t = omega (arith, before.row.0) in
     record {
@@ -55,9 +54,9 @@ loop-worker_slot-preserved g c =
           let both = before.fits plan on old in
           let P : Here g → Type 0 = λ s. IsOnPlan g.W.Worker.plan g.W.Worker.fits plan s.worker s.done.items in
           (all_init P c.loop-worker_slot.worker_slots.items ss worker_slot is both.0, c.place.ensures.fits plan (all_last P c.loop-worker_slot.worker_slots.items ss worker_slot is both.0).1 both.1);
-      free = still_free held t c.loop-worker_slot.seats.items _ worker_slot.seat os _ worker_slot.done.items more worker_slot.numbers (omega (arith, c.place.ensures.row.1.0, before.row.0, size)) c.place.ensures.others before.free;
-      counted = λ once.
+      free = λ held empty. still_free held t c.loop-worker_slot.seats.items _ worker_slot.seat os _ worker_slot.done.items more worker_slot.numbers (omega (arith, c.place.ensures.row.1.0, before.row.0, size)) c.place.ensures.others (before.free held empty);
+      counted = λ held empty once.
           let both = once_here t c.loop-worker_slot.seats.items _ worker_slot.seat worker_slot.done.items more worker_slot.numbers once in
-          let free = free_here held t c.loop-worker_slot.seats.items _ worker_slot.seat os worker_slot.done.items more worker_slot.numbers once before.free in
-          omega (arith, before.counted both.0, c.place.ensures.counted both.1 free, held_all_last held (λ (s : Here g). s.done.items) c.loop-worker_slot.worker_slots.items ss worker_slot is);
+          let free = free_here held t c.loop-worker_slot.seats.items _ worker_slot.seat os worker_slot.done.items more worker_slot.numbers once (before.free held empty) in
+          omega (arith, before.counted held empty both.0, c.place.ensures.counted held both.1 free, held_all_last held (λ (s : Here g). s.done.items) c.loop-worker_slot.worker_slots.items ss worker_slot is);
     }

@@ -13,9 +13,9 @@ invariant-loop-worker_slot g l = record {
   row : IsRow g.T.Drawing.total l.outcomes.items;
   fits : (plan : g.W.Worker.Plan) → All (λ s. IsOnPlan g.W.Worker.plan g.W.Worker.fits plan s.worker s.done.items) l.fn.worker_slots.items → AreFit (g.W.Worker.fits plan) l.fn.outcomes.items
       → All (λ s. IsOnPlan g.W.Worker.plan g.W.Worker.fits plan s.worker s.done.items) l.worker_slots.items × AreFit (g.W.Worker.fits plan) l.outcomes.items;
-  free : (x : ℕ) (d : ℕ × _) → times x (all_drawn l.seats.items) ≡ 0 → x < length l.outcomes.items → g.W.Worker.held (slice_index_or l.outcomes.items x d).1 ≡ 0;
-  counted : AreOnce (all_drawn l.seats.items)
-      → held_in g.W.Worker.held l.outcomes.items + held_all g.W.Worker.held (map (λ s. s.done.items) l.worker_slots.items) ≡ held_all g.W.Worker.held (map (λ s. s.done.items) l.fn.worker_slots.items);
+  free : (held : _ → ℕ) → held_in held l.fn.outcomes.items ≡ 0 → (x : ℕ) (d : ℕ × _) → times x (all_drawn l.seats.items) ≡ 0 → x < length l.outcomes.items → held (slice_index_or l.outcomes.items x d).1 ≡ 0;
+  counted : (held : _ → ℕ) → held_in held l.fn.outcomes.items ≡ 0 → AreOnce (all_drawn l.seats.items)
+      → held_in held l.outcomes.items + held_all held (map (λ s. s.done.items) l.worker_slots.items) ≡ held_all held (map (λ s. s.done.items) l.fn.worker_slots.items);
 }
 
 abbrev pub decreases-loop-worker_slot : goal.decreases-loop-worker_slot

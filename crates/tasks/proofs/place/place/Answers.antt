@@ -20,7 +20,6 @@ loop-number-preserved g c =
     let done : List (ℕ × O) = c.loop-number.done.items in
     let whole = numbers_of c.args.done.items in
     let before = c.loop-number.invariant in
-    let held = g.W.Worker.held in
     let is : done ≡ ds ++ (k, o) ∷ [] = search rules in
     let below : k < n = all_last (λ (y : ℕ × O). y.0 < n) done ds (k, o) is before.inside in
     let here : k < length os = omega (arith, below, before.row.0) in
@@ -34,8 +33,8 @@ loop-number-preserved g c =
           let both = before.fits plan new old in
           let P : ℕ × O → Type 0 = λ y. g.W.Worker.fits plan y.0 y.1 in
           (all_init P done ds (k, o) is both.0, All-set P os k (k, o) (all_last P done ds (k, o) is both.0) both.1);
-      counted = λ once free.
-          let was = before.counted once free in
+      counted = λ held once free.
+          let was = before.counted held once free in
           let more = free_more held whole os ds done k o is here before.fewer once was.0 in
           (more.0, omega (arith, was.1, more.1, held_more held ds done k o is));
     }

@@ -13,9 +13,8 @@ invariant-loop-number g l = record {
   others : (x : ℕ) → times x (numbers_of l.fn.done.items) ≡ 0 → (d : _) → slice_index_or l.outcomes.items x d ≡ slice_index_or l.fn.outcomes.items x d;
   fits : (plan : g.W.Worker.Plan) → AreFit (g.W.Worker.fits plan) l.fn.done.items → AreFit (g.W.Worker.fits plan) l.fn.outcomes.items
       → AreFit (g.W.Worker.fits plan) l.done.items × AreFit (g.W.Worker.fits plan) l.outcomes.items;
-  counted : AreOnce (numbers_of l.fn.done.items) → AreFree g.W.Worker.held (numbers_of l.fn.done.items) l.fn.outcomes.items
-      → AreFree g.W.Worker.held (numbers_of l.done.items) l.outcomes.items
-      × (held_in g.W.Worker.held l.outcomes.items + held_in g.W.Worker.held l.done.items ≡ held_in g.W.Worker.held l.fn.outcomes.items + held_in g.W.Worker.held l.fn.done.items);
+  counted : (held : _ → ℕ) → AreOnce (numbers_of l.fn.done.items) → AreFree held (numbers_of l.fn.done.items) l.fn.outcomes.items
+      → AreFree held (numbers_of l.done.items) l.outcomes.items × (held_in held l.outcomes.items + held_in held l.done.items ≡ held_in held l.fn.outcomes.items + held_in held l.fn.done.items);
 }
 
 abbrev pub decreases-loop-number : goal.decreases-loop-number

@@ -19,4 +19,5 @@ loop-i-preserved g c =
       id = c.outcome_told-outcome.ensures.same.1 ∙ before.id;
       fits = λ all. fit_more (g.W.Worker.fits (g.W.Worker.plan c.args.worker.now)) c.loop-i.done.items _ n o is (before.fits all) (subst (λ p. g.W.Worker.fits p n o) before.plan c.outcome_told-outcome.ensures.fits);
       counted = omega (arith, before.counted, held_more g.W.Worker.held c.loop-i.done.items _ n o is, c.outcome_told-outcome.ensures.counted);
+      tried = omega (arith, before.tried, held_more g.W.Worker.reported c.loop-i.done.items _ n o is, c.outcome_told-outcome.ensures.tried);
     }

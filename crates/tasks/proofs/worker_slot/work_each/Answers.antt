@@ -1,6 +1,6 @@
 use Rattle.std.proofs.Common.{rules, arith}
 use Rattle.tasks.specs.declared.worker_slot.WorkerSlot.{WorkerSlot}
-use Rattle.tasks.proofs.Runs.{all_stay, all_same, all_count}
+use Rattle.tasks.proofs.Runs.{all_stay, all_same, all_count, all_tried}
 use Rattle.tasks.proofs.worker_slot.work_each.Given.{Over}
 use Rattle.tasks.proofs.worker_slot.work_each.Goals as goal
 
@@ -18,3 +18,7 @@ returns-clause-fits g c plan all =
 pub returns-clause-counted : goal.returns-clause-counted
 returns-clause-counted g c =
     all_count {S = Here g} (λ (s : Here g). s.worker) (λ (s : Here g). s.done.items) g.W.Worker.count g.W.Worker.kept_receipts g.W.Worker.held c.args.worker_slots.now c.for_each_mut.new.s (search rules) (λ i d lt. grind (arith, rules))
+
+pub returns-clause-tried : goal.returns-clause-tried
+returns-clause-tried g c =
+    all_tried {S = Here g} (λ (s : Here g). s.worker) (λ (s : Here g). s.done.items) g.W.Worker.failed g.W.Worker.reported c.args.worker_slots.now c.for_each_mut.new.s (search rules) (λ i d lt. grind (arith, rules))

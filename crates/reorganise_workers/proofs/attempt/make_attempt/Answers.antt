@@ -1,6 +1,6 @@
 use Rattle.std.proofs.Common.{ℕ, subst}
 use Rattle.reorganise_workers.specs.Ends.{IsAttempt}
-use Rattle.reorganise_workers.proofs.attempt.read_and_commit.Goals as goal
+use Rattle.reorganise_workers.proofs.attempt.make_attempt.Goals as goal
 
 pub returns-in-Ok-clause-attempt : goal.returns-in-Ok-clause-attempt
 returns-in-Ok-clause-attempt g c =
