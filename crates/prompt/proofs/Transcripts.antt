@@ -14,34 +14,35 @@ use Rattle.prompt.specs.declared.form.Form.{Form}
 use Rattle.prompt.specs.declared.conversation.Summary.{Summary}
 use Rattle.prompt.specs.declared.fault.PromptFault.TheVariants.{Read, Write, Memory}
 use Rattle.prompt.specs.declared.state.PromptState.{PromptState}
+use Rattle.prompt.specs.Save.{Keeping}
 
 -- the text of one more answer
 abbrev pub longer : Form → List ℕ → PromptState → List ℕ → List ℕ
 longer form text t answer = text ++ (prompt_text form t.session ++ answer)
 
-pub one_more : (form : Form) (s : PromptState) (ls : List (List ℕ)) (text : List ℕ) (bad : ℕ) (t : PromptState) (l answer : List ℕ) (b : Bool) (u : PromptState)
-    → AreAnswered form s ls text bad t → IsAnswered form t l answer b u → is_quit l ≡ false
-    → AreAnswered form s (ls ++ l ∷ []) (longer form text t answer) (bad + cond b 1 0) u
-one_more form s [] text bad t l answer b u h r q = (
+pub one_more : (keeps : Keeping) (form : Form) (s : PromptState) (ls : List (List ℕ)) (text : List ℕ) (bad : ℕ) (t : PromptState) (l answer : List ℕ) (b : Bool) (u : PromptState)
+    → AreAnswered keeps form s ls text bad t → IsAnswered keeps form t l answer b u → is_quit l ≡ false
+    → AreAnswered keeps form s (ls ++ l ∷ []) (longer form text t answer) (bad + cond b 1 0) u
+one_more keeps form s [] text bad t l answer b u h r q = (
   answer,
   b,
   u,
   [],
   0,
-  subst (λ v. IsAnswered form v l answer b u) h.2 r,
+  subst (λ v. IsAnswered keeps form v l answer b u) h.2 r,
   (refl, refl, refl),
   q,
   ap (λ x. x ++ (prompt_text form t.session ++ answer)) h.0 ∙ ap (λ v. prompt_text form v.session ++ answer) h.2 ∙ ap (λ x. prompt_text form s.session ++ x) (sym (append-nil answer)),
   ap (λ n. n + cond b 1 0) h.1 ∙ omega arith,
 )
-one_more form s (x ∷ ls) text bad t l answer b u h r q = (
+one_more keeps form s (x ∷ ls) text bad t l answer b u h r q = (
   h.0,
   h.1,
   h.2,
   longer form h.3 t answer,
   h.4 + cond b 1 0,
   h.5,
-  one_more form h.2 ls h.3 h.4 t l answer b u h.6 r q,
+  one_more keeps form h.2 ls h.3 h.4 t l answer b u h.6 r q,
   h.7,
   ap (λ y. longer form y t answer) h.8 ∙ append_assoc {A = ℕ} (prompt_text form s.session) (h.0 ++ h.3) (prompt_text form t.session ++ answer) ∙ ap (λ y. prompt_text form s.session ++ y) (append_assoc {A = ℕ} h.0 h.3 (prompt_text form t.session ++ answer)),
   ap (λ n. n + cond b 1 0) h.9 ∙ omega arith,
@@ -55,12 +56,12 @@ pub byte_few : (b : Bool) (n : ℕ) → n ≡ bool_byte b → n ≤ 1
 byte_few true n e = omega arith
 byte_few false n e = omega arith
 
-pub one_more_counted : (form : Form) (s : PromptState) (ls : List (List ℕ)) (text : List ℕ) (bad : ℕ) (t : PromptState) (l answer : List ℕ) (b : Bool) (u : PromptState) (n : ℕ) → n ≡ bool_byte b
-    → AreAnswered form s ls text bad t → IsAnswered form t l answer b u → is_quit l ≡ false
-    → AreAnswered form s (ls ++ l ∷ []) (longer form text t answer) (bad + n) u
-one_more_counted form s ls text bad t l answer b u n e h r q =
-    let P : ℕ → Type 0 = λ k. AreAnswered form s (ls ++ l ∷ []) (longer form text t answer) (bad + k) u in
-    subst P (sym (e ∙ byte_is b)) (one_more form s ls text bad t l answer b u h r q)
+pub one_more_counted : (keeps : Keeping) (form : Form) (s : PromptState) (ls : List (List ℕ)) (text : List ℕ) (bad : ℕ) (t : PromptState) (l answer : List ℕ) (b : Bool) (u : PromptState) (n : ℕ) → n ≡ bool_byte b
+    → AreAnswered keeps form s ls text bad t → IsAnswered keeps form t l answer b u → is_quit l ≡ false
+    → AreAnswered keeps form s (ls ++ l ∷ []) (longer form text t answer) (bad + n) u
+one_more_counted keeps form s ls text bad t l answer b u n e h r q =
+    let P : ℕ → Type 0 = λ k. AreAnswered keeps form s (ls ++ l ∷ []) (longer form text t answer) (bad + k) u in
+    subst P (sym (e ∙ byte_is b)) (one_more keeps form s ls text bad t l answer b u h r q)
 
 raw_more : (raws : List (List ℕ)) (raw : List ℕ) → AreRaw raws → IsRaw raw → AreRaw (raws ++ raw ∷ [])
 raw_more [] raw h r = (r, tt)
@@ -82,38 +83,38 @@ read_more input mid rest ls raw l h c r e =
     )
 
 -- One more line was asked for and answered.
-pub so_far-more : {start : PromptState} {form : Form} {input inner rest old mid at new : Option (List ℕ)} {n bad : ℕ} {s u : PromptState} {l : List ℕ} {b : Bool} (k : ℕ)
-    → IsSoFar start form input inner old mid n bad s → Appends mid at (prompt_text form s.session) → IsAwaited inner rest (Some l) → IsWritten form s l b u at new → k ≡ bool_byte b
-    → IsSoFar start form input rest old new (n + 1) (bad + k) u
-so_far-more {start} {form} {input} {inner} {rest} {old} {mid} {at} {new} {n} {bad} {s} {u} {l} {b} k h p w t e = record {
+pub so_far-more : {keeps : Keeping} {start : PromptState} {form : Form} {input inner rest old mid at new : Option (List ℕ)} {n bad : ℕ} {s u : PromptState} {l : List ℕ} {b : Bool} (k : ℕ)
+    → IsSoFar keeps start form input inner old mid n bad s → Appends mid at (prompt_text form s.session) → IsAwaited inner rest (Some l) → IsWritten keeps form s l b u at new → k ≡ bool_byte b
+    → IsSoFar keeps start form input rest old new (n + 1) (bad + k) u
+so_far-more {keeps} {start} {form} {input} {inner} {rest} {old} {mid} {at} {new} {n} {bad} {s} {u} {l} {b} k h p w t e = record {
   read = h.read ++ l ∷ [];
   text = longer form h.text s t.text;
   taken = read_more input inner rest h.read w.0.0 l h.taken w.0.1 w.0.2 w.0.3;
   written = Appends-trans old mid new h.text (prompt_text form s.session ++ t.text) h.written (Appends-trans mid at new (prompt_text form s.session) t.text p t.written);
-  answered = one_more_counted form start h.read h.text bad s l t.text b u k e h.answered t.answered w.1;
+  answered = one_more_counted keeps form start h.read h.text bad s l t.text b u k e h.answered t.answered w.1;
   count = let c = h.count in omega (arith, c, length-append h.read (l ∷ []));
 }
 
-pub at_end : {start : PromptState} {form : Form} {input inner old mid : Option (List ℕ)} {n bad : ℕ} {s : PromptState} (rest new handed : Option (List ℕ))
-    → IsSoFar start form input inner old mid n bad s → Appends mid new (prompt_text form s.session) → IsAwaited inner rest None → handed ≡ new → Conversed start form input rest old new handed (Ok (record { lines = n; bad = bad }))
-at_end {start} {form} {inner = inner} {old = old} {mid = mid} {s = s} rest new handed h p w e =
+pub at_end : {keeps : Keeping} {start : PromptState} {form : Form} {input inner old mid : Option (List ℕ)} {n bad : ℕ} {s : PromptState} (rest new handed : Option (List ℕ))
+    → IsSoFar keeps start form input inner old mid n bad s → Appends mid new (prompt_text form s.session) → IsAwaited inner rest None → handed ≡ new → Conversed keeps start form input rest old new handed (Ok (record { lines = n; bad = bad }))
+at_end {keeps} {start} {form} {inner = inner} {old = old} {mid = mid} {s = s} rest new handed h p w e =
     (h.read, inner, h.text ++ prompt_text form s.session, h.taken, w, (h.text, s, h.answered, refl), Appends-trans old mid new h.text (prompt_text form s.session) h.written p, h.count, e)
 
-broken : {start : PromptState} {form : Form} {input inner old mid : Option (List ℕ)} {n bad : ℕ} {s : PromptState} (rest at new handed : Option (List ℕ)) (l : List ℕ) (kept : Type 0) (fault : PromptFault)
-    → IsSoFar start form input inner old mid n bad s → Appends mid at (prompt_text form s.session) → IsAwaited inner rest (Some l) → IsUnanswered kept form s l at new fault → (kept → (at ≡ new) × (handed ≡ new))
-    → Conversed start form input rest old new handed (Err fault)
+broken : {keeps : Keeping} {start : PromptState} {form : Form} {input inner old mid : Option (List ℕ)} {n bad : ℕ} {s : PromptState} (rest at new handed : Option (List ℕ)) (l : List ℕ) (kept : Type 0) (fault : PromptFault)
+    → IsSoFar keeps start form input inner old mid n bad s → Appends mid at (prompt_text form s.session) → IsAwaited inner rest (Some l) → IsUnanswered keeps kept form s l at new fault → (kept → (at ≡ new) × (handed ≡ new))
+    → Conversed keeps start form input rest old new handed (Err fault)
 broken rest at new handed l kept Read h p w u k = absurd u
 broken {inner = inner} {mid = mid} {n = n} {bad = bad} {s = s} rest at new handed l kept Write h p w u k = (n, bad, s, inner, mid, h, inl (inr (refl, record { line = l; at = at; prompt = p; awaited = w; cut = u })))
-broken {start} {form} {inner = inner} {mid = mid} {n = n} {bad = bad} {s = s} rest at new handed l kept Memory h p w u k =
+broken {keeps} {start} {form} {inner = inner} {mid = mid} {n = n} {bad = bad} {s = s} rest at new handed l kept Memory h p w u k =
     (n, bad, s, inner, mid, h, inl (inl (inr (record { shown = subst (λ x. Appends mid x (prompt_text form s.session)) (k u).0 p; handed_on = (k u).1; part = (w.0.0, w.0.1, w.0.2.0) }))))
 
 -- The next line was read, and its answer failed.
-pub broken_in_answer : {start : PromptState} {form : Form} {input inner old mid : Option (List ℕ)} {n bad : ℕ} {s : PromptState} (rest at new handed : Option (List ℕ)) (l : List ℕ) (kept : Type 0) (r : Result Summary PromptFault) (Q : PromptFault → Type 0) (fault : PromptFault)
-    → IsErrAnd r Q → ((e : PromptFault) → Q e → e ≡ fault) → IsSoFar start form input inner old mid n bad s → Appends mid at (prompt_text form s.session) → IsAwaited inner rest (Some l) → IsUnanswered kept form s l at new fault
-    → (kept → (at ≡ new) × (handed ≡ new)) → Conversed start form input rest old new handed r
+pub broken_in_answer : {keeps : Keeping} {start : PromptState} {form : Form} {input inner old mid : Option (List ℕ)} {n bad : ℕ} {s : PromptState} (rest at new handed : Option (List ℕ)) (l : List ℕ) (kept : Type 0) (r : Result Summary PromptFault) (Q : PromptFault → Type 0) (fault : PromptFault)
+    → IsErrAnd r Q → ((e : PromptFault) → Q e → e ≡ fault) → IsSoFar keeps start form input inner old mid n bad s → Appends mid at (prompt_text form s.session) → IsAwaited inner rest (Some l) → IsUnanswered keeps kept form s l at new fault
+    → (kept → (at ≡ new) × (handed ≡ new)) → Conversed keeps start form input rest old new handed r
 broken_in_answer rest at new handed l kept (Ok v) Q fault f is h p w u k = absurd f
-broken_in_answer {start} {form} {input} {old = old} rest at new handed l kept (Err e) Q fault f is h p w u k =
-    subst (λ (x : PromptFault). Conversed start form input rest old new handed (Err x)) (sym (is e f)) (broken rest at new handed l kept fault h p w u k)
+broken_in_answer {keeps} {start} {form} {input} {old = old} rest at new handed l kept (Err e) Q fault f is h p w u k =
+    subst (λ (x : PromptFault). Conversed keeps start form input rest old new handed (Err x)) (sym (is e f)) (broken rest at new handed l kept fault h p w u k)
 
 -- ---- what one call wrote
 
@@ -122,10 +123,10 @@ on_err (Ok x) p = tt
 on_err (Err e) p = p
 
 -- The writer failed in an answer.
-pub cut_by_writer : {T : Type 0} {form : Form} {old : PromptState} {line : List ℕ} {before after : Option (List ℕ)} (kept : Type 0) (r : Result T PromptFault) (Q : PromptFault → Type 0) → IsErrAnd r Q → ((e : PromptFault) → Q e → e ≡ Write)
-    → IsCut form old line before after → IfErr r (λ e. IsUnanswered kept form old line before after e)
+pub cut_by_writer : {T : Type 0} {keeps : Keeping} {form : Form} {old : PromptState} {line : List ℕ} {before after : Option (List ℕ)} (kept : Type 0) (r : Result T PromptFault) (Q : PromptFault → Type 0) → IsErrAnd r Q → ((e : PromptFault) → Q e → e ≡ Write)
+    → IsCut keeps form old line before after → IfErr r (λ e. IsUnanswered keeps kept form old line before after e)
 cut_by_writer kept (Ok v) Q f is cut = absurd f
-cut_by_writer {form = form} {old = old} {line = line} {before = before} {after = after} kept (Err e) Q f is cut = subst (λ (x : PromptFault). IsUnanswered kept form old line before after x) (sym (is e f)) cut
+cut_by_writer {keeps = keeps} {form = form} {old = old} {line = line} {before = before} {after = after} kept (Err e) Q f is cut = subst (λ (x : PromptFault). IsUnanswered keeps kept form old line before after x) (sym (is e f)) cut
 
 -- The whole prompt was written and kept.
 pub prompt_kept : (before after flushed : Option (List ℕ)) (text prompt : List ℕ) → Appends before after text → text ≡ prompt → Keeps after flushed → Appends before flushed prompt

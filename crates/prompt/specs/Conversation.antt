@@ -19,7 +19,7 @@ use Rattle.script_json.specs.State.{facts_of}
 use Rattle.prompt.specs.Carry.{CarriesOn, carry_in}
 use Rattle.prompt.specs.declared.carry.CarryLine.{CarryLine}
 use Rattle.prompt.specs.Lines.{HasRead, IsNext, IsReadInPart}
-use Rattle.prompt.specs.LogCut.{CutIn, is_cut}
+use Rattle.prompt.specs.LogCut.{CutIn, cut_remark, is_cut}
 use Rattle.prompt.specs.Moment.{IsForeign, IsGiven, first_word}
 use Rattle.prompt.specs.declared.conversation.Summary.{Summary}
 use Rattle.prompt.specs.declared.fault.PromptFault.{PromptFault}
@@ -27,7 +27,7 @@ use Rattle.prompt.specs.declared.fault.PromptFault.TheVariants.{Read, Write, Mem
 use Rattle.prompt.specs.declared.form.Form.{Form}
 use Rattle.prompt.specs.declared.form.Form.TheVariants.{Plain, Shown, Json}
 use Rattle.prompt.specs.declared.state.PromptState.{PromptState}
-use Rattle.prompt.specs.Save.{is_save}
+use Rattle.prompt.specs.Save.{Keeping, SaveSays, file_of, is_save}
 use Rattle.prompt.specs.Undo.{TakesBack, declared_after, is_undo}
 
 -- the word `quit` or `exit` alone, or `.quit`
@@ -88,14 +88,15 @@ abbrev pub Undone : PromptState → List ℕ → List ℕ → Bool → PromptSta
 Undone old line reply bad new =
     IsForeign line × (is_undo line ≡ true) × ((taken : Option (List ℕ)) × TakesBack old taken new) × (reply ≡ []) × (bad ≡ false)
 
--- the line `cut`, which is answered by a remark alone: the memory of the log's entries is given back
-abbrev pub LogCut : PromptState → List ℕ → List ℕ → Bool → PromptState → Type 0
-LogCut old line reply bad new =
-    IsForeign line × (is_cut line ≡ true) × CutIn old.session new.session × (new.declared ≡ old.declared) × (reply ≡ []) × (bad ≡ false)
+-- the line `cut`, which is answered by a remark alone: the memory of the log's entries is given back, and the remark says of how many
+abbrev pub LogCut : PromptState → List ℕ → List ℕ → List ℕ → Bool → PromptState → Type 0
+LogCut old line remark reply bad new =
+    IsForeign line × (is_cut line ≡ true) × (remark ≡ cut_remark old.session) × CutIn old.session new.session × (new.declared ≡ old.declared) × (reply ≡ []) × (bad ≡ false)
 
--- a line `save FILE`, which is answered by a remark alone, and changes nothing here
-abbrev pub Saved : PromptState → List ℕ → List ℕ → Bool → PromptState → Type 0
-Saved old line reply bad new = IsForeign line × (is_save line ≡ true) × (new ≡ old) × (reply ≡ []) × (bad ≡ false)
+-- a line `save FILE`, which is answered by a remark alone, and changes nothing here: the file was given the checkpoint if the remark says so
+abbrev pub Saved : Keeping → PromptState → List ℕ → List ℕ → List ℕ → Bool → PromptState → Type 0
+Saved keeps old line remark reply bad new =
+    IsForeign line × (is_save line ≡ true) × SaveSays keeps old.session (file_of line) remark × (new ≡ old) × (reply ≡ []) × (bad ≡ false)
 
 -- a byte of a remark, each of whose lines begins with `# `
 abbrev pub remark_byte : ℕ → List ℕ
@@ -112,11 +113,11 @@ IsTextOf Shown reply remark text = text ≡ reply ++ remark_text remark
 IsTextOf Json reply remark text = IsAnswerText reply remark text
 
 -- What is written for a line in a form, which leaves new: the reply, and remarks.
-pub record IsAnswered (form : Form) (old : PromptState) (line text : List ℕ) (bad : Bool) (new : PromptState) : Type 0 where
+pub record IsAnswered (keeps : Keeping) (form : Form) (old : PromptState) (line text : List ℕ) (bad : Bool) (new : PromptState) : Type 0 where
   pub reply : List ℕ
   pub remark : List ℕ
   pub written : IsTextOf form reply remark text
-  pub kind : Replied old line reply bad new ⊎ Passed old line reply bad new ⊎ Carried old line reply bad new ⊎ Undone old line reply bad new ⊎ LogCut old line reply bad new ⊎ Saved old line reply bad new
+  pub kind : Replied old line reply bad new ⊎ Passed old line reply bad new ⊎ Carried old line reply bad new ⊎ Undone old line reply bad new ⊎ LogCut old line remark reply bad new ⊎ Saved keeps old line remark reply bad new
 
 -- the newest version and the moment, where they are shown
 abbrev pub prompt_text : Form → Session → List ℕ
@@ -126,17 +127,17 @@ prompt_text Shown (Declaring d) = codes "> "
 prompt_text Shown (Running r) = codes "v" ++ decimal (newest (facts_of r.world).line) ++ codes " @" ++ decimal (facts_of r.world).moment ++ codes "> "
 
 -- From old, the lines in answer may be given this text, each after a prompt, with so many bad lines, and leave new. None of them ends the conversation.
-abbrev pub AreAnswered : Form → PromptState → List (List ℕ) → List ℕ → ℕ → PromptState → Type 0
-AreAnswered form old [] text bad new = (text ≡ []) × (bad ≡ 0) × (new ≡ old)
-AreAnswered form old (l ∷ ls) text bad new =
+abbrev pub AreAnswered : Keeping → Form → PromptState → List (List ℕ) → List ℕ → ℕ → PromptState → Type 0
+AreAnswered keeps form old [] text bad new = (text ≡ []) × (bad ≡ 0) × (new ≡ old)
+AreAnswered keeps form old (l ∷ ls) text bad new =
     (answer : List ℕ) × (is_bad : Bool) × (mid : PromptState) × (more : List ℕ) × (others : ℕ)
-    × IsAnswered form old l answer is_bad mid × AreAnswered form mid ls more others new
+    × IsAnswered keeps form old l answer is_bad mid × AreAnswered keeps form mid ls more others new
     × (is_quit l ≡ false) × (text ≡ prompt_text form old.session ++ (answer ++ more)) × (bad ≡ cond is_bad 1 0 + others)
 
 -- All that is written from this state until a line is waited for: the answers, and the next prompt.
-abbrev pub IsTranscript : PromptState → Form → List (List ℕ) → List ℕ → ℕ → Type 0
-IsTranscript start form lines out bad =
-    (text : List ℕ) × (new : PromptState) × AreAnswered form start lines text bad new × (out ≡ text ++ prompt_text form new.session)
+abbrev pub IsTranscript : Keeping → PromptState → Form → List (List ℕ) → List ℕ → ℕ → Type 0
+IsTranscript keeps start form lines out bad =
+    (text : List ℕ) × (new : PromptState) × AreAnswered keeps form start lines text bad new × (out ≡ text ++ prompt_text form new.session)
 
 -- what is read at the end: nothing more, or a line that ends the conversation
 abbrev pub Ends : Option (List ℕ) → Option (List ℕ) → Type 0
@@ -152,26 +153,26 @@ IsAwaited input rest None = Ends input rest
 IsAwaited input rest (Some line) = IsNext input rest (Some line) × (is_quit line ≡ false)
 
 -- The line was answered, which leaves new, and all of the answer was written.
-pub record IsWritten (form : Form) (old : PromptState) (line : List ℕ) (bad : Bool) (new : PromptState) (before after : Option (List ℕ)) : Type 0 where
+pub record IsWritten (keeps : Keeping) (form : Form) (old : PromptState) (line : List ℕ) (bad : Bool) (new : PromptState) (before after : Option (List ℕ)) : Type 0 where
   pub text : List ℕ
-  pub answered : IsAnswered form old line text bad new
+  pub answered : IsAnswered keeps form old line text bad new
   pub written : Appends before after text
 
 -- What an answer that was cut leaves: a start of it was written.
-pub record IsCut (form : Form) (old : PromptState) (line : List ℕ) (before after : Option (List ℕ)) : Type 0 where
+pub record IsCut (keeps : Keeping) (form : Form) (old : PromptState) (line : List ℕ) (before after : Option (List ℕ)) : Type 0 where
   pub text : List ℕ
   pub bad : Bool
   pub new : PromptState
-  pub answered : IsAnswered form old line text bad new
+  pub answered : IsAnswered keeps form old line text bad new
   pub written : AppendsPrefix before after text
 
 -- Lines that were read and answered in turn from the start, each after a prompt: all of that was written, and they leave the state.
-pub record IsSoFar (start : PromptState) (form : Form) (input rest old new : Option (List ℕ)) (lines bad : ℕ) (state : PromptState) : Type 0 where
+pub record IsSoFar (keeps : Keeping) (start : PromptState) (form : Form) (input rest old new : Option (List ℕ)) (lines bad : ℕ) (state : PromptState) : Type 0 where
   pub read : List (List ℕ)
   pub text : List ℕ
   pub taken : HasRead input read rest
   pub written : Appends old new text
-  pub answered : AreAnswered form start read text bad state
+  pub answered : AreAnswered keeps form start read text bad state
   pub count : lines ≡ length read
 
 -- a fault that is not the writer's
@@ -193,36 +194,36 @@ IsUnasked prompt input rest old new handed Write = AppendsPrefix old new prompt 
 IsUnasked prompt input rest old new handed Memory = (Appends old new [] × (rest ≡ input)) ⊎ IsAsked prompt input rest old new handed
 
 -- Why a line was not answered: the writer failed in the answer; or memory ran out, and the writer was kept.
-abbrev pub IsUnanswered : Type 0 → Form → PromptState → List ℕ → Option (List ℕ) → Option (List ℕ) → PromptFault → Type 0
-IsUnanswered kept form old line before after Read = ⊥
-IsUnanswered kept form old line before after Write = IsCut form old line before after
-IsUnanswered kept form old line before after Memory = kept
+abbrev pub IsUnanswered : Keeping → Type 0 → Form → PromptState → List ℕ → Option (List ℕ) → Option (List ℕ) → PromptFault → Type 0
+IsUnanswered keeps kept form old line before after Read = ⊥
+IsUnanswered keeps kept form old line before after Write = IsCut keeps form old line before after
+IsUnanswered keeps kept form old line before after Memory = kept
 
 -- The prompt was written, the next line was read, and a start of its answer was written.
-pub record IsCutAfter (form : Form) (state : PromptState) (input rest old new : Option (List ℕ)) : Type 0 where
+pub record IsCutAfter (keeps : Keeping) (form : Form) (state : PromptState) (input rest old new : Option (List ℕ)) : Type 0 where
   pub line : List ℕ
   pub at : Option (List ℕ)
   pub prompt : Appends old at (prompt_text form state.session)
   pub awaited : IsAwaited input rest (Some line)
-  pub cut : IsCut form state line at new
+  pub cut : IsCut keeps form state line at new
 
 -- How it ends early, after lines that were answered: the next line was not read; or the writer failed in its answer.
-abbrev pub IsBroken : Form → PromptState → Option (List ℕ) → Option (List ℕ) → Option (List ℕ) → Option (List ℕ) → Option (List ℕ) → PromptFault → Type 0
-IsBroken form state input rest old new handed fault =
-    IsUnasked (prompt_text form state.session) input rest old new handed fault ⊎ ((fault ≡ Write) × IsCutAfter form state input rest old new)
+abbrev pub IsBroken : Keeping → Form → PromptState → Option (List ℕ) → Option (List ℕ) → Option (List ℕ) → Option (List ℕ) → Option (List ℕ) → PromptFault → Type 0
+IsBroken keeps form state input rest old new handed fault =
+    IsUnasked (prompt_text form state.session) input rest old new handed fault ⊎ ((fault ≡ Write) × IsCutAfter keeps form state input rest old new)
 
 -- as many lines were answered as can be counted
 abbrev pub IsSpent : ℕ → Option (List ℕ) → Option (List ℕ) → Option (List ℕ) → Option (List ℕ) → PromptFault → Type 0
 IsSpent lines input rest old new fault = (lines ≡ 2 ^ 64 - 1) × (rest ≡ input) × Appends old new [] × (fault ≡ Read)
 
 -- What was read and written from the start, and how the call ends. What was handed on is known where nothing was written since the writer was asked to.
-abbrev pub Conversed : PromptState → Form → Option (List ℕ) → Option (List ℕ) → Option (List ℕ) → Option (List ℕ) → Option (List ℕ) → Result Summary PromptFault → Type 0
-Conversed start form input rest old new handed (Ok s) =
+abbrev pub Conversed : Keeping → PromptState → Form → Option (List ℕ) → Option (List ℕ) → Option (List ℕ) → Option (List ℕ) → Option (List ℕ) → Result Summary PromptFault → Type 0
+Conversed keeps start form input rest old new handed (Ok s) =
     (lines : List (List ℕ)) × (mid : Option (List ℕ)) × (out : List ℕ)
-    × HasRead input lines mid × Ends mid rest × IsTranscript start form lines out s.bad × Appends old new out × (s.lines ≡ length lines) × (handed ≡ new)
-Conversed start form input rest old new handed (Err fault) =
+    × HasRead input lines mid × Ends mid rest × IsTranscript keeps start form lines out s.bad × Appends old new out × (s.lines ≡ length lines) × (handed ≡ new)
+Conversed keeps start form input rest old new handed (Err fault) =
     (lines : ℕ) × (bad : ℕ) × (state : PromptState) × (mid : Option (List ℕ)) × (at : Option (List ℕ))
-    × IsSoFar start form input mid old at lines bad state × (IsBroken form state mid rest at new handed fault ⊎ IsSpent lines mid rest at new fault)
+    × IsSoFar keeps start form input mid old at lines bad state × (IsBroken keeps form state mid rest at new handed fault ⊎ IsSpent lines mid rest at new fault)
 
 abbrev pub with_bad : ℕ → ℕ
 with_bad zero = 0

@@ -91,8 +91,8 @@ fn write_answer<R: BufRead + Drop, W: Handover + Drop, F: Files>(
     line: &[u8],
     form: Form,
 ) -> Result<bool, PromptFault>
-    ensures whole { IfOk result (λ bad. IsWritten form state.old line.now bad state.new (W.contents streams.old.writer) (W.contents streams.new.writer)) }
-    ensures cut { IfErr result (λ fault. IsUnanswered (streams.new.writer ≡ streams.old.writer) form state.old line.now (W.contents streams.old.writer) (W.contents streams.new.writer) fault) }
+    ensures whole { IfOk result (λ bad. IsWritten F.keeps form state.old line.now bad state.new (W.contents streams.old.writer) (W.contents streams.new.writer)) }
+    ensures cut { IfErr result (λ fault. IsUnanswered F.keeps (streams.new.writer ≡ streams.old.writer) form state.old line.now (W.contents streams.old.writer) (W.contents streams.new.writer) fault) }
     ensures reader { streams.new.reader ≡ streams.old.reader }
 {
     let answer = answer_line(alloc, state, files, line, form)?;
@@ -108,7 +108,7 @@ fn answer_all<R: BufRead + Drop, W: Handover + Drop, F: Files>(
     files: &mut F,
     form: Form,
 ) -> Result<Summary, PromptFault>
-    ensures { Conversed state.old form (R.remaining streams.old.reader) (R.remaining streams.new.reader) (W.contents streams.old.writer) (W.contents streams.new.writer) (W.handed streams.new.writer) result }
+    ensures { Conversed F.keeps state.old form (R.remaining streams.old.reader) (R.remaining streams.new.reader) (W.contents streams.old.writer) (W.contents streams.new.writer) (W.handed streams.new.writer) result }
 {
     let mut bad = 0u64;
     for lines in 0..u64::MAX {
@@ -126,7 +126,7 @@ fn answer_all<R: BufRead + Drop, W: Handover + Drop, F: Files>(
 /// at a line `quit`, `exit`, `.quit` or `\q`, and at the end of the input.
 ///
 /// - `streams`: where lines come from and replies go.
-/// - `files`: where `save` keeps a checkpoint.
+/// - `files`: where `save` keeps a checkpoint; it has kept one if the answer says so.
 /// - `checkpoint`: where the session opens, if not before the declarations; then no server has a
 ///   lease, nothing is prepared, and no plan is kept.
 /// - `form`: the form of the answers, and whether a prompt is written before each line is read.
@@ -143,7 +143,7 @@ pub fn converse<R: BufRead + Drop, W: Handover + Drop, F: Files>(
     checkpoint: Option<Checkpoint>,
     form: Form,
 ) -> Result<Summary, PromptFault>
-    ensures { Conversed (start_at checkpoint) form (R.remaining streams.old.reader) (R.remaining streams.new.reader) (W.contents streams.old.writer) (W.contents streams.new.writer) (W.handed streams.new.writer) result }
+    ensures { Conversed F.keeps (start_at checkpoint) form (R.remaining streams.old.reader) (R.remaining streams.new.reader) (W.contents streams.old.writer) (W.contents streams.new.writer) (W.handed streams.new.writer) result }
 {
     let mut state = PromptState::new(alloc, checkpoint);
     answer_all(alloc, streams, &mut state, files, form)

@@ -1,4 +1,5 @@
-//! What one line is answered.
+//! What one line is answered. A function that keeps no checkpoint is generic in the files too, since
+//! `IsAnswered` names their `keeps`.
 ghost use Rattle.std.specs.Prelude.{◌≡◌, IfOk, IfSome, Some, None, string_bytes, true, false};
 ghost use Rattle.prompt.specs.Conversation.{IsCalm, IsAnswered, carry_asked, is_view, prompt_text};
 ghost use Rattle.prompt.specs.declared.form.Form.TheVariants as form;
@@ -29,7 +30,7 @@ use std::alloc::{AllocError, Global};
 
 // The session's own reply to a line, the hint that goes with it, and what the line changed since these
 // pairs; the names of elements that left this version with it are kept.
-fn reply_after(
+fn reply_after<F: Files>(
     alloc: Global,
     state: &mut PromptState,
     line: &str,
@@ -38,7 +39,7 @@ fn reply_after(
     newest: &Option<ArcValue<Schema>>,
 ) -> Result<LineAnswer, AllocError>
     requires calm { IsCalm state.old.session line.now }
-    ensures { IfOk result (λ answer. IsAnswered form state.old line.now answer.text.items answer.is_bad state.new) }
+    ensures { IfOk result (λ answer. IsAnswered F.keeps form state.old line.now answer.text.items answer.is_bad state.new) }
 {
     let given = given_line(alloc, &state.session, line)?;
     let before = Before::new(alloc, &state.session, given.as_str())?;
@@ -60,18 +61,18 @@ fn reply_after(
 }
 
 // The session's own reply to a line, and the hint that goes with it.
-fn reply_line(
+fn reply_line<F: Files>(
     alloc: Global,
     state: &mut PromptState,
     line: &str,
     form: Form,
 ) -> Result<LineAnswer, AllocError>
     requires calm { IsCalm state.old.session line.now }
-    ensures { IfOk result (λ answer. IsAnswered form state.old line.now answer.text.items answer.is_bad state.new) }
+    ensures { IfOk result (λ answer. IsAnswered F.keeps form state.old line.now answer.text.items answer.is_bad state.new) }
 {
     let pairs = pairs_before(&state.session, form)?;
     let newest = newest_of(&state.session)?;
-    let answer = reply_after(alloc, state, line, form, &pairs, &newest)?;
+    let answer = reply_after::<F>(alloc, state, line, form, &pairs, &newest)?;
     Ok(answer)
 }
 
@@ -95,7 +96,7 @@ fn view_shown(
 }
 
 // A view of the session, which stays as it was, or else its reply.
-fn view_line(
+fn view_line<F: Files>(
     alloc: Global,
     state: &mut PromptState,
     line: &str,
@@ -106,7 +107,7 @@ fn view_line(
     requires no_undo { is_undo line.now ≡ false }
     requires no_cut { is_cut line.now ≡ false }
     requires no_save { is_save line.now ≡ false }
-    ensures { IfOk result (λ answer. IsAnswered form state.old line.now answer.text.items answer.is_bad state.new) }
+    ensures { IfOk result (λ answer. IsAnswered F.keeps form state.old line.now answer.text.items answer.is_bad state.new) }
 {
     let gone = state.gone.as_slice();
     if let Some(view) = view_shown(alloc, &state.session, gone, line, form)? {
@@ -114,7 +115,7 @@ fn view_line(
         let answer = answer_of(alloc, form, "", false, view.as_str(), &details)?;
         return Ok(answer);
     }
-    reply_line(alloc, state, line, form)
+    reply_line::<F>(alloc, state, line, form)
 }
 
 // What a line asks an opened session for: to carry changes on.
@@ -133,7 +134,7 @@ fn carry_asked(
 
 // Carries changes on as the line asks, and says so if that drops a plan, and what it changed since
 // these pairs; the names of elements that left this version with it are kept.
-fn carry_after(
+fn carry_after<F: Files>(
     alloc: Global,
     state: &mut PromptState,
     line: &str,
@@ -144,7 +145,7 @@ fn carry_after(
 ) -> Result<LineAnswer, AllocError>
     requires foreign { IsForeign line.now }
     requires asked { carry_asked state.old.session line.now ≡ Some carry }
-    ensures { IfOk result (λ answer. IsAnswered form state.old line.now answer.text.items answer.is_bad state.new) }
+    ensures { IfOk result (λ answer. IsAnswered F.keeps form state.old line.now answer.text.items answer.is_bad state.new) }
 {
     let Session::Running(opened) = &mut state.session else {
         return Err(AllocError);
@@ -165,7 +166,7 @@ fn carry_after(
 }
 
 // Carries changes on as the line asks.
-fn carry_line(
+fn carry_line<F: Files>(
     alloc: Global,
     state: &mut PromptState,
     line: &str,
@@ -174,16 +175,16 @@ fn carry_line(
 ) -> Result<LineAnswer, AllocError>
     requires foreign { IsForeign line.now }
     requires asked { carry_asked state.old.session line.now ≡ Some carry }
-    ensures { IfOk result (λ answer. IsAnswered form state.old line.now answer.text.items answer.is_bad state.new) }
+    ensures { IfOk result (λ answer. IsAnswered F.keeps form state.old line.now answer.text.items answer.is_bad state.new) }
 {
     let pairs = pairs_before(&state.session, form)?;
     let newest = newest_of(&state.session)?;
-    let answer = carry_after(alloc, state, line, carry, form, &pairs, &newest)?;
+    let answer = carry_after::<F>(alloc, state, line, carry, form, &pairs, &newest)?;
     Ok(answer)
 }
 
 // Takes the last declaration back, and says which.
-fn undo_line(
+fn undo_line<F: Files>(
     alloc: Global,
     state: &mut PromptState,
     line: &str,
@@ -191,7 +192,7 @@ fn undo_line(
 ) -> Result<LineAnswer, AllocError>
     requires foreign { IsForeign line.now }
     requires asked { is_undo line.now ≡ true }
-    ensures { IfOk result (λ answer. IsAnswered form state.old line.now answer.text.items answer.is_bad state.new) }
+    ensures { IfOk result (λ answer. IsAnswered F.keeps form state.old line.now answer.text.items answer.is_bad state.new) }
 {
     let taken = take_back(alloc, state)?;
     let remark = taken_text(alloc, &state.session, taken.as_ref())?;
@@ -200,7 +201,7 @@ fn undo_line(
 }
 
 // Gives the memory of the log's entries back, and says of how many.
-fn cut_line(
+fn cut_line<F: Files>(
     alloc: Global,
     state: &mut PromptState,
     line: &str,
@@ -208,7 +209,7 @@ fn cut_line(
 ) -> Result<LineAnswer, AllocError>
     requires foreign { IsForeign line.now }
     requires asked { is_cut line.now ≡ true }
-    ensures { IfOk result (λ answer. IsAnswered form state.old line.now answer.text.items answer.is_bad state.new) }
+    ensures { IfOk result (λ answer. IsAnswered F.keeps form state.old line.now answer.text.items answer.is_bad state.new) }
 {
     let remark = cut_text(alloc, &state.session)?;
     cut_log(&mut state.session);
@@ -226,7 +227,7 @@ fn save_line<F: Files>(
 ) -> Result<LineAnswer, AllocError>
     requires foreign { IsForeign line.now }
     requires asked { is_save line.now ≡ true }
-    ensures { IfOk result (λ answer. IsAnswered form state.old line.now answer.text.items answer.is_bad state.new) }
+    ensures { IfOk result (λ answer. IsAnswered F.keeps form state.old line.now answer.text.items answer.is_bad state.new) }
 {
     let remark = saved_text(alloc, &state.session, files, line)?;
     let answer = answer_of(alloc, form, "", false, remark.as_str(), &no_details())?;
@@ -244,16 +245,16 @@ fn calm_line<F: Files>(
 ) -> Result<LineAnswer, AllocError>
     requires foreign { IsForeign line.now }
     requires calm { carry_asked state.old.session line.now ≡ None }
-    ensures { IfOk result (λ answer. IsAnswered form state.old line.now answer.text.items answer.is_bad state.new) }
+    ensures { IfOk result (λ answer. IsAnswered F.keeps form state.old line.now answer.text.items answer.is_bad state.new) }
 {
     if is_undo(alloc, line.as_bytes())? {
-        undo_line(alloc, state, line, form)
+        undo_line::<F>(alloc, state, line, form)
     } else if is_cut(alloc, line.as_bytes())? {
-        cut_line(alloc, state, line, form)
+        cut_line::<F>(alloc, state, line, form)
     } else if is_save(line) {
         save_line(alloc, state, files, line, form)
     } else {
-        view_line(alloc, state, line, form)
+        view_line::<F>(alloc, state, line, form)
     }
 }
 
@@ -266,10 +267,10 @@ fn own_line<F: Files>(
     form: Form,
 ) -> Result<LineAnswer, AllocError>
     requires foreign { IsForeign line.now }
-    ensures { IfOk result (λ answer. IsAnswered form state.old line.now answer.text.items answer.is_bad state.new) }
+    ensures { IfOk result (λ answer. IsAnswered F.keeps form state.old line.now answer.text.items answer.is_bad state.new) }
 {
     match carry_asked(alloc, &state.session, line.as_bytes())? {
-        Some(carry) => carry_line(alloc, state, line, carry, form),
+        Some(carry) => carry_line::<F>(alloc, state, line, carry, form),
         None => calm_line(alloc, state, files, line, form),
     }
 }
@@ -291,7 +292,7 @@ pub(crate) fn answer_line<F: Files>(
     line: &[u8],
     form: Form,
 ) -> Result<LineAnswer, AllocError>
-    ensures { IfOk result (λ answer. IsAnswered form state.old line.now answer.text.items answer.is_bad state.new) }
+    ensures { IfOk result (λ answer. IsAnswered F.keeps form state.old line.now answer.text.items answer.is_bad state.new) }
 {
     let Ok(line) = std::str::from_utf8(line) else {
         let answer = answer_of(
@@ -307,7 +308,7 @@ pub(crate) fn answer_line<F: Files>(
     if is_foreign(alloc, line.as_bytes())? {
         return own_line(alloc, state, files, line, form);
     }
-    reply_line(alloc, state, line, form)
+    reply_line::<F>(alloc, state, line, form)
 }
 
 // The prompt on a terminal.

@@ -1,7 +1,7 @@
 //! The line `cut`, which gives the memory of the log's entries back.
-ghost use Rattle.std.specs.Prelude.{◌≡◌, IfOk};
+ghost use Rattle.std.specs.Prelude.{◌≡◌, IfOk, string_bytes};
 ghost use Rattle.script_json.specs.State.{cut_here};
-ghost use Rattle.prompt.specs.LogCut.{CutIn, is_cut};
+ghost use Rattle.prompt.specs.LogCut.{CutIn, cut_remark, is_cut};
 
 use crate::alone::is_alone;
 use script_json::script_session::Session;
@@ -19,11 +19,10 @@ pub(crate) fn is_cut(alloc: Global, line: &[u8]) -> Result<bool, AllocError>
 
 /// What a cut gives back, in words. Refused only when out of memory.
 ///
-/// It has no contract, so a body which counts after the cut would be proved; `prompts/cut` shows that
-/// this one counts before it.
-///
 /// - `session`: the session before the cut, which is only read.
-pub(crate) fn cut_text(alloc: Global, session: &Session) -> Result<String, AllocError> {
+pub(crate) fn cut_text(alloc: Global, session: &Session) -> Result<String, AllocError>
+    ensures { IfOk result (λ text. string_bytes text ≡ cut_remark session.now) }
+{
     match session {
         Session::Declaring(_) => "there is no log yet: declare tables, then `open`".to_string(
             alloc,

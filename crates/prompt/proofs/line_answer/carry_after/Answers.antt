@@ -5,7 +5,7 @@ use Rattle.prompt.proofs.AnswerKinds.{answered_carried}
 use Rattle.prompt.proofs.line_answer.carry_after.Goals as goal
 
 pub returns : goal.returns
-returns c =
+returns g c =
     let reply = string_bytes c.in_ok-text.text in
     let remark = string_bytes c.in_ok-dropped.dropped in
     let text = subst (λ r. IsTextOf c.args.form r remark c.in_ok-answer.answer.text.items) c.as_str.ensures.value (subst (λ r. IsTextOf c.args.form c.as_str.result.now r c.in_ok-answer.answer.text.items) c.as_str-2.ensures.value c.in_ok-answer.ensures.text) in

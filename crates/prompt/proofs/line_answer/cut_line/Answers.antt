@@ -4,7 +4,7 @@ use Rattle.prompt.proofs.AnswerKinds.{answered_cut}
 use Rattle.prompt.proofs.line_answer.cut_line.Goals as goal
 
 pub returns : goal.returns
-returns c =
+returns g c =
     let remark = string_bytes c.in_ok-remark.remark in
     let text = subst (λ r. IsTextOf c.args.form [] r c.in_ok-answer.answer.text.items) c.as_str.ensures.value c.in_ok-answer.ensures.text in
-    answered_cut _ _ _ _ remark _ _ c.requires.foreign c.requires.asked c.cut_log.ensures refl text c.in_ok-answer.ensures.bad
+    answered_cut _ _ _ _ remark _ _ c.requires.foreign c.requires.asked c.in_ok-remark.ensures c.cut_log.ensures refl text c.in_ok-answer.ensures.bad

@@ -5,7 +5,7 @@ use Rattle.prompt.proofs.AnswerKinds.{answered_by}
 use Rattle.prompt.proofs.line_answer.reply_after.Goals as goal
 
 pub returns : goal.returns
-returns c =
+returns g c =
     let given = string_bytes c.in_ok-given.given in
     let reply = string_bytes c.in_ok-answer.answer.text in
     let remark = string_bytes c.in_ok-hint.hint in
