@@ -40,7 +40,7 @@ extern "C" {
 
 /* The version of this header: a thousand times the major one, and the minor one. A program that was
  * compiled with it works with each library of the same major version that has no lower minor one. */
-#define CAGZHOMUL_VERSION 1003
+#define CAGZHOMUL_VERSION 1004
 
 /* The library's version. */
 uint32_t cagzhomul_version(void);
@@ -146,6 +146,19 @@ typedef struct cagzhomul_written {
     size_t operation; /* at CAGZHOMUL_DUPLICATE and CAGZHOMUL_NO_ROW the first operation that is
                          refused, counted from 0; else 0 */
 } cagzhomul_written;
+
+/* What a transaction came to, with all that is known of a refusal. */
+typedef struct cagzhomul_detailed {
+    int32_t status;
+    uint32_t column;  /* at CAGZHOMUL_NOT_PUBLIC the number that was named; else 0 */
+    uint64_t place;   /* at CAGZHOMUL_OK the place of its entry in the log; else 0 */
+    size_t operation; /* at CAGZHOMUL_DUPLICATE and CAGZHOMUL_NO_ROW the first operation that is
+                         refused, counted from 0; else 0 */
+    uint64_t until;   /* at CAGZHOMUL_LEASE_ENDED the moment at which the lease ended; else 0 */
+    uint64_t now;     /* at CAGZHOMUL_LEASE_ENDED the moment that counted; else 0 */
+    size_t length;    /* at CAGZHOMUL_CONFLICT the length of the key of the pair that changed,
+                         however much of it fitted; else 0 */
+} cagzhomul_detailed;
 
 /* What an audit found. */
 typedef struct cagzhomul_checked {
@@ -325,6 +338,22 @@ cagzhomul_prepared cagzhomul_prepare(cagzhomul_handle *txn);
 cagzhomul_committed cagzhomul_commit(cagzhomul_handle *session, uint64_t moment,
                                      cagzhomul_handle *txn);
 
+/* Commits a prepared transaction as cagzhomul_commit does, with its answers and refusals in its order,
+ * and tells all that is known of a refusal:
+ * - At CAGZHOMUL_LEASE_ENDED when the lease ended and the moment that counted, which is the greater of
+ *   `moment` and that of the log's last entry.
+ * - At CAGZHOMUL_CONFLICT the key of a pair, as it is stored: of the pairs that the transaction read and
+ *   that have changed, gone or come since, the one with the least key, in the order of its bytes. As
+ *   much of it as fits is written to `out`; the bytes of `out` after it stay. It is the byte 82 (`R`);
+ *   the number of the table, as a u32; the values of the row's key, one after another, as many as the
+ *   table has key columns; and as a u32 the number of the column, or 0 if it is the pair that says that
+ *   the row is there. cagzhomul_codes.h reads it, by cagzhomul_get_byte, cagzhomul_get_u32 and
+ *   cagzhomul_get_value.
+ * In all other cases `out` stays as it was. */
+cagzhomul_detailed cagzhomul_commit_detailed(cagzhomul_handle *session, uint64_t moment,
+                                             cagzhomul_handle *txn, uint8_t *out,
+                                             size_t out_length);
+
 /* Makes a transaction in one call: its operations, whose code the bytes are, are read, prepared and
  * committed in the session's world under a lease, as by cagzhomul_transaction, cagzhomul_read,
  * cagzhomul_prepare and cagzhomul_commit, but with no handle of its own and no copy between them.
@@ -340,6 +369,14 @@ cagzhomul_committed cagzhomul_commit(cagzhomul_handle *session, uint64_t moment,
 cagzhomul_written cagzhomul_write(cagzhomul_handle *session, uint64_t moment,
                                   cagzhomul_handle *lease, const uint8_t *operations,
                                   size_t operations_length);
+
+/* Makes a transaction in one call as cagzhomul_write does, with its answers and refusals in its order,
+ * and tells all that is known of a refusal, as cagzhomul_commit_detailed does. Nothing comes between its
+ * read and its commit, so there is no conflict to tell. */
+cagzhomul_detailed cagzhomul_write_detailed(cagzhomul_handle *session, uint64_t moment,
+                                            cagzhomul_handle *lease, const uint8_t *operations,
+                                            size_t operations_length, uint8_t *out,
+                                            size_t out_length);
 
 /* Takes a snapshot of what the session's world holds, under a lease, which the closed handle
  * `snapshot` then holds. `moment` is as for cagzhomul_lease. The session and the lease stay, and

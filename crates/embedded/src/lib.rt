@@ -12,13 +12,14 @@ ghost use Rattle.std.specs.Prelude.{◌≡◌};
 ghost use Rattle.handles.specs.Calls.{Opens, RepliesTo, RepliesFrom, Closes, ShowsText};
 ghost use Rattle.handles.specs.Leases.{OpensTables, Leases};
 ghost use Rattle.handles.specs.Txns.{Transacts, Reads, GivesOperations, Prepares};
-ghost use Rattle.handles.specs.Commits.{Commits};
+ghost use Rattle.handles.specs.Commits.{Commits, CommitsDetailed};
 ghost use Rattle.handles.specs.Snapshots.{Snapshots, Checks};
 ghost use Rattle.handles.specs.Queries.{Queries, SnapshotQueries, ReadQueries, RowsFrom};
-ghost use Rattle.handles.specs.Writes.{Writes};
+ghost use Rattle.handles.specs.Writes.{Writes, WritesDetailed};
 
 use handles::{
-    CheckOutcome, CommitOutcome, Handle, LeaseOutcome, Outcome, WriteOutcome, show_text,
+    CheckOutcome, CommitOutcome, DetailedOutcome, Handle, LeaseOutcome, Outcome, WriteOutcome,
+    show_text,
 };
 use std::alloc::Global;
 use typed_calls::{PrepareOutcome, QueryOutcome};
@@ -27,9 +28,9 @@ use typed_calls::{PrepareOutcome, QueryOutcome};
 /// one.
 #[unsafe(no_mangle)]
 pub extern "C" fn cagzhomul_version() -> u32
-    ensures { result ≡ 1003 }
+    ensures { result ≡ 1004 }
 {
-    1003
+    1004
 }
 
 /// `Handle::open`.
@@ -154,6 +155,20 @@ pub extern "C" fn cagzhomul_commit(
     session.commit(alloc, moment, txn)
 }
 
+/// `Handle::commit_detailed`.
+#[unsafe(no_mangle)]
+pub extern "C" fn cagzhomul_commit_detailed(
+    alloc: Global,
+    session: &mut Handle,
+    moment: u64,
+    txn: &mut Handle,
+    out: &mut [u8],
+) -> DetailedOutcome
+    ensures { CommitsDetailed session.old.place.value moment txn.old.place.value out.old result out.new session.new.place.value txn.new.place.value }
+{
+    session.commit_detailed(alloc, moment, txn, out)
+}
+
 /// `Handle::write`.
 #[unsafe(no_mangle)]
 pub extern "C" fn cagzhomul_write(
@@ -167,6 +182,22 @@ pub extern "C" fn cagzhomul_write(
     ensures lease_stays { lease.new.place.value ≡ lease.old.place.value }
 {
     session.write(alloc, moment, lease, operations)
+}
+
+/// `Handle::write_detailed`.
+#[unsafe(no_mangle)]
+pub extern "C" fn cagzhomul_write_detailed(
+    alloc: Global,
+    session: &mut Handle,
+    moment: u64,
+    lease: &mut Handle,
+    operations: &[u8],
+    out: &mut [u8],
+) -> DetailedOutcome
+    ensures writes { WritesDetailed session.old.place.value moment lease.old.place.value operations.now out.old result out.new session.new.place.value }
+    ensures lease_stays { lease.new.place.value ≡ lease.old.place.value }
+{
+    session.write_detailed(alloc, moment, lease, operations, out)
 }
 
 /// `Handle::snapshot`.

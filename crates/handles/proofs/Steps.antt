@@ -3,7 +3,6 @@ use Rattle.std.proofs.Common.{◌≡◌, ℕ, ℤ, Bool, false, List, [], Option
 use Rattle.typed_calls.specs.Session.{Session}
 use Rattle.typed_calls.specs.ServerLease.{ServerLease}
 use Rattle.typed_calls.specs.Snapshot.{Taken}
-use Rattle.typed_calls.specs.Commit.{CommitsIn}
 use Rattle.typed_calls.specs.Opening.{OpensSession}
 use Rattle.typed_calls.specs.Prepare.{Prepares as PreparesTxn, prepare_alone}
 use Rattle.typed_calls.specs.Snapshots.{SnapshotsIn}
@@ -11,7 +10,6 @@ use Rattle.typed_calls.specs.Statuses.{ok}
 use Rattle.typed_calls.specs.Txns.{Wants, ReadsIn}
 use Rattle.typed_calls.specs.declared.preparation.PrepareOutcome.{PrepareOutcome}
 use Rattle.typed_calls.specs.declared.txns.Txn.{Txn}
-use Rattle.handles.specs.declared.commit_calls.CommitOutcome.{CommitOutcome}
 use Rattle.handles.specs.declared.engine.Conversation.{Conversation}
 use Rattle.handles.specs.declared.engine.Engine.{Engine}
 use Rattle.handles.specs.declared.engine.Engine.TheVariants as engine
@@ -19,7 +17,6 @@ use Rattle.handles.specs.Handles.{Fills}
 use Rattle.handles.specs.Leases.{OpensTables}
 use Rattle.handles.specs.Txns.{Transacts, WantsIn, ReadsEngine, ReadsFor, PreparesEngine, Prepares}
 use Rattle.handles.specs.Snapshots.{Snapshots, SnapshotsInto, SnapshotsUnder}
-use Rattle.handles.specs.Commits.{CommitsEngine, commit_alone}
 
 -- a handle that is not open holds nothing
 pub holds_nothing : (held : Option Engine) (shows : Bool) → shows ≡ is_some held → shows ≡ false → held ≡ None
@@ -81,13 +78,6 @@ pub opens_filled :
     → OpensTables old opening given new
 opens_filled old new opening held given status shut same silent opens (inl fills) = rw shut (rw same (rw fills.1 (inl (held.session, opens, fills.0, (refl, silent)))))
 opens_filled old new opening held given status shut same silent opens (inr fills) = rw shut (rw same (inr (inr fills)))
-
-pub commit_refused :
-    (old new : Session) (moment : ℕ) (e : Engine) (txn : Txn) (refusal : ℤ × Txn) (status : ℤ) (outcome : CommitOutcome)
-    → e ≡ engine.Txn txn → outcome ≡ commit_alone status → status ≡ refusal.0 → CommitsIn old moment txn (Err refusal) new
-    → CommitsEngine old moment e outcome new (Some (engine.Txn refusal.1))
-commit_refused old new moment e txn refusal status outcome is same whole commits =
-    rw is (inr (refusal.0, refusal.1, commits, same ∙ ap (λ (s : ℤ). commit_alone s) whole, refl))
 
 pub snapshots_filled :
     (session : Session) (moment : ℕ) (held : ServerLease) (taken : Taken) (given status : ℤ) (new : Option Engine)

@@ -20,6 +20,7 @@ pub mod Replies
 pub mod Handles
 pub mod Leases
 pub mod Txns
+pub mod Detailed
 pub mod Commits
 pub mod Snapshots
 pub mod Cuts

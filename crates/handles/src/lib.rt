@@ -6,6 +6,7 @@ mod boxes;
 mod checkpoint_calls;
 mod commit_calls;
 mod cut_calls;
+mod detailed;
 mod engine;
 mod entries;
 mod handle;
@@ -23,6 +24,7 @@ mod write_calls;
 
 pub use boxes::{filled, taken_out};
 pub use commit_calls::CommitOutcome;
+pub use detailed::DetailedOutcome;
 pub use engine::{Conversation, Engine};
 pub use handle::Handle;
 pub use lease_calls::LeaseOutcome;

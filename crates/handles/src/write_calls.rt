@@ -1,12 +1,13 @@
 //! Transactions in one call.
 ghost use Rattle.std.specs.Prelude.{◌≡◌};
-ghost use Rattle.handles.specs.Writes.{write_outcome, WritesUnder, Writes};
+ghost use Rattle.handles.specs.Writes.{write_outcome, WritesUnder, WritesBy, Writes, WritesDetailed};
 
+use crate::detailed::DetailedOutcome;
 use crate::engine::{Conversation, Engine};
 use crate::handle::Handle;
 use row_write::RowFault;
 use std::alloc::Global;
-use typed_calls::PrepareOutcome;
+use typed_calls::TxnRefusal;
 use typed_calls::status::{CLOSED, DUPLICATE, NO_ROW, OK, WRONG_KIND};
 use typed_calls::world::Committed;
 
@@ -26,18 +27,6 @@ pub struct WriteOutcome {
 }
 
 impl WriteOutcome {
-    /// A status alone.
-    pub(crate) fn of(status: i32) -> WriteOutcome
-        ensures { result ≡ record { status = status; column = 0; place = 0; operation = 0 } }
-    {
-        WriteOutcome {
-            status,
-            column: 0,
-            place: 0,
-            operation: 0,
-        }
-    }
-
     // An operation that the rows refuse.
     fn refused(status: i32, operation: usize) -> WriteOutcome
         ensures { result ≡ record { status = status; column = 0; place = 0; operation = operation } }
@@ -51,7 +40,7 @@ impl WriteOutcome {
     }
 
     // How a transaction ended, or why it was refused.
-    fn reported(answer: &Result<Committed, PrepareOutcome>) -> WriteOutcome
+    fn reported(answer: &Result<Committed, TxnRefusal>) -> WriteOutcome
         ensures { result ≡ write_outcome answer.now }
     {
         match answer {
@@ -73,12 +62,15 @@ impl WriteOutcome {
                     why: RowFault::NoRow,
                 },
             ) => WriteOutcome::refused(NO_ROW, *op),
-            Err(refusal) => WriteOutcome {
-                status: refusal.status,
-                column: refusal.column,
-                place: 0,
-                operation: 0,
-            },
+            Err(refusal) => {
+                let outcome = refusal.outcome();
+                WriteOutcome {
+                    status: outcome.status,
+                    column: outcome.column,
+                    place: 0,
+                    operation: 0,
+                }
+            }
         }
     }
 }
@@ -91,25 +83,48 @@ impl Conversation {
         moment: u64,
         lease: &mut Handle,
         operations: &[u8],
-    ) -> WriteOutcome
+    ) -> Result<Committed, TxnRefusal>
         ensures writes { WritesUnder self.old.session moment lease.old.place.value operations.now result self.new.session }
         ensures reply { self.new.reply ≡ self.old.reply }
         ensures lease_stays { lease.new.place.value ≡ lease.old.place.value }
     {
         let Some(engine) = lease.take(alloc) else {
-            return WriteOutcome::of(CLOSED);
+            return Err(TxnRefusal::of(CLOSED));
         };
         let Engine::Lease(held) = &*engine else {
             lease.put(engine);
-            return WriteOutcome::of(WRONG_KIND);
+            return Err(TxnRefusal::of(WRONG_KIND));
         };
         let answer = typed_calls::write(alloc, &mut self.session, moment, held, operations);
         lease.put(engine);
-        WriteOutcome::reported(&answer)
+        answer
     }
 }
 
 impl Handle {
+    // Makes a transaction in one call, under a lease.
+    fn answer_write(
+        &mut self,
+        alloc: Global,
+        moment: u64,
+        lease: &mut Handle,
+        operations: &[u8],
+    ) -> Result<Committed, TxnRefusal>
+        ensures writes { WritesBy self.old.place.value moment lease.old.place.value operations.now result self.new.place.value }
+        ensures lease_stays { lease.new.place.value ≡ lease.old.place.value }
+    {
+        let Some(mut engine) = self.take(alloc) else {
+            return Err(TxnRefusal::of(CLOSED));
+        };
+        let Engine::Session(conversation) = &mut *engine else {
+            self.put(engine);
+            return Err(TxnRefusal::of(WRONG_KIND));
+        };
+        let answer = conversation.write(alloc, moment, lease, operations);
+        self.put(engine);
+        answer
+    }
+
     /// Makes a transaction in one call, under a lease: its operations, whose code these bytes are,
     /// are read, prepared and committed in the session's world. `OK`, `DUPLICATE` and `NO_ROW`;
     /// else `CLOSED` and `WRONG_KIND` (of `session`, then of `lease`), `NOT_OPENED`, `BAD_CODE`,
@@ -126,15 +141,24 @@ impl Handle {
         ensures writes { Writes self.old.place.value moment lease.old.place.value operations.now result self.new.place.value }
         ensures lease_stays { lease.new.place.value ≡ lease.old.place.value }
     {
-        let Some(mut engine) = self.take(alloc) else {
-            return WriteOutcome::of(CLOSED);
-        };
-        let Engine::Session(conversation) = &mut *engine else {
-            self.put(engine);
-            return WriteOutcome::of(WRONG_KIND);
-        };
-        let outcome = conversation.write(alloc, moment, lease, operations);
-        self.put(engine);
-        outcome
+        let answer = self.answer_write(alloc, moment, lease, operations);
+        WriteOutcome::reported(&answer)
+    }
+
+    /// The same, with all that is known of a refusal, as `commit_detailed` has it. Since nothing comes
+    /// between the read and the commit, no pair has changed meanwhile.
+    pub fn write_detailed(
+        &mut self,
+        alloc: Global,
+        moment: u64,
+        lease: &mut Handle,
+        operations: &[u8],
+        out: &mut [u8],
+    ) -> DetailedOutcome
+        ensures writes { WritesDetailed self.old.place.value moment lease.old.place.value operations.now out.old result out.new self.new.place.value }
+        ensures lease_stays { lease.new.place.value ≡ lease.old.place.value }
+    {
+        let answer = self.answer_write(alloc, moment, lease, operations);
+        DetailedOutcome::reported(&answer, out)
     }
 }

@@ -1,3 +1,4 @@
+pub use Rattle.script_session.specs.CommitFault
 pub use Rattle.script_session.specs.Committed
 pub use Rattle.script_session.specs.Grant
 pub use Rattle.script_session.specs.PieceDone
@@ -17,6 +18,7 @@ pub mod Pins
 pub mod Txns
 pub mod Operations
 pub mod Prepare
+pub mod Refusals
 pub mod Commit
 pub mod Snapshots
 pub mod Cuts

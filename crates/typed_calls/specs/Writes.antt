@@ -15,45 +15,47 @@ use Rattle.script_session.specs.State.{State}
 use Rattle.script_session.specs.Calls.{CommitStep, IsReadView}
 use Rattle.script_session.specs.Committed.{Committed}
 use Rattle.script_session.specs.CommitFault.{CommitFault}
-use Rattle.typed_calls.specs.Commit.{commit_status}
-use Rattle.typed_calls.specs.Prepare.{prepare_alone, IsPreparedFrom, IsUnprepared}
+use Rattle.typed_calls.specs.Prepare.{IsPreparedFrom, IsUnprepared}
+use Rattle.typed_calls.specs.Refusals.{refused}
 use Rattle.typed_calls.specs.Sessions.{InSession, IsNoCode}
 use Rattle.typed_calls.specs.Statuses.{bad_code, out_of_memory, not_opened}
 use Rattle.typed_calls.specs.Txns.{AreReads}
 use Rattle.typed_calls.specs.declared.preparation.PrepareOutcome.{PrepareOutcome}
+use Rattle.typed_calls.specs.declared.refusals.TxnRefusal.{TxnRefusal}
+use Rattle.typed_calls.specs.declared.refusals.TxnRefusal.TheVariants.{Early, Commit}
 
 -- the pairs of the world that the operations read
 abbrev pub IsReadFor : State → ServerLease → List RowOp → View → Type 0
 IsReadFor world held ops view = (keys : map.FinMap bytes_cmp (Unit {0})) × AreReads held.schema ops keys × IsReadView world keys view
 
--- the step of `World::commit`, or the status of its refusal
-abbrev pub WritesPrepared : State → ℕ → PreparedTxn → Result Committed PrepareOutcome → State → Type 0
+-- the step of `World::commit`, or its refusal
+abbrev pub WritesPrepared : State → ℕ → PreparedTxn → Result Committed TxnRefusal → State → Type 0
 WritesPrepared old moment prepared (Ok done) new = CommitStep old moment prepared (Ok done) new
 WritesPrepared old moment prepared (Err refusal) new =
-    (fault : CommitFault) × CommitStep old moment prepared (Err (fault, prepared)) new × (refusal ≡ prepare_alone (commit_status fault))
+    (fault : CommitFault) × CommitStep old moment prepared (Err (fault, prepared)) new × (refusal ≡ Commit fault)
 
 -- it is prepared from what was read, and committed; or its preparation is refused
-abbrev pub WritesRead : State → ℕ → ServerLease → List RowOp → View → Result Committed PrepareOutcome → State → Type 0
+abbrev pub WritesRead : State → ℕ → ServerLease → List RowOp → View → Result Committed TxnRefusal → State → Type 0
 WritesRead old moment held ops view answer new =
     ((prepared : PreparedTxn) × IsPreparedFrom held ops view prepared × WritesPrepared old moment prepared answer new)
-    ⊎ ((outcome : PrepareOutcome) × IsUnprepared held ops view outcome × (answer ≡ Err outcome) × (new ≡ old))
+    ⊎ ((outcome : PrepareOutcome) × IsUnprepared held ops view outcome × (answer ≡ Err (Early outcome)) × (new ≡ old))
 
 -- it is read, or memory ran out before
-abbrev pub WritesOps : State → ℕ → ServerLease → List RowOp → Result Committed PrepareOutcome → State → Type 0
+abbrev pub WritesOps : State → ℕ → ServerLease → List RowOp → Result Committed TxnRefusal → State → Type 0
 WritesOps old moment held ops answer new =
     ((view : View) × IsReadFor old held ops view × WritesRead old moment held ops view answer new)
-    ⊎ ((answer ≡ Err (prepare_alone out_of_memory)) × (new ≡ old))
+    ⊎ ((answer ≡ Err (refused out_of_memory)) × (new ≡ old))
 
-abbrev pub WritesCode : State → ℕ → ServerLease → List ℕ → Result Committed PrepareOutcome → State → Type 0
+abbrev pub WritesCode : State → ℕ → ServerLease → List ℕ → Result Committed TxnRefusal → State → Type 0
 WritesCode old moment held code answer new = (ops : List RowOp) × AreOps IsStorable ops × (code ≡ ops_code ops) × WritesOps old moment held ops answer new
 
 -- the bytes are the code of operations; or of none, or memory ran out before they were read
-abbrev pub WritesWorld : State → ℕ → ServerLease → List ℕ → Result Committed PrepareOutcome → State → Type 0
+abbrev pub WritesWorld : State → ℕ → ServerLease → List ℕ → Result Committed TxnRefusal → State → Type 0
 WritesWorld old moment held code answer new =
-    ((answer ≡ Err (prepare_alone bad_code)) × IsNoCode (AreOps IsStorable) ops_code code × (new ≡ old))
-    ⊎ ((answer ≡ Err (prepare_alone out_of_memory)) × (new ≡ old))
+    ((answer ≡ Err (refused bad_code)) × IsNoCode (AreOps IsStorable) ops_code code × (new ≡ old))
+    ⊎ ((answer ≡ Err (refused out_of_memory)) × (new ≡ old))
     ⊎ WritesCode old moment held code answer new
 
-abbrev pub WritesIn : Session → ℕ → ServerLease → List ℕ → Result Committed PrepareOutcome → Session → Type 0
+abbrev pub WritesIn : Session → ℕ → ServerLease → List ℕ → Result Committed TxnRefusal → Session → Type 0
 WritesIn old moment held code answer new =
-    InSession (Err (prepare_alone not_opened)) (λ world a world'. WritesWorld world moment held code a world') old answer new
+    InSession (Err (refused not_opened)) (λ world a world'. WritesWorld world moment held code a world') old answer new

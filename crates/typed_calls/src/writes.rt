@@ -3,8 +3,8 @@ ghost use Rattle.std.specs.Prelude.{◌≡◌, IfOk, IfErr};
 ghost use Rattle.typed_calls.specs.Prepare.{IsPreparedFrom, IsUnprepared};
 ghost use Rattle.typed_calls.specs.Writes.{IsReadFor, WritesPrepared, WritesRead, WritesOps, WritesWorld, WritesIn};
 
-use crate::commits::commit_status;
 use crate::preparation::{PrepareOutcome, prepare_outcome};
+use crate::refusals::TxnRefusal;
 use crate::status::{BAD_CODE, NOT_OPENED, OUT_OF_MEMORY};
 use collections::ArcValue;
 use entry_code::{CodeFault, ops_of};
@@ -55,12 +55,12 @@ fn commit_at_once(
     world: &mut World,
     moment: u64,
     prepared: Prepared,
-) -> Result<Committed, PrepareOutcome>
+) -> Result<Committed, TxnRefusal>
     ensures { WritesPrepared world.old moment prepared result world.new }
 {
     match world.commit(alloc, moment, prepared) {
         Ok(done) => Ok(done),
-        Err((fault, _)) => Err(PrepareOutcome::of(commit_status(&fault))),
+        Err((fault, _)) => Err(TxnRefusal::Commit(fault)),
     }
 }
 
@@ -72,12 +72,12 @@ fn write_read(
     held: &ServerLease,
     ops: RowOps,
     view: ReadView,
-) -> Result<Committed, PrepareOutcome>
+) -> Result<Committed, TxnRefusal>
     ensures { WritesRead world.old moment held.now ops view result world.new }
 {
     match prepared_from(alloc, held, ops, view) {
         Ok(prepared) => commit_at_once(alloc, world, moment, prepared),
-        Err(outcome) => Err(outcome),
+        Err(outcome) => Err(TxnRefusal::Early(outcome)),
     }
 }
 
@@ -88,12 +88,12 @@ fn write_ops(
     moment: u64,
     held: &ServerLease,
     ops: RowOps,
-) -> Result<Committed, PrepareOutcome>
+) -> Result<Committed, TxnRefusal>
     ensures { WritesOps world.old moment held.now ops result world.new }
 {
     match read_for(alloc, world, held, &ops) {
         Ok(view) => write_read(alloc, world, moment, held, ops, view),
-        Err(_) => Err(PrepareOutcome::of(OUT_OF_MEMORY)),
+        Err(_) => Err(TxnRefusal::of(OUT_OF_MEMORY)),
     }
 }
 
@@ -104,13 +104,13 @@ fn write_to(
     moment: u64,
     held: &ServerLease,
     code: &[u8],
-) -> Result<Committed, PrepareOutcome>
+) -> Result<Committed, TxnRefusal>
     ensures { WritesWorld world.old moment held.now code.now result world.new }
 {
     match ops_of(alloc, code) {
         Ok(ops) => write_ops(alloc, world, moment, held, ops),
-        Err(CodeFault::Memory) => Err(PrepareOutcome::of(OUT_OF_MEMORY)),
-        Err(_) => Err(PrepareOutcome::of(BAD_CODE)),
+        Err(CodeFault::Memory) => Err(TxnRefusal::of(OUT_OF_MEMORY)),
+        Err(_) => Err(TxnRefusal::of(BAD_CODE)),
     }
 }
 
@@ -126,19 +126,19 @@ fn write_to(
 /// Refused, in this order, and then nothing changes: `NOT_OPENED` if the session has no world yet;
 /// `BAD_CODE` if the bytes are the code of no operations; then as `row_write::prepare` refuses:
 /// `NO_TABLE`, `NOT_PUBLIC` with the column, `WRONG_TYPE` and `TOO_MANY_OPS`; then as
-/// `World::commit` refuses: `MOMENT_TOO_LARGE`, `BAD_LEASE`, `LEASE_ENDED` and `WRONG_SCHEMA`;
-/// `OUT_OF_MEMORY`, which may come in place of any but `NOT_OPENED`.
+/// `World::commit` refuses, by its fault: `MOMENT_TOO_LARGE`, `BAD_LEASE`, `LEASE_ENDED` and
+/// `WRONG_SCHEMA`; `OUT_OF_MEMORY`, which may come in place of any but `NOT_OPENED`.
 pub fn write(
     alloc: Global,
     session: &mut Session,
     moment: u64,
     held: &ServerLease,
     code: &[u8],
-) -> Result<Committed, PrepareOutcome>
+) -> Result<Committed, TxnRefusal>
     ensures { WritesIn session.old moment held.now code.now result session.new }
 {
     match session {
-        Session::Declaring(_) => Err(PrepareOutcome::of(NOT_OPENED)),
+        Session::Declaring(_) => Err(TxnRefusal::of(NOT_OPENED)),
         Session::Running(opened) => write_to(alloc, &mut opened.world, moment, held, code),
     }
 }

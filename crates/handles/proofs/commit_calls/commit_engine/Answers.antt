@@ -1,9 +1,19 @@
-use Rattle.std.proofs.Common.{arith}
-use Rattle.std.proofs.lemmas.Int.{to_z-of_z}
-use Rattle.handles.proofs.Steps.{commit_refused}
+use Rattle.std.proofs.Common.{◌≡◌, ℕ, Some, Err, refl}
+use Rattle.typed_calls.specs.Session.{Session}
+use Rattle.typed_calls.specs.Commit.{CommitsIn}
+use Rattle.typed_calls.specs.declared.refusals.TxnRefusal.{TxnRefusal}
+use Rattle.typed_calls.specs.declared.txns.Txn.{Txn}
+use Rattle.handles.specs.declared.engine.Engine.{Engine}
+use Rattle.handles.specs.declared.engine.Engine.TheVariants as engine
+use Rattle.handles.specs.Commits.{CommitsEngine}
 use Rattle.handles.proofs.commit_calls.commit_engine.Goals as goal
+
+-- a transaction that is refused comes back
+comes_back :
+    (old new : Session) (moment : ℕ) (e : Engine) (txn it : Txn) (refusal : TxnRefusal)
+    → e ≡ engine.Txn txn → CommitsIn old moment txn (Err (refusal, it)) new → CommitsEngine old moment e (Err refusal) new (Some (engine.Txn it))
+comes_back old new moment e txn it refusal is commits = rw is (it, commits, refl)
 
 pub returns-in-Err : goal.returns-in-Err
 returns-in-Err c =
-    commit_refused c.args.session.now c.commit.new.session c.args.moment c.args.engine c.in-Txn.txn c.in-Err.refusal _ c.of.result c.in-Txn.is c.of.ensures
-    (grind (arith, to_z-of_z)) c.in-Err.ensures
+    comes_back c.args.session.now c.commit.new.session c.args.moment c.args.engine c.in-Txn.txn c.in-Err.txn c.in-Err.refusal c.in-Txn.is c.in-Err.ensures
