@@ -90,7 +90,8 @@ class Sessions(unittest.TestCase):
 
     def test_errors_are_pickled(self) -> None:
         errors = [kind(status) for status, kind in cagzhomul._ERRORS.items()]
-        errors += [cagzhomul.BadLine(1, 7), cagzhomul.NotPublic("town"), cagzhomul.NotPublic(None), cagzhomul.NoRow(30, 2), cagzhomul.TooEarly(31, 10), cagzhomul.StillWaiting("drop index i on t")]
+        errors += [cagzhomul.BadLine(1, 7), cagzhomul.NotPublic("town"), cagzhomul.NotPublic(None), cagzhomul.NoRow(30, 2), cagzhomul.TooEarly(31, 10), cagzhomul.LeaseEnded(26, 15, 20),
+                   cagzhomul.Conflict(28, "people", (1, "Ulm")), cagzhomul.StillWaiting("drop index i on t")]
         for error in errors:
             for again in [pickle.loads(pickle.dumps(error, protocol)) for protocol in range(pickle.HIGHEST_PROTOCOL + 1)] + [copy.copy(error)]:
                 self.assertIs(type(again), type(error))

@@ -82,12 +82,12 @@ class Kept(unittest.TestCase):
             points = [b"a", b"", b"none", b"a", b"\0"]
             found = store.read(points, [it[1] for it in rows])
             self.assertEqual(found.values, {it: before.get(it) for it in points})
-            self.assertEqual([page.end for page in found.ranges], [it[3] for it in rows])
+            self.assertEqual(found.ranges, [Page([(key, before[key]) for key in keys], end) for _, _, keys, end in rows])
 
     def test_many_points_are_of_one_moment(self) -> None:
-        """Two keys are written alike, at both ends of more points than one request of etcd takes."""
+        """Two keys are written alike, at both ends of more points than one request of etcd or one statement of SQLite takes."""
         reader, writer = self.stores("moment", 2)
-        keys = [b"%04d" % it for it in range(300)]
+        keys = [b"%04d" % it for it in range(600)]
         over, faults = threading.Event(), []
 
         def write() -> None:

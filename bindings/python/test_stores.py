@@ -174,7 +174,7 @@ class Stores(unittest.TestCase):
                     self.refused(cagzhomul.WrongStage, lambda: txn.delete("people", 1))
                     self.refused(cagzhomul.WrongStage, txn.prepare)
                     self.assertEqual(lease.update("people", 1, town="Bonn"), Receipt(3))
-            self.assertEqual((conflict.exception.status, str(conflict.exception)), (28, "a pair changed since it was read"))
+            self.assertEqual((conflict.exception.status, str(conflict.exception)), (28, "a pair changed since it was read: people (1)"))
             self.assertEqual(lease.query(5, "select town from people"), [{"id": 1, "town": "Bonn"}])
             late = lease.txn().delete("people", 1).prepare()
             lease.update("people", 1, town="Ulm")

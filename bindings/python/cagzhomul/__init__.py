@@ -37,7 +37,7 @@ import threading
 import time
 from dataclasses import dataclass, field
 from types import TracebackType
-from typing import Any, Callable, Dict, Iterable, Iterator, List, Mapping, NamedTuple, Optional, Sequence, Set, Tuple, Type, TypeVar, Union, overload
+from typing import Any, Callable, Dict, Iterable, Iterator, List, Mapping, NamedTuple, Optional, Sequence, Set, Tuple, Type, TypeVar, Union, cast, overload
 
 __all__ = [
     "Abandon", "Acted", "AddColumn", "AddIndex", "AlreadyOpen", "Audit", "BadCode", "BadCount", "BadEntry", "BadLease", "BadLength", "BadLine", "BadPiece",
@@ -57,7 +57,8 @@ _PAUSE = 0.001
 # how many rows a page may have
 _MOST_ROWS = 1000
 _ROOM, _OK, _BAD_LINE, _CLOSED, _NOT_NEXT, _WAITING, _FINISHED = 4096, 0, 1, 2, 9, 10, 11
-_WRONG_STAGE, _BAD_CODE, _BAD_TABLE, _NOT_PUBLIC, _WRONG_TYPE, _DUPLICATE, _NO_ROW, _DEPENDENT, _OVER_LIMIT = 16, 17, 18, 21, 22, 29, 30, 35, 37
+_WRONG_STAGE, _BAD_CODE, _BAD_TABLE, _NOT_PUBLIC, _WRONG_TYPE, _LEASE_ENDED, _CONFLICT, _DUPLICATE, _NO_ROW = 16, 17, 18, 21, 22, 26, 28, 29, 30
+_DEPENDENT, _OVER_LIMIT = 35, 37
 
 Value = Union[None, bool, int, str]
 Key = Union[Value, Sequence[Value]]
@@ -78,6 +79,8 @@ class _Granted(ctypes.Structure): _fields_ = [("status", _STATUS), ("version", _
 class _Prepared(ctypes.Structure): _fields_ = [("status", _STATUS), ("column", _SMALL)]
 class _Committed(ctypes.Structure): _fields_ = [("status", _STATUS), ("place", _NUMBER), ("operation", _SIZE)]
 class _Written(ctypes.Structure): _fields_ = [("status", _STATUS), ("column", _SMALL), ("place", _NUMBER), ("operation", _SIZE)]
+class _Detailed(ctypes.Structure):
+    _fields_ = [("status", _STATUS), ("column", _SMALL), ("place", _NUMBER), ("operation", _SIZE), ("until", _NUMBER), ("now", _NUMBER), ("length", _SIZE)]
 class _Pieced(ctypes.Structure): _fields_ = [("status", _STATUS), ("ended", ctypes.c_bool), ("place", _NUMBER)]
 class _Progressed(ctypes.Structure): _fields_ = [("status", _STATUS), ("ended", ctypes.c_bool), ("next", _SMALL), ("left", _NUMBER), ("all", _NUMBER)]
 class _Queried(ctypes.Structure): _fields_ = [("status", _STATUS), ("column", _SMALL)]
@@ -95,6 +98,7 @@ _FUNCTIONS: Dict[str, Tuple[Any, List[Any]]] = {
     "transaction": (_STATUS, [_HANDLE, _BYTES, _SIZE, _HANDLE]), "read": (_STATUS, [_HANDLE, _HANDLE]),
     "operations": (_STATUS, [_HANDLE, _BYTES, _SIZE]), "query_read": (_Queried, [_HANDLE, _BYTES, _SIZE, _HANDLE]),
     "prepare": (_Prepared, [_HANDLE]), "commit": (_Committed, [_HANDLE, _NUMBER, _HANDLE]),
+    "commit_detailed": (_Detailed, [_HANDLE, _NUMBER, _HANDLE, _BYTES, _SIZE]), "write_detailed": (_Detailed, [_HANDLE, _NUMBER, _HANDLE, _BYTES, _SIZE, _BYTES, _SIZE]),
     "query": (_Queried, [_HANDLE, _NUMBER, _HANDLE, _BYTES, _SIZE, _HANDLE]), "rows_from": (_Outcome, [_HANDLE, _SIZE, _BYTES, _SIZE]),
     "snapshot_query": (_Queried, [_HANDLE, _BYTES, _SIZE, _HANDLE]), "snapshot_query_page": (_Paged, [_HANDLE, _BYTES, _SIZE, _HANDLE]),
     "query_page": (_Paged, [_HANDLE, _NUMBER, _HANDLE, _BYTES, _SIZE, _HANDLE]),
@@ -221,9 +225,32 @@ class NoTable(CagzhomulError): """There is no table of this name."""
 class WrongType(CagzhomulError): """A value of another type, too few or many for the key, None in it, or a text over 1,024 bytes."""
 class TooManyOps(CagzhomulError): """More than 64 operations."""
 class BadLease(CagzhomulError): """No grant could have given the lease: it is one of another world."""
-class LeaseEnded(CagzhomulError): """The lease has ended."""
+class LeaseEnded(CagzhomulError):
+    """The lease has ended: at the moment `until`, and `now` is the one that counted, the greater of that
+    of the call and that of the log's last entry."""
+
+    def __init__(self, status: int = _LEASE_ENDED, until: Optional[int] = None, now: Optional[int] = None) -> None:
+        super().__init__(status, text_of(status) + ("" if until is None or now is None else f": at {until}, and now is {now}"))
+        self.until, self.now = until, now
+
+    def _parts(self) -> Tuple[Any, ...]:
+        return self.status, self.until, self.now
+
+
 class WrongSchema(CagzhomulError): """The transaction was prepared under another schema than that of its lease's version."""
-class Conflict(CagzhomulError): """A row that the transaction names changed since it was read: it may be made again, by `retry`."""
+class Conflict(CagzhomulError):
+    """A row that the transaction names changed since it was read: it may be made again, by `retry`. The row
+    is in `table` and has the key `key`, one value or a tuple of them; if several changed it is the first of
+    these by table and key. Both are None of a piece, and over a store of one's own."""
+
+    def __init__(self, status: int = _CONFLICT, table: Optional[str] = None, key: Optional[Key] = None) -> None:
+        super().__init__(status, text_of(status) + ("" if table is None or key is None else f": {table} ({', '.join(map(literal, _values(key)))})"))
+        self.table, self.key = table, key
+
+    def _parts(self) -> Tuple[Any, ...]:
+        return self.status, self.table, self.key
+
+
 class Unknown(CagzhomulError): """A change names what is not there, or abandons what is not being added."""
 class NameTaken(CagzhomulError): """A change adds a name that is taken."""
 class OverLimit(CagzhomulError): """A name, a list, a default or a count of a change is over its limit."""
@@ -450,8 +477,13 @@ def _value(value: Value) -> bytes:
     raise TypeError(f"{type(value).__name__} is the type of no column")
 
 
+def _values(key: Key) -> Sequence[Value]:
+    """The values of a key."""
+    return key if isinstance(key, (tuple, list)) else (cast(Value, key),)
+
+
 def _key(key: Key) -> bytes:
-    return _list([_value(value) for value in (key if isinstance(key, (tuple, list)) else (key,))])
+    return _list([_value(value) for value in _values(key)])
 
 
 class _Condition(NamedTuple):
@@ -878,6 +910,19 @@ class _Names:
         """The numbers of the columns that a query names, or of all public ones."""
         return self.public.get(asked.table, []) if asked.columns is None else [self.number(asked.table, name) for name in asked.columns]
 
+    def conflict(self, pair: bytes) -> Conflict:
+        """That the pair of this key, as it is stored, has changed: a row's is R, its table, the values of its
+        key, and a column or 0."""
+        table = next((it for it in self.schema.tables if pair[:5] == b"R" + _number(it.number, 4)), None)
+        if table is None:
+            return Conflict()
+        values: List[Value] = []
+        at = 5
+        for _ in table.key:
+            value, at = _value_at(pair, at)
+            values.append(value)
+        return Conflict(_CONFLICT, table.name, values[0] if len(values) == 1 else tuple(values))
+
     def not_public(self, asked: _Asked, column: int) -> NotPublic:
         """That the column of this number, or the first name that its table does not have, is not public."""
         name = self.by_number[column] if column else self.unknown(asked)
@@ -1184,8 +1229,13 @@ class Session(_Audited):
     def status(self) -> Dict[str, Any]:
         """How the world stands, as docs/SCRIPT.md has it of the line `status`: `elements`, `log`,
         `moment`, `usable` and `version`. Raises Closed, NotOpened or OutOfMemory."""
-        told: Dict[str, Any] = json.loads(self._told(lambda out, room: _library.cagzhomul_status(self._handle, out, room)))
-        return told
+        with self._lock:
+            return self._status()
+
+    def _status(self) -> Dict[str, Any]:
+        """The same, for a caller who has the lock."""
+        reported: Dict[str, Any] = json.loads(self._written(lambda out, room: _library.cagzhomul_status(self._handle, out, room)))
+        return reported
 
     def schema(self) -> Schema:
         """The newest version: its tables, columns and indexes. Raises Closed, NotOpened or OutOfMemory."""
@@ -1470,7 +1520,7 @@ class Db(Session):
         """
         moment, snapshot = _at(now), Snapshot(lease._names)
         with lease._lock, self._lock:
-            _check(_library.cagzhomul_snapshot(self._handle, moment, lease._handle, snapshot._handle))
+            _check(lease._in_force(self, moment, _library.cagzhomul_snapshot(self._handle, moment, lease._handle, snapshot._handle)))
         return snapshot
 
     def plan(self, changes: Sequence[Change]) -> List[PlannedStep]:
@@ -1608,18 +1658,29 @@ class _Grant(_Owner):
             self._names = db._names
         self.version, self.granted, self.until, self.place = map(int, (granted.version, granted.granted, granted.until, granted.place))
 
+    def _in_force(self, db: Db, moment: int, status: int) -> int:
+        """The status of a call of the store under it, for a caller who has the lock of the store; it tells when
+        the lease ended if that is the refusal."""
+        if status == _LEASE_ENDED:
+            raise LeaseEnded(status, self.until, max(moment, int(db._status()["moment"])))
+        return status
+
     def rows(self, db: Db, moment: int, asked: _Asked) -> List[Row]:
         """The rows of a query of the store under it."""
         def ask(code: bytes, rows: _Handle) -> Any:
             with self._lock, db._lock:
-                return _library.cagzhomul_query(db._handle, moment, self._handle, code, len(code), rows)
+                queried = _library.cagzhomul_query(db._handle, moment, self._handle, code, len(code), rows)
+                self._in_force(db, moment, queried.status)
+                return queried
         return _found(asked, self._names, ask)
 
     def ranged(self, db: Db, moment: int, asked: _Asked, after: Optional[Key], before: Optional[Key], limit: Optional[int]) -> List[Row]:
         """The same of a range, at most so many."""
         def ask(code: bytes, rows: _Handle) -> Any:
             with self._lock, db._lock:
-                return _library.cagzhomul_query_page(db._handle, moment, self._handle, code, len(code), rows)
+                paged = _library.cagzhomul_query_page(db._handle, moment, self._handle, code, len(code), rows)
+                self._in_force(db, moment, paged.status)
+                return paged
         return _ranged(asked, self._names, after, before, limit, ask)
 
 
@@ -1779,7 +1840,7 @@ class Txn(_Owner):
         Receipt(place=3)
         >>> txn.update("people", 1, town="Hof").commit()
         Traceback (most recent call last):
-        cagzhomul.Conflict: a pair changed since it was read
+        cagzhomul.Conflict: a pair changed since it was read: people (1)
         """
         names, row = self._lease._names, self._row(table, key)
         with self._lock:
@@ -1878,12 +1939,17 @@ class Txn(_Owner):
             raise NotPublic(self._lease._names.by_number.get(column) if column else self._unknown, not column and self._is_key_named)
         _check(status)
 
-    def _received(self, status: int, place: int, operation: int) -> Receipt:
-        """The receipt of what was committed; raises what the rows refuse, and other refusals."""
-        if status in (_DUPLICATE, _NO_ROW):
-            raise (Duplicate if status == _DUPLICATE else NoRow)(status, operation)
-        _check(status)
-        self.receipt = Receipt(place)
+    def _received(self, done: _Detailed, pair: bytes = b"") -> Receipt:
+        """The receipt of what was committed; raises what the rows refuse, and other refusals, of which that of
+        a conflict is on the pair of this key."""
+        if done.status in (_DUPLICATE, _NO_ROW):
+            raise (Duplicate if done.status == _DUPLICATE else NoRow)(done.status, done.operation)
+        if done.status == _LEASE_ENDED:
+            raise LeaseEnded(done.status, done.until, done.now)
+        if done.status == _CONFLICT:
+            raise self._lease._names.conflict(pair)
+        _check(done.status)
+        self.receipt = Receipt(done.place)
         return self.receipt
 
     def write(self, now: Optional[Moment] = None) -> Receipt:
@@ -1903,12 +1969,13 @@ class Txn(_Owner):
             self._check_stage()
             code = b"\1" + _list(self._operations)
             with lease._lock, db._lock:
-                done = _library.cagzhomul_write(db._handle, moment, lease._handle, code, len(code))
+                # no pair changes meanwhile, so no key is written
+                done = _library.cagzhomul_write_detailed(db._handle, moment, lease._handle, code, len(code), db._out, 0)
                 if done.status == _OK:
                     db._grown(int(done.place))
             # only a text over 1,024 bytes makes a bad code of what this module writes
-            self._accept(_WRONG_TYPE if done.status == _BAD_CODE else _OK if done.status in (_DUPLICATE, _NO_ROW) else done.status, done.column)
-            return self._received(done.status, done.place, done.operation)
+            self._accept(_WRONG_TYPE if done.status == _BAD_CODE else _OK if done.status in (_DUPLICATE, _NO_ROW, _LEASE_ENDED) else done.status, done.column)
+            return self._received(done)
 
     def commit(self, now: Optional[Moment] = None) -> Receipt:
         """Commits it, at this moment or its own, and prepares it first if it is not. The receipt is in
@@ -1923,12 +1990,20 @@ class Txn(_Owner):
             self.prepare()
         with self._lock:
             with db._lock:
-                done = _library.cagzhomul_commit(db._handle, moment, self._handle)
+                done, pair = self._commit(moment, db._out, _ROOM)
                 if done.status == _OK:
                     db._grown(int(done.place))
             if self.is_open:
                 _library.cagzhomul_close(self._handle)
-            return self._received(done.status, done.place, done.operation)
+            return self._received(done, pair)
+
+    def _commit(self, moment: int, out: Any, room: int) -> Tuple[_Detailed, bytes]:
+        """What its commit comes to, with the key of a pair that has changed, for a caller who has both locks:
+        it is asked once more with more room if all of the key did not fit."""
+        done: _Detailed = _library.cagzhomul_commit_detailed(self._lease._db._handle, moment, self._handle, out, room)
+        if done.length > room:
+            return self._commit(moment, ctypes.create_string_buffer(done.length), done.length)
+        return done, ctypes.string_at(out, done.length)
 
     def __exit__(self, kind: Optional[Type[BaseException]], _error: Optional[BaseException], _trace: Optional[TracebackType]) -> None:
         try:

@@ -5,13 +5,12 @@ library, as importing cagzhomul does."""
 
 from __future__ import annotations
 
-import contextlib
 import ctypes
 import struct
-from typing import Any, Dict, Iterable, Iterator, List, Mapping, NamedTuple, Optional, Tuple
+from typing import Any, Callable, Dict, Iterable, List, Mapping, NamedTuple, Optional, Tuple, TypeVar
 
 import cagzhomul
-from cagzhomul import _BYTES, _HANDLE, _NUMBER, _SIZE, _SMALL, _STATUS, _Checked, _code_of, _Handle, _library, _list, _number, _number_at
+from cagzhomul import _BYTES, _HANDLE, _NUMBER, _SIZE, _SMALL, _STATUS, _Checked, _Handle, _library, _list, _number, _number_at
 
 from .store import BadAnswer, Draft, Pair
 
@@ -28,6 +27,13 @@ _PARAMETERS: Dict[str, List[Any]] = {
     "publish": [_SMALL, *3 * _CODE], "close": [_SMALL, *_CODE], "begin": [_SMALL, *_CODE, _SMALL, *_CODE], "piece": [*_CODE, _SMALL, *3 * _CODE],
     "due": [_SMALL, *3 * _CODE, _NUMBER], "check_rows": 4 * _CODE, "check_given": 4 * _CODE,
 }
+# the functions of the library by name, found once
+_CALLS: Dict[str, Any] = {}
+_close, _rows_from = _library.cagzhomul_close, _library.cagzhomul_rows_from
+# how many bytes of an answer are asked for first
+_ROOM = 4096
+_Room: Any = ctypes.c_char * _ROOM
+_Read = TypeVar("_Read")
 # what cagzhomul_layer_due says is due, by its number
 ACTS = "nothing", "begin", "close", "publish", "work"
 
@@ -39,6 +45,7 @@ def _declared() -> None:
         if function is None:
             raise ImportError(f"the library has no cagzhomul_layer_{name}: it is older than this module")
         function.restype, function.argtypes = (_Due, parameters) if name == "due" else (_Layered, [*parameters, _HANDLE])
+        _CALLS[name] = function
     _library.cagzhomul_layer_check.restype, _library.cagzhomul_layer_check.argtypes = _Checked, 2 * _CODE
     _library.cagzhomul_layer_check_page.restype, _library.cagzhomul_layer_check_page.argtypes = _Checked, 4 * _CODE
 
@@ -65,14 +72,27 @@ def asked(name: str, *given: Any) -> Answered:
     """Calls a function: each of `given` is bytes, which go with their length, or a number. Raises Refusal."""
     out, words = _Handle(), []
     for it in given:
-        words += [it, len(it)] if isinstance(it, bytes) else [it]
+        words.append(it)
+        if isinstance(it, bytes):
+            words.append(len(it))
     try:
-        done = getattr(_library, f"cagzhomul_layer_{name}")(*words, out)
+        done = _CALLS[name](*words, out)
         if done.status != OK:
-            raise Refusal(int(done.status), int(done.column), int(done.number))
-        return Answered(_code_of(out), int(done.number))
+            raise Refusal(done.status, done.column, done.number)
+        return Answered(_code_of(out), done.number)
     finally:
-        _library.cagzhomul_close(out)
+        _close(out)
+
+
+def _code_of(held: _Handle) -> bytes:
+    """The code that a handle holds."""
+    room = _Room()
+    length: int = _rows_from(held, 0, room, _ROOM).length
+    if length > _ROOM:
+        room = (ctypes.c_char * length)()
+        _rows_from(held, 0, room, length)
+    code: bytes = room[:length]  # the one copy, of that many bytes
+    return code
 
 
 def due(before: int, version: bytes, found: Iterable[Pair], steps: Iterable[bytes]) -> Tuple[str, int, int]:
@@ -99,32 +119,34 @@ def check(version: bytes, pairs: Iterable[Pair]) -> cagzhomul.Audit:
     return _audit_of(_library.cagzhomul_layer_check(version, len(version), code, len(code)))
 
 
-def check_page(version: bytes, pairs: Iterable[Pair], low: bytes, to: bytes) -> cagzhomul.Audit:
-    """What the page from `low` to below `to` counts for by a version's record; no bytes are the first key, and the end. The pairs are the
-    page's and all that it needs. Raises Refusal."""
-    code = pairs_code(pairs)
+def check_page(version: bytes, code: bytes, low: bytes, to: bytes) -> cagzhomul.Audit:
+    """What the page from `low` to below `to` counts for by a version's record; no bytes are the first key, and the end. The code is that of
+    the page's pairs and all that it needs. Raises Refusal."""
     return _audit_of(_library.cagzhomul_layer_check_page(version, len(version), code, len(code), low, len(low), to, len(to)))
 
 
 # ---- codes that are written
 
 
-def _bytes(data: bytes) -> bytes:
-    return _number(len(data)) + data
+# Each transaction writes some: a code is joined once, from a list of all its parts.
 
-
-def _option(data: Optional[bytes]) -> bytes:
-    return b"\0" if data is None else b"\1" + _bytes(data)
+number_code = struct.Struct(">Q").pack
 
 
 def points_code(points: Mapping[bytes, Optional[bytes]]) -> bytes:
     """The code of keys with their values or none, by rising key."""
-    return b"\1" + _list([_bytes(key) + _option(value) for key, value in sorted(points.items())])
+    parts = [b"\1", number_code(len(points))]
+    for key, value in sorted(points.items()):
+        parts += (number_code(len(key)), key, b"\0") if value is None else (number_code(len(key)), key, b"\1", number_code(len(value)), value)
+    return b"".join(parts)
 
 
 def pairs_code(pairs: Iterable[Pair]) -> bytes:
     """The code of pairs by rising key, as they are given."""
-    return b"\1" + _list([_bytes(key) + _bytes(value) for key, value in pairs])
+    parts: List[bytes] = []
+    for key, value in pairs:
+        parts += number_code(len(key)), key, number_code(len(value)), value
+    return b"\1" + number_code(len(parts) // 4) + b"".join(parts)
 
 
 # ---- codes that are read
@@ -147,13 +169,15 @@ def _points_at(code: bytes, at: int) -> Tuple[Dict[bytes, Optional[bytes]], int]
     points: Dict[bytes, Optional[bytes]] = {}
     count, at = _number_at(code, at)[0], at + 8
     for _ in range(count):
-        end = at + 8 + _number_at(code, at)[0]
-        key, at = code[at + 8 : end], end + 1
-        if code[end]:
-            end = at + 8 + _number_at(code, at)[0]
-            points[key], at = code[at + 8 : end], end
+        start = at + 8
+        at = start + _number_at(code, at)[0]
+        key = code[start:at]
+        if code[at]:
+            start = at + 9
+            at = start + _number_at(code, at + 1)[0]
+            points[key] = code[start:at]
         else:
-            points[key] = None
+            points[key], at = None, at + 1
     return points, at
 
 
@@ -170,41 +194,40 @@ def _ranges_at(code: bytes, at: int) -> Tuple[List[Tuple[bytes, bytes, List[Pair
     return ranges, at
 
 
-@contextlib.contextmanager
-def _whole(code: bytes) -> Iterator[List[int]]:
-    """Reads a code: where it has been read to is put in the list. BadAnswer if it is of another form, or more or less than that is there."""
-    ends = [0]
+def _whole(code: bytes, read: Callable[[bytes, int], Tuple[_Read, int]]) -> _Read:
+    """What is read of a whole code, of which `read` says where that ends. BadAnswer if it is of another form, or is cut off, or goes on."""
+    if code[:1] != b"\1":
+        raise BadAnswer("bytes in another code")
     try:
-        if code[:1] != b"\1":
-            raise BadAnswer("bytes in another code")
-        yield ends
+        found, end = read(code, 1)
     except (struct.error, IndexError) as fault:
         raise BadAnswer("a code that is cut off") from fault
-    if ends[0] != len(code):
+    if end != len(code):
         raise BadAnswer("a code that is cut off, or goes on")
+    return found
+
+
+def _draft_at(code: bytes, at: int) -> Tuple[Draft, int]:
+    """The draft that begins there, and where it ends."""
+    compare, at = _points_at(code, at)
+    ranges, at = _ranges_at(code, at)
+    write, at = _points_at(code, at)
+    return Draft(compare, ranges, write), at
 
 
 def points_of(code: bytes) -> Dict[bytes, Optional[bytes]]:
     """The keys of a code, with their values or none."""
-    with _whole(code) as ends:
-        points, ends[0] = _points_at(code, 1)
-    return points
+    return _whole(code, _points_at)
 
 
 def pairs_of(code: bytes) -> List[Pair]:
     """The pairs of a code."""
-    with _whole(code) as ends:
-        pairs, ends[0] = _pairs_at(code, 1)
-    return pairs
+    return _whole(code, _pairs_at)
 
 
 def draft_of(code: bytes) -> Draft:
     """The draft of a code."""
-    with _whole(code) as ends:
-        compare, at = _points_at(code, 1)
-        ranges, at = _ranges_at(code, at)
-        write, ends[0] = _points_at(code, at)
-    return Draft(compare, ranges, write)
+    return _whole(code, _draft_at)
 
 
 def bounds_of(record: bytes) -> List[Tuple[bytes, bytes]]:

@@ -24,8 +24,8 @@ class _Page:
     def __init__(self, store: Store, versions: Mapping[int, bytes], low: bytes, limit: int, most: int) -> None:
         self._store, self._versions, self._low, self._limit, self._most = store, versions, low, limit, most
         self._wanted: _Ranges = set()
-        # the key below which it ends; what was read for it, and how many of its own pairs that has
-        self.end, self.pairs = END, dict[bytes, bytes]()
+        # the key below which it ends; and the code of the pairs that were read for it
+        self.end, self._code = END, b""
 
     def _bounds(self) -> Tuple[bytes, bytes]:
         """Its bounds as the library has them: no bytes for the first key, and for the end."""
@@ -42,15 +42,15 @@ class _Page:
         if any(page.end != it.high for page, it in zip(found.ranges[1:], rows)):
             raise RowTooLarge
         self.end = found.ranges[0].end
-        self.pairs = {key: value for page in found.ranges for key, value in page.pairs}
-        self.pairs.update((key, value) for key in points if (value := found.values[key]) is not None)
+        pairs = {key: value for page in found.ranges for key, value in page.pairs}
+        pairs.update((key, value) for key in points if (value := found.values[key]) is not None)
+        self._code = calls.pairs_code(sorted(pairs.items()))
         return True
 
     def _needs(self) -> _Ranges:
         """What it needs by what was read."""
-        code, bounds = calls.pairs_code(sorted(self.pairs.items())), self._bounds()
-        names = "check_rows", "check_given"
-        return {it for record in self._versions.values() for name in names for it in calls.pairs_of(calls.asked(name, record, code, *bounds).code)}
+        names, bounds = ("check_rows", "check_given"), self._bounds()
+        return {it for record in self._versions.values() for name in names for it in calls.pairs_of(calls.asked(name, record, self._code, *bounds).code)}
 
     def is_read(self) -> bool:
         """Reads it with all that it needs, at one moment; false if a version is closed by then."""
@@ -63,8 +63,7 @@ class _Page:
 
     def counts(self) -> List[Audit]:
         """What it counts for, by each version."""
-        pairs = sorted(self.pairs.items())
-        return [calls.check_page(record, pairs, *self._bounds()) for record in self._versions.values()]
+        return [calls.check_page(record, self._code, *self._bounds()) for record in self._versions.values()]
 
 
 def check(store: Store, versions: Mapping[int, bytes], limit: int, most: int) -> Optional[Dict[int, Audit]]:

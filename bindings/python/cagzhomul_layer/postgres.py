@@ -4,12 +4,12 @@ from __future__ import annotations
 
 import contextlib
 import time
-from typing import Any, Iterable, Iterator, Optional, Sequence, Type
+from typing import Any, Iterable, Iterator, List, Optional, Sequence, Type
 
 import psycopg2
 import psycopg2.errors
 
-from .store import Draft, Found, Page, Range, Refused, StoreError, TooLarge, Unknown, Unreachable, page_of, values_of
+from .store import Draft, Found, Page, Pair, Range, Refused, StoreError, TooLarge, Unknown, Unreachable, page_of, values_of
 
 # The level of every transaction. REPEATABLE READ does not do: it has each transaction read a snapshot and
 # lets two commit that each compared what the other wrote (write skew), such as a close of a version and a
@@ -55,8 +55,9 @@ class PostgresStore:
             connection = self._connect()
             connection.autocommit = True
             cursor = connection.cursor()
-            # a scan of the table would conflict with each write to it, a look at the index with those near by
-            cursor.execute("SET enable_seqscan = off")
+            # a scan of the table would conflict with each write to it, a look at the index with those near by; a bitmap of a range
+            # has all of it, where the index in order ends at the limit
+            cursor.execute("SET enable_seqscan = off; SET enable_bitmapscan = off")
             # two that make the table at once meet in the catalogue's index, in spite of IF NOT EXISTS
             with contextlib.suppress(psycopg2.errors.UniqueViolation, psycopg2.errors.DuplicateTable):
                 cursor.execute(f"CREATE TABLE IF NOT EXISTS {self._table} (key bytea PRIMARY KEY, value bytea NOT NULL)")
@@ -107,12 +108,27 @@ class PostgresStore:
         cursor.execute(f"SELECT key, value FROM {self._table} WHERE key >= %s AND key < %s ORDER BY key LIMIT %s", (of.low, of.high, of.limit))
         return page_of([(bytes(key), bytes(value)) for key, value in cursor], of)
 
+    def _pages(self, cursor: Any, ranges: Sequence[Range]) -> List[Page]:
+        """The pages of ranges, by one query."""
+        if len(ranges) < 2:
+            return [self._page(cursor, it) for it in ranges]
+        page = f"SELECT key, value FROM {self._table} WHERE key >= low AND key < high ORDER BY key LIMIT most"
+        wanted = "unnest(%s, %s, %s) WITH ORDINALITY AS wanted (low, high, most, place)"
+        cursor.execute(
+            f"SELECT place, key, value FROM {wanted} CROSS JOIN LATERAL ({page}) AS page ORDER BY place, key",
+            ([it.low for it in ranges], [it.high for it in ranges], [it.limit for it in ranges]),
+        )
+        pairs: List[List[Pair]] = [[] for _ in ranges]
+        for place, key, value in cursor:
+            pairs[place - 1].append((bytes(key), bytes(value)))
+        return [page_of(its, it) for its, it in zip(pairs, ranges)]
+
     def _found(self, cursor: Any, level: str, points: Iterable[bytes], ranges: Sequence[Range]) -> Found:
         """Begins a transaction of this level by reading."""
         wanted = list(dict.fromkeys(points))
         cursor.execute(f"BEGIN {level}; SELECT key, value FROM {self._table} WHERE key = ANY(%s)", (wanted,))
         values = values_of([(bytes(key), bytes(value)) for key, value in cursor], wanted)
-        return Found(values, [self._page(cursor, it) for it in ranges])
+        return Found(values, self._pages(cursor, ranges))
 
     def read(self, points: Iterable[bytes], ranges: Sequence[Range] = ()) -> Found:
         """See `Store`. The moment is that of the transaction in the order that SERIALIZABLE keeps; it is tried again if that has no place for it."""

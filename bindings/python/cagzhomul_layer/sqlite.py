@@ -6,9 +6,19 @@ import contextlib
 import random
 import sqlite3
 import time
-from typing import Iterable, Iterator, List, Sequence, Type
+from typing import Iterable, Iterator, List, Sequence, Type, Union
 
 from .store import Draft, Found, Page, Pair, Range, Refused, StoreError, TooLarge, Unknown, Unreachable, page_of, values_of
+
+# how many points are asked for by one statement; SQLite takes 999 parameters or more
+_MANY = 500
+
+
+def _error_of(fault: Union[sqlite3.Error, OverflowError], lost: Type[StoreError]) -> StoreError:
+    """An error of SQLite as the store's; `lost` is for those that it has no better name for."""
+    if isinstance(fault, (sqlite3.DataError, OverflowError)):
+        return TooLarge(str(fault))
+    return lost(str(fault))
 
 
 class SqliteStore:
@@ -21,9 +31,16 @@ class SqliteStore:
         if not table.isidentifier() or not table.isascii():
             raise ValueError(f"no name of a table: {table!r}")
         self._table, self._seconds = table, seconds
-        with self._faults(Unreachable):
+        # a statement of the same words is prepared once
+        self._select = f"SELECT key, value FROM {table} WHERE key"
+        self._page_of = f"{self._select} >= ? AND key < ? ORDER BY key LIMIT ?"
+        self._put = f"INSERT INTO {table} VALUES (?, ?) ON CONFLICT (key) DO UPDATE SET value = excluded.value"
+        self._remove = f"DELETE FROM {table} WHERE key = ?"
+        try:
             self._connection = sqlite3.connect(path, timeout=seconds, isolation_level=None, check_same_thread=False)
             self._prepare(time.monotonic() + seconds)
+        except (sqlite3.Error, OverflowError) as fault:
+            raise _error_of(fault, Unreachable) from fault
 
     def _prepare(self, end: float) -> None:
         """Makes the table if it is missing. SQLite does not wait where two processes turn the file to WAL at once, so this does."""
@@ -38,16 +55,6 @@ class SqliteStore:
                 if time.monotonic() >= end:
                     raise
                 time.sleep(0.02)
-
-    @contextlib.contextmanager
-    def _faults(self, lost: Type[StoreError]) -> Iterator[None]:
-        """Raises SQLite's errors as the store's; `lost` is for those that it has no better name for."""
-        try:
-            yield
-        except (sqlite3.DataError, OverflowError) as fault:
-            raise TooLarge(str(fault)) from fault
-        except sqlite3.Error as fault:
-            raise lost(str(fault)) from fault
 
     def _begin(self, is_write: bool) -> None:
         """Begins a transaction, with the lock for writers if it is to write. SQLite's own wait for that sleeps for up to 100 ms at a time,
@@ -72,28 +79,30 @@ class SqliteStore:
     @contextlib.contextmanager
     def _transaction(self, is_write: bool) -> Iterator[None]:
         """Begins, commits if all went well, and rolls back otherwise."""
-        with self._faults(Unreachable):
-            self._begin(is_write)
+        lost: Type[StoreError] = Unreachable
         try:
-            with self._faults(Unreachable):
+            self._begin(is_write)
+            try:
                 yield
-            # a disk that fails in a commit may have it or not
-            with self._faults(Unknown if is_write else Unreachable):
+                # a disk that fails in a commit may have it or not
+                lost = Unknown if is_write else Unreachable
                 self._connection.execute("COMMIT")
-        finally:
-            if self._connection.in_transaction:
-                with contextlib.suppress(sqlite3.Error):
-                    self._connection.execute("ROLLBACK")
+            finally:
+                if self._connection.in_transaction:
+                    with contextlib.suppress(sqlite3.Error):
+                        self._connection.execute("ROLLBACK")
+        except (sqlite3.Error, OverflowError) as fault:
+            raise _error_of(fault, lost) from fault
 
     def _page(self, of: Range) -> Page:
-        query = f"SELECT key, value FROM {self._table} WHERE key >= ? AND key < ? ORDER BY key LIMIT ?"
-        return page_of(self._connection.execute(query, (of.low, of.high, of.limit)), of)
+        return page_of(self._connection.execute(self._page_of, (of.low, of.high, of.limit)), of)
 
     def _found(self, points: Iterable[bytes], ranges: Sequence[Range]) -> Found:
         wanted = list(dict.fromkeys(points))
         pairs: List[Pair] = []
-        for key in wanted:
-            pairs += self._connection.execute(f"SELECT key, value FROM {self._table} WHERE key = ?", (key,))
+        for at in range(0, len(wanted), _MANY):
+            some = wanted[at : at + _MANY]
+            pairs += self._connection.execute(f"{self._select} IN ({', '.join('?' * len(some))})", some)
         return Found(values_of(pairs, wanted), [self._page(it) for it in ranges])
 
     def read(self, points: Iterable[bytes], ranges: Sequence[Range] = ()) -> Found:
@@ -106,9 +115,8 @@ class SqliteStore:
         nobody writes between; `Unreachable` if others held it for too long."""
         with self._transaction(is_write=True):
             draft.check(self._found(draft.compare, draft.compared_ranges()))
-            put = [(key, value) for key, value in draft.write.items() if value is not None]
-            self._connection.executemany(f"INSERT INTO {self._table} VALUES (?, ?) ON CONFLICT (key) DO UPDATE SET value = excluded.value", put)
-            self._connection.executemany(f"DELETE FROM {self._table} WHERE key = ?", [(key,) for key, value in draft.write.items() if value is None])
+            self._connection.executemany(self._put, [(key, value) for key, value in draft.write.items() if value is not None])
+            self._connection.executemany(self._remove, [(key,) for key, value in draft.write.items() if value is None])
 
     def close(self) -> None:
         """See `Store`."""

@@ -135,10 +135,8 @@ def values_of(pairs: Iterable[Pair], points: Iterable[bytes]) -> Dict[bytes, Opt
     """The points with the values that a store gave for them, None for those it gave none for. `BadAnswer`
     if it gave a key that was not asked for, or one twice."""
     values: Dict[bytes, Optional[bytes]] = dict.fromkeys(points)
-    given = set()
     for key, value in pairs:
-        if key not in values or key in given:
+        if values.get(key, value) is not None:
             raise BadAnswer("a key that was not asked for, or twice")
-        given.add(key)
         values[key] = value
     return values

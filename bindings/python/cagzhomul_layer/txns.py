@@ -2,16 +2,17 @@
 
 from __future__ import annotations
 
+import os
 import random
+import struct
 import time
-import uuid
 from typing import Dict, List, Mapping, NamedTuple, Optional, Sequence, Tuple
 
 import cagzhomul
 from cagzhomul import Conflict, Key, Query, Row, Value
 
 from . import calls
-from .calls import VERSIONS, Refusal, asked, mark_key, version_key
+from .calls import VERSIONS, Refusal, asked, mark_key, number_code, version_key
 from .changes import versions_of
 from .store import BadAnswer, Draft, Refused, Store, StoreError, Unknown, Unreachable
 
@@ -42,17 +43,20 @@ class _Op(NamedTuple):
     key: bytes
     cells: Mapping[str, Value]
 
-    def code(self, names: cagzhomul._Names) -> bytes:
-        """Its code in a version."""
-        code = bytes([self.kind]) + cagzhomul._number(names.tables.get(self.table, 0), 4) + self.key
-        if self.kind == 2:
-            return code
-        cells = [cagzhomul._number(names.number(self.table, name), 4) + cagzhomul._value(value) for name, value in self.cells.items()]
-        return code + cagzhomul._list(cells)
+
+_kind_and_table, _column = struct.Struct(">BI").pack, struct.Struct(">I").pack
 
 
 def _ops_code(ops: Sequence[_Op], names: cagzhomul._Names) -> bytes:
-    return b"\1" + cagzhomul._list([it.code(names) for it in ops])
+    """The code of operations in a version."""
+    parts = [b"\1", number_code(len(ops))]
+    for kind, table, key, cells in ops:
+        parts += _kind_and_table(kind, names.tables.get(table, 0)), key
+        if kind != 2:
+            parts.append(number_code(len(cells)))
+            for name, value in cells.items():
+                parts += _column(names.number(table, name)), cagzhomul._value(value)
+    return b"".join(parts)
 
 
 def error_of(refusal: Refusal, names: cagzhomul._Names, unknown: Optional[str]) -> cagzhomul.CagzhomulError:
@@ -127,7 +131,8 @@ class Txn:
     It is serializable in all rows that it gets or writes. `mark` is its name in the store, under which it is applied at most once."""
 
     def __init__(self, server: Server) -> None:
-        self._server, self._ops = server, list[_Op]()
+        self._server = server
+        self._ops: List[_Op] = []
         # the version under which rows were got, these rows by table and key, and what was read for them
         self._version: Optional[Version] = None
         self._got: Dict[Tuple[str, bytes], Optional[Row]] = {}
@@ -135,7 +140,7 @@ class Txn:
         # whether a draft of it may be applied yet, or is
         self._is_unsure = False
         self._has_ended = False
-        self.mark = uuid.uuid4().bytes
+        self.mark = os.urandom(16)
 
     def _check_stage(self) -> None:
         if self._has_ended:
@@ -199,6 +204,8 @@ class Txn:
     def _all_ops(self) -> List[_Op]:
         """The operations, and some that change nothing on the rows that it got and does not write: an update without cells of one that
         is there, and an insertion and a deletion of one that is not."""
+        if not self._got:
+            return self._ops
         written = {(it.table, it.key) for it in self._ops}
         pins: List[_Op] = []
         for row, found in self._got.items():

@@ -31,7 +31,7 @@ fn write_rows(db: &Db, writer: u64) -> Result<(), Error> {
     for id in (writer..ROWS).step_by(WRITERS as usize) {
         while let Err(error) = insert(&lease, id) {
             match error {
-                Error::LeaseEnded => lease = db.lease(now())?,
+                Error::LeaseEnded { .. } => lease = db.lease(now())?,
                 other => return Err(other),
             }
         }

@@ -79,23 +79,17 @@ pub(crate) struct Prepared {
     pub(crate) column: u32,
 }
 
-/// `cagzhomul_committed`.
+/// `cagzhomul_detailed`.
 #[repr(C)]
 #[derive(Clone, Copy)]
-pub(crate) struct Committed {
-    pub(crate) status: i32,
-    pub(crate) place: u64,
-    pub(crate) operation: usize,
-}
-
-/// `cagzhomul_written`.
-#[repr(C)]
-#[derive(Clone, Copy)]
-pub(crate) struct Written {
+pub(crate) struct Detailed {
     pub(crate) status: i32,
     pub(crate) column: u32,
     pub(crate) place: u64,
     pub(crate) operation: usize,
+    pub(crate) until: u64,
+    pub(crate) now: u64,
+    pub(crate) length: usize,
 }
 
 /// `cagzhomul_queried`.

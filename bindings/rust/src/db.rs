@@ -228,7 +228,7 @@ impl Db {
         let query = query.into();
         let query = self.session.read(&query)?;
         match kept.find(&self.session, now, &query) {
-            Err(Error::BadLease | Error::LeaseEnded) => {
+            Err(Error::BadLease | Error::LeaseEnded { .. }) => {
                 let kept = self.kept_lease(now, Some(&kept))?;
                 kept.find(&self.session, now, &query)
             }

@@ -2,6 +2,7 @@
 
 use crate::ffi;
 use crate::layer::StoreError;
+use crate::value::RowKey;
 use std::fmt;
 
 /// Why a call was refused. A refused call changed nothing, except that [`Error::OutOfMemory`] over
@@ -43,6 +44,8 @@ pub enum Error {
     NotPublic {
         /// Its name; `None` if the call names none that its table does not have.
         column: Option<String>,
+        /// Whether it is a key column, which is given by the key alone.
+        is_key: bool,
     },
     /// A value of another type than its column, another number of values in a key, null in a key, a
     /// text over 1,024 bytes, or a column that is named twice.
@@ -52,12 +55,21 @@ pub enum Error {
     /// No grant could have given the lease: it is one of another world.
     BadLease,
     /// The lease has ended.
-    LeaseEnded,
+    LeaseEnded {
+        /// The moment at which it ended.
+        until: u64,
+        /// The moment that counted: the greater of that of the call and that of the log's last entry.
+        now: u64,
+    },
     /// The transaction was prepared under another schema than that of its lease's version.
     WrongSchema,
     /// What a transaction or a piece has read changed since: it may be made, or read, again
     /// ([`retry`](crate::retry)).
-    Conflict,
+    Conflict {
+        /// The row; if several changed, the first of them by table and key. `None` of a piece, and over
+        /// a store of one's own.
+        row: Option<RowKey>,
+    },
     /// The transaction inserts a row that is there.
     Duplicate {
         /// The first operation that is refused, counted from 0.
@@ -162,9 +174,8 @@ impl Error {
             ffi::WRONG_TYPE => Error::WrongType,
             ffi::TOO_MANY_OPS => Error::TooManyOps,
             ffi::BAD_LEASE => Error::BadLease,
-            ffi::LEASE_ENDED => Error::LeaseEnded,
             ffi::WRONG_SCHEMA => Error::WrongSchema,
-            ffi::CONFLICT => Error::Conflict,
+            ffi::CONFLICT => Error::Conflict { row: None },
             ffi::UNKNOWN => Error::Unknown,
             ffi::NOT_ADJACENT => Error::NotAdjacent,
             ffi::WRONG_WAY => Error::WrongWay,
@@ -213,9 +224,9 @@ impl Error {
             Error::WrongType => "a value of another type, or a column named twice",
             Error::TooManyOps => "more than 64 operations",
             Error::BadLease => "no grant could have given the lease",
-            Error::LeaseEnded => "the lease has ended",
+            Error::LeaseEnded { .. } => "the lease has ended",
             Error::WrongSchema => "prepared under another schema than that of the lease's version",
-            Error::Conflict => "a pair changed since it was read",
+            Error::Conflict { .. } => "a pair changed since it was read",
             Error::Duplicate { .. } => "a row of this key is there",
             Error::NoRow { .. } => "no row of this key is there",
             Error::Unknown => "no such table, element or column",
@@ -254,7 +265,17 @@ impl fmt::Display for Error {
         match self {
             Error::NotPublic {
                 column: Some(column),
-            } => write!(f, ": {column}"),
+                is_key,
+            } => {
+                let which = if *is_key {
+                    ", which is a key column"
+                } else {
+                    ""
+                };
+                write!(f, ": {column}{which}")
+            }
+            Error::LeaseEnded { until, now } => write!(f, ": at {until}, and now is {now}"),
+            Error::Conflict { row: Some(row) } => write!(f, ": {row}"),
             Error::Duplicate { operation } | Error::NoRow { operation } => {
                 write!(f, ": operation {operation}")
             }
@@ -293,6 +314,9 @@ mod tests {
                 assert_eq!(error.to_string(), ffi::text_of(status), "{status}");
             }
         }
+        let (until, now) = (15, 20);
+        let ended = Error::LeaseEnded { until, now };
+        assert_eq!(ended.text(), ffi::text_of(ffi::LEASE_ENDED));
         for status in [
             ffi::TOO_EARLY,
             ffi::DEPENDENT,
@@ -307,10 +331,27 @@ mod tests {
 
     #[test]
     fn texts_say_what_is_wrong() {
-        let column = Some("town".to_string());
+        let not_public = |column: &str, is_key| Error::NotPublic {
+            column: Some(column.to_string()),
+            is_key,
+        };
         assert_eq!(
-            Error::NotPublic { column }.to_string(),
+            not_public("town", false).to_string(),
             "a named column is not a public column of its table: town"
+        );
+        assert_eq!(
+            not_public("id", true).to_string(),
+            "a named column is not a public column of its table: id, which is a key column"
+        );
+        let (until, now) = (15, 20);
+        assert_eq!(
+            Error::LeaseEnded { until, now }.to_string(),
+            "the lease has ended: at 15, and now is 20"
+        );
+        let row = Some(RowKey::new("people", (1, "L'Aquila")));
+        assert_eq!(
+            Error::Conflict { row }.to_string(),
+            "a pair changed since it was read: people (1, 'L''Aquila')"
         );
         assert_eq!(
             Error::NoRow { operation: 2 }.to_string(),

@@ -68,18 +68,22 @@ unsafe extern "C" {
         length: usize,
     ) -> i32;
     pub(crate) fn cagzhomul_prepare(txn: *mut RawHandle) -> Prepared;
-    pub(crate) fn cagzhomul_commit(
+    pub(crate) fn cagzhomul_commit_detailed(
         session: *mut RawHandle,
         moment: u64,
         txn: *mut RawHandle,
-    ) -> Committed;
-    pub(crate) fn cagzhomul_write(
+        out: *mut u8,
+        out_length: usize,
+    ) -> Detailed;
+    pub(crate) fn cagzhomul_write_detailed(
         session: *mut RawHandle,
         moment: u64,
         lease: *mut RawHandle,
         operations: *const u8,
         length: usize,
-    ) -> Written;
+        out: *mut u8,
+        out_length: usize,
+    ) -> Detailed;
     pub(crate) fn cagzhomul_query(
         session: *mut RawHandle,
         moment: u64,

@@ -120,17 +120,22 @@ impl Handle {
         unsafe { cagzhomul_prepare(self.raw()) }
     }
 
-    /// Commits the prepared transaction to this session's world.
-    pub(crate) fn commit(&mut self, moment: u64, txn: &mut Handle) -> Committed {
-        // SAFETY: both handles, as at the top of this file.
-        unsafe { cagzhomul_commit(self.raw(), moment, txn.raw()) }
+    /// Commits the prepared transaction to this session's world, and writes as much of the key of a
+    /// pair that has changed to `out` as fits.
+    pub(crate) fn commit(&mut self, moment: u64, txn: &mut Handle, out: &mut [u8]) -> Detailed {
+        let (at, length) = (out.as_mut_ptr(), out.len());
+        // SAFETY: both handles and the slice, as at the top of this file.
+        unsafe { cagzhomul_commit_detailed(self.raw(), moment, txn.raw(), at, length) }
     }
 
-    /// Makes a transaction in this session's world under a lease, by the code of its operations.
-    pub(crate) fn write(&mut self, moment: u64, lease: &mut Handle, operations: &[u8]) -> Written {
+    /// Makes a transaction in this session's world under a lease, by the code of its operations. No
+    /// pair changes meanwhile, so there is no key to be written.
+    pub(crate) fn write(&mut self, moment: u64, lease: &mut Handle, operations: &[u8]) -> Detailed {
         let (at, length) = (operations.as_ptr(), operations.len());
-        // SAFETY: both handles and the slice, as at the top of this file.
-        unsafe { cagzhomul_write(self.raw(), moment, lease.raw(), at, length) }
+        let none: &mut [u8] = &mut [];
+        let out = none.as_mut_ptr();
+        // SAFETY: both handles and both slices, as at the top of this file.
+        unsafe { cagzhomul_write_detailed(self.raw(), moment, lease.raw(), at, length, out, 0) }
     }
 
     /// Answers a query of this session's world under a lease, by its code, into a closed handle.

@@ -2,13 +2,13 @@
 
 use crate::db::Db;
 use crate::error::Error;
-use crate::ffi::{Granted, Handle};
+use crate::ffi::{self, Granted, Handle};
 use crate::names::Names;
 use crate::pages::{find_page, KeyRange, Page};
 use crate::query::{find, Query};
 use crate::rows::Row;
 use crate::schema::Schema;
-use crate::session::{done, Session};
+use crate::session::{done, moment_of, Session};
 use crate::snapshot::Snapshot;
 use crate::txn::{Receipt, Txn};
 use crate::value::{Cells, Key};
@@ -48,8 +48,19 @@ impl Grant {
     ) -> Result<Vec<Row>, Error> {
         find(query, &self.names, |code, rows| {
             let mut session = session.lock();
-            session.query(now, &mut self.lock(), code, rows)
+            let queried = session.query(now, &mut self.lock(), code, rows);
+            self.in_force(&mut session, now, queried.status)?;
+            Ok(queried)
         })
+    }
+
+    /// Whether a call of this session under it, with this status, was not refused since it has ended.
+    fn in_force(&self, session: &mut Handle, now: u64, status: i32) -> Result<(), Error> {
+        if status != ffi::LEASE_ENDED {
+            return Ok(());
+        }
+        let (until, now) = (self.granted.until, now.max(moment_of(session)?));
+        Err(Error::LeaseEnded { until, now })
     }
 
     /// The handle. Its lock is taken after that of the session.
@@ -179,7 +190,7 @@ impl<'db> Lease<'db> {
                 Some(_) => txn.update(table, key.clone(), cells),
             };
             match txn.commit(now) {
-                Err(Error::Conflict) => {}
+                Err(Error::Conflict { .. }) => {}
                 ended => return ended.map(Some),
             }
         }
@@ -200,8 +211,8 @@ impl<'db> Lease<'db> {
     /// let rows = lease.query(0, "select * from t where a = null")?;
     /// assert_eq!((rows[0].key(), rows[0].get("a")), (&[2.into()][..], Some(&Value::Null)));
     /// assert_eq!(lease.query(0, Query::of("t").equal("a", Value::Null))?, rows);
-    /// let column = Some("b".to_string());
-    /// assert_eq!(lease.query(0, "select b from t"), Err(Error::NotPublic { column }));
+    /// let (column, is_key) = (Some("b".to_string()), false);
+    /// assert_eq!(lease.query(0, "select b from t"), Err(Error::NotPublic { column, is_key }));
     /// # Ok::<(), Error>(())
     /// ```
     pub fn query<'q>(
@@ -226,8 +237,9 @@ impl<'db> Lease<'db> {
     /// lease.txn().insert("t", 1, [("a", "x")]).insert("t", 2, ()).commit(0)?;
     /// let rows = lease.find(0, &Query::of("t").equal("a", Value::Null))?;
     /// assert_eq!((rows[0].key(), rows[0].get("a")), (&[2.into()][..], Some(&Value::Null)));
-    /// let column = Some("b".to_string());
-    /// assert_eq!(lease.find(0, &Query::of("t").equal("b", 1)), Err(Error::NotPublic { column }));
+    /// let (column, is_key) = (Some("id".to_string()), true);
+    /// let by_id = Query::of("t").equal("id", 1); // a key column, for which there is `key`
+    /// assert_eq!(lease.find(0, &by_id), Err(Error::NotPublic { column, is_key }));
     /// # Ok::<(), Error>(())
     /// ```
     pub fn find(&self, now: u64, query: &Query) -> Result<Vec<Row>, Error> {
@@ -248,7 +260,9 @@ impl<'db> Lease<'db> {
     ) -> Result<Page, Error> {
         find_page(query, range, limit, self.names(), |code, rows| {
             let mut session = self.db.session().lock();
-            session.query_page(now, &mut self.lock(), code, rows)
+            let paged = session.query_page(now, &mut self.lock(), code, rows);
+            self.grant.in_force(&mut session, now, paged.status)?;
+            Ok(paged)
         })
     }
 
@@ -259,7 +273,9 @@ impl<'db> Lease<'db> {
     pub fn snapshot(&self, now: u64) -> Result<Snapshot, Error> {
         let mut handle = Handle::closed();
         let mut session = self.db.session().lock();
-        done(session.snapshot(now, &mut self.lock(), &mut handle))?;
+        let status = session.snapshot(now, &mut self.lock(), &mut handle);
+        self.grant.in_force(&mut session, now, status)?;
+        done(status)?;
         Ok(Snapshot::over(handle, Arc::clone(&self.grant.names)))
     }
 

@@ -81,6 +81,6 @@ pub use session::{Session, Step};
 pub use snapshot::{Check, Snapshot};
 pub use table::{Table, Type};
 pub use txn::{retry, Prepared, Receipt, Txn};
-pub use value::{Cells, Key, Value};
+pub use value::{Cells, Key, RowKey, Value};
 pub use wanted::Wanted;
 pub use words::BadWords;

@@ -1,7 +1,17 @@
 //! The names of tables, columns and indexes, with their numbers in one version.
 
 use crate::error::Error;
+use crate::rows::Reader;
 use crate::schema::Schema;
+use crate::value::{RowKey, Value};
+
+/// A name in a call that its table does not have.
+#[derive(Debug, Clone, PartialEq, Eq)]
+pub(crate) struct Unknown {
+    column: String,
+    /// Whether it is that of a key column.
+    is_key: bool,
+}
 
 /// The names of one version, by its schema, so they are right whoever published it.
 #[derive(Debug)]
@@ -60,14 +70,47 @@ impl Names {
         Some(&elements.find(|element| element.number == number)?.name)
     }
 
+    /// The first of these names that the table does not have.
+    pub(crate) fn unknown<'c>(
+        &self,
+        table: &str,
+        mut columns: impl Iterator<Item = &'c str>,
+    ) -> Option<Unknown> {
+        let column = columns.find(|column| self.element(table, column) == 0)?;
+        let mut tables = self.schema.tables.iter();
+        let keys = tables.find(|it| it.name == table).map(|it| &it.key);
+        Some(Unknown {
+            column: column.to_string(),
+            is_key: keys.is_some_and(|keys| keys.iter().any(|key| key.0 == column)),
+        })
+    }
+
     /// Why a call was refused that names the column or the index of this number, which is not a public
     /// column; with 0 it is `unknown`, the first name in the call that its table does not have.
-    pub(crate) fn not_public(&self, number: u32, unknown: Option<String>) -> Error {
-        let column = match number {
-            0 => unknown,
-            number => self.name_of(number).map(str::to_string),
-        };
-        Error::NotPublic { column }
+    pub(crate) fn not_public(&self, number: u32, unknown: Option<Unknown>) -> Error {
+        match (number, unknown) {
+            (0, Some(Unknown { column, is_key })) => Error::NotPublic {
+                column: Some(column),
+                is_key,
+            },
+            _ => Error::NotPublic {
+                column: self.name_of(number).map(str::to_string),
+                is_key: false,
+            },
+        }
+    }
+
+    /// The row of whose pairs one has this key, as it is stored: `R`, the row's table, the values of its
+    /// key, and the pair's column or 0. `None` if it is the key of no such pair.
+    pub(crate) fn row_of(&self, pair: &[u8]) -> Option<RowKey> {
+        let mut rest = Reader(pair);
+        (rest.byte()? == b'R').then_some(())?;
+        let number = rest.small_number()?;
+        let table = self.schema.tables.iter().find(|it| it.number == number)?;
+        let key: Option<Vec<Value>> = table.key.iter().map(|_| rest.value()).collect();
+        let row = RowKey::new(&table.name, key?);
+        rest.small_number()?;
+        rest.0.is_empty().then_some(row)
     }
 }
 
@@ -106,6 +149,45 @@ mod tests {
         assert_eq!((names.element("t", "c"), names.element("u", "a")), (3, 0));
         assert_eq!((names.element("u", "i"), names.element("v", "i")), (4, 0));
         assert_eq!((names.name_of(4), names.name_of(0)), (Some("i"), None));
+    }
+
+    #[test]
+    fn a_name_that_is_a_key_column_is_said_to_be_one() {
+        let names = names();
+        let refused = |columns: &[&'static str]| {
+            names.not_public(0, names.unknown("t", columns.iter().copied()))
+        };
+        let not_public = |column: Option<&str>, is_key| Error::NotPublic {
+            column: column.map(str::to_string),
+            is_key,
+        };
+        assert_eq!(refused(&["a", "id", "x"]), not_public(Some("id"), true));
+        assert_eq!(refused(&["a", "x", "id"]), not_public(Some("x"), false));
+        assert_eq!(refused(&["a"]), not_public(None, false));
+        let hidden = names.unknown("t", ["c"].into_iter());
+        assert_eq!(names.not_public(3, hidden), not_public(Some("c"), false));
+    }
+
+    #[test]
+    fn rows_are_found_by_the_keys_of_their_pairs() {
+        let names = names();
+        let pair = |table, column| {
+            [
+                b"R\0\0\0",
+                &[table][..],
+                b"\x02\x80\0\0\0\0\0\0\x07\0\0\0",
+                &[column],
+            ]
+            .concat()
+        };
+        assert_eq!(names.row_of(&pair(1, 0)), Some(RowKey::new("t", 7)));
+        assert_eq!(names.row_of(&pair(2, 9)), Some(RowKey::new("u", 7)));
+        assert_eq!(names.row_of(&pair(3, 0)), None);
+        let whole = pair(1, 1);
+        let others = (0..whole.len()).map(|end| whole[..end].to_vec());
+        for other in others.chain([[&whole[..], b"\0"].concat(), [b"X", &whole[1..]].concat()]) {
+            assert_eq!(names.row_of(&other), None, "{other:?}");
+        }
     }
 
     #[test]

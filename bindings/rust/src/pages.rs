@@ -96,16 +96,17 @@ impl Iterator for Pages<'_> {
     }
 }
 
-/// A page of a query, by a call that answers the code of its request into a closed handle.
+/// A page of a query, by a call that answers the code of its request into a closed handle, or is
+/// refused.
 pub(crate) fn find_page(
     query: &Query,
     range: &KeyRange,
     limit: u32,
     names: &Names,
-    ask: impl FnOnce(&[u8], &mut Handle) -> Paged,
+    ask: impl FnOnce(&[u8], &mut Handle) -> Result<Paged, Error>,
 ) -> Result<Page, Error> {
     let mut rows = Handle::closed();
-    let paged = ask(query.request(range, limit, names).as_bytes(), &mut rows);
+    let paged = ask(query.request(range, limit, names).as_bytes(), &mut rows)?;
     match paged.status {
         ffi::OK => {
             let code = fetch(|_, out| rows.rows_from(0, out))?;

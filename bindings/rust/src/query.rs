@@ -3,7 +3,7 @@
 use crate::code::{self, Code};
 use crate::error::Error;
 use crate::ffi::{self, Handle, Queried};
-use crate::names::Names;
+use crate::names::{Names, Unknown};
 use crate::pages::KeyRange;
 use crate::rows::{rows_of, Row};
 use crate::session::fetch;
@@ -138,24 +138,21 @@ impl Query {
     }
 
     /// The first name that its table does not have.
-    fn unknown(&self, names: &Names) -> Option<String> {
+    fn unknown(&self, names: &Names) -> Option<Unknown> {
         let columns = self.columns.iter().flatten();
         let conditions = self.conditions.iter().filter_map(Condition::column);
-        columns
-            .chain(conditions)
-            .find(|column| names.element(&self.table, column) == 0)
-            .cloned()
+        names.unknown(&self.table, columns.chain(conditions).map(String::as_str))
     }
 }
 
-/// The rows of a query, by a call that answers its code into a closed handle.
+/// The rows of a query, by a call that answers its code into a closed handle, or is refused.
 pub(crate) fn find(
     query: &Query,
     names: &Names,
-    ask: impl FnOnce(&[u8], &mut Handle) -> Queried,
+    ask: impl FnOnce(&[u8], &mut Handle) -> Result<Queried, Error>,
 ) -> Result<Vec<Row>, Error> {
     let mut rows = Handle::closed();
-    let queried = ask(query.code(names).as_bytes(), &mut rows);
+    let queried = ask(query.code(names).as_bytes(), &mut rows)?;
     match queried.status {
         ffi::OK => {
             let code = fetch(|_, out| rows.rows_from(0, out))?;

@@ -39,7 +39,7 @@ impl Reads {
             .for_each(|it| named.push_row(Kind::Update, it));
         let handle = self.read(lease, named)?;
         let mut found = find(&Query::of(table).key(key), lease.names(), |query, rows| {
-            handle.query_read(query, rows)
+            Ok(handle.query_read(query, rows))
         })?;
         let found = found.pop();
         self.rows.push((row, found.clone()));

@@ -384,6 +384,15 @@ pub(crate) fn status_of(handle: &mut Handle) -> Result<String, Error> {
     String::from_utf8(status).map_err(|error| Error::Reply(error.to_string()))
 }
 
+/// The moment of the log's last entry of the session behind this handle.
+pub(crate) fn moment_of(handle: &mut Handle) -> Result<u64, Error> {
+    let status = status_of(handle)?;
+    let moment = status.split_once("\"moment\":").map(|it| it.1);
+    let digits = moment.and_then(|it| it.split(',').next());
+    let number = digits.and_then(|it| it.parse().ok());
+    number.ok_or_else(|| Error::Reply(status.clone()))
+}
+
 /// All bytes of what a call writes as far as it fits; the call is made again if it did not fit, and
 /// then it is not the first one.
 pub(crate) fn fetch(mut call: impl FnMut(bool, &mut [u8]) -> Outcome) -> Result<Vec<u8>, Error> {

@@ -80,7 +80,7 @@ impl Snapshot {
     /// [`Error::OutOfMemory`].
     pub fn query(&self, query: &Query) -> Result<Vec<Row>, Error> {
         find(query, &self.names, |code, rows| {
-            self.lock().snapshot_query(code, rows)
+            Ok(self.lock().snapshot_query(code, rows))
         })
     }
 
@@ -101,7 +101,7 @@ impl Snapshot {
     /// ```
     pub fn page(&self, query: &Query, range: &KeyRange, limit: u32) -> Result<Page, Error> {
         find_page(query, range, limit, &self.names, |code, rows| {
-            self.lock().snapshot_query_page(code, rows)
+            Ok(self.lock().snapshot_query_page(code, rows))
         })
     }
 

@@ -1,14 +1,18 @@
 //! Transactions.
 
 use crate::error::Error;
-use crate::ffi::{self, Handle};
+use crate::ffi::{self, Detailed, Handle};
 use crate::lease::Lease;
+use crate::names::Unknown;
 use crate::operations::{self, Kind, Operations};
 use crate::reads::Reads;
 use crate::rows::Row;
 use crate::session::done;
 use crate::value::{Cells, Key};
 use std::fmt;
+
+/// How many bytes there are at first for the key of a pair that has changed.
+const ROOM: usize = 256;
 
 /// What a transaction that was committed has.
 #[derive(Debug, Clone, Copy, PartialEq, Eq, PartialOrd, Ord, Hash)]
@@ -37,9 +41,9 @@ pub struct Receipt {
 /// assert_eq!(insert(1).commit(0), Err(Error::Duplicate { operation: 0 }));
 /// let change = lease.txn().update("t", 1, [("a", 6)]).delete("t", 2);
 /// assert_eq!(change.commit(0), Err(Error::NoRow { operation: 1 }));
-/// let column = Some("b".to_string());
+/// let (column, is_key) = (Some("b".to_string()), false);
 /// let wrong = lease.txn().update("t", 1, [("b", 6)]);
-/// assert_eq!(wrong.commit(0), Err(Error::NotPublic { column }));
+/// assert_eq!(wrong.commit(0), Err(Error::NotPublic { column, is_key }));
 /// # Ok::<(), Error>(())
 /// ```
 #[must_use = "a transaction does nothing until it is committed"]
@@ -49,7 +53,7 @@ pub struct Txn<'a> {
     /// What it got, if it got anything.
     reads: Option<Box<Reads>>,
     /// The first name of a column that its table does not have.
-    unknown: Option<String>,
+    unknown: Option<Unknown>,
 }
 
 impl<'a> Txn<'a> {
@@ -75,7 +79,7 @@ impl<'a> Txn<'a> {
     /// too long is [`Error::WrongType`] before all; [`Error::OutOfMemory`].
     ///
     /// ```
-    /// # use cagzhomul::{Db, Error, Table, Type};
+    /// # use cagzhomul::{Db, Error, RowKey, Table, Type};
     /// # let db = Db::open([Table::new("t").key("id", Type::Int).column("a", Type::Int)])?;
     /// # let lease = db.lease(0)?;
     /// lease.txn().insert("t", 1, [("a", 5)]).commit(0)?;
@@ -83,7 +87,8 @@ impl<'a> Txn<'a> {
     /// assert_eq!(txn.get("t", 1)?.unwrap().get("a"), Some(&5.into()));
     /// assert_eq!(txn.get("t", 2)?, None);
     /// lease.txn().insert("t", 2, ()).commit(0)?;
-    /// assert_eq!(txn.update("t", 1, [("a", 6)]).commit(0), Err(Error::Conflict));
+    /// let row = Some(RowKey::new("t", 2));
+    /// assert_eq!(txn.update("t", 1, [("a", 6)]).commit(0), Err(Error::Conflict { row }));
     /// # Ok::<(), Error>(())
     /// ```
     pub fn get(&mut self, table: &str, key: impl Into<Key>) -> Result<Option<Row>, Error> {
@@ -126,10 +131,7 @@ impl<'a> Txn<'a> {
         self.operations.push(kind, names.table(table), key);
         self.operations.push_cells(&cells.0, number);
         if self.unknown.is_none() && names.table(table) != 0 {
-            let mut columns = cells.0.iter().map(|cell| cell.0);
-            self.unknown = columns
-                .find(|column| number(column) == 0)
-                .map(str::to_string);
+            self.unknown = names.unknown(table, cells.0.iter().map(|cell| cell.0));
         }
         self
     }
@@ -143,13 +145,14 @@ impl<'a> Txn<'a> {
     /// [`Error::WrongType`] before all; [`Error::TooManyOps`]; [`Error::OutOfMemory`].
     ///
     /// ```
-    /// # use cagzhomul::{Db, Error, Table, Type};
+    /// # use cagzhomul::{Db, Error, RowKey, Table, Type};
     /// # let db = Db::open([Table::new("t").key("id", Type::Int).column("a", Type::Int)])?;
     /// # let lease = db.lease(0)?;
     /// # lease.txn().insert("t", 1, ()).commit(0)?;
     /// let earlier = lease.txn().update("t", 1, [("a", 5)]).prepare()?;
     /// lease.txn().update("t", 1, [("a", 6)]).commit(0)?;
-    /// assert_eq!(earlier.commit(0), Err(Error::Conflict));
+    /// let row = Some(RowKey::new("t", 1));
+    /// assert_eq!(earlier.commit(0), Err(Error::Conflict { row }));
     /// # Ok::<(), Error>(())
     /// ```
     pub fn prepare(self) -> Result<Prepared<'a>, Error> {
@@ -195,14 +198,10 @@ impl<'a> Txn<'a> {
             }
             written
         };
-        let operation = written.operation;
         match written.status {
             ffi::BAD_CODE => Err(Error::WrongType),
-            ffi::DUPLICATE => Err(Error::Duplicate { operation }),
-            ffi::NO_ROW => Err(Error::NoRow { operation }),
-            status => accepted(lease, unknown, status, written.column).map(|()| Receipt {
-                place: written.place,
-            }),
+            ffi::NOT_PUBLIC => Err(lease.names().not_public(written.column, unknown)),
+            _ => received(lease, &written, &[]),
         }
     }
 
@@ -214,10 +213,31 @@ impl<'a> Txn<'a> {
     }
 }
 
+/// The receipt of what was committed, or why it was refused: a conflict is on the pair of this key.
+fn received(lease: &Lease<'_>, reported: &Detailed, pair: &[u8]) -> Result<Receipt, Error> {
+    let Detailed {
+        place,
+        operation,
+        until,
+        now,
+        ..
+    } = *reported;
+    match reported.status {
+        ffi::DUPLICATE => Err(Error::Duplicate { operation }),
+        ffi::NO_ROW => Err(Error::NoRow { operation }),
+        ffi::LEASE_ENDED => Err(Error::LeaseEnded { until, now }),
+        ffi::CONFLICT => {
+            let row = lease.names().row_of(pair);
+            Err(Error::Conflict { row })
+        }
+        status => done(status).map(|()| Receipt { place }),
+    }
+}
+
 /// Whether a preparation was accepted; `unknown` is the first name of no column.
 fn accepted(
     lease: &Lease<'_>,
-    unknown: Option<String>,
+    unknown: Option<Unknown>,
     status: i32,
     column: u32,
 ) -> Result<(), Error> {
@@ -254,22 +274,24 @@ impl Prepared<'_> {
     /// which may come in place of the one before it, [`Error::Duplicate`] and [`Error::NoRow`].
     pub fn commit(mut self, now: u64) -> Result<Receipt, Error> {
         let session = self.lease.db().session();
-        let committed = {
-            let mut locked = session.lock();
-            let committed = locked.commit(now, &mut self.handle);
-            if committed.status == ffi::OK {
-                session.grown(&mut locked, committed.place);
-            }
-            committed
-        };
-        let operation = committed.operation;
-        match committed.status {
-            ffi::DUPLICATE => Err(Error::Duplicate { operation }),
-            ffi::NO_ROW => Err(Error::NoRow { operation }),
-            status => done(status).map(|()| Receipt {
-                place: committed.place,
-            }),
+        let mut room = [0; ROOM];
+        let mut longer = Vec::new();
+        let mut locked = session.lock();
+        let mut committed = locked.commit(now, &mut self.handle, &mut room);
+        if committed.length > ROOM {
+            // a refused commit is made again, with room for the key of the pair
+            longer.resize(committed.length, 0);
+            committed = locked.commit(now, &mut self.handle, &mut longer);
         }
+        if committed.status == ffi::OK {
+            session.grown(&mut locked, committed.place);
+        }
+        drop(locked);
+        let pair = match longer.is_empty() {
+            true => &room[..committed.length],
+            false => &longer[..committed.length],
+        };
+        received(self.lease, &committed, pair)
     }
 }
 
@@ -310,7 +332,7 @@ pub fn retry<T>(
 ) -> Result<T, Error> {
     for _ in 1..attempts {
         match attempt() {
-            Err(Error::Conflict) => {}
+            Err(Error::Conflict { .. }) => {}
             ended => return ended,
         }
     }
@@ -320,6 +342,7 @@ pub fn retry<T>(
 #[cfg(test)]
 mod tests {
     use super::*;
+    use crate::value::RowKey;
 
     #[test]
     fn only_conflicts_are_tried_again() {
@@ -327,12 +350,13 @@ mod tests {
             let mut count = 0;
             let ended = retry(attempts, || -> Result<(), Error> {
                 count += 1;
-                Err(Error::Conflict)
+                Err(Error::Conflict { row: None })
             });
-            assert_eq!((ended, count), (Err(Error::Conflict), made));
+            assert_eq!((ended, count), (Err(Error::Conflict { row: None }), made));
         }
-        let mut errors = vec![Error::LeaseEnded, Error::Conflict];
+        let row = Some(RowKey::new("t", 1));
+        let mut errors = vec![Error::WrongSchema, Error::Conflict { row }];
         let ended = retry(9, || errors.pop().map_or(Ok(()), Err));
-        assert_eq!((ended, errors.len()), (Err(Error::LeaseEnded), 0));
+        assert_eq!((ended, errors.len()), (Err(Error::WrongSchema), 0));
     }
 }

@@ -109,6 +109,37 @@ impl From<&[Value]> for Key {
     }
 }
 
+/// A row by its table and its primary key. Its text is as the script language names it: `people (1)`.
+///
+/// ```
+/// use cagzhomul::RowKey;
+///
+/// let row = RowKey::new("people", (1, "L'Aquila"));
+/// assert_eq!(row.to_string(), "people (1, 'L''Aquila')");
+/// ```
+#[derive(Debug, Clone, PartialEq, Eq, PartialOrd, Ord, Hash)]
+pub struct RowKey {
+    /// The name of its table.
+    pub table: String,
+    /// Its primary key.
+    pub key: Key,
+}
+
+impl RowKey {
+    /// The row of this key in a table.
+    pub fn new(table: impl Into<String>, key: impl Into<Key>) -> RowKey {
+        let (table, key) = (table.into(), key.into());
+        RowKey { table, key }
+    }
+}
+
+impl fmt::Display for RowKey {
+    fn fmt(&self, f: &mut fmt::Formatter<'_>) -> fmt::Result {
+        let values: Vec<String> = self.key.0.iter().map(Value::to_string).collect();
+        write!(f, "{} ({})", self.table, values.join(", "))
+    }
+}
+
 /// The cells of an operation: columns by name with their values, as an array or a vector of pairs;
 /// `()` is none.
 ///

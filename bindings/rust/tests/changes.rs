@@ -24,7 +24,10 @@ fn names_are_those_of_the_version_of_the_lease() -> Result<(), Error> {
     let unknown = old.txn().insert("people", 2, [("age", 33)]);
     assert_eq!(
         unknown.commit(0),
-        Err(Error::NotPublic { column: column() })
+        Err(Error::NotPublic {
+            column: column(),
+            is_key: false
+        })
     );
     // The number stays that of the name after it is dropped, for a lease that still has it.
     db.line(&format!(
@@ -35,7 +38,10 @@ fn names_are_those_of_the_version_of_the_lease() -> Result<(), Error> {
     let dropped = last.txn().update("people", 1, [("age", 34)]);
     assert_eq!(
         dropped.commit(now.get() + 10),
-        Err(Error::NotPublic { column: column() })
+        Err(Error::NotPublic {
+            column: column(),
+            is_key: false
+        })
     );
     Ok(())
 }

@@ -12,8 +12,10 @@ use std::cell::Cell;
 type Db = Layer<MemoryStore>;
 
 fn not_public(column: &str) -> Error {
-    let column = Some(column.to_string());
-    Error::NotPublic { column }
+    Error::NotPublic {
+        column: Some(column.to_string()),
+        is_key: column == "id",
+    }
 }
 
 fn add_index(table: &str, name: &str, column: &str) -> [SchemaChange; 1] {
@@ -184,7 +186,7 @@ fn rows_that_are_got_are_pinned() {
             if is_written && key == 1 {
                 txn.update("people", 1, [("age", 6)]);
             }
-            assert_eq!(txn.commit(), Err(Error::Conflict), "{key}");
+            assert_eq!(txn.commit(), Err(Error::Conflict { row: None }), "{key}");
         }
         other.delete("people", 70).unwrap();
         other.insert("people", 2, ()).unwrap();
@@ -210,10 +212,10 @@ fn a_stale_server_reads_the_newest_version() {
         SchemaChange::drop_column("people", "town"),
     ])
     .unwrap();
-    assert_eq!(txn.get("people", 2), Err(Error::Conflict));
+    assert_eq!(txn.get("people", 2), Err(Error::Conflict { row: None }));
     assert_eq!(
         txn.update("people", 3, [("age", 1)]).commit(),
-        Err(Error::Conflict)
+        Err(Error::Conflict { row: None })
     );
     behind.update("people", 1, [("rank", 8)]).unwrap();
     let found = reader.query(&Query::of("people").key(1)).unwrap();

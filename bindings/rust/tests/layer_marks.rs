@@ -123,7 +123,7 @@ fn refused_for_good() {
         (
             &|db| get_one(db),
             &|other| other.update("people", 1, [("age", 40)]).map(drop),
-            Error::Conflict,
+            Error::Conflict { row: None },
             &|other| other.update("people", 1, [("age", 1)]).map(drop),
         ),
     ];

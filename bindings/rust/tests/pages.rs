@@ -104,12 +104,16 @@ fn pages_are_refused() -> Result<(), Error> {
         assert_eq!(snapshot.page(&nobody, &all, limit), Err(Error::BadCount));
         assert_eq!(lease.page(0, &t, &all, limit), Err(Error::BadCount));
     }
-    assert_eq!(lease.page(10_000, &t, &all, 0), Err(Error::LeaseEnded));
+    let (until, now) = (lease.until(), 10_000);
+    assert_eq!(
+        lease.page(now, &t, &all, 0),
+        Err(Error::LeaseEnded { until, now })
+    );
     let short = KeyRange::all().after(1);
     assert_eq!(snapshot.page(&nobody, &short, 1), Err(Error::NoTable));
-    let column = Some("b".to_string());
+    let (column, is_key) = (Some("b".to_string()), false);
     let refused = snapshot.page(&t.clone().columns(["b"]), &short, 1);
-    assert_eq!(refused, Err(Error::NotPublic { column }));
+    assert_eq!(refused, Err(Error::NotPublic { column, is_key }));
     let keys: [Key; 4] = [
         1.into(),
         (1, "x").into(),

@@ -204,7 +204,7 @@ fn a_piece_is_read_prepared_and_committed() -> Result<(), Error> {
         .txn()
         .update("people", 3, [("town", "Hof")])
         .commit(31)?;
-    assert_eq!(rest.commit(31), Err(Error::Conflict));
+    assert_eq!(rest.commit(31), Err(Error::Conflict { row: None }));
     let rest = db.read_piece(BY_TOWN, 0, 1000)?.prepare()?;
     assert_eq!(rest.commit(31)?, worked(11, true));
     assert_eq!(db.progress(BY_TOWN)?, far(true, 0));

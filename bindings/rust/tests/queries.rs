@@ -92,6 +92,7 @@ fn queries_are_refused_for_their_names_and_values() -> Result<(), Error> {
     let (q, long) = (|| Query::of("people"), "x".repeat(1025));
     let public = |name: &str| Error::NotPublic {
         column: Some(name.to_string()),
+        is_key: name == "id",
     };
     for (query, error) in [
         (Query::of("nobody").columns(["x"]).key("1"), Error::NoTable),
@@ -118,7 +119,10 @@ fn queries_are_refused_for_their_names_and_values() -> Result<(), Error> {
         lease.find(5, &q().equal("town", &long[1..])),
         Ok(Vec::new())
     );
-    assert_eq!(lease.find(15, &Query::of("nobody")), Err(Error::LeaseEnded));
+    assert_eq!(
+        lease.find(15, &Query::of("nobody")),
+        Err(Error::LeaseEnded { until: 15, now: 15 })
+    );
     assert_eq!(lease.find((1 << 62) + 1, &q()), Err(Error::MomentTooLarge));
     assert_eq!(db.line("log")?, "ok log 1\n");
     Ok(())
@@ -153,6 +157,7 @@ fn columns_are_those_of_the_version_of_the_lease() -> Result<(), Error> {
     for (snapshot, name) in [(&old, "age"), (&new, "by_age"), (&last, "town")] {
         let refused = Err(Error::NotPublic {
             column: Some(name.to_string()),
+            is_key: false,
         });
         let named = Query::of("people").columns([name]);
         assert_eq!(snapshot.query(&named), refused);

@@ -3,7 +3,7 @@
 mod shared;
 
 use cagzhomul::Type::{Int, Text};
-use cagzhomul::{retry, Check, Db, Error, Lease, Query, Receipt, Row, Table, Txn, Value};
+use cagzhomul::{retry, Check, Db, Error, Lease, Query, Receipt, Row, RowKey, Table, Txn, Value};
 use shared::{drive, people};
 use std::cell::Cell;
 use std::thread;
@@ -69,7 +69,8 @@ fn rows_are_as_the_store_holds_them() -> Result<(), Error> {
         txn.get("t", (2, ""))?.map(|row| row.get("n").cloned()),
         Some(Some(Value::Null))
     );
-    assert_eq!(txn.commit(0), Err(Error::Conflict));
+    let row = Some(RowKey::new("t", (1, text)));
+    assert_eq!(txn.commit(0), Err(Error::Conflict { row }));
     assert_eq!(db.check()?, rows(2));
     Ok(())
 }
@@ -91,7 +92,8 @@ fn rows_have_the_columns_of_the_version_of_the_lease() -> Result<(), Error> {
         (1, 2)
     );
     let late = before.update("people", 1, [("town", "Hof")]);
-    assert_eq!(late.commit(now.get()), Err(Error::LeaseEnded));
+    let (until, now) = (15, now.get());
+    assert_eq!(late.commit(now), Err(Error::LeaseEnded { until, now }));
     Ok(())
 }
 
@@ -120,7 +122,8 @@ fn a_change_of_a_row_that_was_got_is_a_conflict() -> Result<(), Error> {
             assert!(txn.get("people", 1)?.is_some());
             change.commit(5)?;
             txn.get("people", 2)?; // what is got later does not read the first row again
-            assert_eq!(write(txn).commit(5), Err(Error::Conflict));
+            let row = Some(RowKey::new("people", 1));
+            assert_eq!(write(txn).commit(5), Err(Error::Conflict { row }));
         }
         assert_eq!((db.session().log_length()?, db.check()?), (4, rows(1)));
     }
@@ -140,7 +143,8 @@ fn the_insertion_of_a_row_that_was_not_there_is_a_conflict() -> Result<(), Error
         let mut txn = lease.txn();
         assert_eq!(txn.get("people", 1)?, None);
         lease.txn().insert("people", 1, ()).commit(5)?;
-        assert_eq!(write(txn).write(5), Err(Error::Conflict)); // as by commit
+        let row = Some(RowKey::new("people", 1));
+        assert_eq!(write(txn).write(5), Err(Error::Conflict { row })); // as by commit
         lease.txn().delete("people", 1).commit(5)?;
     }
     assert_eq!((db.session().log_length()?, db.check()?), (7, rows(0)));
@@ -207,7 +211,8 @@ fn of_two_that_read_both_rows_and_write_one_only_the_first_is_committed() -> Res
     };
     let (first, second) = (take(1)?, take(2)?.prepare()?);
     assert_eq!(first.commit(5)?.place, 3);
-    assert_eq!(second.commit(5), Err(Error::Conflict));
+    let row = Some(RowKey::new("counters", 1));
+    assert_eq!(second.commit(5), Err(Error::Conflict { row }));
     let found = lease.find(5, &Query::of("counters"))?;
     assert_eq!(
         found
@@ -249,9 +254,9 @@ fn gets_are_refused_and_the_transaction_goes_on() -> Result<(), Error> {
     assert_eq!(faulty.commit(5), Err(Error::NoRow { operation: 1 }));
     let mut txn = lease.txn();
     txn.get("people", 1)?;
-    let column = Some("age".to_string());
+    let (column, is_key) = (Some("age".to_string()), false);
     let faulty = txn.update("people", 1, [("age", 1)]);
-    assert_eq!(faulty.commit(5), Err(Error::NotPublic { column }));
+    assert_eq!(faulty.commit(5), Err(Error::NotPublic { column, is_key }));
     Ok(())
 }
 
@@ -297,11 +302,11 @@ fn a_row_is_inserted_updated_or_left() -> Result<(), Error> {
     assert_eq!((seen, db.session().log_length()?), (vec![Some(3), None], 4));
     assert_eq!(
         lease.modify("counters", 1, one_more, 15),
-        Err(Error::LeaseEnded)
+        Err(Error::LeaseEnded { until: 15, now: 15 })
     );
-    let column = Some("m".to_string());
+    let (column, is_key) = (Some("m".to_string()), false);
     let wrong = lease.modify("counters", 1, |_| Some([("m", 1)]), 5);
-    assert_eq!(wrong, Err(Error::NotPublic { column }));
+    assert_eq!(wrong, Err(Error::NotPublic { column, is_key }));
     Ok(())
 }
 

@@ -179,10 +179,10 @@ fn a_lease_of_the_version_before_has_its_columns() -> Result<(), Error> {
     let rows = new.find(10, &all)?;
     assert_eq!(rows[0].cells(), [("town".to_string(), "Ulm".into())]);
     assert_eq!(old.find(10, &all)?, rows);
-    let column = Some("age".to_string());
+    let (column, is_key) = (Some("age".to_string()), false);
     assert_eq!(
         new.find(10, &all.columns(["age"])),
-        Err(Error::NotPublic { column })
+        Err(Error::NotPublic { column, is_key })
     );
     Ok(())
 }

@@ -4,7 +4,8 @@ mod shared;
 
 use cagzhomul::Type::{Bool, Int, Text};
 use cagzhomul::{
-    Cells, Check, Db, Error, Key, Lease, Prepared, Query, Session, Snapshot, Table, Txn, Value,
+    Cells, Check, Db, Error, Key, Lease, Prepared, Query, RowKey, Session, Snapshot, Table, Txn,
+    Value,
 };
 use shared::people;
 use std::thread;
@@ -71,9 +72,9 @@ fn a_transaction_in_one_call_is_as_one_in_four() -> Result<(), Error> {
             .update("people", 1, [(column, "x".repeat(1025))])
     };
     assert_eq!(named("town").write(5), Err(Error::WrongType));
-    let column = Some("name".to_string());
+    let (column, is_key) = (Some("name".to_string()), false);
     let other = lease.txn().update("people", 1, [("name", "x")]);
-    assert_eq!(other.write(5), Err(Error::NotPublic { column }));
+    assert_eq!(other.write(5), Err(Error::NotPublic { column, is_key }));
     let wrong = lease.txn().delete("people", "1");
     assert_eq!(wrong.write(5), Err(Error::WrongType));
     assert_eq!(
@@ -81,7 +82,10 @@ fn a_transaction_in_one_call_is_as_one_in_four() -> Result<(), Error> {
         Err(Error::NoTable)
     );
     let late = || lease.txn().delete("people", 2);
-    assert_eq!(late().write(15), Err(Error::LeaseEnded));
+    assert_eq!(
+        late().write(15),
+        Err(Error::LeaseEnded { until: 15, now: 15 })
+    );
     assert_eq!(late().write((1 << 62) + 1), Err(Error::MomentTooLarge));
     assert_eq!(
         (db.session().log_length()?, late().write(14)?.place),
@@ -98,12 +102,28 @@ fn a_transaction_is_refused_for_its_names_and_values() -> Result<(), Error> {
     let insert = |table: &str, key: Key, cells: Cells<'static>| {
         lease.txn().insert(table, key, cells).commit(5).unwrap_err()
     };
-    let public = |name: &str| Error::NotPublic {
+    let public = |name: &str, is_key| Error::NotPublic {
         column: Some(name.to_string()),
+        is_key,
     };
     let town = |value: Value| Cells::from([("town", value)]);
     assert_eq!(insert("nobody", 1.into(), town(1.into())), Error::NoTable);
-    assert_eq!(insert("people", 1.into(), [("id", 1)].into()), public("id"));
+    assert_eq!(
+        insert("people", 1.into(), [("id", 1)].into()),
+        public("id", true)
+    );
+    // the first such name is reported
+    let (town_first, x_first) = ([("town", 1), ("id", 1)], [("x", 1), ("id", 1)]);
+    assert_eq!(
+        insert("people", 1.into(), town_first.into()),
+        public("id", true)
+    );
+    assert_eq!(
+        insert("people", 1.into(), x_first.into()),
+        public("x", false)
+    );
+    let key = lease.txn().update("people", 1, [("id", 1)]).write(5);
+    assert_eq!(key, Err(public("id", true)));
     for (key, cells) in [
         (1.into(), town(1.into())),
         (1.into(), town("x".repeat(1025).into())),
@@ -122,11 +142,11 @@ fn a_transaction_is_refused_for_its_names_and_values() -> Result<(), Error> {
 fn the_first_faulty_operation_decides() -> Result<(), Error> {
     let db = people();
     let lease = db.lease(5)?;
-    let column = Some("y".to_string());
+    let (column, is_key) = (Some("y".to_string()), false);
     let wrong = || lease.txn().update("people", 1, [("y", 1)]);
     assert_eq!(
         wrong().delete("nobody", 1).commit(5),
-        Err(Error::NotPublic { column })
+        Err(Error::NotPublic { column, is_key })
     );
     let wrong = || lease.txn().update("nobody", 1, [("x", 1)]);
     assert_eq!(
@@ -146,7 +166,10 @@ fn a_transaction_is_refused_over_limits_and_out_of_time() -> Result<(), Error> {
     let long = "x".repeat(1024);
     let update = || lease.txn().update("people", 1, [("town", &long)]);
     assert_eq!(update().commit(14).map(|receipt| receipt.place), Ok(3));
-    assert_eq!(update().commit(15), Err(Error::LeaseEnded));
+    assert_eq!(
+        update().commit(15),
+        Err(Error::LeaseEnded { until: 15, now: 15 })
+    );
     assert_eq!(update().commit((1 << 62) + 1), Err(Error::MomentTooLarge));
     assert_eq!(db.lease((1 << 62) + 1).err(), Some(Error::MomentTooLarge));
     Ok(())
@@ -167,8 +190,12 @@ fn a_prepared_transaction_meets_a_conflict_or_the_end_of_its_lease() -> Result<(
         update("Ulm").prepare()?,
     );
     assert_eq!(first.commit(6)?.place, 3);
-    assert_eq!(second.commit(6), Err(Error::Conflict));
-    assert_eq!(third.commit(15), Err(Error::LeaseEnded));
+    let row = Some(RowKey::new("people", 1));
+    assert_eq!(second.commit(6), Err(Error::Conflict { row }));
+    assert_eq!(
+        third.commit(15),
+        Err(Error::LeaseEnded { until: 15, now: 15 })
+    );
     assert_eq!(
         lease.query(7, "select town from people")?[0].get("town"),
         Some(&"Bonn".into())
@@ -183,7 +210,10 @@ fn a_snapshot_stays_and_is_refused_as_a_query_is() -> Result<(), Error> {
     lease.txn().insert("people", 1, ()).commit(5)?;
     let snapshot = lease.snapshot(6)?;
     lease.txn().delete("people", 1).commit(7)?;
-    assert_eq!(lease.snapshot(15).err(), Some(Error::LeaseEnded));
+    assert_eq!(
+        lease.snapshot(15).err(),
+        Some(Error::LeaseEnded { until: 15, now: 15 })
+    );
     assert_eq!(lease.snapshot(1 << 63).err(), Some(Error::MomentTooLarge));
     drop(lease);
     drop(db);
@@ -213,7 +243,7 @@ fn queries_are_refused_as_lines_are() -> Result<(), Error> {
     );
     assert_eq!(
         lease.query(15, "select * from people"),
-        Err(Error::LeaseEnded)
+        Err(Error::LeaseEnded { until: 15, now: 15 })
     );
     assert_eq!(
         lease.query(1 << 63, "select * from people"),
@@ -221,16 +251,17 @@ fn queries_are_refused_as_lines_are() -> Result<(), Error> {
     );
     db.line("publish at 10: add column age int on people")?;
     let newer = db.lease(10)?;
-    let column = Some("age".to_string());
+    let (column, is_key) = (Some("age".to_string()), false);
     assert_eq!(
         newer.query(10, "select age from people"),
         Err(Error::NotPublic {
-            column: column.clone()
+            column: column.clone(),
+            is_key
         })
     );
     assert_eq!(
         lease.query(10, "select age from people"),
-        Err(Error::NotPublic { column })
+        Err(Error::NotPublic { column, is_key })
     );
     Ok(())
 }

@@ -46,7 +46,7 @@ impl Run {
             }
             while let Err(error) = self.insert(&lease, key) {
                 match error {
-                    Error::LeaseEnded => lease = self.db.lease(self.now())?,
+                    Error::LeaseEnded { .. } => lease = self.db.lease(self.now())?,
                     other => return Err(other),
                 }
             }
@@ -97,7 +97,7 @@ impl Run {
             };
             match read.prepare()?.commit(self.now()) {
                 Ok(Worked { ended: true, .. }) => return Ok(()),
-                Ok(_) | Err(Error::Conflict) => {}
+                Ok(_) | Err(Error::Conflict { .. }) => {}
                 Err(error) => return Err(error),
             }
         }

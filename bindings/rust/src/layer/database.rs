@@ -183,7 +183,7 @@ impl<S: Store> Layer<S> {
             let mut txn = self.txn();
             let answer = function(&mut txn);
             match answer.and_then(|answer| txn.commit().map(|_| answer)) {
-                Err(Error::Conflict) => chance::pause(PAUSE),
+                Err(Error::Conflict { .. }) => chance::pause(PAUSE),
                 ended => return ended,
             }
         }

@@ -122,7 +122,7 @@ impl<'a, S: Store> Txn<'a, S> {
                     });
                     return Ok(row);
                 }
-                None if self.version.is_some() => return Err(Error::Conflict),
+                None if self.version.is_some() => return Err(Error::Conflict { row: None }),
                 None => self.server.refresh(&version)?,
             };
         }
@@ -290,19 +290,21 @@ impl<'a, S: Store> Txn<'a, S> {
         };
         match is_applied || self.got.is_empty() {
             true => Ok(is_applied),
-            false => Err(Error::Conflict),
+            false => Err(Error::Conflict { row: None }),
         }
     }
 
     /// Why its operations were refused.
     fn refusal(&self, refusal: Refusal, names: &Names) -> Error {
         let unknown = self.ops.iter().find_map(|op| {
-            let mut columns = op.cells.iter().map(|(column, _)| column);
-            columns.find(|column| names.element(&op.table, column) == 0)
+            names.unknown(
+                &op.table,
+                op.cells.iter().map(|(column, _)| column.as_str()),
+            )
         });
         let operation = refusal.number as usize; // operations are at most 64
         match refusal.status {
-            NOT_PUBLIC => names.not_public(refusal.column, unknown.cloned()),
+            NOT_PUBLIC => names.not_public(refusal.column, unknown),
             DUPLICATE => Error::Duplicate { operation },
             NO_ROW => Error::NoRow { operation },
             // only a text over 1,024 bytes makes a bad code of what this crate writes
