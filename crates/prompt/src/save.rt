@@ -1,5 +1,5 @@
 //! The line `save FILE`, which has a checkpoint of the world kept in a file.
-ghost use Rattle.std.specs.Prelude.{◌≡◌, ◌⊎◌, ◌++◌, IfOk, OnOk, codes, string_bytes};
+ghost use Rattle.std.specs.Prelude.{◌≡◌, ◌⊎◌, ◌++◌, IfErr, IfOk, OnOk, codes, string_bytes, true, false};
 ghost use Rattle.prompt.specs.Save.{IsSaved, IsUnsaved, SaveSays, checkpoint_here, file_of, is_save};
 
 use crate::moment::first_word;
@@ -7,19 +7,19 @@ use script_json::script_session::Session;
 use script_json::world::{Checkpoint, World};
 use std::alloc::{AllocError, Global};
 use std::io;
-use std::io::ErrorKind;
 
 /// Where checkpoints are kept.
 pub trait Files {
     ghost use Rattle.prompt.specs.Save.{Keeping};
 
-    // that a file of this name was given this checkpoint to keep
+    // that a file of this name was given this checkpoint to keep, and whether it kept it
     ghost keeps: { Keeping };
 
     /// Keeps a checkpoint in a file of this name, in the place of what that has. Refused if it cannot
     /// be written.
     fn save(&mut self, name: &str, checkpoint: &Checkpoint) -> io::Result<()>
-        ensures kept { OnOk result (keeps name.now checkpoint.now) };
+        ensures kept { OnOk result (keeps name.now checkpoint.now true) }
+        ensures unkept { IfErr result (λ _. keeps name.now checkpoint.now false) };
 }
 
 /// Whether a line has the first word `save`.
@@ -41,14 +41,18 @@ fn file_of(line: &str) -> &str
     }
 }
 
-// Has a checkpoint of the world kept in a file of this name.
-fn keep_world<F: Files>(world: &World, files: &mut F, file: &str) -> io::Result<()>
-    ensures { OnOk result (F.keeps file.now (checkpoint_here world.now)) }
+// Has a checkpoint of the world kept in a file of this name. Refused if there is no memory for the
+// checkpoint, and then the file was given none.
+fn keep_world<F: Files>(
+    world: &World,
+    files: &mut F,
+    file: &str,
+) -> Result<io::Result<()>, AllocError>
+    ensures kept { IfOk result (λ r. OnOk r (F.keeps file.now (checkpoint_here world.now) true)) }
+    ensures unkept { IfOk result (λ r. IfErr r (λ _. F.keeps file.now (checkpoint_here world.now) false)) }
 {
-    match world.checkpoint() {
-        Ok(checkpoint) => files.save(file, &checkpoint),
-        Err(_) => Err(io::Error::from(ErrorKind::OutOfMemory)),
-    }
+    let checkpoint = world.checkpoint()?;
+    Ok(files.save(file, &checkpoint))
 }
 
 // That a file is not saved, and why.
@@ -65,17 +69,18 @@ fn world_saved<F: Files>(
     files: &mut F,
     file: &str,
 ) -> Result<String, AllocError>
-    ensures { IfOk result (λ text. IsSaved F.keeps world.now file.now (string_bytes text) ⊎ IsUnsaved file.now (string_bytes text)) }
+    ensures { IfOk result (λ text. IsSaved F.keeps world.now file.now (string_bytes text) ⊎ IsUnsaved F.keeps world.now file.now (string_bytes text)) }
 {
     match keep_world(world, files, file) {
-        Ok(()) => {
+        Ok(Ok(())) => {
             let entries = world.log_len();
             format!(in alloc; "{file} has the state after entry {entries}")
         }
-        Err(fault) => {
+        Ok(Err(fault)) => {
             let reason = fault.to_string(alloc)?;
             unsaved_text(alloc, file, reason.as_str())
         }
+        Err(AllocError) => unsaved_text(alloc, file, "out of memory"),
     }
 }
 

@@ -35,7 +35,7 @@ fn write_file(rt: &HostRuntime, name: &str, bytes: &[u8]) -> io::Result<()> {
 
 // What a file has then is said by no contract; `.ci/prompts` goes on from one.
 impl Files for Folder<'_> {
-    ghost keeps = { λ _ _. ⊤ };
+    ghost keeps = { λ _ _ _. ⊤ };
 
     // The bytes go into a file beside it, which takes the name when it is whole: until then the name
     // has what it had.
