@@ -1,5 +1,5 @@
 pub mod Again
 pub mod Pinned
 pub mod ReadRows
-pub mod Sessions
 pub mod Loads
+pub mod Reach

@@ -7,7 +7,6 @@ use Rattle.keycode.specs.Valid.{IsStorable}
 use Rattle.schema_version.specs.declared.step.Move.{Move}
 use Rattle.schema_version.specs.declared.step.StepFault.{StepFault}
 use Rattle.schema_version.specs.declared.step.StepFault.TheVariants as step
-use Rattle.script_session.specs.Session.{Session}
 use Rattle.script_session.specs.State.{State}
 use Rattle.script_session.specs.BeginReorg.{BeginStep}
 use Rattle.script_session.specs.Publish.{PublishStep}
@@ -16,8 +15,9 @@ use Rattle.script_session.specs.BeginFault.TheVariants as begin
 use Rattle.script_session.specs.Receipt.{Receipt}
 use Rattle.script_session.specs.PublishFault.{PublishFault}
 use Rattle.script_session.specs.PublishFault.TheVariants as publish
-use Rattle.typed_calls.specs.Sessions.{InSession, IsNoCode}
-use Rattle.typed_calls.specs.Statuses.{bad_code, bad_count, begun, dependent, moment_too_large, name_taken, not_adjacent, not_opened, not_wanted, out_of_memory, over_limit, still_used, too_early, unfinished, unknown, versions_spent, wrong_way}
+use Rattle.typed_calls.specs.Bounded.{Within, IsNoCode}
+use Rattle.typed_calls.specs.Statuses.{bad_code, bad_count, begun, dependent, moment_too_large, name_taken, not_adjacent, not_wanted, out_of_memory, over_limit, still_used, too_early, too_far, unfinished, unknown, versions_spent, wrong_way}
+use Rattle.typed_calls.specs.declared.bounded.BoundedWorld.{BoundedWorld}
 use Rattle.typed_calls.specs.declared.changes.ChangeRefusal.{ChangeRefusal}
 
 -- a status without a number
@@ -59,8 +59,8 @@ PublishesWorld old moment code answer new =
     ⊎ ((answer ≡ Err (change_alone out_of_memory)) × (new ≡ old))
     ⊎ PublishesCode old moment code answer new
 
-abbrev pub PublishesIn : Session → ℕ → List ℕ → Result ℕ ChangeRefusal → Session → Type 0
-PublishesIn old moment code answer new = InSession (Err (change_alone not_opened)) (λ world a world'. PublishesWorld world moment code a world') old answer new
+abbrev pub PublishesIn : BoundedWorld → ℕ → List ℕ → Result ℕ ChangeRefusal → BoundedWorld → Type 0
+PublishesIn old moment code answer new = Within (Err (change_alone too_far)) (λ world a world'. PublishesWorld world moment code a world') old moment answer new
 
 -- ---- begin_reorg
 
@@ -77,5 +77,5 @@ abbrev pub BeginsWorld : State → ℕ → ℕ → ℕ → Result ℕ ChangeRefu
 BeginsWorld old moment element pieces (Ok place) new = (receipt : Receipt) × BeginStep old moment element pieces (Ok receipt) new × (place ≡ receipt.place)
 BeginsWorld old moment element pieces (Err refusal) new = (fault : BeginFault) × BeginStep old moment element pieces (Err fault) new × (refusal ≡ begin_refusal fault)
 
-abbrev pub BeginsIn : Session → ℕ → ℕ → ℕ → Result ℕ ChangeRefusal → Session → Type 0
-BeginsIn old moment element pieces answer new = InSession (Err (change_alone not_opened)) (λ world a world'. BeginsWorld world moment element pieces a world') old answer new
+abbrev pub BeginsIn : BoundedWorld → ℕ → ℕ → ℕ → Result ℕ ChangeRefusal → BoundedWorld → Type 0
+BeginsIn old moment element pieces answer new = Within (Err (change_alone too_far)) (λ world a world'. BeginsWorld world moment element pieces a world') old moment answer new

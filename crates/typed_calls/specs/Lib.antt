@@ -11,17 +11,16 @@ pub use Rattle.script_session.specs.declared.session.Opened
 pub use Rattle.script_session.specs.declared.session.ServerLease
 pub use Rattle.script_session.specs.declared.session.Session as SessionVariants
 pub mod Statuses
-pub mod Sessions
+pub mod Bounded
 pub mod Opening
 pub mod Leases
 pub mod Pins
-pub mod Txns
-pub mod Operations
+pub mod Reads
 pub mod Prepare
 pub mod Refusals
 pub mod Commit
+pub mod Proposals
 pub mod Snapshots
-pub mod Cuts
 pub mod Checkpoints
 pub mod Queries
 pub mod Pages

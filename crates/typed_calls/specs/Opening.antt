@@ -1,19 +1,17 @@
--- Cited by the contracts of open_session and of what it calls.
--- A session that is opened by the code of its opening.
-use Rattle.std.specs.Prelude.{◌≡◌, ℕ, ◌⊎◌, ℤ, List, [], Result, Ok, Err}
-use Rattle.std.specs.FinMap as map
+-- Cited by the contracts of open and of what it calls.
+-- A world that is opened by the code of its opening.
+use Rattle.std.specs.Prelude.{◌≡◌, ℕ, ◌⊎◌, ℤ, List, Result, Ok, Err}
 use Rattle.entry_code.specs.Code.{opening_code}
 use Rattle.entry_code.specs.Known.{IsOpening}
 use Rattle.schema_version.specs.declared.table.TableDef.{TableDef}
-use Rattle.script_session.specs.Session.{Session}
-use Rattle.script_session.specs.declared.session.Session.TheVariants.{Running}
 use Rattle.script_session.specs.State.{State}
 use Rattle.script_session.specs.Calls.{OpenStep}
 use Rattle.script_session.specs.Config.{Config}
 use Rattle.script_session.specs.OpenFault.{OpenFault}
 use Rattle.script_session.specs.OpenFault.TheVariants.{BadTable, BadLength, Memory}
-use Rattle.typed_calls.specs.Sessions.{IsNoCode}
+use Rattle.typed_calls.specs.Bounded.{IsNoCode}
 use Rattle.typed_calls.specs.Statuses.{bad_table, bad_length, out_of_memory, bad_code}
+use Rattle.typed_calls.specs.declared.bounded.BoundedWorld.{BoundedWorld}
 
 abbrev pub open_status : OpenFault → ℤ
 open_status BadTable = bad_table
@@ -36,10 +34,7 @@ OpensCode code answer = (opening : ℕ × List TableDef) × IsOpening opening ×
 abbrev pub OpensWorld : List ℕ → Result State ℤ → Type 0
 OpensWorld code answer = ((answer ≡ Err bad_code) × IsNoCode IsOpening opening_code code) ⊎ (answer ≡ Err out_of_memory) ⊎ OpensCode code answer
 
--- a session over the world, with no leases, nothing prepared and no plan
-abbrev pub session_over : State → Session
-session_over world = Running (record { world = world; leases = map.empty; pending = map.empty; plan = [] })
-
-abbrev pub OpensSession : List ℕ → Result Session ℤ → Type 0
-OpensSession code (Ok session) = (world : State) × OpensWorld code (Ok world) × (session ≡ session_over world)
-OpensSession code (Err status) = OpensWorld code (Err status)
+-- the world, with this furthest jump
+abbrev pub OpensBounded : List ℕ → ℕ → Result BoundedWorld ℤ → Type 0
+OpensBounded code furthest (Ok bounded) = OpensWorld code (Ok bounded.world) × (bounded.furthest ≡ furthest)
+OpensBounded code furthest (Err status) = OpensWorld code (Err status)

@@ -1,5 +1,5 @@
 -- Cited by the contracts of query_page, query_page_snapshot and of what they call.
--- Pages of queries by the code of their request, of a session's world under a lease and of a snapshot.
+-- Pages of queries by the code of their request, of a world under a lease and of a snapshot.
 use Rattle.std.specs.Prelude.{◌≡◌, ℕ, ◌⊎◌, List, Result, Ok, Err}
 use Rattle.entry_code.specs.Code.{rows_code}
 use Rattle.keycode.specs.Valid.{IsStorable}
@@ -9,15 +9,15 @@ use Rattle.page_code.specs.declared.request.PageRequest.{PageRequest}
 use Rattle.row_page.specs.declared.fault.PageFault.{PageFault}
 use Rattle.row_page.specs.declared.fault.PageFault.TheVariants as fault
 use Rattle.row_page.specs.declared.page.RowPage.{RowPage}
-use Rattle.script_session.specs.Session.{Session}
 use Rattle.script_session.specs.Snapshot.{Taken}
 use Rattle.script_session.specs.State.{State}
 use Rattle.world.specs.Page.{PageStep, IsSnapshotPage}
 use Rattle.world.specs.declared.page.PageRefusal.{PageRefusal}
 use Rattle.world.specs.declared.page.PageRefusal.TheVariants as refusal
 use Rattle.typed_calls.specs.Queries.{query_alone, fault_outcome}
-use Rattle.typed_calls.specs.Sessions.{OfSession, IsNoCode}
-use Rattle.typed_calls.specs.Statuses.{bad_code, bad_count, bad_lease, lease_ended, moment_too_large, not_opened, out_of_memory}
+use Rattle.typed_calls.specs.Bounded.{SeenWithin, IsNoCode}
+use Rattle.typed_calls.specs.Statuses.{bad_code, bad_count, bad_lease, lease_ended, moment_too_large, out_of_memory, too_far}
+use Rattle.typed_calls.specs.declared.bounded.BoundedWorld.{BoundedWorld}
 use Rattle.typed_calls.specs.declared.pages.CodedPage.{CodedPage}
 use Rattle.typed_calls.specs.declared.queries.QueryOutcome.{QueryOutcome}
 
@@ -55,9 +55,9 @@ PagesWorld world moment lease asked (Err outcome) =
     (outcome ≡ query_alone out_of_memory)
     ⊎ ((fault : PageRefusal) × PageStep world moment lease asked.query asked.range asked.limit (Err fault) × (outcome ≡ page_refusal fault))
 
-abbrev pub PagesIn : Session → ℕ → Lease → List ℕ → Result CodedPage QueryOutcome → Type 0
-PagesIn session moment lease code answer =
-    OfSession (Err (query_alone not_opened)) (λ world a. AnswersRequest (PagesWorld world moment lease) code a) session answer
+abbrev pub PagesIn : BoundedWorld → ℕ → Lease → List ℕ → Result CodedPage QueryOutcome → Type 0
+PagesIn bounded moment lease code answer =
+    SeenWithin (Err (query_alone too_far)) (λ world a. AnswersRequest (PagesWorld world moment lease) code a) bounded moment answer
 
 -- the same of a snapshot's
 abbrev pub PagesTaken : Taken → PageRequest → Result CodedPage QueryOutcome → Type 0

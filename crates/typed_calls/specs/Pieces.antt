@@ -1,10 +1,9 @@
 -- Cited by the contracts of read_piece, prepare_piece, commit_piece and of what they call.
--- A piece of a begun reorganisation in a session's world: it is read, prepared and committed.
+-- A piece of a begun reorganisation in a world: it is read, prepared and committed.
 use Rattle.std.specs.Prelude.{◌≡◌, ℕ, ℤ, Result, Ok, Err}
 use Rattle.reorganise.specs.declared.fault.ViewFault.{ViewFault}
 use Rattle.reorganise.specs.declared.fault.ViewFault.TheVariants.{BadPiece, Spent, BadLimit, Memory}
 use Rattle.reorganise.specs.declared.read.Reading.{Reading}
-use Rattle.script_session.specs.Session.{Session}
 use Rattle.script_session.specs.State.{State}
 use Rattle.script_session.specs.Piece.{ReadStep, PieceStep}
 use Rattle.script_session.specs.PieceDone.{PieceDone}
@@ -12,10 +11,9 @@ use Rattle.script_session.specs.PieceFault.{PieceFault}
 use Rattle.script_session.specs.PieceFault.TheVariants as piece_fault
 use Rattle.script_session.specs.ReadFault.{ReadFault}
 use Rattle.script_session.specs.ReadFault.TheVariants as read_fault
-use Rattle.typed_calls.specs.Sessions.{InSession, OfSession}
-use Rattle.typed_calls.specs.Statuses.{bad_count, bad_piece, conflict, moment_too_large, moved, not_opened, not_wanted, out_of_memory, spent, wrong_element, wrong_stage}
-use Rattle.typed_calls.specs.declared.pieces.PieceWork.{PieceWork}
-use Rattle.typed_calls.specs.declared.pieces.PieceWork.TheVariants.{Read, Prepared}
+use Rattle.typed_calls.specs.Bounded.{Within}
+use Rattle.typed_calls.specs.Statuses.{bad_count, bad_piece, conflict, moment_too_large, moved, not_wanted, out_of_memory, spent, too_far, wrong_element}
+use Rattle.typed_calls.specs.declared.bounded.BoundedWorld.{BoundedWorld}
 
 -- ---- read_piece
 
@@ -30,20 +28,16 @@ unread_status read_fault.NotWanted = not_wanted
 unread_status (read_fault.View fault) = view_status fault
 
 -- what `World::read_piece` reads, or the status of its refusal
-abbrev pub ReadsPiece : State → ℕ → ℕ → ℕ → Result PieceWork ℤ → Type 0
-ReadsPiece world element piece limit (Ok work) = (read : Reading) × ReadStep world element piece limit (Ok read) × (work ≡ Read read)
+abbrev pub ReadsPiece : State → ℕ → ℕ → ℕ → Result Reading ℤ → Type 0
+ReadsPiece world element piece limit (Ok read) = ReadStep world element piece limit (Ok read)
 ReadsPiece world element piece limit (Err status) = (fault : ReadFault) × ReadStep world element piece limit (Err fault) × (status ≡ unread_status fault)
-
-abbrev pub ReadsPieceIn : Session → ℕ → ℕ → ℕ → Result PieceWork ℤ → Type 0
-ReadsPieceIn session element piece limit answer = OfSession (Err not_opened) (λ world a. ReadsPiece world element piece limit a) session answer
 
 -- ---- prepare_piece
 
 -- of the same that was read; a piece that is refused comes back
-abbrev pub PreparesPiece : PieceWork → Result PieceWork (ℤ × PieceWork) → Type 0
-PreparesPiece (Read read) (Ok work) = work ≡ Prepared read
-PreparesPiece (Read read) (Err refusal) = refusal ≡ (out_of_memory, Read read)
-PreparesPiece (Prepared read) answer = answer ≡ Err (wrong_stage, Prepared read)
+abbrev pub PreparesPiece : Reading → Result Reading (ℤ × Reading) → Type 0
+PreparesPiece read (Ok prepared) = prepared ≡ read
+PreparesPiece read (Err refusal) = refusal ≡ (out_of_memory, read)
 
 -- ---- commit_piece
 
@@ -56,14 +50,10 @@ piece_status (piece_fault.Conflict key) = conflict
 piece_status piece_fault.Memory = out_of_memory
 
 -- the step of `World::commit_piece`, or the status of its refusal with the piece
-abbrev pub CommitsPrepared : State → ℕ → Reading → Result PieceDone (ℤ × PieceWork) → State → Type 0
-CommitsPrepared old moment read (Ok done) new = PieceStep old moment read (Ok done) new
-CommitsPrepared old moment read (Err refusal) new =
-    (fault : PieceFault) × PieceStep old moment read (Err (fault, read)) new × (refusal ≡ (piece_status fault, Prepared read))
+abbrev pub CommitsPiece : State → ℕ → Reading → Result PieceDone (ℤ × Reading) → State → Type 0
+CommitsPiece old moment read (Ok done) new = PieceStep old moment read (Ok done) new
+CommitsPiece old moment read (Err refusal) new =
+    (fault : PieceFault) × PieceStep old moment read (Err (fault, read)) new × (refusal ≡ (piece_status fault, read))
 
-abbrev pub CommitsPiece : State → ℕ → PieceWork → Result PieceDone (ℤ × PieceWork) → State → Type 0
-CommitsPiece old moment (Prepared read) answer new = CommitsPrepared old moment read answer new
-CommitsPiece old moment (Read read) answer new = (answer ≡ Err (wrong_stage, Read read)) × (new ≡ old)
-
-abbrev pub CommitsPieceIn : Session → ℕ → PieceWork → Result PieceDone (ℤ × PieceWork) → Session → Type 0
-CommitsPieceIn old moment work answer new = InSession (Err (not_opened, work)) (λ world a world'. CommitsPiece world moment work a world') old answer new
+abbrev pub CommitsPieceIn : BoundedWorld → ℕ → Reading → Result PieceDone (ℤ × Reading) → BoundedWorld → Type 0
+CommitsPieceIn old moment read answer new = Within (Err (too_far, read)) (λ world a world'. CommitsPiece world moment read a world') old moment answer new

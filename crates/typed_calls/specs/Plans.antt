@@ -1,5 +1,5 @@
 -- Cited by the contracts of plan and of what it calls.
--- The least plan of a batch of changes by their code, from the newest version of a session's world: the code of its steps.
+-- The least plan of a batch of changes by their code, from a version: the code of its steps.
 use Rattle.std.specs.Prelude.{◌≡◌, ◌⊎◌, ℕ, ℤ, List, Result, Ok, Err}
 use Rattle.change_plan.specs.declared.change.Change.{Change}
 use Rattle.change_plan.specs.declared.fault.PlanFault.{PlanFault}
@@ -12,10 +12,8 @@ use Rattle.entry_code.specs.Code.{changes_code, plan_code}
 use Rattle.entry_code.specs.Known.{AreChanges}
 use Rattle.keycode.specs.Valid.{IsStorable}
 use Rattle.schema_version.specs.Version.{Version}
-use Rattle.script_session.specs.Session.{Session}
-use Rattle.script_session.specs.State.{facts_of}
-use Rattle.typed_calls.specs.Sessions.{OfSession, IsNoCode}
-use Rattle.typed_calls.specs.Statuses.{bad_code, dependent, in_change, name_taken, not_opened, out_of_memory, over_limit, unknown}
+use Rattle.typed_calls.specs.Bounded.{IsNoCode}
+use Rattle.typed_calls.specs.Statuses.{bad_code, dependent, in_change, name_taken, out_of_memory, over_limit, unknown}
 
 -- what a batch that cannot be planned is reported as
 abbrev pub plan_status : PlanFault → ℤ
@@ -40,6 +38,3 @@ PlansCode version code answer =
     ((answer ≡ Err bad_code) × IsNoCode (AreChanges IsStorable) changes_code code)
     ⊎ (answer ≡ Err out_of_memory)
     ⊎ ((changes : List Change) × AreChanges IsStorable changes × (code ≡ changes_code changes) × PlansFrom version changes answer)
-
-abbrev pub PlansIn : Session → List ℕ → Result (List ℕ) ℤ → Type 0
-PlansIn session code answer = OfSession (Err not_opened) (λ world a. PlansCode (facts_of world).newest code a) session answer

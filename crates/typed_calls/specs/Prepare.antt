@@ -9,10 +9,9 @@ use Rattle.row_write.specs.declared.op.RowOp.{RowOp}
 use Rattle.row_write.specs.declared.fault.PrepareFault.{PrepareFault}
 use Rattle.row_write.specs.declared.fault.PrepareFault.TheVariants.{NoTable, NotPublic, WrongType, TooManyOps, ViewMismatch, Memory}
 use Rattle.script_session.specs.declared.session.ServerLease.{ServerLease}
-use Rattle.typed_calls.specs.Statuses.{no_table, not_public, wrong_type, too_many_ops, view_mismatch, out_of_memory, wrong_stage}
+use Rattle.typed_calls.specs.Statuses.{no_table, not_public, wrong_type, too_many_ops, view_mismatch, out_of_memory}
 use Rattle.typed_calls.specs.declared.preparation.PrepareOutcome.{PrepareOutcome}
-use Rattle.typed_calls.specs.declared.txns.Txn.{Txn}
-use Rattle.typed_calls.specs.declared.txns.Txn.TheVariants.{Wanted, Read, Prepared}
+use Rattle.typed_calls.specs.declared.reads.Reads.{Reads}
 
 -- a status without a column
 abbrev pub prepare_alone : ℤ → PrepareOutcome
@@ -42,12 +41,6 @@ abbrev pub IsUnprepared : ServerLease → List RowOp → View → PrepareOutcome
 IsUnprepared held ops view outcome =
     (outcome ≡ prepare_alone out_of_memory) ⊎ ((fault : PrepareFault) × IsRefusal rank (Condition held.schema ops view) Memory fault × (outcome ≡ prepare_outcome fault))
 
--- a transaction that is refused comes back
-abbrev pub PreparesRead : ServerLease → List RowOp → View → Result Txn (PrepareOutcome × Txn) → Type 0
-PreparesRead held ops view (Ok txn) = (prepared : PreparedTxn) × IsPreparedFrom held ops view prepared × (txn ≡ Prepared prepared)
-PreparesRead held ops view (Err refusal) = IsUnprepared held ops view refusal.0 × (refusal.1 ≡ Read held ops view)
-
-abbrev pub Prepares : Txn → Result Txn (PrepareOutcome × Txn) → Type 0
-Prepares (Read held ops view) answer = PreparesRead held ops view answer
-Prepares (Wanted held ops keys pins) answer = answer ≡ Err (prepare_alone wrong_stage, Wanted held ops keys pins)
-Prepares (Prepared prepared) answer = answer ≡ Err (prepare_alone wrong_stage, Prepared prepared)
+abbrev pub Prepares : Reads → Result PreparedTxn PrepareOutcome → Type 0
+Prepares reads (Ok prepared) = IsPreparedFrom reads.held reads.ops reads.view prepared
+Prepares reads (Err outcome) = IsUnprepared reads.held reads.ops reads.view outcome

@@ -1,5 +1,5 @@
 -- Cited by the contracts of progress, status_line and of what they call.
--- How far a begun reorganisation of a session's world is, and how the world stands.
+-- How far a begun reorganisation of a world is, and how the world stands.
 use Rattle.std.specs.Prelude.{◌≡◌, ℕ, ℤ, length, Result, Ok, Err, String, string_bytes, option_map, ok_or, unwrap_or}
 use Rattle.std.specs.Global.{Global}
 use Rattle.reorganise.specs.Left.{items_left, open_from}
@@ -9,10 +9,8 @@ use Rattle.reorganise.specs.declared.work.Progress.{Progress}
 use Rattle.replay.specs.Replay.{progress_of}
 use Rattle.row_map.specs.Rows.{Pairs}
 use Rattle.script_session.specs.Status.{IsStatus}
-use Rattle.script_session.specs.Session.{Session}
 use Rattle.script_session.specs.State.{State, facts_of}
-use Rattle.typed_calls.specs.Sessions.{OfSession}
-use Rattle.typed_calls.specs.Statuses.{not_opened, not_wanted, out_of_memory}
+use Rattle.typed_calls.specs.Statuses.{not_wanted, out_of_memory}
 use Rattle.typed_calls.specs.declared.standing.Reached.{Reached}
 
 -- ---- progress
@@ -30,15 +28,9 @@ reached progress pairs = record {
 abbrev pub reached_at : State → ℕ → Result Reached ℤ
 reached_at world element = ok_or (option_map (λ progress. reached progress world.pairs) (progress_of (facts_of world).progress element)) not_wanted
 
-abbrev pub ProgressIn : Session → ℕ → Result Reached ℤ → Type 0
-ProgressIn session element answer = OfSession (Err not_opened) (λ world a. a ≡ reached_at world element) session answer
-
 -- ---- status_line
 
 -- the line that tells how the world stands, unless memory ran out
 abbrev pub TellsStatus : State → Result (String Global) ℤ → Type 0
 TellsStatus world (Ok line) = IsStatus world (string_bytes line)
 TellsStatus world (Err status) = status ≡ out_of_memory
-
-abbrev pub StatusIn : Session → Result (String Global) ℤ → Type 0
-StatusIn session answer = OfSession (Err not_opened) TellsStatus session answer

@@ -1,5 +1,5 @@
 -- Cited by the contracts of query, query_snapshot and of what they call.
--- Queries by their code, of a session's world under a lease and of a snapshot: the code of the rows that are answered.
+-- Queries by their code, of a world under a lease and of a snapshot: the code of the rows that are answered.
 use Rattle.std.specs.Prelude.{◌≡◌, ℕ, ◌⊎◌, ℤ, List, Result, Ok, Err}
 use Rattle.entry_code.specs.Code.{query_code, rows_code}
 use Rattle.entry_code.specs.Known.{IsQuery}
@@ -9,14 +9,14 @@ use Rattle.row_map.specs.declared.shape.Row.{Row}
 use Rattle.row_query.specs.declared.fault.QueryFault.{QueryFault}
 use Rattle.row_query.specs.declared.fault.QueryFault.TheVariants.{NoTable, NotPublic, WrongType, Memory}
 use Rattle.row_query.specs.declared.query.Query.{Query}
-use Rattle.script_session.specs.Session.{Session}
 use Rattle.script_session.specs.State.{State}
 use Rattle.script_session.specs.WorldQuery.{QueryStep}
 use Rattle.script_session.specs.Snapshot.{Taken, IsSnapshotAnswer}
 use Rattle.script_session.specs.QueryRefusal.{QueryRefusal}
 use Rattle.script_session.specs.QueryRefusal.TheVariants as refusal
-use Rattle.typed_calls.specs.Sessions.{OfSession, IsNoCode}
-use Rattle.typed_calls.specs.Statuses.{bad_code, bad_lease, lease_ended, moment_too_large, no_table, not_opened, not_public, out_of_memory, wrong_type}
+use Rattle.typed_calls.specs.Bounded.{SeenWithin, IsNoCode}
+use Rattle.typed_calls.specs.Statuses.{bad_code, bad_lease, lease_ended, moment_too_large, no_table, not_public, out_of_memory, too_far, wrong_type}
+use Rattle.typed_calls.specs.declared.bounded.BoundedWorld.{BoundedWorld}
 use Rattle.typed_calls.specs.declared.queries.QueryOutcome.{QueryOutcome}
 
 -- a status without a column
@@ -51,9 +51,9 @@ QueriesWorld world moment lease query (Err outcome) =
     (outcome ≡ query_alone out_of_memory)
     ⊎ ((fault : QueryRefusal) × QueryStep world moment lease query (Err fault) × (outcome ≡ query_outcome fault))
 
-abbrev pub QueriesIn : Session → ℕ → Lease → List ℕ → Result (List ℕ) QueryOutcome → Type 0
-QueriesIn session moment lease code answer =
-    OfSession (Err (query_alone not_opened)) (λ world a. AnswersCode (QueriesWorld world moment lease) code a) session answer
+abbrev pub QueriesIn : BoundedWorld → ℕ → Lease → List ℕ → Result (List ℕ) QueryOutcome → Type 0
+QueriesIn bounded moment lease code answer =
+    SeenWithin (Err (query_alone too_far)) (λ world a. AnswersCode (QueriesWorld world moment lease) code a) bounded moment answer
 
 -- the same of a snapshot's
 abbrev pub QueriesTaken : Taken → Query → Result (List ℕ) QueryOutcome → Type 0

@@ -16,11 +16,9 @@ use Rattle.row_write.specs.Made.{expects}
 use Rattle.row_write.specs.Reads.{IsRowKey}
 use Rattle.schema_version.specs.Version.{Version}
 use Rattle.script_session.specs.Snapshot.{Taken, IsSnapshotAnswer}
-use Rattle.typed_calls.specs.Queries.{AnswersCode, fault_outcome, query_alone}
-use Rattle.typed_calls.specs.Statuses.{bad_code, out_of_memory, view_mismatch, wrong_stage}
+use Rattle.typed_calls.specs.Queries.{fault_outcome, query_alone}
+use Rattle.typed_calls.specs.Statuses.{bad_code, out_of_memory, view_mismatch}
 use Rattle.typed_calls.specs.declared.queries.QueryOutcome.{QueryOutcome}
-use Rattle.typed_calls.specs.declared.txns.Txn.{Txn}
-use Rattle.typed_calls.specs.declared.txns.Txn.TheVariants.{Wanted, Read, Prepared}
 
 -- the key that is the only condition
 abbrev pub only_key : List Cond → Option (List Value)
@@ -59,8 +57,3 @@ QueriesKey version view query (Some key) (Err outcome) = IsReadRefusal version v
 
 abbrev pub QueriesRow : Version → View → Query → Result (List ℕ) QueryOutcome → Type 0
 QueriesRow version view query answer = QueriesKey version view query (only_key query.conditions) answer
-
-abbrev pub QueriesRead : Txn → List ℕ → Result (List ℕ) QueryOutcome → Type 0
-QueriesRead (Read held ops view) code answer = AnswersCode (QueriesRow held.schema view) code answer
-QueriesRead (Wanted held ops keys pins) code answer = answer ≡ Err (query_alone wrong_stage)
-QueriesRead (Prepared prepared) code answer = answer ≡ Err (query_alone wrong_stage)

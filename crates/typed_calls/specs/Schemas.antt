@@ -4,16 +4,9 @@ use Rattle.std.specs.Prelude.{◌≡◌, ℕ, ℤ, List, Result, Ok, Err}
 use Rattle.checkpoint_code.specs.Head.{schema_parts}
 use Rattle.entry_code.specs.Records.{schema_parts_code}
 use Rattle.schema_version.specs.Version.{Version}
-use Rattle.script_session.specs.Session.{Session}
-use Rattle.script_session.specs.State.{facts_of}
-use Rattle.typed_calls.specs.Sessions.{OfSession}
-use Rattle.typed_calls.specs.Statuses.{not_opened, out_of_memory}
+use Rattle.typed_calls.specs.Statuses.{out_of_memory}
 
 -- the code of the version, unless memory ran out
 abbrev pub CodesSchema : Version → Result (List ℕ) ℤ → Type 0
 CodesSchema version (Ok code) = code ≡ schema_parts_code (schema_parts version)
 CodesSchema version (Err status) = status ≡ out_of_memory
-
--- that of the newest version
-abbrev pub SchemaIn : Session → Result (List ℕ) ℤ → Type 0
-SchemaIn session answer = OfSession (Err not_opened) (λ world a. CodesSchema (facts_of world).newest a) session answer

@@ -20,9 +20,6 @@ not_utf8 = pos 4
 abbrev pub out_of_memory : ℤ
 out_of_memory = pos 5
 
-abbrev pub not_opened : ℤ
-not_opened = pos 6
-
 abbrev pub no_entry : ℤ
 no_entry = pos 7
 
@@ -46,12 +43,6 @@ moment_too_large = pos 13
 
 abbrev pub versions_spent : ℤ
 versions_spent = pos 14
-
-abbrev pub wrong_kind : ℤ
-wrong_kind = pos 15
-
-abbrev pub wrong_stage : ℤ
-wrong_stage = pos 16
 
 abbrev pub bad_code : ℤ
 bad_code = pos 17
@@ -143,7 +134,10 @@ moved = pos 45
 abbrev pub in_change : ℤ
 in_change = pos 46
 
--- the text of each, in the order of their numbers
+abbrev pub too_far : ℤ
+too_far = pos 47
+
+-- the text of each, in the order of their numbers; 6, 15 and 16 are none
 abbrev pub texts : List (List ℕ)
 texts =
     codes "ok" ∷
@@ -152,7 +146,7 @@ texts =
     codes "the handle is open already" ∷
     codes "the line is not UTF-8" ∷
     codes "out of memory" ∷
-    codes "no world is open yet" ∷
+    codes "no status" ∷
     codes "the log has no such place" ∷
     codes "the bytes are the code of no entry" ∷
     codes "no call of this world would add the entry" ∷
@@ -161,8 +155,8 @@ texts =
     codes "the pieces are not 1 to 64, or the limit is not 1 to 1,000" ∷
     codes "the moment is above 2^62" ∷
     codes "no version is left" ∷
-    codes "the handle holds something of another kind" ∷
-    codes "the work is not at the stage that the call takes" ∷
+    codes "no status" ∷
+    codes "no status" ∷
     codes "the bytes are no code of what they should be" ∷
     codes "the declaration breaks a limit, or uses a name twice" ∷
     codes "the lease length is not from 1 to 2^32" ∷
@@ -193,6 +187,7 @@ texts =
     codes "the piece is not one of the element's reorganisation" ∷
     codes "the piece has moved since it was read" ∷
     codes "an element that a change names is in change" ∷
+    codes "the moment is further beyond that of the last entry than the world allows" ∷
     []
 
 abbrev pub no_text : List ℕ

@@ -9,7 +9,6 @@ use Rattle.keycode.specs.Valid.{IsStorable}
 use Rattle.row_map.specs.Expect.{View}
 use Rattle.row_write.specs.Made.{PreparedTxn}
 use Rattle.row_write.specs.declared.op.RowOp.{RowOp}
-use Rattle.script_session.specs.Session.{Session}
 use Rattle.script_session.specs.declared.session.ServerLease.{ServerLease}
 use Rattle.script_session.specs.State.{State}
 use Rattle.script_session.specs.Calls.{CommitStep, IsReadView}
@@ -17,9 +16,10 @@ use Rattle.script_session.specs.Committed.{Committed}
 use Rattle.script_session.specs.CommitFault.{CommitFault}
 use Rattle.typed_calls.specs.Prepare.{IsPreparedFrom, IsUnprepared}
 use Rattle.typed_calls.specs.Refusals.{refused}
-use Rattle.typed_calls.specs.Sessions.{InSession, IsNoCode}
-use Rattle.typed_calls.specs.Statuses.{bad_code, out_of_memory, not_opened}
-use Rattle.typed_calls.specs.Txns.{AreReads}
+use Rattle.typed_calls.specs.Bounded.{Within, IsNoCode}
+use Rattle.typed_calls.specs.Statuses.{bad_code, out_of_memory, too_far}
+use Rattle.typed_calls.specs.Reads.{AreReads}
+use Rattle.typed_calls.specs.declared.bounded.BoundedWorld.{BoundedWorld}
 use Rattle.typed_calls.specs.declared.preparation.PrepareOutcome.{PrepareOutcome}
 use Rattle.typed_calls.specs.declared.refusals.TxnRefusal.{TxnRefusal}
 use Rattle.typed_calls.specs.declared.refusals.TxnRefusal.TheVariants.{Early, Commit}
@@ -56,6 +56,6 @@ WritesWorld old moment held code answer new =
     ⊎ ((answer ≡ Err (refused out_of_memory)) × (new ≡ old))
     ⊎ WritesCode old moment held code answer new
 
-abbrev pub WritesIn : Session → ℕ → ServerLease → List ℕ → Result Committed TxnRefusal → Session → Type 0
+abbrev pub WritesIn : BoundedWorld → ℕ → ServerLease → List ℕ → Result Committed TxnRefusal → BoundedWorld → Type 0
 WritesIn old moment held code answer new =
-    InSession (Err (refused not_opened)) (λ world a world'. WritesWorld world moment held code a world') old answer new
+    Within (Err (refused too_far)) (λ world a world'. WritesWorld world moment held code a world') old moment answer new

@@ -2,14 +2,14 @@
 ghost use Rattle.std.specs.Prelude.{◌≡◌};
 ghost use Rattle.typed_calls.specs.Changes.{step_refusal, publish_refusal, begin_refusal, PublishesStep, PublishesWorld, PublishesIn, BeginsWorld, BeginsIn};
 
+use crate::bounded::BoundedWorld;
 use crate::status::{
-    BAD_CODE, BAD_COUNT, BEGUN, DEPENDENT, MOMENT_TOO_LARGE, NAME_TAKEN, NOT_ADJACENT, NOT_OPENED,
-    NOT_WANTED, OUT_OF_MEMORY, OVER_LIMIT, STILL_USED, TOO_EARLY, UNFINISHED, UNKNOWN,
-    VERSIONS_SPENT, WRONG_WAY,
+    BAD_CODE, BAD_COUNT, BEGUN, DEPENDENT, MOMENT_TOO_LARGE, NAME_TAKEN, NOT_ADJACENT, NOT_WANTED,
+    OUT_OF_MEMORY, OVER_LIMIT, STILL_USED, TOO_EARLY, TOO_FAR, UNFINISHED, UNKNOWN, VERSIONS_SPENT,
+    WRONG_WAY,
 };
 use entry_code::{CodeFault, step_of};
 use schema_version::{Step, StepFault};
-use script_session::Session;
 use script_session::world::{BeginFault, PublishFault, World};
 use std::alloc::Global;
 
@@ -101,29 +101,29 @@ fn publish_to(
     }
 }
 
-/// Publishes the version that a step gives, in the session's world, and gives its number.
+/// Publishes the version that a step gives, in a world, and gives its number.
 ///
 /// - `moment`: the present moment. The one that counts is the greater of it and the moment of the
 ///   last entry.
 /// - `code`: what `entry_code::step_bytes` gives for the step.
 ///
-/// Refused, in this order, and then nothing changes: `NOT_OPENED` if the session has no world yet;
-/// `BAD_CODE` if the bytes are the code of no step; then as `World::publish` refuses:
+/// Refused, in this order, and then nothing changes: `TOO_FAR`; `BAD_CODE` if the bytes are the
+/// code of no step; then as `World::publish` refuses:
 /// `MOMENT_TOO_LARGE`, `TOO_EARLY` with the first moment, the step's own `UNKNOWN`, `NOT_ADJACENT`,
 /// `WRONG_WAY`, `DEPENDENT` with the element, `NAME_TAKEN` and `OVER_LIMIT`, `UNFINISHED` with the
-/// element, `VERSIONS_SPENT`; `OUT_OF_MEMORY`, which may come in place of any but `NOT_OPENED`.
+/// element, `VERSIONS_SPENT`; `OUT_OF_MEMORY`, which may come in place of any but `TOO_FAR`.
 pub fn publish(
     alloc: Global,
-    session: &mut Session,
+    bounded: &mut BoundedWorld,
     moment: u64,
     code: &[u8],
 ) -> Result<u64, ChangeRefusal>
-    ensures { PublishesIn session.old moment code.now result session.new }
+    ensures { PublishesIn bounded.old moment code.now result bounded.new }
 {
-    match session {
-        Session::Declaring(_) => Err(ChangeRefusal::of(NOT_OPENED)),
-        Session::Running(opened) => publish_to(alloc, &mut opened.world, moment, code),
+    if bounded.is_too_far(moment) {
+        return Err(ChangeRefusal::of(TOO_FAR));
     }
+    publish_to(alloc, &mut bounded.world, moment, code)
 }
 
 // What a refused begin is reported as.
@@ -159,28 +159,27 @@ fn begin_in(
     }
 }
 
-/// Begins the fill or the clear that an element wants, in so many pieces, in the session's world,
-/// and gives the place of its entry.
+/// Begins the fill or the clear that an element wants, in so many pieces, in a world, and gives the
+/// place of its entry.
 ///
 /// - `moment`: the present moment. The one that counts is the greater of it and the moment of the
 ///   last entry.
 /// - `element`: the number of the element.
 /// - `pieces`: how many, 1 to 64.
 ///
-/// Refused, in this order, and then nothing changes: `NOT_OPENED` if the session has no world yet;
-/// then as `World::begin_reorg` refuses: `MOMENT_TOO_LARGE`, `NOT_WANTED`, `STILL_USED` with the
+/// Refused, in this order, and then nothing changes: `TOO_FAR`; then as `World::begin_reorg` refuses: `MOMENT_TOO_LARGE`, `NOT_WANTED`, `STILL_USED` with the
 /// first moment, `BEGUN`, `BAD_COUNT`; `OUT_OF_MEMORY`.
 pub fn begin_reorg(
     alloc: Global,
-    session: &mut Session,
+    bounded: &mut BoundedWorld,
     moment: u64,
     element: u32,
     pieces: u32,
 ) -> Result<u64, ChangeRefusal>
-    ensures { BeginsIn session.old moment element pieces result session.new }
+    ensures { BeginsIn bounded.old moment element pieces result bounded.new }
 {
-    match session {
-        Session::Declaring(_) => Err(ChangeRefusal::of(NOT_OPENED)),
-        Session::Running(opened) => begin_in(alloc, &mut opened.world, moment, element, pieces),
+    if bounded.is_too_far(moment) {
+        return Err(ChangeRefusal::of(TOO_FAR));
     }
+    begin_in(alloc, &mut bounded.world, moment, element, pieces)
 }

@@ -1,19 +1,18 @@
-//! The checkpoint of a session's world, its bytes, and a session that opens there.
+//! The checkpoint of a world, its bytes, and a world that opens there.
 ghost use Rattle.std.specs.Prelude.{◌≡◌};
-ghost use Rattle.script_session.specs.State.{opened};
-ghost use Rattle.typed_calls.specs.Opening.{session_over};
-ghost use Rattle.typed_calls.specs.Checkpoints.{load_status, OpensAt, OpensSaved, Saves, TakesIn, TakesOf};
+ghost use Rattle.typed_calls.specs.Checkpoints.{bounded_at, load_status, OpensAt, OpensSaved, Saves, TakesOf};
 
-use crate::opening::session_over;
-use crate::status::{BAD_CODE, NOT_OPENED, OUT_OF_MEMORY};
+use crate::bounded::BoundedWorld;
+use crate::status::{BAD_CODE, OUT_OF_MEMORY};
 use checkpoint_code::{HeadFault, PageFault};
 use collections::List;
 use saved_world::{LoadFault, LoadedFault, load, save};
-use script_session::Session;
 use script_session::world::{Checkpoint, CheckpointFault, World};
 use std::alloc::Global;
 
-fn checkpoint_of(world: &World) -> Result<Checkpoint, i32>
+/// The checkpoint of a world, which goes on: its pairs are shared, and none is copied. Refused only
+/// by `OUT_OF_MEMORY`.
+pub fn checkpoint(world: &World) -> Result<Checkpoint, i32>
     ensures { TakesOf world.now result }
 {
     match world.checkpoint() {
@@ -22,19 +21,7 @@ fn checkpoint_of(world: &World) -> Result<Checkpoint, i32>
     }
 }
 
-/// The checkpoint of the session's world, which goes on: its pairs are shared, and none is copied.
-///
-/// Refused, in this order: `NOT_OPENED` if the session has no world yet; `OUT_OF_MEMORY`.
-pub fn checkpoint(session: &Session) -> Result<Checkpoint, i32>
-    ensures { TakesIn session.now result }
-{
-    match session {
-        Session::Declaring(_) => Err(NOT_OPENED),
-        Session::Running(opened) => checkpoint_of(&opened.world),
-    }
-}
-
-/// The bytes of a checkpoint, as `saved_world::save` gives them. It needs no session, and takes time
+/// The bytes of a checkpoint, as `saved_world::save` gives them. It takes time
 /// and memory with the pairs. Refused only by `OUT_OF_MEMORY`.
 pub fn saved(alloc: Global, checkpoint: &Checkpoint) -> Result<List<u8>, i32>
     ensures { Saves checkpoint.now result }
@@ -58,26 +45,31 @@ fn load_status(fault: LoadedFault) -> i32
     }
 }
 
-/// A session over a world that goes on from a checkpoint, with no leases, pending work or plan. It
-/// takes no memory.
-pub fn session_at(alloc: Global, checkpoint: Checkpoint) -> Session
-    ensures { result ≡ session_over (opened checkpoint) }
+/// A world that goes on from a checkpoint. It takes no memory.
+///
+/// - `furthest`: the furthest jump of a call's moment, in moments; `ANY_JUMP` if none is too far.
+pub fn world_at(alloc: Global, checkpoint: Checkpoint, furthest: u64) -> BoundedWorld
+    ensures { result ≡ bounded_at checkpoint furthest }
 {
-    session_over(alloc, World::open_at(alloc, checkpoint))
+    BoundedWorld {
+        world: World::open_at(alloc, checkpoint),
+        furthest,
+    }
 }
 
-/// A session over a world that opens at the checkpoint whose bytes these are, with no leases,
-/// pending work or plan. The bytes that `saved` gives for the checkpoint of a world are refused only
-/// when out of memory.
+/// A world that opens at the checkpoint whose bytes these are. The bytes that `saved` gives for the
+/// checkpoint of a world are refused only when out of memory.
+///
+/// - `furthest`: as for `world_at`.
 ///
 /// Refused: `BAD_CODE` if the bytes are those of no checkpoint from which a world may open: they are
 /// damaged, or forged; `OUT_OF_MEMORY`, which may come in its place.
-pub fn open_at(alloc: Global, bytes: &[u8]) -> Result<Session, i32>
-    ensures opens { OpensAt bytes.now result }
-    ensures saved { OpensSaved bytes.now result }
+pub fn open_at(alloc: Global, bytes: &[u8], furthest: u64) -> Result<BoundedWorld, i32>
+    ensures opens { OpensAt bytes.now furthest result }
+    ensures saved { OpensSaved bytes.now furthest result }
 {
     match load(alloc, bytes) {
-        Ok(checkpoint) => Ok(session_at(alloc, checkpoint)),
+        Ok(checkpoint) => Ok(world_at(alloc, checkpoint, furthest)),
         Err(fault) => Err(load_status(fault)),
     }
 }

@@ -2,9 +2,10 @@
 ghost use Rattle.std.specs.Prelude.{◌≡◌};
 ghost use Rattle.typed_calls.specs.Leases.{grant_status, held_by, LeasesWorld, LeasesIn};
 
-use crate::status::{MOMENT_TOO_LARGE, NOT_OPENED, OUT_OF_MEMORY};
+use crate::bounded::BoundedWorld;
+use crate::status::{MOMENT_TOO_LARGE, OUT_OF_MEMORY, TOO_FAR};
+use script_session::ServerLease;
 use script_session::world::{Grant, GrantFault, World};
-use script_session::{ServerLease, Session};
 use std::alloc::Global;
 
 // The status of a lease that was not granted.
@@ -27,20 +28,20 @@ fn lease_of(alloc: Global, world: &mut World, moment: u64) -> Result<Grant, i32>
     }
 }
 
-/// Grants a lease on the newest version of the session's world.
+/// Grants a lease on the newest version of a world.
 ///
 /// - `moment`: the present moment. The one that counts is the greater of it and the moment of the
 ///   last entry.
 ///
-/// Refused, in this order, and then nothing changes: `NOT_OPENED` if the session has no world yet;
-/// `MOMENT_TOO_LARGE` if the moment that counts is above 2^62; `OUT_OF_MEMORY`.
-pub fn lease(alloc: Global, session: &mut Session, moment: u64) -> Result<Grant, i32>
-    ensures { LeasesIn session.old moment result session.new }
+/// Refused, in this order, and then nothing changes: `TOO_FAR` if the moment is further beyond that
+/// of the last entry than the world allows; `MOMENT_TOO_LARGE` if the moment that counts is above 2^62; `OUT_OF_MEMORY`.
+pub fn lease(alloc: Global, bounded: &mut BoundedWorld, moment: u64) -> Result<Grant, i32>
+    ensures { LeasesIn bounded.old moment result bounded.new }
 {
-    match session {
-        Session::Declaring(_) => Err(NOT_OPENED),
-        Session::Running(opened) => lease_of(alloc, &mut opened.world, moment),
+    if bounded.is_too_far(moment) {
+        return Err(TOO_FAR);
     }
+    lease_of(alloc, &mut bounded.world, moment)
 }
 
 /// The lease of a grant, with the schema of its version.

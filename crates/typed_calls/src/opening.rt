@@ -1,14 +1,13 @@
-//! A session that is opened by the code of its opening.
+//! A world that is opened by the code of its opening.
 ghost use Rattle.std.specs.Prelude.{◌≡◌};
-ghost use Rattle.typed_calls.specs.Opening.{open_status, session_over, OpensFor, OpensWorld, OpensSession};
+ghost use Rattle.typed_calls.specs.Opening.{open_status, OpensFor, OpensWorld, OpensBounded};
 
+use crate::bounded::BoundedWorld;
 use crate::status::{BAD_CODE, BAD_LENGTH, BAD_TABLE, OUT_OF_MEMORY};
-use byte_map::KeyMap;
 use collections::List;
 use entry_code::{CodeFault, opening_of};
 use schema_version::TableDef;
 use script_session::world::{Config, OpenFault, World};
-use script_session::{Opened, Session};
 use std::alloc::Global;
 
 // The status of a world that was not opened.
@@ -44,30 +43,19 @@ fn open_world(alloc: Global, code: &[u8]) -> Result<World, i32>
     }
 }
 
-/// A session over a world, with no leases, pending work or plan.
-pub(crate) fn session_over(alloc: Global, world: World) -> Session
-    ensures { result ≡ session_over world }
-{
-    Session::Running(Opened {
-        world,
-        leases: KeyMap::new(alloc),
-        pending: KeyMap::new(alloc),
-        plan: List::new(Vec::new(alloc)),
-    })
-}
-
-/// A session with a world that is opened by this code, and with no leases, pending work or plan.
+/// A world that is opened by this code.
 ///
 /// - `code`: what `entry_code::opening_bytes` gives for a lease length, in moments, and the tables.
+/// - `furthest`: the furthest jump of a call's moment, in moments; `ANY_JUMP` if none is too far.
 ///
 /// Refused, in this order: `BAD_CODE` if the bytes are the code of no opening; `BAD_TABLE` if its
 /// declaration breaks a limit or uses a name twice; `BAD_LENGTH` if its lease length is not from 1
 /// to 2^32; `OUT_OF_MEMORY`, which may come in place of `BAD_CODE`.
-pub fn open_session(alloc: Global, code: &[u8]) -> Result<Session, i32>
-    ensures { OpensSession code.now result }
+pub fn open(alloc: Global, code: &[u8], furthest: u64) -> Result<BoundedWorld, i32>
+    ensures { OpensBounded code.now furthest result }
 {
     match open_world(alloc, code) {
-        Ok(world) => Ok(session_over(alloc, world)),
+        Ok(world) => Ok(BoundedWorld { world, furthest }),
         Err(status) => Err(status),
     }
 }

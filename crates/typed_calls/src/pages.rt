@@ -2,17 +2,18 @@
 ghost use Rattle.std.specs.Prelude.{◌≡◌};
 ghost use Rattle.typed_calls.specs.Pages.{page_fault, page_refusal, AnswersRequest, PagesWorld, PagesIn, PagesTaken, PagesSnapshot, IsCoded};
 
+use crate::bounded::BoundedWorld;
 use crate::queries::{QueryOutcome, fault_outcome};
 use crate::status::{
-    BAD_CODE, BAD_COUNT, BAD_LEASE, LEASE_ENDED, MOMENT_TOO_LARGE, NOT_OPENED, OUT_OF_MEMORY,
+    BAD_CODE, BAD_COUNT, BAD_LEASE, LEASE_ENDED, MOMENT_TOO_LARGE, OUT_OF_MEMORY, TOO_FAR,
 };
 use collections::List;
 use entry_code::{CodeFault, rows_bytes};
 use lease::Lease;
 use page_code::{PageRequest, page_request_of};
 use row_page::{PageFault, RowPage};
+use script_session::ServerLease;
 use script_session::world::{PageRefusal, Snapshot, World};
-use script_session::{ServerLease, Session};
 use std::alloc::Global;
 
 /// A page, by the code of its rows.
@@ -99,30 +100,29 @@ fn page_coded(
     }
 }
 
-/// The code of a page of the rows that a query asks for, of the session's world under a lease.
-/// Nothing changes.
+/// The code of a page of the rows that a query asks for, of a world under a lease. Nothing
+/// changes.
 ///
 /// - `moment`, `held`: as for `query`.
 /// - `code`: that of a `page_code::PageRequest`, which has the query, the range and the limit.
 ///
-/// Refused, in this order: `NOT_OPENED` if the session has no world yet; `BAD_CODE` if the bytes are
-/// the code of no request, or of one with a text of more than 1,024 bytes; then as
-/// `World::query_page` refuses: `MOMENT_TOO_LARGE`, `BAD_LEASE`, `LEASE_ENDED`, `BAD_COUNT` of the
-/// limit, `NO_TABLE`, `NOT_PUBLIC` with the column, `WRONG_TYPE`, also of the range;
-/// `OUT_OF_MEMORY`, which may come in place of any but `NOT_OPENED`.
+/// Refused, in this order: `TOO_FAR`; `BAD_CODE` if the bytes are the code of no request, or of one
+/// with a text of more than 1,024 bytes; then as `World::query_page` refuses: `MOMENT_TOO_LARGE`,
+/// `BAD_LEASE`, `LEASE_ENDED`, `BAD_COUNT` of the limit, `NO_TABLE`, `NOT_PUBLIC` with the column,
+/// `WRONG_TYPE`, also of the range; `OUT_OF_MEMORY`, which may come in place of any but `TOO_FAR`.
 pub fn query_page(
     alloc: Global,
-    session: &Session,
+    bounded: &BoundedWorld,
     moment: u64,
     held: &ServerLease,
     code: &[u8],
 ) -> Result<CodedPage, QueryOutcome>
-    ensures { PagesIn session.now moment held.now.lease code.now result }
+    ensures { PagesIn bounded.now moment held.now.lease code.now result }
 {
-    match session {
-        Session::Declaring(_) => Err(QueryOutcome::of(NOT_OPENED)),
-        Session::Running(opened) => page_coded(alloc, &opened.world, moment, &held.lease, code),
+    if bounded.is_too_far(moment) {
+        return Err(QueryOutcome::of(TOO_FAR));
     }
+    page_coded(alloc, &bounded.world, moment, &held.lease, code)
 }
 
 // The page that the snapshot answers to this request.

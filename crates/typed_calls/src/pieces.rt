@@ -1,24 +1,15 @@
 //! The pieces of a begun reorganisation: each is read, prepared and committed.
 ghost use Rattle.std.specs.Prelude.{◌≡◌};
-ghost use Rattle.typed_calls.specs.Pieces.{view_status, unread_status, ReadsPiece, ReadsPieceIn, PreparesPiece, piece_status, CommitsPrepared, CommitsPiece, CommitsPieceIn};
+ghost use Rattle.typed_calls.specs.Pieces.{view_status, unread_status, ReadsPiece, PreparesPiece, piece_status, CommitsPiece, CommitsPieceIn};
 
+use crate::bounded::BoundedWorld;
 use crate::status::{
-    BAD_COUNT, BAD_PIECE, CONFLICT, MOMENT_TOO_LARGE, MOVED, NOT_OPENED, NOT_WANTED, OUT_OF_MEMORY,
-    SPENT, WRONG_ELEMENT, WRONG_STAGE,
+    BAD_COUNT, BAD_PIECE, CONFLICT, MOMENT_TOO_LARGE, MOVED, NOT_WANTED, OUT_OF_MEMORY, SPENT,
+    TOO_FAR, WRONG_ELEMENT,
 };
 use reorganise::{PieceView, PreparedPiece, ViewFault};
-use script_session::Session;
 use script_session::world::{PieceDone, PieceFault, ReadFault, World};
 use std::alloc::Global;
-
-/// A piece of a reorganisation between its calls.
-#[derive(Drop)]
-pub enum PieceWork {
-    /// Its next items, as they were read.
-    Read(PieceView),
-    /// It is prepared.
-    Prepared(PreparedPiece),
-}
 
 // What a piece that can't be read is reported as.
 fn view_status(fault: ViewFault) -> i32
@@ -42,62 +33,40 @@ fn unread_status(fault: ReadFault) -> i32
     }
 }
 
-// Reads the next items of a piece, of the world.
-fn read_from(
-    alloc: Global,
-    world: &World,
-    element: u32,
-    piece: u32,
-    limit: u32,
-) -> Result<PieceWork, i32>
-    ensures { ReadsPiece world.now element piece limit result }
-{
-    match world.read_piece(alloc, element, piece, limit) {
-        Ok(view) => Ok(PieceWork::Read(view)),
-        Err(fault) => Err(unread_status(fault)),
-    }
-}
-
-/// Reads the next items of a piece of the begun reorganisation of an element, of the session's
-/// world, which does not change.
+/// Reads the next items of a piece of the begun reorganisation of an element, of a world, which does
+/// not change.
 ///
 /// - `element`: the number of the element whose reorganisation it is.
 /// - `piece`: the number of the piece, from 0.
 /// - `limit`: how many items, 1 to 1,000.
 ///
-/// Refused, in this order: `NOT_OPENED` if the session has no world yet; then as
-/// `World::read_piece` refuses: `NOT_WANTED` if no reorganisation of the element has begun,
-/// `BAD_PIECE` if it has no such piece, `SPENT` if the piece has ended, `BAD_COUNT` for the limit;
-/// `OUT_OF_MEMORY`.
+/// Refused, in this order, as `World::read_piece` refuses: `NOT_WANTED` if no reorganisation of the
+/// element has begun, `BAD_PIECE` if it has no such piece, `SPENT` if the piece has ended,
+/// `BAD_COUNT` for the limit; `OUT_OF_MEMORY`.
 pub fn read_piece(
     alloc: Global,
-    session: &Session,
+    world: &World,
     element: u32,
     piece: u32,
     limit: u32,
-) -> Result<PieceWork, i32>
-    ensures { ReadsPieceIn session.now element piece limit result }
+) -> Result<PieceView, i32>
+    ensures { ReadsPiece world.now element piece limit result }
 {
-    match session {
-        Session::Declaring(_) => Err(NOT_OPENED),
-        Session::Running(opened) => read_from(alloc, &opened.world, element, piece, limit),
+    match world.read_piece(alloc, element, piece, limit) {
+        Ok(view) => Ok(view),
+        Err(fault) => Err(unread_status(fault)),
     }
 }
 
 /// Prepares a piece that was read: what it writes for the items that were read, and what it expects
-/// to find again. It takes no world and no lock.
-///
-/// Refused, in this order, and then the piece comes back as it was: `WRONG_STAGE` if it is prepared
-/// already; `OUT_OF_MEMORY`.
-pub fn prepare_piece(alloc: Global, work: PieceWork) -> Result<PieceWork, (i32, PieceWork)>
-    ensures { PreparesPiece work result }
+/// to find again. It takes no world and no lock. Refused only by `OUT_OF_MEMORY`, and then the piece
+/// comes back as it was.
+pub fn prepare_piece(alloc: Global, view: PieceView) -> Result<PreparedPiece, (i32, PieceView)>
+    ensures { PreparesPiece view result }
 {
-    match work {
-        PieceWork::Read(view) => match reorganise::prepare_piece(alloc, view) {
-            Ok(prepared) => Ok(PieceWork::Prepared(prepared)),
-            Err((_, view)) => Err((OUT_OF_MEMORY, PieceWork::Read(view))),
-        },
-        other => Err((WRONG_STAGE, other)),
+    match reorganise::prepare_piece(alloc, view) {
+        Ok(prepared) => Ok(prepared),
+        Err((_, view)) => Err((OUT_OF_MEMORY, view)),
     }
 }
 
@@ -116,57 +85,40 @@ fn piece_status(fault: &PieceFault) -> i32
 }
 
 // A prepared piece is committed to the world.
-fn commit_prepared(
-    alloc: Global,
-    world: &mut World,
-    moment: u64,
-    prepared: PreparedPiece,
-) -> Result<PieceDone, (i32, PieceWork)>
-    ensures { CommitsPrepared world.old moment prepared result world.new }
-{
-    match world.commit_piece(alloc, moment, prepared) {
-        Ok(done) => Ok(done),
-        Err((fault, prepared)) => Err((piece_status(&fault), PieceWork::Prepared(prepared))),
-    }
-}
-
-// A piece is committed to the world, if it is prepared.
 fn commit_to(
     alloc: Global,
     world: &mut World,
     moment: u64,
-    work: PieceWork,
-) -> Result<PieceDone, (i32, PieceWork)>
-    ensures { CommitsPiece world.old moment work result world.new }
+    prepared: PreparedPiece,
+) -> Result<PieceDone, (i32, PreparedPiece)>
+    ensures { CommitsPiece world.old moment prepared result world.new }
 {
-    match work {
-        PieceWork::Prepared(prepared) => commit_prepared(alloc, world, moment, prepared),
-        other => Err((WRONG_STAGE, other)),
+    match world.commit_piece(alloc, moment, prepared) {
+        Ok(done) => Ok(done),
+        Err((fault, prepared)) => Err((piece_status(&fault), prepared)),
     }
 }
 
-/// Commits a prepared piece to the session's world: it is logged, its pairs are written, and its
-/// cursor comes on.
+/// Commits a prepared piece to a world: it is logged, its pairs are written, and its cursor comes on.
 ///
 /// - `moment`: the present moment. The one that counts is the greater of it and the moment of the
 ///   last entry.
 ///
-/// Refused, in this order, and then nothing changes and the piece comes back: `NOT_OPENED` if the
-/// session has no world yet; `WRONG_STAGE` if it is not prepared; then as `World::commit_piece`
-/// refuses: `MOMENT_TOO_LARGE`; `NOT_WANTED` if no reorganisation of the element has begun;
-/// `WRONG_ELEMENT` if the piece is not one of that reorganisation; `MOVED` if its cursor is not
-/// where it was read; `CONFLICT` if a pair of its range is not what was read; `OUT_OF_MEMORY`,
-/// which may come in place of `MOVED` and of `CONFLICT`.
+/// Refused, in this order, and then nothing changes and the piece comes back: `TOO_FAR`; then as
+/// `World::commit_piece` refuses: `MOMENT_TOO_LARGE`; `NOT_WANTED` if no reorganisation of the
+/// element has begun; `WRONG_ELEMENT` if the piece is not one of that reorganisation; `MOVED` if its
+/// cursor is not where it was read; `CONFLICT` if a pair of its range is not what was read;
+/// `OUT_OF_MEMORY`, which may come in place of `MOVED` and of `CONFLICT`.
 pub fn commit_piece(
     alloc: Global,
-    session: &mut Session,
+    bounded: &mut BoundedWorld,
     moment: u64,
-    work: PieceWork,
-) -> Result<PieceDone, (i32, PieceWork)>
-    ensures { CommitsPieceIn session.old moment work result session.new }
+    prepared: PreparedPiece,
+) -> Result<PieceDone, (i32, PreparedPiece)>
+    ensures { CommitsPieceIn bounded.old moment prepared result bounded.new }
 {
-    match session {
-        Session::Declaring(_) => Err((NOT_OPENED, work)),
-        Session::Running(opened) => commit_to(alloc, &mut opened.world, moment, work),
+    if bounded.is_too_far(moment) {
+        return Err((TOO_FAR, prepared));
     }
+    commit_to(alloc, &mut bounded.world, moment, prepared)
 }

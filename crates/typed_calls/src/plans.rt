@@ -1,15 +1,16 @@
 //! Least plans, by the codes of their changes and of their steps.
 ghost use Rattle.std.specs.Prelude.{◌≡◌};
-ghost use Rattle.typed_calls.specs.Plans.{plan_status, PlansFrom, PlansCode, PlansIn};
+ghost use Rattle.script_session.specs.State.{facts_of};
+ghost use Rattle.typed_calls.specs.Plans.{plan_status, PlansFrom, PlansCode};
 
 use crate::status::{
-    BAD_CODE, DEPENDENT, IN_CHANGE, NAME_TAKEN, NOT_OPENED, OUT_OF_MEMORY, OVER_LIMIT, UNKNOWN,
+    BAD_CODE, DEPENDENT, IN_CHANGE, NAME_TAKEN, OUT_OF_MEMORY, OVER_LIMIT, UNKNOWN,
 };
 use change_plan::{Change, PlanFault, plan as least_plan};
 use collections::List;
 use entry_code::{CodeFault, changes_of, plan_bytes};
 use schema_version::Schema;
-use script_session::Session;
+use script_session::world::World;
 use std::alloc::Global;
 
 // What a batch that cannot be planned is reported as.
@@ -51,22 +52,18 @@ pub fn plan_coded(alloc: Global, schema: &Schema, code: &[u8]) -> Result<List<u8
     }
 }
 
-/// The code of the least plan of a batch of changes, from the newest version of the session's world.
-/// Nothing changes, and the plan that a script keeps for its line `next` stays.
+/// The code of the least plan of a batch of changes, from the newest version of a world. Nothing
+/// changes.
 ///
 /// - `code`: what `entry_code::changes_bytes` gives for the batch. The plan comes as
 ///   `entry_code::plan_bytes` gives its steps.
 ///
-/// Refused, in this order: `NOT_OPENED` if the session has no world yet; `BAD_CODE` if the bytes are
-/// the code of no batch, or of one with a default of more than 1,024 bytes; then as
-/// `change_plan::plan` refuses the first change that cannot be planned: `UNKNOWN`, `NAME_TAKEN`,
-/// `DEPENDENT` if an index lists the column, `IN_CHANGE`, `OVER_LIMIT`; `OUT_OF_MEMORY`, which may
-/// come in place of any but `NOT_OPENED`.
-pub fn plan(alloc: Global, session: &Session, code: &[u8]) -> Result<List<u8>, i32>
-    ensures { PlansIn session.now code.now result }
+/// Refused, in this order: `BAD_CODE` if the bytes are the code of no batch, or of one with a default
+/// of more than 1,024 bytes; then as `change_plan::plan` refuses the first change that cannot be
+/// planned: `UNKNOWN`, `NAME_TAKEN`, `DEPENDENT` if an index lists the column, `IN_CHANGE`,
+/// `OVER_LIMIT`; `OUT_OF_MEMORY`, which may come in place of any.
+pub fn plan(alloc: Global, world: &World, code: &[u8]) -> Result<List<u8>, i32>
+    ensures { PlansCode (facts_of world.now).newest code.now result }
 {
-    match session {
-        Session::Declaring(_) => Err(NOT_OPENED),
-        Session::Running(opened) => plan_coded(alloc, opened.world.newest().get(), code),
-    }
+    plan_coded(alloc, world.newest().get(), code)
 }

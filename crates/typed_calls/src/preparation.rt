@@ -1,14 +1,13 @@
 //! A transaction that was read is prepared.
-ghost use Rattle.std.specs.Prelude.{◌≡◌, IfOk};
-ghost use Rattle.typed_calls.specs.Prepare.{prepare_outcome, PreparesRead, Prepares};
+ghost use Rattle.std.specs.Prelude.{◌≡◌, IfErr, IfOk};
+ghost use Rattle.typed_calls.specs.Prepare.{prepare_outcome, IsPreparedFrom, IsUnprepared, Prepares};
 
-use crate::status::{
-    NO_TABLE, NOT_PUBLIC, OK, OUT_OF_MEMORY, TOO_MANY_OPS, VIEW_MISMATCH, WRONG_STAGE, WRONG_TYPE,
-};
-use crate::txns::Txn;
+use crate::reads::Reads;
+use crate::status::{NO_TABLE, NOT_PUBLIC, OUT_OF_MEMORY, TOO_MANY_OPS, VIEW_MISMATCH, WRONG_TYPE};
 use byte_map::{Bytes, KeyMap};
+use collections::ArcValue;
 use row_map::ReadView;
-use row_write::{PrepareFault, RowOps};
+use row_write::{PrepareFault, Prepared, RowOps};
 use script_session::ServerLease;
 use std::alloc::{AllocError, Global};
 
@@ -58,7 +57,7 @@ pub(crate) fn value_again(value: &Option<Bytes>) -> Result<Option<Bytes>, AllocE
     }
 }
 
-// A view of the same, since a refused preparation keeps the one that it is handed.
+// A view of the same, since what was read may be prepared again.
 fn view_again(alloc: Global, view: &ReadView) -> Result<ReadView, AllocError>
     ensures { IfOk result (λ copy. copy ≡ view.now) }
 {
@@ -71,41 +70,39 @@ fn view_again(alloc: Global, view: &ReadView) -> Result<ReadView, AllocError>
     Ok(copy)
 }
 
-// A transaction is prepared from what was read.
-fn prepare_read(
+/// The transaction of operations as it is prepared from what was read.
+pub(crate) fn prepare_from(
     alloc: Global,
-    held: ServerLease,
-    ops: RowOps,
+    held: &ServerLease,
+    ops: ArcValue<RowOps>,
     view: ReadView,
-) -> Result<Txn, (PrepareOutcome, Txn)>
-    ensures { PreparesRead held ops view result }
+) -> Result<Prepared, PrepareOutcome>
+    ensures prepared { IfOk result (λ prepared. IsPreparedFrom held.now ops view prepared) }
+    ensures refused { IfErr result (λ outcome. IsUnprepared held.now ops view outcome) }
 {
     let Ok(schema) = held.schema.clone() else {
-        let outcome = PrepareOutcome::of(OUT_OF_MEMORY);
-        return Err((outcome, Txn::Read { held, ops, view }));
+        return Err(PrepareOutcome::of(OUT_OF_MEMORY));
     };
-    let Ok(copy) = view_again(alloc, &view) else {
-        let outcome = PrepareOutcome::of(OUT_OF_MEMORY);
-        return Err((outcome, Txn::Read { held, ops, view }));
-    };
-    match row_write::prepare(alloc, schema, held.lease, ops, copy) {
-        Ok(prepared) => Ok(Txn::Prepared(prepared)),
-        Err((fault, ops)) => Err((prepare_outcome(fault), Txn::Read { held, ops, view })),
+    match row_write::prepare_shared(alloc, schema, held.lease, ops, view) {
+        Ok(prepared) => Ok(prepared),
+        Err((fault, _)) => Err(prepare_outcome(fault)),
     }
 }
 
 /// Prepares a transaction that was read: what its operations come to on the rows that were read,
-/// and what they then write under the schema of its lease's version. It takes no world and no lock.
+/// and what they then write under the schema of its lease's version. It takes no world and no lock,
+/// and what was read may be prepared again.
 ///
-/// Refused, in this order, and then the transaction comes back as it was: `WRONG_STAGE` if it was
-/// not read, or is prepared already; `NO_TABLE`, `NOT_PUBLIC`, `WRONG_TYPE`, `TOO_MANY_OPS` and
-/// `VIEW_MISMATCH` as `row_write::prepare` refuses; `OUT_OF_MEMORY`, which may come in place of any
-/// but `WRONG_STAGE`.
-pub fn prepare(alloc: Global, txn: Txn) -> Result<Txn, (PrepareOutcome, Txn)>
-    ensures { Prepares txn result }
+/// Refused, in this order: `NO_TABLE`, `NOT_PUBLIC`, `WRONG_TYPE`, `TOO_MANY_OPS` and
+/// `VIEW_MISMATCH` as `row_write::prepare` refuses; `OUT_OF_MEMORY`, which may come in place of any.
+pub fn prepare(alloc: Global, reads: &Reads) -> Result<Prepared, PrepareOutcome>
+    ensures { Prepares reads.now result }
 {
-    match txn {
-        Txn::Read { held, ops, view } => prepare_read(alloc, held, ops, view),
-        other => Err((PrepareOutcome::of(WRONG_STAGE), other)),
-    }
+    let Ok(view) = view_again(alloc, &reads.view) else {
+        return Err(PrepareOutcome::of(OUT_OF_MEMORY));
+    };
+    let Ok(ops) = reads.ops.clone() else {
+        return Err(PrepareOutcome::of(OUT_OF_MEMORY));
+    };
+    prepare_from(alloc, &reads.held, ops, view)
 }

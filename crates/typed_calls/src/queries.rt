@@ -2,16 +2,17 @@
 ghost use Rattle.std.specs.Prelude.{◌≡◌};
 ghost use Rattle.typed_calls.specs.Queries.{fault_outcome, query_outcome, AnswersCode, QueriesWorld, QueriesIn, QueriesTaken, QueriesSnapshot};
 
+use crate::bounded::BoundedWorld;
 use crate::status::{
-    BAD_CODE, BAD_LEASE, LEASE_ENDED, MOMENT_TOO_LARGE, NO_TABLE, NOT_OPENED, NOT_PUBLIC,
-    OUT_OF_MEMORY, WRONG_TYPE,
+    BAD_CODE, BAD_LEASE, LEASE_ENDED, MOMENT_TOO_LARGE, NO_TABLE, NOT_PUBLIC, OUT_OF_MEMORY,
+    TOO_FAR, WRONG_TYPE,
 };
 use collections::List;
 use entry_code::{CodeFault, query_of, rows_bytes};
 use lease::Lease;
 use row_query::{Query, QueryFault};
+use script_session::ServerLease;
 use script_session::world::{QueryRefusal, Snapshot, World};
-use script_session::{ServerLease, Session};
 use std::alloc::Global;
 
 /// What a query came to.
@@ -96,8 +97,7 @@ fn query_coded(
     }
 }
 
-/// The code of the rows that a query asks for, of the session's world under a lease. Nothing
-/// changes.
+/// The code of the rows that a query asks for, of a world under a lease. Nothing changes.
 ///
 /// - `moment`: the present moment. The one that counts is the greater of it and the moment of the
 ///   last entry.
@@ -105,23 +105,23 @@ fn query_coded(
 /// - `code`: what `entry_code::query_bytes` gives for the query. The rows come as
 ///   `entry_code::rows_bytes` gives them.
 ///
-/// Refused, in this order: `NOT_OPENED` if the session has no world yet; `BAD_CODE` if the bytes are
-/// the code of no query, or of one with a text of more than 1,024 bytes; then as `World::query`
-/// refuses: `MOMENT_TOO_LARGE`, `BAD_LEASE`, `LEASE_ENDED`, `NO_TABLE`, `NOT_PUBLIC` with the
-/// column, `WRONG_TYPE`; `OUT_OF_MEMORY`, which may come in place of any but `NOT_OPENED`.
+/// Refused, in this order: `TOO_FAR`; `BAD_CODE` if the bytes are the code of no query, or of one
+/// with a text of more than 1,024 bytes; then as `World::query` refuses: `MOMENT_TOO_LARGE`,
+/// `BAD_LEASE`, `LEASE_ENDED`, `NO_TABLE`, `NOT_PUBLIC` with the column, `WRONG_TYPE`;
+/// `OUT_OF_MEMORY`, which may come in place of any but `TOO_FAR`.
 pub fn query(
     alloc: Global,
-    session: &Session,
+    bounded: &BoundedWorld,
     moment: u64,
     held: &ServerLease,
     code: &[u8],
 ) -> Result<List<u8>, QueryOutcome>
-    ensures { QueriesIn session.now moment held.now.lease code.now result }
+    ensures { QueriesIn bounded.now moment held.now.lease code.now result }
 {
-    match session {
-        Session::Declaring(_) => Err(QueryOutcome::of(NOT_OPENED)),
-        Session::Running(opened) => { query_coded(alloc, &opened.world, moment, &held.lease, code) }
+    if bounded.is_too_far(moment) {
+        return Err(QueryOutcome::of(TOO_FAR));
     }
+    query_coded(alloc, &bounded.world, moment, &held.lease, code)
 }
 
 // The code of the rows that the snapshot answers to this query.

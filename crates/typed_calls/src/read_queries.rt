@@ -12,12 +12,12 @@ ghost use Rattle.row_write.specs.Reads.{IsRead};
 ghost use Rattle.row_write.specs.declared.op.RowOp.TheVariants.{Delete};
 ghost use Rattle.schema_version.specs.Version.{live};
 ghost use Rattle.typed_calls.specs.Queries.{AnswersCode};
-ghost use Rattle.typed_calls.specs.ReadQueries.{only_key, IsRowRead, AnswersRow, QueriesRow, QueriesRead};
+ghost use Rattle.typed_calls.specs.ReadQueries.{only_key, IsRowRead, AnswersRow, QueriesRow};
 ghost use Rattle.typed_calls.specs.inner.ReadRows.{cell_read, is_wanted, named_cell, cells_read, was_there, rows_read};
 
 use crate::queries::{QueryOutcome, fault_outcome};
-use crate::status::{BAD_CODE, OUT_OF_MEMORY, VIEW_MISMATCH, WRONG_STAGE};
-use crate::txns::Txn;
+use crate::reads::Reads;
+use crate::status::{BAD_CODE, OUT_OF_MEMORY, VIEW_MISMATCH};
 use byte_map::{Bytes, KeyMap};
 use collections::List;
 use entry_code::{CodeFault, query_of, rows_bytes};
@@ -262,16 +262,12 @@ fn query_view(
 ///
 /// - `code`: as for `query`.
 ///
-/// Refused, in this order: `WRONG_STAGE` if the transaction was not read, or is prepared; `BAD_CODE`
-/// if the bytes are the code of no query, or of one with other conditions than one key; as
-/// `Snapshot::query` refuses: `NO_TABLE`, `NOT_PUBLIC` with the column, `WRONG_TYPE`;
-/// `VIEW_MISMATCH` if the transaction did not read the row; `OUT_OF_MEMORY`, which may come in place
-/// of any but `WRONG_STAGE`.
-pub fn query_read(alloc: Global, txn: &Txn, code: &[u8]) -> Result<List<u8>, QueryOutcome>
-    ensures { QueriesRead txn.now code.now result }
+/// Refused, in this order: `BAD_CODE` if the bytes are the code of no query, or of one with other
+/// conditions than one key; as `Snapshot::query` refuses: `NO_TABLE`, `NOT_PUBLIC` with the column,
+/// `WRONG_TYPE`; `VIEW_MISMATCH` if the transaction did not read the row; `OUT_OF_MEMORY`, which may
+/// come in place of any.
+pub fn query_read(alloc: Global, reads: &Reads, code: &[u8]) -> Result<List<u8>, QueryOutcome>
+    ensures { AnswersCode (QueriesRow reads.now.held.schema reads.now.view) code.now result }
 {
-    match txn {
-        Txn::Read { held, ops: _, view } => query_view(alloc, held.schema.get(), view, code),
-        _ => Err(QueryOutcome::of(WRONG_STAGE)),
-    }
+    query_view(alloc, reads.held.schema.get(), &reads.view, code)
 }

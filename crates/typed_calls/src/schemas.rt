@@ -2,14 +2,16 @@
 ghost use Rattle.std.specs.Prelude.{◌≡◌, IfOk};
 ghost use Rattle.checkpoint_code.specs.Head.{schema_parts};
 ghost use Rattle.entry_code.specs.Records.{schema_parts_code};
-ghost use Rattle.typed_calls.specs.Schemas.{CodesSchema, SchemaIn};
+ghost use Rattle.script_session.specs.State.{facts_of};
+ghost use Rattle.typed_calls.specs.Schemas.{CodesSchema};
 
-use crate::status::{NOT_OPENED, OUT_OF_MEMORY};
+use crate::status::OUT_OF_MEMORY;
 use checkpoint_code::parts_of_schema;
 use collections::List;
 use entry_code::schema_parts_bytes;
 use schema_version::Schema;
-use script_session::{ServerLease, Session};
+use script_session::ServerLease;
+use script_session::world::World;
 use std::alloc::{AllocError, Global};
 
 // The code of a version.
@@ -30,18 +32,13 @@ fn code_of(alloc: Global, schema: &Schema) -> Result<List<u8>, i32>
     }
 }
 
-/// The code of the newest version of the session's world, as `entry_code::schema_parts_bytes` gives
-/// it: its tables with their key columns, its columns and indexes with their states, and the next
-/// free number. Nothing changes.
-///
-/// Refused, in this order: `NOT_OPENED` if the session has no world yet; `OUT_OF_MEMORY`.
-pub fn schema(alloc: Global, session: &Session) -> Result<List<u8>, i32>
-    ensures { SchemaIn session.now result }
+/// The code of the newest version of a world, as `entry_code::schema_parts_bytes` gives it: its
+/// tables with their key columns, its columns and indexes with their states, and the next free
+/// number. Nothing changes. Refused only by `OUT_OF_MEMORY`.
+pub fn schema(alloc: Global, world: &World) -> Result<List<u8>, i32>
+    ensures { CodesSchema (facts_of world.now).newest result }
 {
-    match session {
-        Session::Declaring(_) => Err(NOT_OPENED),
-        Session::Running(opened) => code_of(alloc, opened.world.newest().get()),
-    }
+    code_of(alloc, world.newest().get())
 }
 
 /// The code of the lease's version, as `schema` gives that of the newest. It takes no world. Refused

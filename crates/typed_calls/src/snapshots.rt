@@ -1,10 +1,10 @@
-//! Snapshots, audits, and the length of the log.
+//! Snapshots and audits.
 ghost use Rattle.std.specs.Prelude.{◌≡◌};
-ghost use Rattle.typed_calls.specs.Snapshots.{snapshot_status, SnapshotsWorld, SnapshotsIn, ChecksWorld, ChecksIn, ChecksTaken, LengthIn};
+ghost use Rattle.typed_calls.specs.Snapshots.{snapshot_status, SnapshotsWorld, SnapshotsIn, ChecksWorld, ChecksTaken};
 
-use crate::status::{BAD_LEASE, LEASE_ENDED, MOMENT_TOO_LARGE, NOT_OPENED, OUT_OF_MEMORY};
+use crate::bounded::BoundedWorld;
+use crate::status::{BAD_LEASE, LEASE_ENDED, MOMENT_TOO_LARGE, OUT_OF_MEMORY, TOO_FAR};
 use lease::Lease;
-use script_session::Session;
 use script_session::world::{CheckReport, Snapshot, SnapshotFault, World};
 use std::alloc::Global;
 
@@ -30,41 +30,30 @@ fn snapshot_of(world: &World, moment: u64, lease: &Lease) -> Result<Snapshot, i3
     }
 }
 
-/// A snapshot of the session's world under a lease. Nothing changes.
+/// A snapshot of a world under a lease. Nothing changes.
 ///
 /// - `moment`: the present moment. The one that counts is the greater of it and the moment of the
 ///   last entry.
 ///
-/// Refused, in this order: `NOT_OPENED` if the session has no world yet; `MOMENT_TOO_LARGE` if the
-/// moment that counts is above 2^62; `BAD_LEASE` if no grant could have given the lease;
-/// `LEASE_ENDED` if it is not in force any more; `OUT_OF_MEMORY`.
-pub fn snapshot(session: &Session, moment: u64, lease: &Lease) -> Result<Snapshot, i32>
-    ensures { SnapshotsIn session.now moment lease.now result }
+/// Refused, in this order: `TOO_FAR`; `MOMENT_TOO_LARGE` if the moment that counts is above 2^62;
+/// `BAD_LEASE` if no grant could have given the lease; `LEASE_ENDED` if it is not in force any more;
+/// `OUT_OF_MEMORY`.
+pub fn snapshot(bounded: &BoundedWorld, moment: u64, lease: &Lease) -> Result<Snapshot, i32>
+    ensures { SnapshotsIn bounded.now moment lease.now result }
 {
-    match session {
-        Session::Declaring(_) => Err(NOT_OPENED),
-        Session::Running(opened) => snapshot_of(&opened.world, moment, lease),
+    if bounded.is_too_far(moment) {
+        return Err(TOO_FAR);
     }
+    snapshot_of(&bounded.world, moment, lease)
 }
 
-// The audit of the world's pairs.
-fn check_of(alloc: Global, world: &World) -> Result<CheckReport, i32>
+/// The audit of a world's pairs. Refused only by `OUT_OF_MEMORY`.
+pub fn check(alloc: Global, world: &World) -> Result<CheckReport, i32>
     ensures { ChecksWorld world.now result }
 {
     match world.check(alloc) {
         Ok(report) => Ok(report),
         Err(_) => Err(OUT_OF_MEMORY),
-    }
-}
-
-/// The audit of the pairs of the session's world. Refused: `NOT_OPENED` if the session has no world
-/// yet; `OUT_OF_MEMORY`.
-pub fn check(alloc: Global, session: &Session) -> Result<CheckReport, i32>
-    ensures { ChecksIn session.now result }
-{
-    match session {
-        Session::Declaring(_) => Err(NOT_OPENED),
-        Session::Running(opened) => check_of(alloc, &opened.world),
     }
 }
 
@@ -75,15 +64,5 @@ pub fn check_snapshot(alloc: Global, snapshot: &Snapshot) -> Result<CheckReport,
     match snapshot.check(alloc) {
         Ok(report) => Ok(report),
         Err(_) => Err(OUT_OF_MEMORY),
-    }
-}
-
-/// How many entries the log of the session's world had ever, those that were cut off among them. Refused only by `NOT_OPENED`.
-pub fn log_length(session: &Session) -> Result<usize, i32>
-    ensures { LengthIn session.now result }
-{
-    match session {
-        Session::Declaring(_) => Err(NOT_OPENED),
-        Session::Running(opened) => Ok(opened.world.log_len() as usize),
     }
 }

@@ -1,10 +1,10 @@
 //! How far a begun reorganisation is, and how the world stands.
 ghost use Rattle.std.specs.Prelude.{◌≡◌};
-ghost use Rattle.typed_calls.specs.Progress.{reached_at, ProgressIn, TellsStatus, StatusIn};
+ghost use Rattle.typed_calls.specs.Progress.{reached_at, TellsStatus};
 
-use crate::status::{NOT_OPENED, NOT_WANTED, OUT_OF_MEMORY};
+use crate::status::{NOT_WANTED, OUT_OF_MEMORY};
+use script_session::script_replies;
 use script_session::world::World;
-use script_session::{Session, script_replies};
 use std::alloc::Global;
 
 /// How far a begun reorganisation is.
@@ -20,8 +20,12 @@ pub struct Reached {
     pub all: usize,
 }
 
-// How far the begun reorganisation of an element is, in the world.
-fn reached_in(world: &World, element: u32) -> Result<Reached, i32>
+/// How far the begun reorganisation of an element is, in a world. Nothing changes.
+///
+/// - `element`: the number of the element.
+///
+/// Refused only by `NOT_WANTED`, if no reorganisation of the element has begun, or it is over.
+pub fn progress(world: &World, element: u32) -> Result<Reached, i32>
     ensures { result ≡ reached_at world.now element }
 {
     let Some((_, _, ended)) = world.progress(element) else {
@@ -35,40 +39,13 @@ fn reached_in(world: &World, element: u32) -> Result<Reached, i32>
     })
 }
 
-/// How far the begun reorganisation of an element is, in the session's world. Nothing changes.
-///
-/// - `element`: the number of the element.
-///
-/// Refused, in this order: `NOT_OPENED` if the session has no world yet; `NOT_WANTED` if no
-/// reorganisation of the element has begun, or it is over.
-pub fn progress(session: &Session, element: u32) -> Result<Reached, i32>
-    ensures { ProgressIn session.now element result }
-{
-    match session {
-        Session::Declaring(_) => Err(NOT_OPENED),
-        Session::Running(opened) => reached_in(&opened.world, element),
-    }
-}
-
-// The line that tells how the world stands.
-fn line_of(alloc: Global, world: &World) -> Result<String, i32>
+/// How a world stands, as one line of JSON without a line end, which `script_replies::status_line`
+/// describes. Nothing changes. Refused only by `OUT_OF_MEMORY`.
+pub fn status_line(alloc: Global, world: &World) -> Result<String, i32>
     ensures { TellsStatus world.now result }
 {
     match script_replies::status_line(alloc, world) {
         Ok(line) => Ok(line),
         Err(_) => Err(OUT_OF_MEMORY),
-    }
-}
-
-/// How the session's world stands, as one line of JSON without a line end, which
-/// `script_replies::status_line` describes. Nothing changes.
-///
-/// Refused, in this order: `NOT_OPENED` if the session has no world yet; `OUT_OF_MEMORY`.
-pub fn status_line(alloc: Global, session: &Session) -> Result<String, i32>
-    ensures { StatusIn session.now result }
-{
-    match session {
-        Session::Declaring(_) => Err(NOT_OPENED),
-        Session::Running(opened) => line_of(alloc, &opened.world),
     }
 }

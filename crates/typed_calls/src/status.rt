@@ -14,8 +14,6 @@ pub const ALREADY_OPEN: i32 = 3;
 pub const NOT_UTF8: i32 = 4;
 /// Memory ran out.
 pub const OUT_OF_MEMORY: i32 = 5;
-/// The session has no world yet.
-pub const NOT_OPENED: i32 = 6;
 /// The log has no such place.
 pub const NO_ENTRY: i32 = 7;
 /// The bytes are the code of no entry.
@@ -32,10 +30,6 @@ pub const BAD_COUNT: i32 = 12;
 pub const MOMENT_TOO_LARGE: i32 = 13;
 /// A publication is due, and no version is left.
 pub const VERSIONS_SPENT: i32 = 14;
-/// The handle holds something of another kind.
-pub const WRONG_KIND: i32 = 15;
-/// The transaction or the piece is not at the stage that the call takes.
-pub const WRONG_STAGE: i32 = 16;
 /// The bytes are no code of what they should be.
 pub const BAD_CODE: i32 = 17;
 /// A declaration breaks a limit, or uses a name twice.
@@ -96,16 +90,18 @@ pub const WRONG_ELEMENT: i32 = 44;
 pub const MOVED: i32 = 45;
 /// An element that a change names is in change.
 pub const IN_CHANGE: i32 = 46;
+/// The moment is further beyond that of the last entry than the world allows.
+pub const TOO_FAR: i32 = 47;
 
-// The texts of the statuses, in the order of their numbers.
-const TEXTS: [&str; 47] = [
+// The texts of the statuses, in the order of their numbers; 6, 15 and 16 are none.
+const TEXTS: [&str; 48] = [
     "ok",
     "bad line",
     "the handle is closed",
     "the handle is open already",
     "the line is not UTF-8",
     "out of memory",
-    "no world is open yet",
+    "no status",
     "the log has no such place",
     "the bytes are the code of no entry",
     "no call of this world would add the entry",
@@ -114,8 +110,8 @@ const TEXTS: [&str; 47] = [
     "the pieces are not 1 to 64, or the limit is not 1 to 1,000",
     "the moment is above 2^62",
     "no version is left",
-    "the handle holds something of another kind",
-    "the work is not at the stage that the call takes",
+    "no status",
+    "no status",
     "the bytes are no code of what they should be",
     "the declaration breaks a limit, or uses a name twice",
     "the lease length is not from 1 to 2^32",
@@ -146,6 +142,7 @@ const TEXTS: [&str; 47] = [
     "the piece is not one of the element's reorganisation",
     "the piece has moved since it was read",
     "an element that a change names is in change",
+    "the moment is further beyond that of the last entry than the world allows",
 ];
 
 // The text of this place.

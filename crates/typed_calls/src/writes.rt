@@ -1,17 +1,18 @@
 //! A transaction in one call: its operations are read, prepared and committed.
-ghost use Rattle.std.specs.Prelude.{◌≡◌, IfOk, IfErr};
+ghost use Rattle.std.specs.Prelude.{IfErr, IfOk};
 ghost use Rattle.typed_calls.specs.Prepare.{IsPreparedFrom, IsUnprepared};
 ghost use Rattle.typed_calls.specs.Writes.{IsReadFor, WritesPrepared, WritesRead, WritesOps, WritesWorld, WritesIn};
 
-use crate::preparation::{PrepareOutcome, prepare_outcome};
+use crate::bounded::BoundedWorld;
+use crate::preparation::{PrepareOutcome, prepare_from};
 use crate::refusals::TxnRefusal;
-use crate::status::{BAD_CODE, NOT_OPENED, OUT_OF_MEMORY};
+use crate::status::{BAD_CODE, OUT_OF_MEMORY, TOO_FAR};
 use collections::ArcValue;
 use entry_code::{CodeFault, ops_of};
 use row_map::ReadView;
 use row_write::{Prepared, RowOps, reads_of};
+use script_session::ServerLease;
 use script_session::world::{Committed, World};
-use script_session::{ServerLease, Session};
 use std::alloc::{AllocError, Global};
 
 // What the operations read of the world.
@@ -37,16 +38,10 @@ fn prepared_from(
     ensures prepared { IfOk result (λ prepared. IsPreparedFrom held.now ops view prepared) }
     ensures refused { IfErr result (λ outcome. IsUnprepared held.now ops view outcome) }
 {
-    let Ok(schema) = held.schema.clone() else {
-        return Err(PrepareOutcome::of(OUT_OF_MEMORY));
-    };
     let Ok(ops) = ArcValue::new(alloc, ops) else {
         return Err(PrepareOutcome::of(OUT_OF_MEMORY));
     };
-    match row_write::prepare_shared(alloc, schema, held.lease, ops, view) {
-        Ok(prepared) => Ok(prepared),
-        Err((fault, _)) => Err(prepare_outcome(fault)),
-    }
+    prepare_from(alloc, held, ops, view)
 }
 
 // A prepared transaction is committed to the world.
@@ -114,31 +109,31 @@ fn write_to(
     }
 }
 
-/// Makes a transaction in one call: reads what its operations read of the session's world, prepares
-/// it, and commits it. That is `transaction`, `read`, `prepare` and `commit` for a caller who holds
-/// the session for all four anyway; since nothing comes between, no pair has changed meanwhile.
+/// Makes a transaction in one call: reads what its operations read of a world, prepares it, and
+/// commits it. That is `read`, `prepare` and `commit` for a caller who holds the world for all three
+/// anyway; since nothing comes between, no pair has changed meanwhile.
 ///
 /// - `moment`: the present moment. The one that counts is the greater of it and the moment of the
 ///   last entry.
 /// - `held`: the lease with the schema of its version.
 /// - `code`: what `entry_code::ops_bytes` gives for the operations.
 ///
-/// Refused, in this order, and then nothing changes: `NOT_OPENED` if the session has no world yet;
-/// `BAD_CODE` if the bytes are the code of no operations; then as `row_write::prepare` refuses:
+/// Refused, in this order, and then nothing changes: `TOO_FAR`; `BAD_CODE` if the bytes are the
+/// code of no operations; then as `row_write::prepare` refuses:
 /// `NO_TABLE`, `NOT_PUBLIC` with the column, `WRONG_TYPE` and `TOO_MANY_OPS`; then as
 /// `World::commit` refuses, by its fault: `MOMENT_TOO_LARGE`, `BAD_LEASE`, `LEASE_ENDED` and
-/// `WRONG_SCHEMA`; `OUT_OF_MEMORY`, which may come in place of any but `NOT_OPENED`.
+/// `WRONG_SCHEMA`; `OUT_OF_MEMORY`, which may come in place of any but `TOO_FAR`.
 pub fn write(
     alloc: Global,
-    session: &mut Session,
+    bounded: &mut BoundedWorld,
     moment: u64,
     held: &ServerLease,
     code: &[u8],
 ) -> Result<Committed, TxnRefusal>
-    ensures { WritesIn session.old moment held.now code.now result session.new }
+    ensures { WritesIn bounded.old moment held.now code.now result bounded.new }
 {
-    match session {
-        Session::Declaring(_) => Err(TxnRefusal::of(NOT_OPENED)),
-        Session::Running(opened) => write_to(alloc, &mut opened.world, moment, held, code),
+    if bounded.is_too_far(moment) {
+        return Err(TxnRefusal::of(TOO_FAR));
     }
+    write_to(alloc, &mut bounded.world, moment, held, code)
 }

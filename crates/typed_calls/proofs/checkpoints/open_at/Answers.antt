@@ -1,17 +1,16 @@
 use Rattle.std.proofs.Common.{◌≡◌, refl, ap, ◌∙◌}
 use Rattle.checkpoint.specs.Checkpoint.{Checkpoint}
-use Rattle.script_session.specs.State.{opened}
-use Rattle.typed_calls.specs.Opening.{session_over}
+use Rattle.typed_calls.specs.Checkpoints.{bounded_at}
 use Rattle.typed_calls.specs.Statuses.{out_of_memory}
 use Rattle.typed_calls.proofs.Loads.{out_of_memory_alone}
 use Rattle.typed_calls.proofs.checkpoints.open_at.Goals as goal
 
 pub returns-in-Ok-clause-opens : goal.returns-in-Ok-clause-opens
-returns-in-Ok-clause-opens c = (c.in-Ok.checkpoint, c.in-Ok.ensures.read, c.session_at.ensures)
+returns-in-Ok-clause-opens c = (c.in-Ok.checkpoint, c.in-Ok.ensures.read, c.world_at.ensures)
 
 pub returns-in-Ok-clause-saved : goal.returns-in-Ok-clause-saved
 returns-in-Ok-clause-saved c limit checkpoint saved =
-    c.session_at.ensures ∙ ap (λ (d : Checkpoint). session_over (opened d)) (c.in-Ok.ensures.accepted limit checkpoint saved)
+    c.world_at.ensures ∙ ap (λ (d : Checkpoint). bounded_at d c.args.furthest) (c.in-Ok.ensures.accepted limit checkpoint saved)
 
 pub returns-in-Err-clause-saved : goal.returns-in-Err-clause-saved
 returns-in-Err-clause-saved c limit checkpoint saved =

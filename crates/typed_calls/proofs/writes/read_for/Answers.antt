@@ -7,7 +7,7 @@ use Rattle.schema_version.specs.Version.{Version}
 use Rattle.script_session.specs.declared.session.ServerLease.{ServerLease}
 use Rattle.script_session.specs.State.{State}
 use Rattle.script_session.specs.Calls.{IsReadView}
-use Rattle.typed_calls.specs.Txns.{AreReads}
+use Rattle.typed_calls.specs.Reads.{AreReads}
 use Rattle.typed_calls.specs.Writes.{IsReadFor}
 use Rattle.typed_calls.proofs.writes.read_for.Goals as goal
 

@@ -3,8 +3,8 @@ use Rattle.std.specs.FinMap as map
 use Rattle.keycode.specs.Order.{bytes_cmp}
 use Rattle.row_write.specs.declared.op.RowOp.{RowOp}
 use Rattle.schema_version.specs.Version.{Version}
-use Rattle.typed_calls.specs.Txns.{AreReads}
-use Rattle.typed_calls.proofs.txns.coded.Goals as goal
+use Rattle.typed_calls.specs.Reads.{AreReads}
+use Rattle.typed_calls.proofs.reads.coded.Goals as goal
 
 -- the keys are those that the operations read under the schema of the lease
 are_reads : (held schema : Version) (ops items : List RowOp) (keys : map.FinMap bytes_cmp (Unit {0})) → schema ≡ held → items ≡ ops → AreReads schema items keys → AreReads held ops keys
