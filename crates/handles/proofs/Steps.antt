@@ -1,98 +1,56 @@
--- The steps of calls on what a handle holds.
-use Rattle.std.proofs.Common.{◌≡◌, ℕ, ℤ, Bool, false, List, [], Option, Some, None, Ok, Err, is_some, inl, inr, refl, sym, ap, subst, ◌∙◌, string_bytes, true≢false}
-use Rattle.typed_calls.specs.Session.{Session}
-use Rattle.typed_calls.specs.ServerLease.{ServerLease}
-use Rattle.typed_calls.specs.Snapshot.{Taken}
-use Rattle.typed_calls.specs.Opening.{OpensSession}
-use Rattle.typed_calls.specs.Prepare.{Prepares as PreparesTxn, prepare_alone}
-use Rattle.typed_calls.specs.Snapshots.{SnapshotsIn}
-use Rattle.typed_calls.specs.Statuses.{ok}
-use Rattle.typed_calls.specs.Txns.{Wants, ReadsIn}
-use Rattle.typed_calls.specs.declared.preparation.PrepareOutcome.{PrepareOutcome}
-use Rattle.typed_calls.specs.declared.txns.Txn.{Txn}
-use Rattle.handles.specs.declared.engine.Conversation.{Conversation}
+-- The steps of calls on a world that has a furthest jump, and on what a handle holds.
+use Rattle.std.proofs.Common.{◌≡◌, ℕ, ℤ, Bool, false, Option, Some, None, Result, Ok, Err, is_some, ◌⊎◌, inl, refl, sym, subst, ◌∙◌, true≢false}
+use Rattle.std.specs.Bool.{MatchBool}
+use Rattle.typed_calls.specs.Bounded.{is_too_far, Within}
+use Rattle.typed_calls.specs.State.{State}
+use Rattle.typed_calls.specs.declared.bounded.BoundedWorld.{BoundedWorld}
 use Rattle.handles.specs.declared.engine.Engine.{Engine}
-use Rattle.handles.specs.declared.engine.Engine.TheVariants as engine
 use Rattle.handles.specs.Handles.{Fills}
-use Rattle.handles.specs.Leases.{OpensTables}
-use Rattle.handles.specs.Txns.{Transacts, WantsIn, ReadsEngine, ReadsFor, PreparesEngine, Prepares}
-use Rattle.handles.specs.Snapshots.{Snapshots, SnapshotsInto, SnapshotsUnder}
 
 -- a handle that is not open holds nothing
 pub holds_nothing : (held : Option Engine) (shows : Bool) → shows ≡ is_some held → shows ≡ false → held ≡ None
 holds_nothing None shows is shut = refl
 holds_nothing (Some e) shows is shut = absurd (true≢false (sym is ∙ shut))
 
-pub reads_txn : (session : Session) (e : Engine) (txn it : Txn) → e ≡ engine.Txn txn → ReadsIn session txn (Ok it) → ReadsEngine session e ok (engine.Txn it)
-reads_txn session e txn it is reads = rw is (inl (it, reads, refl, refl))
+-- a status, as it is handed on
+pub as_given : (P : ℤ → Type 0) (given status : ℤ) → given ≡ status → P status → P given
+as_given P given status same p = subst P (sym same) p
 
-pub read_refused :
-    (session : Session) (e : Engine) (txn : Txn) (refusal : ℤ × Txn) (status : ℤ)
-    → e ≡ engine.Txn txn → status ≡ refusal.0 → ReadsIn session txn (Err refusal) → ReadsEngine session e status (engine.Txn refusal.1)
-read_refused session e txn refusal status is same reads = rw is (rw same (inr (refusal.1, reads, refl)))
+-- what a call gave is in the handle, or memory ran out
+pub kept :
+    {V : Type 0} (Gives : Result V ℤ → Type 0) (of : V → Engine) (it : V) (given status : ℤ) (new : Option Engine)
+    → given ≡ status → Gives (Ok it) → Fills (of it) status new → ((v : V) × Gives (Ok v) × Fills (of v) given new) ⊎ (Gives (Err given) × (new ≡ None))
+kept Gives of it given status new same gives fills =
+    inl (it, gives, subst (λ (s : ℤ). Fills (of it) s new) (sym same) fills)
 
-pub reads_for :
-    (session : Session) (old new : Option Engine) (e held left filled : Engine) (status given : ℤ)
-    → Some e ≡ old → held ≡ e → given ≡ status → ReadsEngine session held status left → filled ≡ left → new ≡ Some filled → ReadsFor session old given new
-reads_for session old new e held left filled status given is same whole reads back last =
-    subst (λ (o : Option Engine). ReadsFor session o given new) is (
-      left,
-      subst (λ (h : Engine). ReadsEngine session h given left) same (subst (λ (s : ℤ). ReadsEngine session held s left) (sym whole) reads),
-      last ∙ ap (λ (x : Engine). Some x) back,
-    )
+-- a call on what a handle holds
+pub at_held :
+    (To : Option Engine → ℤ → Type 0) (handle : Option Engine) (e held : Engine) (given status : ℤ)
+    → Some e ≡ handle → e ≡ held → given ≡ status → To (Some held) status → To handle given
+at_held To handle e held given status here is same to =
+    subst (λ (s : ℤ). To handle s) (sym same)
+    (subst (λ (o : Option Engine). To o status) here (subst (λ (x : Engine). To (Some x) status) (sym is) to))
 
-pub prepares_txn :
-    (e : Engine) (txn it : Txn) (outcome : PrepareOutcome)
-    → e ≡ engine.Txn txn → outcome ≡ prepare_alone ok → PreparesTxn txn (Ok it) → PreparesEngine e outcome (engine.Txn it)
-prepares_txn e txn it outcome is same prepares = rw is (inl (it, prepares, same, refl))
+-- the same, into a closed handle
+pub into_closed :
+    (To : Option Engine → Option Engine → ℤ → Type 0) (handle closed : Option Engine) (e held : Engine) (given status : ℤ)
+    → closed ≡ None → Some e ≡ handle → e ≡ held → given ≡ status → To (Some held) None status → To handle closed given
+into_closed To handle closed e held given status shut here is same to =
+    subst (λ (o : Option Engine). To handle o given) (sym shut) (at_held (λ (o : Option Engine) (s : ℤ). To o None s) handle e held given status here is same to)
 
-pub preparation_refused :
-    (e : Engine) (txn : Txn) (refusal : PrepareOutcome × Txn)
-    → e ≡ engine.Txn txn → PreparesTxn txn (Err refusal) → PreparesEngine e refusal.0 (engine.Txn refusal.1)
-preparation_refused e txn refusal is prepares = rw is (inr (refusal.1, prepares, refl))
+-- a call that changes what a handle holds
+pub changes_held :
+    (To : Option Engine → Option Engine → Type 0) (old new : Option Engine) (e held changed : Engine)
+    → Some e ≡ old → e ≡ held → new ≡ Some changed → To (Some held) (Some changed) → To old new
+changes_held To old new e held changed here is last to =
+    subst (λ (o : Option Engine). To o new) here
+    (subst (λ (x : Engine). To (Some x) new) (sym is) (subst (λ (n : Option Engine). To (Some held) n) (sym last) to))
 
-pub prepares_held :
-    (old new : Option Engine) (e held left filled : Engine) (outcome : PrepareOutcome)
-    → Some e ≡ old → held ≡ e → PreparesEngine held outcome left → filled ≡ left → new ≡ Some filled → Prepares old outcome new
-prepares_held old new e held left filled outcome is same prepares back last =
-    subst (λ (o : Option Engine). Prepares o outcome new) is (
-      left,
-      subst (λ (h : Engine). PreparesEngine h outcome left) same prepares,
-      last ∙ ap (λ (x : Engine). Some x) back,
-    )
-
-pub wants_filled :
-    (held : ServerLease) (operations : List ℕ) (it : Txn) (given status : ℤ) (new : Option Engine)
-    → given ≡ status → Wants held operations (Ok it) → Fills (engine.Txn it) status new → WantsIn held operations given new
-wants_filled held operations it given status new same wants fills = rw same (inl (it, wants, fills))
-
-pub transacts_under :
-    (lease txn new : Option Engine) (e : Engine) (held : ServerLease) (operations : List ℕ) (given status : ℤ)
-    → txn ≡ None → Some e ≡ lease → e ≡ engine.Lease held → given ≡ status → WantsIn held operations status new → Transacts lease operations txn given new
-transacts_under lease txn new e held operations given status shut here is same wants =
-    rw shut (subst (λ (o : Option Engine). Transacts o operations None given new) here (rw is (rw same wants)))
-
-pub opens_filled :
-    (old new : Option Engine) (opening : List ℕ) (held : Conversation) (given status : ℤ)
-    → old ≡ None → given ≡ status → string_bytes held.reply ≡ [] → OpensSession opening (Ok held.session) → Fills (engine.Session held) status new
-    → OpensTables old opening given new
-opens_filled old new opening held given status shut same silent opens (inl fills) = rw shut (rw same (rw fills.1 (inl (held.session, opens, fills.0, (refl, silent)))))
-opens_filled old new opening held given status shut same silent opens (inr fills) = rw shut (rw same (inr (inr fills)))
-
-pub snapshots_filled :
-    (session : Session) (moment : ℕ) (held : ServerLease) (taken : Taken) (given status : ℤ) (new : Option Engine)
-    → given ≡ status → SnapshotsIn session moment held.lease (Ok taken) → Fills (engine.Snapshot taken) status new → SnapshotsInto session moment held given new
-snapshots_filled session moment held taken given status new same takes fills = rw same (inl (taken, takes, fills))
-
-pub snapshots_under :
-    (session : Session) (moment : ℕ) (lease new : Option Engine) (e : Engine) (held : ServerLease) (given status : ℤ)
-    → Some e ≡ lease → e ≡ engine.Lease held → given ≡ status → SnapshotsInto session moment held status new → SnapshotsUnder session moment lease given new
-snapshots_under session moment lease new e held given status here is same takes =
-    subst (λ (o : Option Engine). SnapshotsUnder session moment o given new) here (rw is (rw same takes))
-
-pub snapshots_of :
-    (session lease snapshot new : Option Engine) (moment : ℕ) (e : Engine) (c : Conversation) (given status : ℤ)
-    → snapshot ≡ None → Some e ≡ session → e ≡ engine.Session c → given ≡ status → SnapshotsUnder c.session moment lease status new
-    → Snapshots session moment lease snapshot given new
-snapshots_of session lease snapshot new moment e c given status shut here is same takes =
-    rw shut (subst (λ (o : Option Engine). Snapshots o moment lease None given new) here (rw is (rw same takes)))
+-- a call at a moment that is not too far
+pub within :
+    {A : Type 0} (far : A) (Call : State → A → State → Type 0) (old : BoundedWorld) (moment : ℕ) (says : Bool) (answer : A) (world : State)
+    → says ≡ is_too_far old moment → says ≡ false → Call old.world answer world → Within far Call old moment answer (record old { world = world })
+within far Call old moment says answer world is near call =
+    subst
+    (λ (b : Bool). MatchBool b ((answer ≡ far) × (record old { world = world } ≡ old)) ((w : State) × Call old.world answer w × (record old { world = world } ≡ record old { world = w })))
+    (sym near ∙ is) (world, call, refl)

@@ -1,26 +1,30 @@
+pub use Rattle.entry_code.specs.Code as EntryCode
+pub use Rattle.reorganise.specs.declared.read.Reading
+pub use Rattle.replay.specs.declared.entry.Entry
+pub use Rattle.typed_calls.specs.Bounded
 pub use Rattle.typed_calls.specs.Changes
-pub use Rattle.typed_calls.specs.Opened
 pub use Rattle.typed_calls.specs.PieceDone
 pub use Rattle.typed_calls.specs.Pieces
 pub use Rattle.typed_calls.specs.Plans
 pub use Rattle.typed_calls.specs.Prepare
 pub use Rattle.typed_calls.specs.Progress
+pub use Rattle.typed_calls.specs.Proposals
 pub use Rattle.typed_calls.specs.Queries as TypedQueries
-pub use Rattle.typed_calls.specs.Session
-pub use Rattle.typed_calls.specs.SessionVariants
-pub use Rattle.typed_calls.specs.Sessions
 pub use Rattle.typed_calls.specs.State
 pub use Rattle.typed_calls.specs.Statuses
+pub use Rattle.typed_calls.specs.declared.bounded.BoundedWorld
 pub use Rattle.typed_calls.specs.declared.changes.ChangeRefusal
-pub use Rattle.typed_calls.specs.declared.pieces.PieceWork
 pub use Rattle.typed_calls.specs.declared.standing.Reached
 pub mod Calls
 pub mod Owned
 pub mod Replies
+pub mod Moments
+pub mod Sessions
+pub mod Entries
 pub mod Handles
 pub mod Leases
 pub mod Txns
-pub mod Detailed
+pub mod CommitOutcomes
 pub mod Commits
 pub mod Snapshots
 pub mod Cuts

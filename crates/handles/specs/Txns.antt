@@ -1,73 +1,78 @@
--- Cited by the contracts of cagzhomul_transaction, cagzhomul_read, cagzhomul_operations, cagzhomul_prepare and of what they call.
--- A transaction in a handle of its own: its operations, what it reads, and its preparation.
-use Rattle.std.specs.Prelude.{◌≡◌, ℕ, ◌⊎◌, ℤ, List, Option, Some, None, Ok, Err}
-use Rattle.typed_calls.specs.Session.{Session}
+-- Cited by the contracts of cagzhomul_read, cagzhomul_read_again, cagzhomul_prepare and of what they call.
+-- The operations of a transaction with what they read, in a handle of their own, and the transaction that is prepared from them.
+use Rattle.std.specs.Prelude.{◌≡◌, ℕ, ◌⊎◌, ℤ, List, Option, Some, None, Result, Ok, Err}
+use Rattle.row_write.specs.Made.{PreparedTxn}
+use Rattle.typed_calls.specs.State.{State}
 use Rattle.typed_calls.specs.ServerLease.{ServerLease}
-use Rattle.typed_calls.specs.Txns.{Wants, ReadsIn}
-use Rattle.typed_calls.specs.Operations.{WantsAgain}
-use Rattle.typed_calls.specs.Prepare.{Prepares as PreparesTxn, prepare_alone}
-use Rattle.typed_calls.specs.Statuses.{ok, closed, already_open, wrong_kind}
+use Rattle.typed_calls.specs.Reads.{ReadsFor, ReadsPinned}
+use Rattle.typed_calls.specs.Prepare.{Prepares, prepare_alone}
+use Rattle.typed_calls.specs.Statuses.{ok, closed, already_open}
 use Rattle.typed_calls.specs.declared.preparation.PrepareOutcome.{PrepareOutcome}
-use Rattle.typed_calls.specs.declared.txns.Txn.{Txn}
+use Rattle.typed_calls.specs.declared.reads.Reads.{Reads}
 use Rattle.handles.specs.declared.engine.Engine.{Engine}
 use Rattle.handles.specs.declared.engine.Engine.TheVariants as engine
 use Rattle.handles.specs.Handles.{Fills}
 
--- ---- transaction
-
--- a transaction of these operations, or the status of its refusal
-abbrev pub WantsIn : ServerLease → List ℕ → ℤ → Option Engine → Type 0
-WantsIn held operations status txn =
-    ((it : Txn) × Wants held operations (Ok it) × Fills (engine.Txn it) status txn) ⊎ (Wants held operations (Err status) × (txn ≡ None))
-
-abbrev pub TransactsInto : Option Engine → List ℕ → ℤ → Option Engine → Type 0
-TransactsInto None operations status txn = (status ≡ closed) × (txn ≡ None)
-TransactsInto (Some (engine.Lease held)) operations status txn = WantsIn held operations status txn
-TransactsInto (Some other) operations status txn = (status ≡ wrong_kind) × (txn ≡ None)
-
-abbrev pub Transacts : Option Engine → List ℕ → Option Engine → ℤ → Option Engine → Type 0
-Transacts lease operations (Some e) status txn = (status ≡ already_open) × (txn ≡ Some e)
-Transacts lease operations None status txn = TransactsInto lease operations status txn
-
 -- ---- read
 
--- what was read is kept; a transaction that is refused comes back as it was
-abbrev pub ReadsEngine : Session → Engine → ℤ → Engine → Type 0
-ReadsEngine session (engine.Txn txn) status new =
-    ((it : Txn) × ReadsIn session txn (Ok it) × (status ≡ ok) × (new ≡ engine.Txn it))
-    ⊎ ((it : Txn) × ReadsIn session txn (Err (status, it)) × (new ≡ engine.Txn it))
-ReadsEngine session other status new = (status ≡ wrong_kind) × (new ≡ other)
+-- the operations with what they read of the world, or the status of their refusal
+abbrev pub ReadsInto : State → ServerLease → List ℕ → ℤ → Option Engine → Type 0
+ReadsInto world held operations status reads =
+    ((it : Reads) × ReadsFor world held operations (Ok it) × Fills (engine.Reads it) status reads)
+    ⊎ (ReadsFor world held operations (Err status) × (reads ≡ None))
 
-abbrev pub ReadsFor : Session → Option Engine → ℤ → Option Engine → Type 0
-ReadsFor session None status new = (status ≡ closed) × (new ≡ None)
-ReadsFor session (Some e) status new = (left : Engine) × ReadsEngine session e status left × (new ≡ Some left)
+-- under the lease of a handle
+abbrev pub ReadsUnder : State → Option Engine → List ℕ → ℤ → Option Engine → Type 0
+ReadsUnder world None operations status reads = (status ≡ closed) × (reads ≡ None)
+ReadsUnder world (Some (engine.Lease held)) operations status reads = ReadsInto world held operations status reads
+ReadsUnder world (Some other) operations status reads = (status ≡ closed) × (reads ≡ None)
 
-abbrev pub Reads : Option Engine → Option Engine → ℤ → Option Engine → Type 0
-Reads None txn status new = (status ≡ closed) × (new ≡ txn)
-Reads (Some (engine.Session c)) txn status new = ReadsFor c.session txn status new
-Reads (Some other) txn status new = (status ≡ wrong_kind) × (new ≡ txn)
+abbrev pub ReadsOf : Option Engine → Option Engine → List ℕ → ℤ → Option Engine → Type 0
+ReadsOf None lease operations status reads = (status ≡ closed) × (reads ≡ None)
+ReadsOf (Some (engine.World bounded)) lease operations status reads = ReadsUnder bounded.world lease operations status reads
+ReadsOf (Some other) lease operations status reads = (status ≡ closed) × (reads ≡ None)
 
--- ---- operations
+-- into a closed handle
+abbrev pub ReadsFirst : Option Engine → Option Engine → List ℕ → Option Engine → ℤ → Option Engine → Type 0
+ReadsFirst world lease operations (Some e) status reads = (status ≡ already_open) × (reads ≡ Some e)
+ReadsFirst world lease operations None status reads = ReadsOf world lease operations status reads
 
--- what was read is kept with other operations; a transaction that is refused comes back as it was
-abbrev pub GivesEngine : Engine → List ℕ → ℤ → Engine → Type 0
-GivesEngine (engine.Txn txn) operations status new =
-    ((it : Txn) × WantsAgain txn operations (Ok it) × (status ≡ ok) × (new ≡ engine.Txn it))
-    ⊎ ((it : Txn) × WantsAgain txn operations (Err (status, it)) × (new ≡ engine.Txn it))
-GivesEngine other operations status new = (status ≡ wrong_kind) × (new ≡ other)
+-- ---- read_again
 
-abbrev pub GivesOperations : Option Engine → List ℕ → ℤ → Option Engine → Type 0
-GivesOperations None operations status new = (status ≡ closed) × (new ≡ None)
-GivesOperations (Some e) operations status new = (left : Engine) × GivesEngine e operations status left × (new ≡ Some left)
+-- other operations, with what was read before of the keys that they read; a refusal changes nothing
+abbrev pub ReadsMore : State → Reads → List ℕ → ℤ → Reads → Type 0
+ReadsMore world old operations status new =
+    ((status ≡ ok) × ReadsPinned world old.view old.held operations (Ok new))
+    ⊎ (ReadsPinned world old.view old.held operations (Err status) × (new ≡ old))
+
+-- in place of what the handle held
+abbrev pub ReadsOver : State → Option Engine → List ℕ → ℤ → Option Engine → Type 0
+ReadsOver world None operations status reads = (status ≡ closed) × (reads ≡ None)
+ReadsOver world (Some (engine.Reads old)) operations status reads =
+    (it : Reads) × ReadsMore world old operations status it × (reads ≡ Some (engine.Reads it))
+ReadsOver world (Some other) operations status reads = (status ≡ closed) × (reads ≡ Some other)
+
+abbrev pub ReadsAgain : Option Engine → Option Engine → List ℕ → ℤ → Option Engine → Type 0
+ReadsAgain None old operations status reads = (status ≡ closed) × (reads ≡ old)
+ReadsAgain (Some (engine.World bounded)) old operations status reads = ReadsOver bounded.world old operations status reads
+ReadsAgain (Some other) old operations status reads = (status ≡ closed) × (reads ≡ old)
 
 -- ---- prepare
 
-abbrev pub PreparesEngine : Engine → PrepareOutcome → Engine → Type 0
-PreparesEngine (engine.Txn txn) outcome new =
-    ((it : Txn) × PreparesTxn txn (Ok it) × (outcome ≡ prepare_alone ok) × (new ≡ engine.Txn it))
-    ⊎ ((it : Txn) × PreparesTxn txn (Err (outcome, it)) × (new ≡ engine.Txn it))
-PreparesEngine other outcome new = (outcome ≡ prepare_alone wrong_kind) × (new ≡ other)
+-- the handle, which was closed, holds the transaction, unless memory ran out; after a refusal it is closed
+abbrev pub KeepsTxn : Result PreparedTxn PrepareOutcome → PrepareOutcome → Option Engine → Type 0
+KeepsTxn (Ok prepared) outcome txn = (status : ℤ) × Fills (engine.Txn prepared) status txn × (outcome ≡ prepare_alone status)
+KeepsTxn (Err refusal) outcome txn = (outcome ≡ refusal) × (txn ≡ None)
 
-abbrev pub Prepares : Option Engine → PrepareOutcome → Option Engine → Type 0
-Prepares None outcome new = (outcome ≡ prepare_alone closed) × (new ≡ None)
-Prepares (Some e) outcome new = (left : Engine) × PreparesEngine e outcome left × (new ≡ Some left)
+abbrev pub PreparesInto : Reads → PrepareOutcome → Option Engine → Type 0
+PreparesInto reads outcome txn = (answer : Result PreparedTxn PrepareOutcome) × Prepares reads answer × KeepsTxn answer outcome txn
+
+abbrev pub PreparesOf : Option Engine → PrepareOutcome → Option Engine → Type 0
+PreparesOf None outcome txn = (outcome ≡ prepare_alone closed) × (txn ≡ None)
+PreparesOf (Some (engine.Reads reads)) outcome txn = PreparesInto reads outcome txn
+PreparesOf (Some other) outcome txn = (outcome ≡ prepare_alone closed) × (txn ≡ None)
+
+-- into a closed handle
+abbrev pub PreparesTo : Option Engine → Option Engine → PrepareOutcome → Option Engine → Type 0
+PreparesTo reads (Some e) outcome txn = (outcome ≡ prepare_alone already_open) × (txn ≡ Some e)
+PreparesTo reads None outcome txn = PreparesOf reads outcome txn

@@ -8,7 +8,7 @@ use std::alloc::{AllocError, Global};
 
 // What is in a box that is to be filled.
 fn vacant(alloc: Global) -> Engine {
-    Engine::Rows(List::new(Vec::new(alloc)))
+    Engine::Bytes(List::new(Vec::new(alloc)))
 }
 
 /// A box with this engine. Refused only when out of memory; the engine is then let go.

@@ -1,38 +1,42 @@
-//! The calls about which entries of a session's log are in memory.
+//! How many entries a world's log has, and which of them are in memory.
 ghost use Rattle.std.specs.Prelude.{◌≡◌};
-ghost use Rattle.handles.specs.Cuts.{Cuts, LogStarts, StartOf};
-ghost use Rattle.typed_calls.specs.Cuts.{CutsIn};
+ghost use Rattle.typed_calls.specs.State.{cut_but};
+ghost use Rattle.handles.specs.Cuts.{Cuts, LogLengths, LogStarts};
 
-use crate::engine::{Conversation, Engine};
+use crate::engine::Engine;
 use crate::handle::Handle;
 use crate::outcome::Outcome;
 use std::alloc::Global;
-use typed_calls::script_session::Session;
-use typed_calls::status::{CLOSED, OK, WRONG_KIND};
+use typed_calls::BoundedWorld;
+use typed_calls::status::{CLOSED, OK};
 
-// Where the entries of the session's log begin that are in memory.
-fn start_of(session: &Session) -> Outcome
-    ensures { StartOf session.now result }
+// Cuts the log of the world.
+fn cut_bounded(bounded: &mut BoundedWorld, keep: usize)
+    ensures { bounded.new ≡ record bounded.old { world = cut_but keep bounded.old.world } }
 {
-    match typed_calls::log_start(session) {
-        Ok(length) => Outcome { status: OK, length },
-        Err(status) => Outcome::refusal(status),
-    }
-}
-
-impl Conversation {
-    // Cuts the log; the last reply stays.
-    fn cut(&mut self, keep: usize) -> i32
-        ensures session { CutsIn keep self.old.session result self.new.session }
-        ensures reply { self.new.reply ≡ self.old.reply }
-    {
-        typed_calls::cut(&mut self.session, keep)
-    }
+    bounded.world.cut_but(keep);
 }
 
 impl Handle {
-    /// How many entries of the session's log come before those that are in memory: 0 until it is
-    /// cut. `OK`; else `CLOSED`, `WRONG_KIND` or `NOT_OPENED`. Nothing changes.
+    /// How many entries the log of the world had ever. `OK`; else `CLOSED`. Nothing changes.
+    pub fn log_length(&mut self, alloc: Global) -> Outcome
+        ensures length { LogLengths self.old.place.value result }
+        ensures same { self.new.place.value ≡ self.old.place.value }
+    {
+        let Some(engine) = self.take(alloc) else {
+            return Outcome::refusal(CLOSED);
+        };
+        let Engine::World(bounded) = &*engine else {
+            self.put(engine);
+            return Outcome::refusal(CLOSED);
+        };
+        let length = bounded.world.log_len() as usize;
+        self.put(engine);
+        Outcome { status: OK, length }
+    }
+
+    /// How many entries of the world's log come before those that are in memory: 0 until it is cut.
+    /// `OK`; else `CLOSED`. Nothing changes.
     pub fn log_start(&mut self, alloc: Global) -> Outcome
         ensures start { LogStarts self.old.place.value result }
         ensures same { self.new.place.value ≡ self.old.place.value }
@@ -40,30 +44,30 @@ impl Handle {
         let Some(engine) = self.take(alloc) else {
             return Outcome::refusal(CLOSED);
         };
-        let Engine::Session(conversation) = &*engine else {
+        let Engine::World(bounded) = &*engine else {
             self.put(engine);
-            return Outcome::refusal(WRONG_KIND);
+            return Outcome::refusal(CLOSED);
         };
-        let outcome = start_of(&conversation.session);
+        let length = bounded.world.log_start() as usize;
         self.put(engine);
-        outcome
+        Outcome { status: OK, length }
     }
 
-    /// Gives the memory of the entries of the session's log back, but for the last `keep` of those
+    /// Gives the memory of the entries of the world's log back, but for the last `keep` of those
     /// that are in memory; no answer changes but those of `entry` and `log_start`. `OK`; else
-    /// `CLOSED`, `WRONG_KIND` or `NOT_OPENED`, and nothing changes. It takes no memory.
+    /// `CLOSED`, and nothing changes. It takes no memory.
     pub fn cut(&mut self, alloc: Global, keep: usize) -> i32
         ensures { Cuts keep self.old.place.value result self.new.place.value }
     {
         let Some(mut engine) = self.take(alloc) else {
             return CLOSED;
         };
-        let Engine::Session(conversation) = &mut *engine else {
+        let Engine::World(bounded) = &mut *engine else {
             self.put(engine);
-            return WRONG_KIND;
+            return CLOSED;
         };
-        let status = conversation.cut(keep);
+        cut_bounded(bounded, keep);
         self.put(engine);
-        status
+        OK
     }
 }

@@ -1,20 +1,44 @@
 //! What a handle may hold. Each kind of calls has its variant.
 ghost use Rattle.std.specs.Prelude.{◌≡◌, string_bytes, []};
-ghost use Rattle.typed_calls.specs.Session.{empty};
-ghost use Rattle.handles.specs.Calls.{RepliesIn};
+ghost use Rattle.typed_calls.specs.Session.{nothing_declared as fresh};
 
-use crate::outcome::{Outcome, lay};
+use byte_map::KeyMap;
 use collections::List;
+use reorganise::{PieceView, PreparedPiece};
+use row_write::Prepared;
+use schema_version::Step;
 use std::alloc::Global;
-use typed_calls::script_session::{ServerLease, Session};
-use typed_calls::status::{BAD_LINE, NOT_UTF8, OK, OUT_OF_MEMORY};
+use typed_calls::script_session::{Declarations, Pending, ServerLease};
 use typed_calls::world::{Checkpoint, Snapshot};
-use typed_calls::{PieceWork, Txn};
+use typed_calls::{BoundedWorld, Reads};
 
-/// A session, and the last reply that it gave.
+// A lease's length if no line says it, in moments.
+const USUAL_LENGTH: u64 = 10;
+
+/// What a session by lines keeps after its line `open`, besides the world.
+#[derive(Drop)]
+pub struct Names {
+    /// The lease of each server, by its name.
+    pub leases: KeyMap<ServerLease>,
+    /// What was prepared and is not committed yet, by its name.
+    pub pending: KeyMap<Pending>,
+    /// The steps of the last plan that were not accepted yet, the next one first.
+    pub plan: List<Step>,
+}
+
+/// What a session by lines keeps between two lines, besides the world.
+#[derive(Drop)]
+pub enum Script {
+    /// Before its line `open`.
+    Declaring(Declarations),
+    /// After it.
+    Running(Names),
+}
+
+/// A session by lines, whose world is in a handle of its own, and the last reply that it gave.
 pub struct Conversation {
-    /// The session.
-    pub session: Session,
+    /// What it keeps between two lines.
+    pub script: Script,
     /// The reply to the last line that was answered.
     pub reply: String,
 }
@@ -23,57 +47,64 @@ pub struct Conversation {
 impl Drop for Conversation {
     fn drop(self) {
         let Conversation {
-            session: _,
+            script: _,
             reply: _,
         } = self;
+    }
+}
+
+impl Conversation {
+    /// A session with this script, and no reply yet.
+    pub(crate) fn new(alloc: Global, script: Script) -> Conversation
+        ensures script { result.script ≡ script }
+        ensures reply { string_bytes result.reply ≡ [] }
+    {
+        Conversation {
+            script,
+            reply: String::new(alloc),
+        }
+    }
+
+    /// The script, and the last reply.
+    pub(crate) fn into_parts(self) -> (Script, String)
+        ensures { self ≡ record { script = result.0; reply = result.1 } }
+    {
+        let Conversation { script, reply } = self;
+        (script, reply)
+    }
+}
+
+/// What is declared at the start of a session: nothing.
+pub(crate) fn nothing_declared(alloc: Global) -> Declarations
+    ensures { result ≡ fresh }
+{
+    Declarations {
+        tables: List::new(Vec::new(alloc)),
+        length: USUAL_LENGTH,
     }
 }
 
 /// What a handle may hold.
 #[derive(Drop)]
 pub enum Engine {
-    /// A session of the script language.
+    /// A world, and how far a call's moment may be beyond that of its last entry.
+    World(BoundedWorld),
+    /// A session by lines.
     Session(Conversation),
-    /// A lease of a session's world.
+    /// A lease.
     Lease(ServerLease),
-    /// A transaction under a lease.
-    Txn(Txn),
-    /// What a session's world held at a moment.
+    /// The operations of a transaction, and what they read.
+    Reads(Reads),
+    /// A prepared transaction.
+    Txn(Prepared),
+    /// What a world held at a moment.
     Snapshot(Snapshot),
-    /// The code of the rows that a query answered, or the bytes of a checkpoint.
-    Rows(List<u8>),
-    /// A piece of a reorganisation of a session's world.
-    Piece(PieceWork),
-    /// The checkpoint of a session's world.
+    /// Bytes that a call gave: rows, a schema, the bytes of a checkpoint, an entry.
+    Bytes(List<u8>),
+    /// The items of a piece of a reorganisation, as they were read.
+    Piece(PieceView),
+    /// A prepared piece.
+    PreparedPiece(PreparedPiece),
+    /// The checkpoint of a world.
     Checkpoint(Checkpoint),
-}
-
-impl Conversation {
-    /// A session at its start.
-    pub(crate) fn new(alloc: Global) -> Conversation
-        ensures session { result.session ≡ empty }
-        ensures reply { string_bytes result.reply ≡ [] }
-    {
-        Conversation {
-            session: Session::new(alloc),
-            reply: String::new(alloc),
-        }
-    }
-
-    /// Answers a line, keeps the reply, and writes as much of it as fits.
-    pub(crate) fn reply_to(&mut self, alloc: Global, line: &[u8], out: &mut [u8]) -> Outcome
-        ensures { RepliesIn self.old line.now out.old result out.new self.new }
-    {
-        let Ok(line) = std::str::from_utf8(line) else {
-            return Outcome::refusal(NOT_UTF8);
-        };
-        let Ok(answer) = self.session.reply_to(alloc, line) else {
-            return Outcome::refusal(OUT_OF_MEMORY);
-        };
-        lay(out, answer.text.as_str().as_bytes());
-        let status = if answer.is_bad { BAD_LINE } else { OK };
-        let length = answer.text.len();
-        self.reply = answer.text;
-        Outcome { status, length }
-    }
 }

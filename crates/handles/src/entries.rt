@@ -1,15 +1,14 @@
-//! Entries of a session's log, as bytes.
+//! Entries of a world's log, as bytes.
 ghost use Rattle.std.specs.Prelude.{◌≡◌, option_copied};
-ghost use Rattle.handles.specs.Calls.{entry_at, RepeatsBytes, RepeatsIn, ShowsCode, ShowsEntryIn};
+ghost use Rattle.handles.specs.Entries.{entry_at, RepeatsBytes, RepeatsEntry, RepeatsWorld, ShowsCode, ShowsPlace};
 ghost use Rattle.handles.specs.Replies.{repeat_status};
 
-use crate::engine::Conversation;
 use crate::outcome::{Outcome, lay};
 use entry_code::{CodeFault, entry_bytes, entry_of};
 use replica::{Repeat, RepeatFault};
 use std::alloc::Global;
-use typed_calls::script_session::Session;
-use typed_calls::status::{BAD_ENTRY, NO_ENTRY, NOT_NEXT, NOT_OPENED, OK, OUT_OF_MEMORY};
+use typed_calls::BoundedWorld;
+use typed_calls::status::{BAD_ENTRY, NO_ENTRY, NOT_NEXT, OK, OUT_OF_MEMORY};
 use typed_calls::world::{Entry, Receipt, World};
 
 // The entry of this place, of which the first is 1.
@@ -36,6 +35,15 @@ fn show_entry(alloc: Global, log: &[Entry], place: usize, out: &mut [u8]) -> Out
     }
 }
 
+/// Writes as much of the code of the world's entry of this place as fits. `NO_ENTRY` also answers a
+/// place whose entry is no longer in memory.
+pub(crate) fn show_place(alloc: Global, world: &World, place: usize, out: &mut [u8]) -> Outcome
+    ensures { ShowsPlace world.now place out.old result out.new }
+{
+    let place = place.saturating_sub(world.log_start() as usize);
+    show_entry(alloc, world.log(), place, out)
+}
+
 // The status of an entry that was to be repeated.
 fn repeat_status(repeated: &Result<Receipt, RepeatFault>) -> i32
     ensures { result ≡ repeat_status repeated.now }
@@ -47,40 +55,30 @@ fn repeat_status(repeated: &Result<Receipt, RepeatFault>) -> i32
     }
 }
 
-// Repeats the entry whose code these bytes are.
-fn repeat_bytes(alloc: Global, world: &mut World, bytes: &[u8]) -> i32
-    ensures { RepeatsBytes world.old bytes.now result world.new }
+// Repeats the entry in the world.
+fn repeat_in(alloc: Global, world: &mut World, entry: &Entry) -> i32
+    ensures { RepeatsWorld world.old entry.now result world.new }
 {
-    match entry_of(alloc, bytes) {
-        Ok(entry) => repeat_status(&world.repeat(alloc, &entry)),
-        Err(CodeFault::Memory) => OUT_OF_MEMORY,
-        Err(_) => BAD_ENTRY,
-    }
+    repeat_status(&world.repeat(alloc, entry))
 }
 
-impl Conversation {
-    /// Writes as much of the code of the entry of this place as fits. `NO_ENTRY` also answers a place
-    /// whose entry is no longer in memory.
-    pub(crate) fn entry(&self, alloc: Global, place: usize, out: &mut [u8]) -> Outcome
-        ensures { ShowsEntryIn self.now.session place out.old result out.new }
-    {
-        match &self.session {
-            Session::Declaring(_) => Outcome::refusal(NOT_OPENED),
-            Session::Running(opened) => {
-                let place = place.saturating_sub(opened.world.log_start() as usize);
-                show_entry(alloc, opened.world.log(), place, out)
-            }
-        }
+// The same of an entry that is not too far.
+fn repeat_entry(alloc: Global, bounded: &mut BoundedWorld, entry: &Entry) -> i32
+    ensures { RepeatsEntry bounded.old entry.now result bounded.new }
+{
+    if bounded.is_too_far(entry.moment) {
+        return NOT_NEXT;
     }
+    repeat_in(alloc, &mut bounded.world, entry)
+}
 
-    /// Repeats the entry whose code these bytes are. The last reply stays.
-    pub(crate) fn repeat(&mut self, alloc: Global, bytes: &[u8]) -> i32
-        ensures session { RepeatsIn self.old.session bytes.now result self.new.session }
-        ensures reply { self.new.reply ≡ self.old.reply }
-    {
-        match &mut self.session {
-            Session::Declaring(_) => NOT_OPENED,
-            Session::Running(opened) => repeat_bytes(alloc, &mut opened.world, bytes),
-        }
+/// Repeats the entry whose code these bytes are.
+pub(crate) fn repeat_bytes(alloc: Global, bounded: &mut BoundedWorld, bytes: &[u8]) -> i32
+    ensures { RepeatsBytes bounded.old bytes.now result bounded.new }
+{
+    match entry_of(alloc, bytes) {
+        Ok(entry) => repeat_entry(alloc, bounded, &entry),
+        Err(CodeFault::Memory) => OUT_OF_MEMORY,
+        Err(_) => BAD_ENTRY,
     }
 }

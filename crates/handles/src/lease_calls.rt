@@ -1,15 +1,15 @@
-//! Sessions that are opened by a code, and the leases of their worlds.
+//! Worlds that are opened by a code, and their leases.
 ghost use Rattle.std.specs.Prelude.{◌≡◌, None};
 ghost use Rattle.handles.specs.Handles.{Fills};
-ghost use Rattle.handles.specs.Leases.{given, Leases, Grants, OpensTables};
+ghost use Rattle.handles.specs.Leases.{given, Leases, Grants, Opens};
 
 use crate::boxes::{boxed, filled, room};
-use crate::engine::{Conversation, Engine};
+use crate::engine::Engine;
 use crate::handle::Handle;
 use std::alloc::Global;
-use typed_calls::status::{ALREADY_OPEN, CLOSED, OK, OUT_OF_MEMORY, WRONG_KIND};
+use typed_calls::status::{ALREADY_OPEN, CLOSED, OK, OUT_OF_MEMORY};
 use typed_calls::world::Grant;
-use typed_calls::{held_by, open_session};
+use typed_calls::{BoundedWorld, held_by};
 
 /// What the grant of a lease came to.
 #[repr(C)]
@@ -55,24 +55,26 @@ impl LeaseOutcome {
     }
 }
 
-impl Conversation {
-    // Grants a lease of the session's world into a closed handle.
-    fn lease(&mut self, alloc: Global, moment: u64, lease: &mut Handle) -> LeaseOutcome
-        requires { lease.old.place.value ≡ None }
-        ensures grants { Grants self.old.session moment result self.new.session lease.new.place.value }
-        ensures reply { self.new.reply ≡ self.old.reply }
-    {
-        let Ok(room) = room(alloc) else {
-            return LeaseOutcome::of(OUT_OF_MEMORY);
-        };
-        match typed_calls::lease(alloc, &mut self.session, moment) {
-            Ok(grant) => {
-                let outcome = LeaseOutcome::given(&grant);
-                lease.put(filled(room, Engine::Lease(held_by(grant))));
-                outcome
-            }
-            Err(status) => LeaseOutcome::of(status),
+// Grants a lease of the world into a closed handle.
+fn lease_into(
+    alloc: Global,
+    bounded: &mut BoundedWorld,
+    moment: u64,
+    lease: &mut Handle,
+) -> LeaseOutcome
+    requires { lease.old.place.value ≡ None }
+    ensures { Grants bounded.old moment result bounded.new lease.new.place.value }
+{
+    let Ok(room) = room(alloc) else {
+        return LeaseOutcome::of(OUT_OF_MEMORY);
+    };
+    match typed_calls::lease(alloc, bounded, moment) {
+        Ok(grant) => {
+            let outcome = LeaseOutcome::given(&grant);
+            lease.put(filled(room, Engine::Lease(held_by(grant))));
+            outcome
         }
+        Err(status) => LeaseOutcome::of(status),
     }
 }
 
@@ -89,28 +91,29 @@ impl Handle {
         OK
     }
 
-    /// Opens a session with a world by the code of its opening, as `entry_code::opening_bytes`
-    /// gives it. `OK`; else `ALREADY_OPEN`, `BAD_CODE`, `BAD_TABLE`, `BAD_LENGTH`, or
-    /// `OUT_OF_MEMORY`, which may come in place of `BAD_CODE`. A refusal changes nothing.
-    pub fn open_tables(&mut self, alloc: Global, opening: &[u8]) -> i32
-        ensures { OpensTables self.old.place.value opening.now result self.new.place.value }
+    /// Opens a world by the code of its opening, as `entry_code::opening_bytes` gives it, into this
+    /// closed handle.
+    ///
+    /// - `furthest`: how far a call's moment may be beyond that of the last entry, in moments;
+    ///   `ANY_JUMP` if none is too far.
+    ///
+    /// `OK`; else `ALREADY_OPEN`, `BAD_CODE`, `BAD_TABLE`, `BAD_LENGTH`, or `OUT_OF_MEMORY`, which
+    /// may come in place of `BAD_CODE`. A refusal changes nothing.
+    pub fn open(&mut self, alloc: Global, opening: &[u8], furthest: u64) -> i32
+        ensures { Opens self.old.place.value opening.now furthest result self.new.place.value }
     {
         if self.is_open {
             return ALREADY_OPEN;
         }
-        match open_session(alloc, opening) {
-            Ok(session) => {
-                let reply = String::new(alloc);
-                self.fill(alloc, Engine::Session(Conversation { session, reply }))
-            }
+        match typed_calls::open(alloc, opening, furthest) {
+            Ok(bounded) => self.fill(alloc, Engine::World(bounded)),
             Err(status) => status,
         }
     }
 
-    /// Grants a lease on the newest version of the session's world, into the closed handle `lease`.
-    /// `OK`; else `ALREADY_OPEN` (of `lease`), `CLOSED`, `WRONG_KIND`, `NOT_OPENED`,
-    /// `MOMENT_TOO_LARGE`, or `OUT_OF_MEMORY`, which may come in place of the two before it. A
-    /// refusal changes nothing.
+    /// Grants a lease on the newest version of the world, into the closed handle `lease`. `OK`; else
+    /// `ALREADY_OPEN` (of `lease`), `CLOSED`, `TOO_FAR`, `MOMENT_TOO_LARGE`, or `OUT_OF_MEMORY`,
+    /// which may come in place of the two before it. A refusal changes nothing.
     pub fn lease(&mut self, alloc: Global, moment: u64, lease: &mut Handle) -> LeaseOutcome
         ensures { Leases self.old.place.value moment lease.old.place.value result self.new.place.value lease.new.place.value }
     {
@@ -120,11 +123,11 @@ impl Handle {
         let Some(mut engine) = self.take(alloc) else {
             return LeaseOutcome::of(CLOSED);
         };
-        let Engine::Session(conversation) = &mut *engine else {
+        let Engine::World(bounded) = &mut *engine else {
             self.put(engine);
-            return LeaseOutcome::of(WRONG_KIND);
+            return LeaseOutcome::of(CLOSED);
         };
-        let outcome = conversation.lease(alloc, moment, lease);
+        let outcome = lease_into(alloc, bounded, moment, lease);
         self.put(engine);
         outcome
     }

@@ -5,10 +5,10 @@ ghost use Rattle.handles.specs.Pages.{page_alone, page_refused, KeepsPage, Pages
 use crate::engine::Engine;
 use crate::handle::Handle;
 use std::alloc::Global;
-use typed_calls::script_session::{ServerLease, Session};
-use typed_calls::status::{ALREADY_OPEN, CLOSED, OK, WRONG_KIND};
+use typed_calls::script_session::ServerLease;
+use typed_calls::status::{ALREADY_OPEN, CLOSED, OK};
 use typed_calls::world::Snapshot;
-use typed_calls::{CodedPage, QueryOutcome};
+use typed_calls::{BoundedWorld, CodedPage, QueryOutcome};
 
 /// What a page came to.
 #[repr(C)]
@@ -55,7 +55,7 @@ impl Handle {
         match answer {
             Ok(page) => {
                 let CodedPage { rows, more } = page;
-                let status = self.fill(alloc, Engine::Rows(rows));
+                let status = self.fill(alloc, Engine::Bytes(rows));
                 PageOutcome {
                     status,
                     column: 0,
@@ -66,33 +66,33 @@ impl Handle {
         }
     }
 
-    // Fills a closed handle with the rows of the page that the session's world answers.
+    // Fills a closed handle with the rows of the page that the world answers.
     fn page_into(
         &mut self,
         alloc: Global,
-        session: &Session,
+        bounded: &BoundedWorld,
         moment: u64,
         held: &ServerLease,
         asked: &[u8],
     ) -> PageOutcome
         requires { self.old.place.value ≡ None }
-        ensures { PagesInto session.now moment held.now asked.now result self.new.place.value }
+        ensures { PagesInto bounded.now moment held.now asked.now result self.new.place.value }
     {
-        let answer = typed_calls::query_page(alloc, session, moment, held, asked);
+        let answer = typed_calls::query_page(alloc, bounded, moment, held, asked);
         self.keep_page(alloc, answer)
     }
 
-    // Queries the session's world under the lease of this handle.
+    // Queries the world under the lease of this handle.
     fn page_under(
         &mut self,
         alloc: Global,
-        session: &Session,
+        bounded: &BoundedWorld,
         moment: u64,
         asked: &[u8],
-        rows: &mut Handle,
+        bytes: &mut Handle,
     ) -> PageOutcome
-        requires { rows.old.place.value ≡ None }
-        ensures pages { PagesUnder session.now moment self.old.place.value asked.now result rows.new.place.value }
+        requires { bytes.old.place.value ≡ None }
+        ensures pages { PagesUnder bounded.now moment self.old.place.value asked.now result bytes.new.place.value }
         ensures same { self.new.place.value ≡ self.old.place.value }
     {
         let Some(engine) = self.take(alloc) else {
@@ -100,43 +100,43 @@ impl Handle {
         };
         let Engine::Lease(held) = &*engine else {
             self.put(engine);
-            return PageOutcome::of(WRONG_KIND);
+            return PageOutcome::of(CLOSED);
         };
-        let outcome = rows.page_into(alloc, session, moment, held, asked);
+        let outcome = bytes.page_into(alloc, bounded, moment, held, asked);
         self.put(engine);
         outcome
     }
 
-    /// Answers a page of a query of the session's world, under a lease, into the closed handle
-    /// `rows`: the bytes are the code of the request, and the handle then holds the code of the
-    /// page's rows. `OK`, with whether there are more; else `ALREADY_OPEN` (of `rows`), `CLOSED` and
-    /// `WRONG_KIND` (of `session`, then of `lease`), `NOT_OPENED`, `BAD_CODE`, `MOMENT_TOO_LARGE`,
-    /// `BAD_LEASE`, `LEASE_ENDED`, `BAD_COUNT`, `NO_TABLE`, `NOT_PUBLIC` with the column,
-    /// `WRONG_TYPE`, or `OUT_OF_MEMORY`, which may come in place of the eight before it. The session
-    /// and the lease stay, and a refusal changes nothing.
+    /// Answers a page of a query of the world, under a lease, into the closed handle `bytes`: the
+    /// bytes are the code of the request, and the handle then holds the code of the page's rows.
+    /// `OK`, with whether there are more; else `ALREADY_OPEN` (of `bytes`), `CLOSED` (of `world`,
+    /// then of `lease`), `TOO_FAR`, `BAD_CODE`, `MOMENT_TOO_LARGE`, `BAD_LEASE`, `LEASE_ENDED`,
+    /// `BAD_COUNT`, `NO_TABLE`, `NOT_PUBLIC` with the column, `WRONG_TYPE`, or `OUT_OF_MEMORY`, which
+    /// may come in place of `BAD_CODE` and those after it. World and lease stay, and a refusal
+    /// changes nothing.
     pub fn query_page(
         &mut self,
         alloc: Global,
         moment: u64,
         lease: &mut Handle,
         asked: &[u8],
-        rows: &mut Handle,
+        bytes: &mut Handle,
     ) -> PageOutcome
-        ensures pages { Pages self.old.place.value moment lease.old.place.value asked.now rows.old.place.value result rows.new.place.value }
+        ensures pages { Pages self.old.place.value moment lease.old.place.value asked.now bytes.old.place.value result bytes.new.place.value }
         ensures same { self.new.place.value ≡ self.old.place.value }
         ensures lease_stays { lease.new.place.value ≡ lease.old.place.value }
     {
-        if rows.is_open {
+        if bytes.is_open {
             return PageOutcome::of(ALREADY_OPEN);
         }
         let Some(engine) = self.take(alloc) else {
             return PageOutcome::of(CLOSED);
         };
-        let Engine::Session(conversation) = &*engine else {
+        let Engine::World(bounded) = &*engine else {
             self.put(engine);
-            return PageOutcome::of(WRONG_KIND);
+            return PageOutcome::of(CLOSED);
         };
-        let outcome = lease.page_under(alloc, &conversation.session, moment, asked, rows);
+        let outcome = lease.page_under(alloc, bounded, moment, asked, bytes);
         self.put(engine);
         outcome
     }
@@ -151,20 +151,20 @@ impl Handle {
     }
 
     /// Answers a page of a query of a snapshot, under the schema of its lease's version, into the
-    /// closed handle `rows`. `OK`, with whether there are more; else `ALREADY_OPEN` (of `rows`),
-    /// `CLOSED`, `WRONG_KIND`, `BAD_CODE`, `BAD_COUNT`, `NO_TABLE`, `NOT_PUBLIC` with the column,
-    /// `WRONG_TYPE`, or `OUT_OF_MEMORY`, which may come in place of the five before it. The snapshot
-    /// stays, and a refusal changes nothing.
+    /// closed handle `bytes`. `OK`, with whether there are more; else `ALREADY_OPEN` (of `bytes`),
+    /// `CLOSED`, `BAD_CODE`, `BAD_COUNT`, `NO_TABLE`, `NOT_PUBLIC` with the column, `WRONG_TYPE`, or
+    /// `OUT_OF_MEMORY`, which may come in place of the five before it. The snapshot stays, and a
+    /// refusal changes nothing.
     pub fn query_page_snapshot(
         &mut self,
         alloc: Global,
         asked: &[u8],
-        rows: &mut Handle,
+        bytes: &mut Handle,
     ) -> PageOutcome
-        ensures pages { SnapshotPages self.old.place.value asked.now rows.old.place.value result rows.new.place.value }
+        ensures pages { SnapshotPages self.old.place.value asked.now bytes.old.place.value result bytes.new.place.value }
         ensures same { self.new.place.value ≡ self.old.place.value }
     {
-        if rows.is_open {
+        if bytes.is_open {
             return PageOutcome::of(ALREADY_OPEN);
         }
         let Some(engine) = self.take(alloc) else {
@@ -172,9 +172,9 @@ impl Handle {
         };
         let Engine::Snapshot(snapshot) = &*engine else {
             self.put(engine);
-            return PageOutcome::of(WRONG_KIND);
+            return PageOutcome::of(CLOSED);
         };
-        let outcome = rows.page_taken(alloc, snapshot, asked);
+        let outcome = bytes.page_taken(alloc, snapshot, asked);
         self.put(engine);
         outcome
     }

@@ -1,13 +1,13 @@
-//! Snapshots in handles of their own, audits, and the length of the log.
+//! Snapshots in handles of their own, and audits.
 ghost use Rattle.std.specs.Prelude.{◌≡◌, None};
-ghost use Rattle.handles.specs.Snapshots.{check_outcome, Snapshots, SnapshotsUnder, SnapshotsInto, Checks, ChecksEngine, LogLengths, LengthOf};
+ghost use Rattle.handles.specs.Snapshots.{check_outcome, Snapshots, SnapshotsUnder, SnapshotsInto, Checks, ChecksSnapshot};
 
 use crate::engine::Engine;
 use crate::handle::Handle;
-use crate::outcome::Outcome;
 use std::alloc::Global;
-use typed_calls::script_session::{ServerLease, Session};
-use typed_calls::status::{ALREADY_OPEN, CLOSED, OK, WRONG_KIND};
+use typed_calls::BoundedWorld;
+use typed_calls::script_session::ServerLease;
+use typed_calls::status::{ALREADY_OPEN, CLOSED, OK};
 use typed_calls::world::CheckReport;
 
 /// What an audit found.
@@ -53,53 +53,34 @@ impl CheckOutcome {
     }
 }
 
-// The audit of what a handle holds, if that is a session or a snapshot.
-fn check_engine(alloc: Global, engine: &Engine) -> CheckOutcome
-    ensures { ChecksEngine engine.now result }
-{
-    match engine {
-        Engine::Session(conversation) => {
-            CheckOutcome::reported(&typed_calls::check(alloc, &conversation.session))
-        }
-        Engine::Snapshot(snapshot) => {
-            CheckOutcome::reported(&typed_calls::check_snapshot(alloc, snapshot))
-        }
-        _ => CheckOutcome::of(WRONG_KIND),
-    }
-}
-
-// The length of the session's log.
-fn length_of(session: &Session) -> Outcome
-    ensures { LengthOf session.now result }
-{
-    match typed_calls::log_length(session) {
-        Ok(length) => Outcome { status: OK, length },
-        Err(status) => Outcome::refusal(status),
-    }
-}
-
 impl Handle {
-    // Fills a closed handle with a snapshot of the session's world.
-    fn keep(&mut self, alloc: Global, session: &Session, moment: u64, held: &ServerLease) -> i32
+    // Fills a closed handle with a snapshot of the world.
+    fn keep_snapshot(
+        &mut self,
+        alloc: Global,
+        bounded: &BoundedWorld,
+        moment: u64,
+        held: &ServerLease,
+    ) -> i32
         requires { self.old.place.value ≡ None }
-        ensures { SnapshotsInto session.now moment held.now result self.new.place.value }
+        ensures { SnapshotsInto bounded.now moment held.now result self.new.place.value }
     {
-        match typed_calls::snapshot(session, moment, &held.lease) {
+        match typed_calls::snapshot(bounded, moment, &held.lease) {
             Ok(snapshot) => self.fill(alloc, Engine::Snapshot(snapshot)),
             Err(status) => status,
         }
     }
 
-    // Takes a snapshot of the session's world under the lease of this handle.
+    // Takes a snapshot of the world under the lease of this handle.
     fn snapshot_under(
         &mut self,
         alloc: Global,
-        session: &Session,
+        bounded: &BoundedWorld,
         moment: u64,
         snapshot: &mut Handle,
     ) -> i32
         requires { snapshot.old.place.value ≡ None }
-        ensures snapshots { SnapshotsUnder session.now moment self.old.place.value result snapshot.new.place.value }
+        ensures snapshots { SnapshotsUnder bounded.now moment self.old.place.value result snapshot.new.place.value }
         ensures same { self.new.place.value ≡ self.old.place.value }
     {
         let Some(engine) = self.take(alloc) else {
@@ -107,17 +88,17 @@ impl Handle {
         };
         let Engine::Lease(held) = &*engine else {
             self.put(engine);
-            return WRONG_KIND;
+            return CLOSED;
         };
-        let status = snapshot.keep(alloc, session, moment, held);
+        let status = snapshot.keep_snapshot(alloc, bounded, moment, held);
         self.put(engine);
         status
     }
 
-    /// Takes a snapshot of what the session's world holds, under a lease, into the closed handle
-    /// `snapshot`. `OK`; else `ALREADY_OPEN` (of `snapshot`), `CLOSED` and `WRONG_KIND` (of
-    /// `session`, then of `lease`), `NOT_OPENED`, `MOMENT_TOO_LARGE`, `BAD_LEASE`, `LEASE_ENDED` or
-    /// `OUT_OF_MEMORY`. The session and the lease stay, and a refusal changes nothing.
+    /// Takes a snapshot of what the world holds, under a lease, into the closed handle `snapshot`.
+    /// `OK`; else `ALREADY_OPEN` (of `snapshot`), `CLOSED` (of `world`, then of `lease`), `TOO_FAR`,
+    /// `MOMENT_TOO_LARGE`, `BAD_LEASE`, `LEASE_ENDED` or `OUT_OF_MEMORY`. World and lease stay, and
+    /// a refusal changes nothing.
     pub fn snapshot(
         &mut self,
         alloc: Global,
@@ -135,17 +116,16 @@ impl Handle {
         let Some(engine) = self.take(alloc) else {
             return CLOSED;
         };
-        let Engine::Session(conversation) = &*engine else {
+        let Engine::World(bounded) = &*engine else {
             self.put(engine);
-            return WRONG_KIND;
+            return CLOSED;
         };
-        let status = lease.snapshot_under(alloc, &conversation.session, moment, snapshot);
+        let status = lease.snapshot_under(alloc, bounded, moment, snapshot);
         self.put(engine);
         status
     }
 
-    /// Audits the pairs of a session's world, or of a snapshot. `OK`; else `CLOSED`, `WRONG_KIND`,
-    /// `NOT_OPENED` or `OUT_OF_MEMORY`. Nothing changes.
+    /// Audits the pairs of a world. `OK`; else `CLOSED` or `OUT_OF_MEMORY`. Nothing changes.
     pub fn check(&mut self, alloc: Global) -> CheckOutcome
         ensures checks { Checks self.old.place.value result }
         ensures same { self.new.place.value ≡ self.old.place.value }
@@ -153,25 +133,28 @@ impl Handle {
         let Some(engine) = self.take(alloc) else {
             return CheckOutcome::of(CLOSED);
         };
-        let outcome = check_engine(alloc, &engine);
+        let Engine::World(bounded) = &*engine else {
+            self.put(engine);
+            return CheckOutcome::of(CLOSED);
+        };
+        let outcome = CheckOutcome::reported(&typed_calls::check(alloc, &bounded.world));
         self.put(engine);
         outcome
     }
 
-    /// How many entries the log of the session's world has. `OK`; else `CLOSED`, `WRONG_KIND` or
-    /// `NOT_OPENED`. Nothing changes.
-    pub fn log_length(&mut self, alloc: Global) -> Outcome
-        ensures length { LogLengths self.old.place.value result }
+    /// Audits the pairs of a snapshot. `OK`; else `CLOSED` or `OUT_OF_MEMORY`. Nothing changes.
+    pub fn check_snapshot(&mut self, alloc: Global) -> CheckOutcome
+        ensures checks { ChecksSnapshot self.old.place.value result }
         ensures same { self.new.place.value ≡ self.old.place.value }
     {
         let Some(engine) = self.take(alloc) else {
-            return Outcome::refusal(CLOSED);
+            return CheckOutcome::of(CLOSED);
         };
-        let Engine::Session(conversation) = &*engine else {
+        let Engine::Snapshot(snapshot) = &*engine else {
             self.put(engine);
-            return Outcome::refusal(WRONG_KIND);
+            return CheckOutcome::of(CLOSED);
         };
-        let outcome = length_of(&conversation.session);
+        let outcome = CheckOutcome::reported(&typed_calls::check_snapshot(alloc, snapshot));
         self.put(engine);
         outcome
     }

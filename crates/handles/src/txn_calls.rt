@@ -1,149 +1,182 @@
-//! Transactions: their operations, what they read, and their preparation.
+//! Transactions: what their operations read, and their preparation.
 ghost use Rattle.std.specs.Prelude.{◌≡◌, None};
-ghost use Rattle.handles.specs.Txns.{Transacts, WantsIn, Reads, ReadsFor, ReadsEngine, GivesOperations, GivesEngine, Prepares, PreparesEngine};
+ghost use Rattle.handles.specs.Txns.{ReadsInto, ReadsUnder, ReadsFirst, ReadsMore, ReadsOver, ReadsAgain, KeepsTxn, PreparesInto, PreparesTo};
 
-use crate::boxes::{filled, taken_out};
 use crate::engine::Engine;
 use crate::handle::Handle;
+use row_write::Prepared;
 use std::alloc::Global;
-use typed_calls::PrepareOutcome;
-use typed_calls::script_session::{ServerLease, Session};
-use typed_calls::status::{ALREADY_OPEN, CLOSED, OK, WRONG_KIND};
+use typed_calls::script_session::ServerLease;
+use typed_calls::status::{ALREADY_OPEN, CLOSED, OK};
+use typed_calls::world::World;
+use typed_calls::{PrepareOutcome, Reads};
 
-// The engine after it was read for, if it is a transaction.
-fn read_engine(alloc: Global, session: &Session, engine: Engine) -> (i32, Engine)
-    ensures { ReadsEngine session.now engine result.0 result.1 }
+// Reads again, for other operations.
+fn read_more(alloc: Global, world: &World, reads: &mut Reads, operations: &[u8]) -> i32
+    ensures { ReadsMore world.now reads.old operations.now result reads.new }
 {
-    match engine {
-        Engine::Txn(txn) => match typed_calls::read(alloc, session, txn) {
-            Ok(txn) => (OK, Engine::Txn(txn)),
-            Err(refusal) => (refusal.0, Engine::Txn(refusal.1)),
-        },
-        other => (WRONG_KIND, other),
-    }
-}
-
-// The engine after it was given operations, if it is a transaction.
-fn give_engine(alloc: Global, engine: Engine, operations: &[u8]) -> (i32, Engine)
-    ensures { GivesEngine engine operations.now result.0 result.1 }
-{
-    match engine {
-        Engine::Txn(txn) => match typed_calls::with_operations(alloc, txn, operations) {
-            Ok(txn) => (OK, Engine::Txn(txn)),
-            Err(refusal) => (refusal.0, Engine::Txn(refusal.1)),
-        },
-        other => (WRONG_KIND, other),
-    }
-}
-
-// The engine after it was prepared, if it is a transaction.
-fn prepare_engine(alloc: Global, engine: Engine) -> (PrepareOutcome, Engine)
-    ensures { PreparesEngine engine result.0 result.1 }
-{
-    match engine {
-        Engine::Txn(txn) => match typed_calls::prepare(alloc, txn) {
-            Ok(txn) => (PrepareOutcome::of(OK), Engine::Txn(txn)),
-            Err(refusal) => (refusal.0, Engine::Txn(refusal.1)),
-        },
-        other => (PrepareOutcome::of(WRONG_KIND), other),
+    match typed_calls::read_again(alloc, world, reads, operations) {
+        Ok(again) => {
+            *reads = again;
+            OK
+        }
+        Err(status) => status,
     }
 }
 
 impl Handle {
-    // Fills a closed handle with a transaction under this lease.
-    fn want(&mut self, alloc: Global, held: &ServerLease, operations: &[u8]) -> i32
+    // Fills a closed handle with what the operations read of the world.
+    fn read_into(
+        &mut self,
+        alloc: Global,
+        world: &World,
+        held: &ServerLease,
+        operations: &[u8],
+    ) -> i32
         requires { self.old.place.value ≡ None }
-        ensures { WantsIn held.now operations.now result self.new.place.value }
+        ensures { ReadsInto world.now held.now operations.now result self.new.place.value }
     {
-        match typed_calls::transaction(alloc, held, operations) {
-            Ok(txn) => self.fill(alloc, Engine::Txn(txn)),
+        match typed_calls::read(alloc, world, held, operations) {
+            Ok(reads) => self.fill(alloc, Engine::Reads(reads)),
             Err(status) => status,
         }
     }
 
-    /// Begins a transaction under a lease, into the closed handle `txn`: its operations, whose code
-    /// these bytes are, and the keys that they read. `OK`; else `ALREADY_OPEN` (of `txn`),
-    /// `CLOSED`, `WRONG_KIND`, `BAD_CODE`, or `OUT_OF_MEMORY`, which may come in place of the one
-    /// before it. The lease stays, and a refusal changes nothing.
-    pub fn transaction(&mut self, alloc: Global, operations: &[u8], txn: &mut Handle) -> i32
-        ensures transacts { Transacts self.old.place.value operations.now txn.old.place.value result txn.new.place.value }
+    // Reads of the world under the lease of this handle.
+    fn read_under(
+        &mut self,
+        alloc: Global,
+        world: &World,
+        operations: &[u8],
+        reads: &mut Handle,
+    ) -> i32
+        requires { reads.old.place.value ≡ None }
+        ensures reads { ReadsUnder world.now self.old.place.value operations.now result reads.new.place.value }
         ensures same { self.new.place.value ≡ self.old.place.value }
     {
-        if txn.is_open {
-            return ALREADY_OPEN;
-        }
         let Some(engine) = self.take(alloc) else {
             return CLOSED;
         };
         let Engine::Lease(held) = &*engine else {
             self.put(engine);
-            return WRONG_KIND;
+            return CLOSED;
         };
-        let status = txn.want(alloc, held, operations);
+        let status = reads.read_into(alloc, world, held, operations);
         self.put(engine);
         status
     }
 
-    // Reads what the transaction of this handle wants, of the session's world.
-    fn read_for(&mut self, alloc: Global, session: &Session) -> i32
-        ensures { ReadsFor session.now self.old.place.value result self.new.place.value }
+    /// Begins a transaction under a lease, into the closed handle `reads`: its operations, whose
+    /// code these bytes are, and what they read of the world. `OK`; else `ALREADY_OPEN` (of
+    /// `reads`), `CLOSED` (of `world`, then of `lease`), `BAD_CODE`, or `OUT_OF_MEMORY`, which may
+    /// come in place of the one before it. World and lease stay, and a refusal changes nothing.
+    pub fn read(
+        &mut self,
+        alloc: Global,
+        lease: &mut Handle,
+        operations: &[u8],
+        reads: &mut Handle,
+    ) -> i32
+        ensures reads { ReadsFirst self.old.place.value lease.old.place.value operations.now reads.old.place.value result reads.new.place.value }
+        ensures same { self.new.place.value ≡ self.old.place.value }
+        ensures lease_stays { lease.new.place.value ≡ lease.old.place.value }
     {
+        if reads.is_open {
+            return ALREADY_OPEN;
+        }
         let Some(engine) = self.take(alloc) else {
             return CLOSED;
         };
-        let (held, room) = taken_out(alloc, engine);
-        let (status, left) = read_engine(alloc, session, held);
-        self.put(filled(room, left));
+        let Engine::World(bounded) = &*engine else {
+            self.put(engine);
+            return CLOSED;
+        };
+        let status = lease.read_under(alloc, &bounded.world, operations, reads);
+        self.put(engine);
         status
     }
 
-    /// Reads what a transaction wants, of the session's world, which stays. `OK`; else `CLOSED` and
-    /// `WRONG_KIND` (of `session`, then of `txn`), `NOT_OPENED`, `WRONG_STAGE` or `OUT_OF_MEMORY`.
-    /// A refusal changes nothing.
-    pub fn read(&mut self, alloc: Global, txn: &mut Handle) -> i32
-        ensures reads { Reads self.old.place.value txn.old.place.value result txn.new.place.value }
+    // Reads again of the world, in place of what this handle holds.
+    fn read_over(&mut self, alloc: Global, world: &World, operations: &[u8]) -> i32
+        ensures { ReadsOver world.now self.old.place.value operations.now result self.new.place.value }
+    {
+        let Some(mut engine) = self.take(alloc) else {
+            return CLOSED;
+        };
+        let Engine::Reads(reads) = &mut *engine else {
+            self.put(engine);
+            return CLOSED;
+        };
+        let status = read_more(alloc, world, reads, operations);
+        self.put(engine);
+        status
+    }
+
+    /// Gives a transaction other operations, whose code these bytes are, in the handle `reads`: of
+    /// the keys that it read before it keeps what it read first, reads the others of the world, and
+    /// forgets keys that the new operations do not read. `OK`; else `CLOSED` (of `world`, then of
+    /// `reads`), `BAD_CODE`, or `OUT_OF_MEMORY`, which may come in place of the one before it. The
+    /// world stays, and a refusal leaves `reads` as it was.
+    pub fn read_again(&mut self, alloc: Global, reads: &mut Handle, operations: &[u8]) -> i32
+        ensures reads { ReadsAgain self.old.place.value reads.old.place.value operations.now result reads.new.place.value }
         ensures same { self.new.place.value ≡ self.old.place.value }
     {
         let Some(engine) = self.take(alloc) else {
             return CLOSED;
         };
-        let Engine::Session(conversation) = &*engine else {
+        let Engine::World(bounded) = &*engine else {
             self.put(engine);
-            return WRONG_KIND;
+            return CLOSED;
         };
-        let status = txn.read_for(alloc, &conversation.session);
+        let status = reads.read_over(alloc, &bounded.world, operations);
         self.put(engine);
         status
     }
 
-    /// Gives a transaction that was read other operations, whose code these bytes are: it is to be
-    /// read again, and keeps what it read first. `OK`; else `CLOSED`, `WRONG_KIND`, `WRONG_STAGE`,
-    /// `BAD_CODE`, or `OUT_OF_MEMORY`, which may come in place of the one before it. A refusal
-    /// changes nothing.
-    pub fn operations(&mut self, alloc: Global, operations: &[u8]) -> i32
-        ensures { GivesOperations self.old.place.value operations.now result self.new.place.value }
+    // Fills a closed handle with a prepared transaction.
+    fn keep_txn(
+        &mut self,
+        alloc: Global,
+        answer: Result<Prepared, PrepareOutcome>,
+    ) -> PrepareOutcome
+        requires { self.old.place.value ≡ None }
+        ensures { KeepsTxn answer result self.new.place.value }
     {
-        let Some(engine) = self.take(alloc) else {
-            return CLOSED;
-        };
-        let (held, room) = taken_out(alloc, engine);
-        let (status, left) = give_engine(alloc, held, operations);
-        self.put(filled(room, left));
-        status
+        match answer {
+            Ok(prepared) => PrepareOutcome::of(self.fill(alloc, Engine::Txn(prepared))),
+            Err(refusal) => refusal,
+        }
     }
 
-    /// Prepares a transaction that was read. `OK`; else `CLOSED`, `WRONG_KIND`, `WRONG_STAGE`,
-    /// `NO_TABLE`, `NOT_PUBLIC`, `WRONG_TYPE`, `TOO_MANY_OPS`, `VIEW_MISMATCH`, or `OUT_OF_MEMORY`,
-    /// which may come in place of the five before it. A refusal changes nothing.
-    pub fn prepare(&mut self, alloc: Global) -> PrepareOutcome
-        ensures { Prepares self.old.place.value result self.new.place.value }
+    // Fills a closed handle with the transaction as it is prepared from what was read.
+    fn prepare_into(&mut self, alloc: Global, reads: &Reads) -> PrepareOutcome
+        requires { self.old.place.value ≡ None }
+        ensures { PreparesInto reads.now result self.new.place.value }
     {
+        let answer = typed_calls::prepare(alloc, reads);
+        self.keep_txn(alloc, answer)
+    }
+
+    /// Prepares a transaction that was read, into the closed handle `txn`. `OK`; else `ALREADY_OPEN`
+    /// (of `txn`), `CLOSED`, `NO_TABLE`, `NOT_PUBLIC` with the column, `WRONG_TYPE`, `TOO_MANY_OPS`,
+    /// `VIEW_MISMATCH`, or `OUT_OF_MEMORY`, which may come in place of the five before it. It needs
+    /// no world; what was read stays, and may be prepared again, and a refusal changes nothing.
+    pub fn prepare(&mut self, alloc: Global, txn: &mut Handle) -> PrepareOutcome
+        ensures prepares { PreparesTo self.old.place.value txn.old.place.value result txn.new.place.value }
+        ensures same { self.new.place.value ≡ self.old.place.value }
+    {
+        if txn.is_open {
+            return PrepareOutcome::of(ALREADY_OPEN);
+        }
         let Some(engine) = self.take(alloc) else {
             return PrepareOutcome::of(CLOSED);
         };
-        let (held, room) = taken_out(alloc, engine);
-        let (outcome, left) = prepare_engine(alloc, held);
-        self.put(filled(room, left));
+        let Engine::Reads(reads) = &*engine else {
+            self.put(engine);
+            return PrepareOutcome::of(CLOSED);
+        };
+        let outcome = txn.prepare_into(alloc, reads);
+        self.put(engine);
         outcome
     }
 }
