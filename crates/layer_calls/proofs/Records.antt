@@ -11,7 +11,7 @@ use Rattle.record_code.specs.Records.{record_code, IsKnown, kind_of}
 use Rattle.record_code.specs.declared.fault.RecordFault.{RecordFault}
 use Rattle.record_code.specs.declared.fault.RecordFault.TheVariants.{Version as OtherFormat, Trailing, Malformed, Unsound, Memory}
 use Rattle.record_code.specs.declared.kind.RecordKind.TheVariants.{Version as AVersion}
-use Rattle.handles.specs.Sessions.{IsNoCode}
+use Rattle.handles.specs.Bounded.{IsNoCode}
 use Rattle.handles.specs.Statuses.{bad_code, out_of_memory}
 use Rattle.layer_calls.specs.Given.{alone, record_refusal, GivesVersion}
 use Rattle.layer_calls.specs.declared.outcome.LayerOutcome.{LayerOutcome}

@@ -20,7 +20,7 @@ use Rattle.drafts.specs.declared.publish.PublishFault.TheVariants.{VersionsSpent
 use Rattle.record_code.specs.Drafts.{draft_code}
 use Rattle.handles.specs.Changes.{step_refusal}
 use Rattle.handles.specs.Plans.{PlansCode}
-use Rattle.handles.specs.Sessions.{IsNoCode}
+use Rattle.handles.specs.Bounded.{IsNoCode}
 use Rattle.handles.specs.Statuses.{bad_code, bad_count, bad_piece, not_wanted, out_of_memory, unfinished, versions_spent}
 use Rattle.layer_calls.specs.Given.{alone, numbered, Answer, Replies, AreRising, IsReorg, reorg_code}
 use Rattle.layer_calls.specs.declared.outcome.LayerOutcome.{LayerOutcome}

@@ -20,7 +20,7 @@ use Rattle.layer_due.specs.declared.act.DueFault.TheVariants as fault
 use Rattle.layer_due.specs.declared.records.Cursor.{Cursor}
 use Rattle.layer_due.specs.declared.records.Records.{Records}
 use Rattle.record_code.specs.Keys.{key_code, IsKey}
-use Rattle.handles.specs.Sessions.{IsNoCode}
+use Rattle.handles.specs.Bounded.{IsNoCode}
 use Rattle.handles.specs.Statuses.{ok, bad_code, bad_piece, not_wanted, out_of_memory}
 use Rattle.layer_calls.specs.Changes.{newest_of}
 use Rattle.layer_calls.specs.Given.{alone, Gives, With, GivesVersion, AreRising, IsReorg, reorg_code, IsCursor, cursor_code}

@@ -22,18 +22,18 @@ use Rattle.drafts.specs.declared.record.Reorg.{Reorg}
 use Rattle.record_code.specs.Records.{record_code, IsKnown}
 use Rattle.record_code.specs.declared.fault.RecordFault.{RecordFault}
 use Rattle.record_code.specs.declared.fault.RecordFault.TheVariants.{Version as OtherFormat, Trailing, Malformed, Unsound, Memory}
-use Rattle.handles.specs.Sessions.{IsNoCode}
+use Rattle.handles.specs.Bounded.{IsNoCode}
 use Rattle.handles.specs.Statuses.{bad_code, out_of_memory}
 use Rattle.layer_calls.specs.declared.outcome.LayerOutcome.{LayerOutcome}
 use Rattle.layer_calls.specs.declared.outcome.LayerReply.{LayerReply}
 
 -- a status alone
 abbrev pub alone : ℤ → LayerOutcome
-alone status = record { status = status; column = 0; number = 0 }
+alone status = record { status = status; column = 0; number = 0; length = 0 }
 
 -- a status with a number
 abbrev pub numbered : ℤ → ℕ → LayerOutcome
-numbered status number = record { status = status; column = 0; number = number }
+numbered status number = record { status = status; column = 0; number = number; length = 0 }
 
 -- the code of a thing that is as P says; or of none, or memory ran out before it was read
 abbrev pub Gives : {X Y : Type 0} → (X → Type 0) → (X → Bytes) → (X → Y) → Bytes → Result Y LayerOutcome → Type 0

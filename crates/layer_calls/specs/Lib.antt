@@ -1,5 +1,5 @@
 pub mod Given
-pub mod Keep
+pub mod Show
 pub mod Opening
 pub mod Txns
 pub mod Queries

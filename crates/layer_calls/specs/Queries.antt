@@ -22,7 +22,7 @@ use Rattle.layer_calls.specs.declared.outcome.LayerOutcome.{LayerOutcome}
 
 -- what a fault of the query is reported as
 abbrev pub query_refusal : QueryFault → LayerOutcome
-query_refusal fault = record { status = (fault_outcome fault).status; column = (fault_outcome fault).column; number = 0 }
+query_refusal fault = record { status = (fault_outcome fault).status; column = (fault_outcome fault).column; number = 0; length = 0 }
 
 -- by a key, by an index, or by a walk
 abbrev pub path_number : Remaining → ℕ

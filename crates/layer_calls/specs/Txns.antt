@@ -47,7 +47,7 @@ Wants schema ops (Err outcome) = outcome ≡ alone out_of_memory
 
 -- what a preparation that is refused is reported as
 abbrev pub prepare_refusal : PrepareFault → LayerOutcome
-prepare_refusal fault = record { status = (prepare_outcome fault).status; column = (prepare_outcome fault).column; number = 0 }
+prepare_refusal fault = record { status = (prepare_outcome fault).status; column = (prepare_outcome fault).column; number = 0; length = 0 }
 
 abbrev pub row_refusal : ℕ → RowFault → LayerOutcome
 row_refusal op Duplicate = numbered duplicate op

@@ -18,28 +18,32 @@ pub struct LayerOutcome {
     /// At `OK` what the call says of it, or 0; at `DUPLICATE` and `NO_ROW` the first operation that
     /// the rows refuse, counted from 0; at `DEPENDENT` and `UNFINISHED` the element; else 0.
     pub number: u64,
+    /// At `OK` how long the bytes are that the call gives, however much of them fitted; else 0.
+    pub length: usize,
 }
 
 impl LayerOutcome {
     /// A status alone.
     pub fn of(status: i32) -> LayerOutcome
-        ensures { result ≡ record { status = status; column = 0; number = 0 } }
+        ensures { result ≡ record { status = status; column = 0; number = 0; length = 0 } }
     {
         LayerOutcome {
             status,
             column: 0,
             number: 0,
+            length: 0,
         }
     }
 
     /// A status with a number.
     pub(crate) fn at(status: i32, number: u64) -> LayerOutcome
-        ensures { result ≡ record { status = status; column = 0; number = number } }
+        ensures { result ≡ record { status = status; column = 0; number = number; length = 0 } }
     {
         LayerOutcome {
             status,
             column: 0,
             number,
+            length: 0,
         }
     }
 }
@@ -124,13 +128,5 @@ impl LayerReply {
             code: List::new(code),
             number: 0,
         }
-    }
-
-    /// The bytes.
-    pub(crate) fn into_code(self) -> List<u8>
-        ensures { result ≡ self.code }
-    {
-        let LayerReply { code, number: _ } = self;
-        code
     }
 }

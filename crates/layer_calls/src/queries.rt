@@ -23,6 +23,7 @@ fn query_refusal(fault: QueryFault) -> LayerOutcome
         status: outcome.status,
         column: outcome.column,
         number: 0,
+        length: 0,
     }
 }
 

@@ -65,6 +65,7 @@ fn prepare_refusal(fault: PrepareFault) -> LayerOutcome
         status: outcome.status,
         column: outcome.column,
         number: 0,
+        length: 0,
     }
 }
 

@@ -1,18 +1,22 @@
 -- Cited by the contracts of cagzhomul_advance and of what it calls.
--- An act of the changes under way, in the world of a session behind a handle.
-use Rattle.std.specs.Prelude.{◌≡◌, ℕ, Option, Some, None, Result, Ok, Err}
+-- An act of the changes under way, in a world behind a handle.
+use Rattle.std.specs.Prelude.{◌≡◌, ℕ, ℤ, Option, Some, None, Result, Ok, Err}
 use Rattle.rollout.specs.Advance.{AdvanceStep}
 use Rattle.rollout.specs.declared.advanced.Advanced.{Advanced}
 use Rattle.rollout.specs.declared.advanced.Advanced.TheVariants.{Began, Published, Worked, Waiting, Finished}
 use Rattle.rollout.specs.declared.advanced.AdvanceFault.{AdvanceFault}
 use Rattle.rollout.specs.declared.advanced.AdvanceFault.TheVariants.{BadCount, MomentTooLarge, VersionsSpent, Memory}
-use Rattle.handles.specs.Session.{Session}
-use Rattle.handles.specs.SessionVariants.TheVariants.{Declaring, Running}
+use Rattle.handles.specs.Bounded.{Within}
+use Rattle.handles.specs.BoundedWorld.{BoundedWorld}
 use Rattle.handles.specs.State.{State}
-use Rattle.handles.specs.Statuses.{ok, closed, wrong_kind, not_opened, out_of_memory, waiting, finished, bad_count, moment_too_large, versions_spent}
+use Rattle.handles.specs.Statuses.{ok, closed, out_of_memory, too_far, waiting, finished, bad_count, moment_too_large, versions_spent}
 use Rattle.handles.specs.declared.engine.Engine.{Engine}
 use Rattle.handles.specs.declared.engine.Engine.TheVariants as engine
 use Rattle.operator_calls.specs.declared.advances.AdvanceOutcome.{AdvanceOutcome}
+
+-- a status without a moment
+abbrev pub advance_alone : ℤ → AdvanceOutcome
+advance_alone status = record { status = status; until = 0 }
 
 -- what an act, or its refusal, is reported as
 abbrev pub advance_outcome : Result Advanced AdvanceFault → AdvanceOutcome
@@ -31,15 +35,13 @@ abbrev pub AdvancesWorld : State → ℕ → ℕ → ℕ → AdvanceOutcome → 
 AdvancesWorld old moment pieces limit outcome new =
     (advanced : Result Advanced AdvanceFault) × AdvanceStep old moment pieces limit advanced new × (outcome ≡ advance_outcome advanced)
 
--- in a session, of which all but the world stays
-abbrev pub AdvancesIn : Session → ℕ → ℕ → ℕ → AdvanceOutcome → Session → Type 0
-AdvancesIn (Declaring declared) moment pieces limit outcome new = (outcome ≡ record { status = not_opened; until = 0 }) × (new ≡ Declaring declared)
-AdvancesIn (Running opened) moment pieces limit outcome new =
-    (world : State) × AdvancesWorld opened.world moment pieces limit outcome world × (new ≡ Running (record opened { world = world }))
+-- unless the moment is too far
+abbrev pub AdvancesIn : BoundedWorld → ℕ → ℕ → ℕ → AdvanceOutcome → BoundedWorld → Type 0
+AdvancesIn old moment pieces limit outcome new = Within (advance_alone too_far) (λ world a world'. AdvancesWorld world moment pieces limit a world') old moment outcome new
 
--- behind a handle, which stays open, with the last reply
+-- behind a handle, which stays open
 abbrev pub Advances : Option Engine → ℕ → ℕ → ℕ → AdvanceOutcome → Option Engine → Type 0
-Advances None moment pieces limit outcome new = (outcome ≡ record { status = closed; until = 0 }) × (new ≡ None)
-Advances (Some (engine.Session c)) moment pieces limit outcome new =
-    (session : Session) × AdvancesIn c.session moment pieces limit outcome session × (new ≡ Some (engine.Session (record c { session = session })))
-Advances (Some other) moment pieces limit outcome new = (outcome ≡ record { status = wrong_kind; until = 0 }) × (new ≡ Some other)
+Advances None moment pieces limit outcome new = (outcome ≡ advance_alone closed) × (new ≡ None)
+Advances (Some (engine.World old)) moment pieces limit outcome new =
+    (world : BoundedWorld) × AdvancesIn old moment pieces limit outcome world × (new ≡ Some (engine.World world))
+Advances (Some other) moment pieces limit outcome new = (outcome ≡ advance_alone closed) × (new ≡ Some other)

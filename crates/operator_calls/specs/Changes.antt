@@ -1,9 +1,9 @@
 -- Cited by the contracts of cagzhomul_publish, cagzhomul_begin_reorg and of what they call.
--- Schema changes in the world of a session behind a handle.
+-- Schema changes in a world behind a handle.
 use Rattle.std.specs.Prelude.{◌≡◌, ℕ, ℤ, List, Option, Some, None, Result, Ok, Err}
-use Rattle.handles.specs.Session.{Session}
+use Rattle.handles.specs.BoundedWorld.{BoundedWorld}
 use Rattle.handles.specs.Changes.{PublishesIn, BeginsIn}
-use Rattle.handles.specs.Statuses.{ok, closed, wrong_kind}
+use Rattle.handles.specs.Statuses.{ok, closed}
 use Rattle.handles.specs.ChangeRefusal.{ChangeRefusal}
 use Rattle.handles.specs.declared.engine.Engine.{Engine}
 use Rattle.handles.specs.declared.engine.Engine.TheVariants as engine
@@ -18,22 +18,19 @@ abbrev pub change_outcome : Result ℕ ChangeRefusal → ChangeOutcome
 change_outcome (Ok number) = record { status = ok; number = number }
 change_outcome (Err refusal) = record { status = refusal.status; number = refusal.number }
 
--- in a session
-abbrev pub PublishesOf : Session → ℕ → List ℕ → ChangeOutcome → Session → Type 0
+abbrev pub PublishesOf : BoundedWorld → ℕ → List ℕ → ChangeOutcome → BoundedWorld → Type 0
 PublishesOf old moment code outcome new = (answer : Result ℕ ChangeRefusal) × PublishesIn old moment code answer new × (outcome ≡ change_outcome answer)
 
-abbrev pub BeginsOf : Session → ℕ → ℕ → ℕ → ChangeOutcome → Session → Type 0
+abbrev pub BeginsOf : BoundedWorld → ℕ → ℕ → ℕ → ChangeOutcome → BoundedWorld → Type 0
 BeginsOf old moment element pieces outcome new = (answer : Result ℕ ChangeRefusal) × BeginsIn old moment element pieces answer new × (outcome ≡ change_outcome answer)
 
--- behind a handle, which stays open, with the last reply
+-- behind a handle, which stays open
 abbrev pub Publishes : Option Engine → ℕ → List ℕ → ChangeOutcome → Option Engine → Type 0
 Publishes None moment code outcome new = (outcome ≡ change_status closed) × (new ≡ None)
-Publishes (Some (engine.Session c)) moment code outcome new =
-    (session : Session) × PublishesOf c.session moment code outcome session × (new ≡ Some (engine.Session (record c { session = session })))
-Publishes (Some other) moment code outcome new = (outcome ≡ change_status wrong_kind) × (new ≡ Some other)
+Publishes (Some (engine.World old)) moment code outcome new = (world : BoundedWorld) × PublishesOf old moment code outcome world × (new ≡ Some (engine.World world))
+Publishes (Some other) moment code outcome new = (outcome ≡ change_status closed) × (new ≡ Some other)
 
 abbrev pub Begins : Option Engine → ℕ → ℕ → ℕ → ChangeOutcome → Option Engine → Type 0
 Begins None moment element pieces outcome new = (outcome ≡ change_status closed) × (new ≡ None)
-Begins (Some (engine.Session c)) moment element pieces outcome new =
-    (session : Session) × BeginsOf c.session moment element pieces outcome session × (new ≡ Some (engine.Session (record c { session = session })))
-Begins (Some other) moment element pieces outcome new = (outcome ≡ change_status wrong_kind) × (new ≡ Some other)
+Begins (Some (engine.World old)) moment element pieces outcome new = (world : BoundedWorld) × BeginsOf old moment element pieces outcome world × (new ≡ Some (engine.World world))
+Begins (Some other) moment element pieces outcome new = (outcome ≡ change_status closed) × (new ≡ Some other)

@@ -1,5 +1,6 @@
 pub mod Advances
 pub mod Changes
+pub mod Dues
 pub mod Pieces
 pub mod Plans
 pub mod Standing

@@ -1,10 +1,10 @@
 -- Cited by the contracts of cagzhomul_progress, cagzhomul_status and of what they call.
--- How far a begun reorganisation is, and how the world of a session behind a handle stands.
+-- How far a begun reorganisation is, and how a world behind a handle stands.
 use Rattle.std.specs.Prelude.{◌≡◌, ℕ, ℤ, false, List, length, Option, Some, None, Result, Ok, Err, String, string_bytes}
 use Rattle.std.specs.Global.{Global}
-use Rattle.handles.specs.Session.{Session}
-use Rattle.handles.specs.Progress.{ProgressIn, StatusIn}
-use Rattle.handles.specs.Statuses.{ok, closed, wrong_kind}
+use Rattle.handles.specs.Progress.{reached_at, TellsStatus}
+use Rattle.handles.specs.State.{State}
+use Rattle.handles.specs.Statuses.{ok, closed}
 use Rattle.handles.specs.Reached.{Reached}
 use Rattle.handles.specs.declared.engine.Engine.{Engine}
 use Rattle.handles.specs.declared.engine.Engine.TheVariants as engine
@@ -22,13 +22,10 @@ abbrev pub progress_outcome : Result Reached ℤ → ProgressOutcome
 progress_outcome (Ok reached) = record { status = ok; ended = reached.ended; next = reached.next; left = reached.left; all = reached.all }
 progress_outcome (Err status) = progress_alone status
 
-abbrev pub ProgressOf : Session → ℕ → ProgressOutcome → Type 0
-ProgressOf session element outcome = (answer : Result Reached ℤ) × ProgressIn session element answer × (outcome ≡ progress_outcome answer)
-
 abbrev pub Progresses : Option Engine → ℕ → ProgressOutcome → Type 0
 Progresses None element outcome = outcome ≡ progress_alone closed
-Progresses (Some (engine.Session c)) element outcome = ProgressOf c.session element outcome
-Progresses (Some other) element outcome = outcome ≡ progress_alone wrong_kind
+Progresses (Some (engine.World bounded)) element outcome = outcome ≡ progress_outcome (reached_at bounded.world element)
+Progresses (Some other) element outcome = outcome ≡ progress_alone closed
 
 -- ---- status
 
@@ -37,10 +34,10 @@ abbrev pub ShowsLine : Result (String Global) ℤ → List ℕ → Outcome → L
 ShowsLine (Ok line) out outcome out' = (outcome ≡ record { status = ok; length = length (string_bytes line) }) × (out' ≡ laid out (string_bytes line))
 ShowsLine (Err status) out outcome out' = Refuses status out outcome out'
 
-abbrev pub ShowsStatusOf : Session → List ℕ → Outcome → List ℕ → Type 0
-ShowsStatusOf session out outcome out' = (answer : Result (String Global) ℤ) × StatusIn session answer × ShowsLine answer out outcome out'
+abbrev pub ShowsStatusOf : State → List ℕ → Outcome → List ℕ → Type 0
+ShowsStatusOf world out outcome out' = (answer : Result (String Global) ℤ) × TellsStatus world answer × ShowsLine answer out outcome out'
 
 abbrev pub ShowsStatus : Option Engine → List ℕ → Outcome → List ℕ → Type 0
 ShowsStatus None out outcome out' = Refuses closed out outcome out'
-ShowsStatus (Some (engine.Session c)) out outcome out' = ShowsStatusOf c.session out outcome out'
-ShowsStatus (Some other) out outcome out' = Refuses wrong_kind out outcome out'
+ShowsStatus (Some (engine.World bounded)) out outcome out' = ShowsStatusOf bounded.world out outcome out'
+ShowsStatus (Some other) out outcome out' = Refuses closed out outcome out'

@@ -2,13 +2,13 @@
 ghost use Rattle.std.specs.Prelude.{◌≡◌};
 ghost use Rattle.operator_calls.specs.Advances.{advance_outcome, AdvancesWorld, AdvancesIn, Advances};
 
-use handles::script_session::Session;
+use handles::typed_calls::BoundedWorld;
 use handles::typed_calls::status::{
-    BAD_COUNT, CLOSED, FINISHED, MOMENT_TOO_LARGE, NOT_OPENED, OK, OUT_OF_MEMORY, VERSIONS_SPENT,
-    WAITING, WRONG_KIND,
+    BAD_COUNT, CLOSED, FINISHED, MOMENT_TOO_LARGE, OK, OUT_OF_MEMORY, TOO_FAR, VERSIONS_SPENT,
+    WAITING,
 };
 use handles::world::World;
-use handles::{Conversation, Engine, Handle};
+use handles::{Engine, Handle};
 use rollout::{AdvanceFault, Advanced};
 use std::alloc::Global;
 
@@ -31,8 +31,8 @@ impl AdvanceOutcome {
     }
 }
 
-// What one act, or its refusal, is reported as.
-fn outcome_of(advanced: &Result<Advanced, AdvanceFault>) -> AdvanceOutcome
+/// What one act, or its refusal, is reported as.
+pub(crate) fn outcome_of(advanced: &Result<Advanced, AdvanceFault>) -> AdvanceOutcome
     ensures { result ≡ advance_outcome advanced.now }
 {
     match advanced {
@@ -62,46 +62,45 @@ fn advance_world(
     outcome_of(&rollout::advance(alloc, world, moment, pieces, limit))
 }
 
-// Does the act that is due in the session's world.
+// Does the act that is due, unless the moment is too far.
 fn advance_in(
     alloc: Global,
-    conversation: &mut Conversation,
+    bounded: &mut BoundedWorld,
     moment: u64,
     pieces: u32,
     limit: u32,
 ) -> AdvanceOutcome
-    ensures session { AdvancesIn conversation.old.session moment pieces limit result conversation.new.session }
-    ensures reply { conversation.new.reply ≡ conversation.old.reply }
+    ensures { AdvancesIn bounded.old moment pieces limit result bounded.new }
 {
-    match &mut conversation.session {
-        Session::Declaring(_) => AdvanceOutcome::of(NOT_OPENED),
-        Session::Running(opened) => advance_world(alloc, &mut opened.world, moment, pieces, limit),
+    if bounded.is_too_far(moment) {
+        return AdvanceOutcome::of(TOO_FAR);
     }
+    advance_world(alloc, &mut bounded.world, moment, pieces, limit)
 }
 
-/// Does the act that is due of the changes under way in the session's world: begins a
-/// reorganisation in so many pieces, publishes a step in which all ready elements move on, or works
-/// so many items. `OK`, and the log has one entry more; `WAITING`, with the moment before which
-/// nothing can be done, or `FINISHED`, which change nothing; else `CLOSED`, `WRONG_KIND`,
-/// `NOT_OPENED`, `BAD_COUNT`, `MOMENT_TOO_LARGE`, `VERSIONS_SPENT`, or `OUT_OF_MEMORY`, which may
-/// come in place of the one before it. A refusal changes nothing.
+/// Does the act that is due of the changes under way in a world: begins a reorganisation in so many
+/// pieces, publishes a step in which all ready elements move on, or works so many items. `OK`, and
+/// the log has one entry more; `WAITING`, with the moment before which nothing can be done, or
+/// `FINISHED`, which change nothing; else `CLOSED`, `TOO_FAR`, `BAD_COUNT`, `MOMENT_TOO_LARGE`,
+/// `VERSIONS_SPENT`, or `OUT_OF_MEMORY`, which may come in place of the one before it. A refusal
+/// changes nothing.
 pub fn advance(
     alloc: Global,
-    session: &mut Handle,
+    world: &mut Handle,
     moment: u64,
     pieces: u32,
     limit: u32,
 ) -> AdvanceOutcome
-    ensures { Advances session.old.place.value moment pieces limit result session.new.place.value }
+    ensures { Advances world.old.place.value moment pieces limit result world.new.place.value }
 {
-    let Some(mut engine) = session.take(alloc) else {
+    let Some(mut engine) = world.take(alloc) else {
         return AdvanceOutcome::of(CLOSED);
     };
-    let Engine::Session(conversation) = &mut *engine else {
-        session.put(engine);
-        return AdvanceOutcome::of(WRONG_KIND);
+    let Engine::World(bounded) = &mut *engine else {
+        world.put(engine);
+        return AdvanceOutcome::of(CLOSED);
     };
-    let outcome = advance_in(alloc, conversation, moment, pieces, limit);
-    session.put(engine);
+    let outcome = advance_in(alloc, bounded, moment, pieces, limit);
+    world.put(engine);
     outcome
 }

@@ -2,9 +2,9 @@
 ghost use Rattle.std.specs.Prelude.{◌≡◌};
 ghost use Rattle.operator_calls.specs.Changes.{change_outcome, Publishes, PublishesOf, Begins, BeginsOf};
 
-use handles::typed_calls::ChangeRefusal;
-use handles::typed_calls::status::{CLOSED, OK, WRONG_KIND};
-use handles::{Conversation, Engine, Handle, typed_calls};
+use handles::typed_calls::status::{CLOSED, OK};
+use handles::typed_calls::{BoundedWorld, ChangeRefusal};
+use handles::{Engine, Handle, typed_calls};
 use std::alloc::Global;
 
 /// What a schema change came to.
@@ -44,77 +44,68 @@ impl ChangeOutcome {
     }
 }
 
-// Publishes the step whose code these bytes are, in the session's world.
-fn publish_in(
-    alloc: Global,
-    conversation: &mut Conversation,
-    moment: u64,
-    step: &[u8],
-) -> ChangeOutcome
-    ensures publishes { PublishesOf conversation.old.session moment step.now result conversation.new.session }
-    ensures reply { conversation.new.reply ≡ conversation.old.reply }
+// Publishes the step whose code these bytes are, in the world.
+fn publish_in(alloc: Global, bounded: &mut BoundedWorld, moment: u64, step: &[u8]) -> ChangeOutcome
+    ensures { PublishesOf bounded.old moment step.now result bounded.new }
 {
-    let answer = typed_calls::publish(alloc, &mut conversation.session, moment, step);
+    let answer = typed_calls::publish(alloc, bounded, moment, step);
     ChangeOutcome::reported(&answer)
 }
 
-// Begins a reorganisation in the session's world.
+// Begins a reorganisation in the world.
 fn begin_in(
     alloc: Global,
-    conversation: &mut Conversation,
+    bounded: &mut BoundedWorld,
     moment: u64,
     element: u32,
     pieces: u32,
 ) -> ChangeOutcome
-    ensures begins { BeginsOf conversation.old.session moment element pieces result conversation.new.session }
-    ensures reply { conversation.new.reply ≡ conversation.old.reply }
+    ensures { BeginsOf bounded.old moment element pieces result bounded.new }
 {
-    let session = &mut conversation.session;
-    let answer = typed_calls::begin_reorg(alloc, session, moment, element, pieces);
+    let answer = typed_calls::begin_reorg(alloc, bounded, moment, element, pieces);
     ChangeOutcome::reported(&answer)
 }
 
-/// Publishes the version that a step gives, by its code, in the session's world. `OK`, with its
-/// number; else `CLOSED`, `WRONG_KIND`, `NOT_OPENED`, `BAD_CODE`, `MOMENT_TOO_LARGE`, `TOO_EARLY`,
-/// `UNKNOWN`, `NOT_ADJACENT`, `WRONG_WAY`, `DEPENDENT`, `NAME_TAKEN`, `OVER_LIMIT`, `UNFINISHED`,
-/// `VERSIONS_SPENT`, or `OUT_OF_MEMORY`, which may come in place of `BAD_CODE` and those after it.
-/// A refusal changes nothing.
-pub fn publish(alloc: Global, session: &mut Handle, moment: u64, step: &[u8]) -> ChangeOutcome
-    ensures { Publishes session.old.place.value moment step.now result session.new.place.value }
+/// Publishes the version that a step gives, by its code, in a world. `OK`, with its number; else
+/// `CLOSED`, `TOO_FAR`, `BAD_CODE`, `MOMENT_TOO_LARGE`, `TOO_EARLY`, `UNKNOWN`, `NOT_ADJACENT`,
+/// `WRONG_WAY`, `DEPENDENT`, `NAME_TAKEN`, `OVER_LIMIT`, `UNFINISHED`, `VERSIONS_SPENT`, or
+/// `OUT_OF_MEMORY`, which may come in place of `BAD_CODE` and those after it. A refusal changes
+/// nothing.
+pub fn publish(alloc: Global, world: &mut Handle, moment: u64, step: &[u8]) -> ChangeOutcome
+    ensures { Publishes world.old.place.value moment step.now result world.new.place.value }
 {
-    let Some(mut engine) = session.take(alloc) else {
+    let Some(mut engine) = world.take(alloc) else {
         return ChangeOutcome::of(CLOSED);
     };
-    let Engine::Session(conversation) = &mut *engine else {
-        session.put(engine);
-        return ChangeOutcome::of(WRONG_KIND);
+    let Engine::World(bounded) = &mut *engine else {
+        world.put(engine);
+        return ChangeOutcome::of(CLOSED);
     };
-    let outcome = publish_in(alloc, conversation, moment, step);
-    session.put(engine);
+    let outcome = publish_in(alloc, bounded, moment, step);
+    world.put(engine);
     outcome
 }
 
-/// Begins the fill or the clear that an element wants, in so many pieces, in the session's world.
-/// `OK`, with the place of its entry; else `CLOSED`, `WRONG_KIND`, `NOT_OPENED`,
-/// `MOMENT_TOO_LARGE`, `NOT_WANTED`, `STILL_USED`, `BEGUN`, `BAD_COUNT` or `OUT_OF_MEMORY`. A
-/// refusal changes nothing.
+/// Begins the fill or the clear that an element wants, in so many pieces, in a world. `OK`, with the
+/// place of its entry; else `CLOSED`, `TOO_FAR`, `MOMENT_TOO_LARGE`, `NOT_WANTED`, `STILL_USED`,
+/// `BEGUN`, `BAD_COUNT` or `OUT_OF_MEMORY`. A refusal changes nothing.
 pub fn begin_reorg(
     alloc: Global,
-    session: &mut Handle,
+    world: &mut Handle,
     moment: u64,
     element: u32,
     pieces: u32,
 ) -> ChangeOutcome
-    ensures { Begins session.old.place.value moment element pieces result session.new.place.value }
+    ensures { Begins world.old.place.value moment element pieces result world.new.place.value }
 {
-    let Some(mut engine) = session.take(alloc) else {
+    let Some(mut engine) = world.take(alloc) else {
         return ChangeOutcome::of(CLOSED);
     };
-    let Engine::Session(conversation) = &mut *engine else {
-        session.put(engine);
-        return ChangeOutcome::of(WRONG_KIND);
+    let Engine::World(bounded) = &mut *engine else {
+        world.put(engine);
+        return ChangeOutcome::of(CLOSED);
     };
-    let outcome = begin_in(alloc, conversation, moment, element, pieces);
-    session.put(engine);
+    let outcome = begin_in(alloc, bounded, moment, element, pieces);
+    world.put(engine);
     outcome
 }

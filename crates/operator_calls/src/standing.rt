@@ -1,10 +1,11 @@
-//! How far a begun reorganisation is, and how a session's world stands.
+//! How far a begun reorganisation is, and how a world stands.
 ghost use Rattle.std.specs.Prelude.{◌≡◌, false};
-ghost use Rattle.operator_calls.specs.Standing.{progress_outcome, ProgressOf, Progresses, ShowsStatusOf, ShowsStatus};
+ghost use Rattle.handles.specs.Progress.{reached_at};
+ghost use Rattle.operator_calls.specs.Standing.{progress_outcome, Progresses, ShowsStatusOf, ShowsStatus};
 
-use handles::script_session::Session;
 use handles::typed_calls::Reached;
-use handles::typed_calls::status::{CLOSED, OK, WRONG_KIND};
+use handles::typed_calls::status::{CLOSED, OK};
+use handles::world::World;
 use handles::{Engine, Handle, Outcome, lay, typed_calls};
 use std::alloc::Global;
 
@@ -55,18 +56,18 @@ impl ProgressOutcome {
     }
 }
 
-// How far the begun reorganisation of an element is, in the session's world.
-fn progress_of(session: &Session, element: u32) -> ProgressOutcome
-    ensures { ProgressOf session.now element result }
+// How far the begun reorganisation of an element is, in the world.
+fn progress_of(world: &World, element: u32) -> ProgressOutcome
+    ensures { result ≡ progress_outcome (reached_at world.now element) }
 {
-    ProgressOutcome::reported(&typed_calls::progress(session, element))
+    ProgressOutcome::reported(&typed_calls::progress(world, element))
 }
 
-// Writes as much as fits of the line that tells how the session's world stands.
-fn show_status(alloc: Global, session: &Session, out: &mut [u8]) -> Outcome
-    ensures { ShowsStatusOf session.now out.old result out.new }
+// Writes as much as fits of the line that tells how the world stands.
+fn show_status(alloc: Global, world: &World, out: &mut [u8]) -> Outcome
+    ensures { ShowsStatusOf world.now out.old result out.new }
 {
-    match typed_calls::status_line(alloc, session) {
+    match typed_calls::status_line(alloc, world) {
         Ok(line) => {
             lay(out, line.as_str().as_bytes());
             Outcome {
@@ -78,40 +79,39 @@ fn show_status(alloc: Global, session: &Session, out: &mut [u8]) -> Outcome
     }
 }
 
-/// How far the begun reorganisation of an element is, in the session's world. `OK`; else `CLOSED`,
-/// `WRONG_KIND`, `NOT_OPENED`, or `NOT_WANTED` if none has begun or it is over. Nothing changes.
-pub fn progress(alloc: Global, session: &mut Handle, element: u32) -> ProgressOutcome
-    ensures progresses { Progresses session.old.place.value element result }
-    ensures same { session.new.place.value ≡ session.old.place.value }
+/// How far the begun reorganisation of an element is, in a world. `OK`; else `CLOSED`, or
+/// `NOT_WANTED` if none has begun or it is over. Nothing changes.
+pub fn progress(alloc: Global, world: &mut Handle, element: u32) -> ProgressOutcome
+    ensures progresses { Progresses world.old.place.value element result }
+    ensures same { world.new.place.value ≡ world.old.place.value }
 {
-    let Some(engine) = session.take(alloc) else {
+    let Some(engine) = world.take(alloc) else {
         return ProgressOutcome::of(CLOSED);
     };
-    let Engine::Session(conversation) = &*engine else {
-        session.put(engine);
-        return ProgressOutcome::of(WRONG_KIND);
+    let Engine::World(bounded) = &*engine else {
+        world.put(engine);
+        return ProgressOutcome::of(CLOSED);
     };
-    let outcome = progress_of(&conversation.session, element);
-    session.put(engine);
+    let outcome = progress_of(&bounded.world, element);
+    world.put(engine);
     outcome
 }
 
-/// Writes how the session's world stands to `out`, as one line of JSON without a line end, as
+/// Writes how a world stands to `out`, as one line of JSON without a line end, as
 /// `script_replies::status_line` describes it, and as much of it as fits. `OK`, with the length of
-/// the whole line; else `CLOSED`, `WRONG_KIND`, `NOT_OPENED` or `OUT_OF_MEMORY`. Nothing else
-/// changes.
-pub fn status(alloc: Global, session: &mut Handle, out: &mut [u8]) -> Outcome
-    ensures shows { ShowsStatus session.old.place.value out.old result out.new }
-    ensures same { session.new.place.value ≡ session.old.place.value }
+/// the whole line; else `CLOSED` or `OUT_OF_MEMORY`. Nothing else changes.
+pub fn status(alloc: Global, world: &mut Handle, out: &mut [u8]) -> Outcome
+    ensures shows { ShowsStatus world.old.place.value out.old result out.new }
+    ensures same { world.new.place.value ≡ world.old.place.value }
 {
-    let Some(engine) = session.take(alloc) else {
+    let Some(engine) = world.take(alloc) else {
         return Outcome::refusal(CLOSED);
     };
-    let Engine::Session(conversation) = &*engine else {
-        session.put(engine);
-        return Outcome::refusal(WRONG_KIND);
+    let Engine::World(bounded) = &*engine else {
+        world.put(engine);
+        return Outcome::refusal(CLOSED);
     };
-    let outcome = show_status(alloc, &conversation.session, out);
-    session.put(engine);
+    let outcome = show_status(alloc, &bounded.world, out);
+    world.put(engine);
     outcome
 }

@@ -5,5 +5,5 @@ use Rattle.operator_calls.proofs.pieces.commit_engine.Goals as goal
 
 pub returns-in-Err : goal.returns-in-Err
 returns-in-Err c =
-    commit_refused c.args.session.now c.commit_piece.new.session c.args.moment c.args.engine c.in-Piece.work c.in-Err.refusal _ c.of.result c.in-Piece.is c.of.ensures
-    (grind (arith, to_z-of_z)) c.in-Err.ensures
+    commit_refused c.args.bounded.now c.commit_piece.new.bounded c.args.moment c.args.engine c.in-PreparedPiece.prepared c.in-Err.refusal _ c.of.result
+    c.in-PreparedPiece.is c.of.ensures (grind (arith, to_z-of_z)) c.in-Err.ensures
