@@ -1,5 +1,5 @@
 /* The bytes of a checkpoint, from anywhere. Of a small one each byte is changed, to nine other values, and it is cut at each place:
-   cagzhomul_open_at refuses what it is given, or opens a session in which an audit finds nothing missing and nothing extra. What it takes
+   cagzhomul_open_at refuses what it is given, or opens a world in which an audit finds nothing missing and nothing extra. What it takes
    of memory at once is at most FACTOR times the length of the bytes and BASE bytes more, whatever they are; and of ten times as many rows
    it takes at most eleven times as much, in between nine and eleven times as many allocations.
    It prints how many were tried and opened, and the most memory a byte; it ends with 0 if all was so. */
@@ -48,49 +48,53 @@ static void demand(int holds, const char *what) {
     exit(1);
 }
 
-static void answer(cagzhomul_handle *session, const char *line) {
+static void answer(cagzhomul_session_handle *session, cagzhomul_world_handle *world, const char *line) {
     uint8_t out[ROOM] = {0};
-    cagzhomul_outcome it = cagzhomul_reply_to(session, (const uint8_t *)line, strlen(line), out, ROOM - 1);
+    cagzhomul_outcome it = cagzhomul_reply_to(session, world, (const uint8_t *)line, strlen(line), out, ROOM - 1);
     demand(it.status == CAGZHOMUL_OK && !strncmp((const char *)out, "ok", 2), line);
 }
 
-/* A session with so many rows, an index that is public and one that is being filled. */
-static void make_session(cagzhomul_handle *session, int rows) {
+/* A world with so many rows, an index that is public and one that is being filled. */
+static void make_world(cagzhomul_world_handle *world, int rows) {
     static const char *const opening[] = {"table people (id int key, town text, age int)", "index by_town on people (town)", "open", "lease a at 0"};
     static const char *const change[] = {"publish at 10: add index by_age on people (age)", "publish at 20: move people.by_age to write_only",
                                          "lease a at 20", "reorganise people.by_age at 30 pieces 2"};
     char line[ROOM];
-    demand(cagzhomul_open(session) == CAGZHOMUL_OK, "a session opens");
-    for (size_t it = 0; it < sizeof opening / sizeof *opening; it++) answer(session, opening[it]);
+    cagzhomul_session_handle session = {0};
+    demand(cagzhomul_session_open(&session) == CAGZHOMUL_OK, "a session opens");
+    for (size_t it = 0; it < sizeof opening / sizeof *opening; it++) answer(&session, world, opening[it]);
     for (int row = 0; row < rows; row++) {
         snprintf(line, sizeof line, "txn a at 0: insert people (%d) set town = 'Ulm %d', age = %d", row, row % 7, row % 90);
-        answer(session, line);
+        answer(&session, world, line);
     }
-    for (size_t it = 0; it < sizeof change / sizeof *change; it++) answer(session, change[it]);
-    answer(session, "work people.by_age at 30 limit 2");
+    for (size_t it = 0; it < sizeof change / sizeof *change; it++) answer(&session, world, change[it]);
+    answer(&session, world, "work people.by_age at 30 limit 2");
+    demand(cagzhomul_close_session(&session) == CAGZHOMUL_OK, "the session is closed, and the world stays");
 }
 
-/* The bytes of the session's checkpoint, which the caller frees. */
-static uint8_t *bytes_of(cagzhomul_handle *session, size_t *length) {
-    cagzhomul_handle checkpoint = {0}, written = {0};
-    demand(cagzhomul_checkpoint(session, &checkpoint) == CAGZHOMUL_OK && cagzhomul_save(&checkpoint, &written) == CAGZHOMUL_OK, "it is written");
-    *length = cagzhomul_rows_from(&written, 0, NULL, 0).length;
+/* The bytes of the world's checkpoint, which the caller frees. */
+static uint8_t *bytes_of(cagzhomul_world_handle *world, size_t *length) {
+    cagzhomul_checkpoint_handle checkpoint = {0};
+    cagzhomul_bytes_handle written = {0};
+    uint8_t none[1] = {0};
+    demand(cagzhomul_checkpoint(world, &checkpoint) == CAGZHOMUL_OK && cagzhomul_save(&checkpoint, &written) == CAGZHOMUL_OK, "it is written");
+    *length = cagzhomul_bytes_from(&written, 0, none, 0).length;
     uint8_t *bytes = malloc(*length);
-    demand(bytes && cagzhomul_rows_from(&written, 0, bytes, *length).length == *length, "it is read");
-    demand(cagzhomul_close(&checkpoint) == CAGZHOMUL_OK && cagzhomul_close(&written) == CAGZHOMUL_OK, "both are closed");
+    demand(bytes && cagzhomul_bytes_from(&written, 0, bytes, *length).length == *length, "it is read");
+    demand(cagzhomul_close_checkpoint(&checkpoint) == CAGZHOMUL_OK && cagzhomul_close_bytes(&written) == CAGZHOMUL_OK, "both are closed");
     return bytes;
 }
 
 static size_t tried, opened;
 static double dearest;
 
-/* Whether a session opens at these bytes: nothing else than a refusal may come of them, or a sound world; nothing is lost. */
+/* Whether a world opens at these bytes: nothing else than a refusal may come of them, or a sound world; nothing is lost. */
 static int opens(const uint8_t *bytes, size_t length) {
-    cagzhomul_handle later = {0};
+    cagzhomul_world_handle later = {0};
     size_t before = live;
     most = live;
     made = 0;
-    int32_t status = cagzhomul_open_at(&later, bytes, length);
+    int32_t status = cagzhomul_open_at(&later, bytes, length, CAGZHOMUL_ANY_JUMP);
     size_t taken = most - before;
     demand(taken <= FACTOR * length + BASE, "its memory has a bound");
     if (taken > BASE && (double)(taken - BASE) / (double)length > dearest) dearest = (double)(taken - BASE) / (double)length;
@@ -102,7 +106,7 @@ static int opens(const uint8_t *bytes, size_t length) {
     opened++;
     cagzhomul_checked it = cagzhomul_check(&later);
     demand(it.status == CAGZHOMUL_OK && it.missing == 0 && it.extra == 0, "what opens is sound");
-    demand(cagzhomul_close(&later) == CAGZHOMUL_OK && live == before, "and gives all its memory back");
+    demand(cagzhomul_close_world(&later) == CAGZHOMUL_OK && live == before, "and gives all its memory back");
     return 1;
 }
 
@@ -123,29 +127,29 @@ static void try_changed(uint8_t *bytes, size_t length) {
 
 /* The memory that a checkpoint of so many rows takes, and how many allocations. */
 static void weigh(int rows, double *memory, double *allocations) {
-    cagzhomul_handle session = {0}, later = {0};
+    cagzhomul_world_handle world = {0}, later = {0};
     size_t length, before;
-    make_session(&session, rows);
-    uint8_t *bytes = bytes_of(&session, &length);
+    make_world(&world, rows);
+    uint8_t *bytes = bytes_of(&world, &length);
     before = live;
     most = live;
     made = 0;
-    demand(cagzhomul_open_at(&later, bytes, length) == CAGZHOMUL_OK, "a checkpoint opens");
+    demand(cagzhomul_open_at(&later, bytes, length, CAGZHOMUL_ANY_JUMP) == CAGZHOMUL_OK, "a checkpoint opens");
     *memory = (double)(most - before);
     *allocations = (double)made;
-    demand(cagzhomul_close(&later) == CAGZHOMUL_OK && cagzhomul_close(&session) == CAGZHOMUL_OK, "both are closed");
+    demand(cagzhomul_close_world(&later) == CAGZHOMUL_OK && cagzhomul_close_world(&world) == CAGZHOMUL_OK, "both are closed");
     free(bytes);
 }
 
 int main(void) {
-    cagzhomul_handle session = {0};
+    cagzhomul_world_handle world = {0};
     size_t length;
     double memory, allocations, of_more, made_of_more;
-    make_session(&session, SMALL);
-    uint8_t *bytes = bytes_of(&session, &length);
+    make_world(&world, SMALL);
+    uint8_t *bytes = bytes_of(&world, &length);
     try_changed(bytes, length);
     free(bytes);
-    demand(cagzhomul_close(&session) == CAGZHOMUL_OK, "the session is closed");
+    demand(cagzhomul_close_world(&world) == CAGZHOMUL_OK, "the world is closed");
     weigh(ROWS, &memory, &allocations);
     weigh(10 * ROWS, &of_more, &made_of_more);
     demand(of_more / memory < 11, "ten times the rows take at most eleven times the memory");

@@ -1,5 +1,5 @@
 /* Eight threads add 1 to five counters, 10,000 times each, by transactions that read what they
-   change: the session is locked for one call at a time, not for a whole transaction, so that others
+   change: the world is locked for one call at a time, not for a whole transaction, so that others
    commit between its calls, and it begins again after a conflict. It ends with 0 if no addition was
    lost, and at least one was a conflict. */
 #include "cagzhomul.h"
@@ -7,9 +7,10 @@
 #include <pthread.h>
 #include <stdio.h>
 
-enum { THREADS = 8, ADDITIONS = 10000, COUNTERS = 5, TABLE = 1, COUNT = 1, VALUE = 39, ROW = 47, MOMENT = 5 };
+enum { THREADS = 8, ADDITIONS = 10000, COUNTERS = 5, TABLE = 1, COUNT = 1, VALUE = 39, ROW = 47, KEY = 64, MOMENT = 5 };
 
-static cagzhomul_handle session, lease;
+static cagzhomul_world_handle world;
+static cagzhomul_lease_handle lease;
 static pthread_mutex_t lock = PTHREAD_MUTEX_INITIALIZER;
 
 /* The table counters (id int key, count int), and leases of 1,000 moments. */
@@ -38,57 +39,55 @@ static code touch_code(int64_t id) {
 }
 
 /* The value in the code of one row, or -1 if the handle does not hold one. */
-static int64_t value_in(cagzhomul_handle *rows) {
+static int64_t value_in(cagzhomul_bytes_handle *rows) {
     uint8_t out[ROW];
     uint64_t number = 0;
-    cagzhomul_outcome it = cagzhomul_rows_from(rows, 0, out, sizeof out);
-    if (cagzhomul_close(rows) != CAGZHOMUL_OK || it.status != CAGZHOMUL_OK || it.length != ROW) return -1;
+    cagzhomul_outcome it = cagzhomul_bytes_from(rows, 0, out, sizeof out);
+    if (cagzhomul_close_bytes(rows) != CAGZHOMUL_OK || it.status != CAGZHOMUL_OK || it.length != ROW) return -1;
     for (int at = VALUE; at < ROW; at++) number = number << 8 | out[at];
     return (int64_t)(number ^ UINT64_C(1) << 63);
 }
 
-static int64_t value_read(cagzhomul_handle *txn, int64_t id) {
-    cagzhomul_handle rows = {0};
+static int64_t value_read(cagzhomul_reads_handle *reads, int64_t id) {
+    cagzhomul_bytes_handle rows = {0};
     code asked = query_code(TABLE, COUNT, 1);
     put_key(&asked, id);
-    return cagzhomul_query_read(txn, asked.bytes, asked.length, &rows).status == CAGZHOMUL_OK ? value_in(&rows) : -1;
+    return cagzhomul_query_read(reads, asked.bytes, asked.length, &rows).status == CAGZHOMUL_OK ? value_in(&rows) : -1;
 }
 
-static int32_t read_locked(cagzhomul_handle *txn) {
-    pthread_mutex_lock(&lock);
-    int32_t status = cagzhomul_read(&session, txn);
-    pthread_mutex_unlock(&lock);
-    return status;
-}
-
-static int32_t begin_locked(cagzhomul_handle *txn, int64_t id) {
+static int32_t read_locked(cagzhomul_reads_handle *reads, int64_t id) {
     code ops = touch_code(id);
     pthread_mutex_lock(&lock);
-    int32_t status = cagzhomul_transaction(&lease, ops.bytes, ops.length, txn);
+    int32_t status = cagzhomul_read(&world, &lease, ops.bytes, ops.length, reads);
     pthread_mutex_unlock(&lock);
     return status;
 }
 
-static int32_t commit_locked(cagzhomul_handle *txn) {
+static int32_t read_again_locked(cagzhomul_reads_handle *reads, code ops) {
     pthread_mutex_lock(&lock);
-    int32_t status = cagzhomul_commit(&session, MOMENT, txn).status;
+    int32_t status = cagzhomul_read_again(&world, reads, ops.bytes, ops.length);
+    pthread_mutex_unlock(&lock);
+    return status;
+}
+
+static int32_t commit_locked(cagzhomul_txn_handle *txn) {
+    uint8_t key[KEY] = {0};
+    pthread_mutex_lock(&lock);
+    int32_t status = cagzhomul_commit(&world, MOMENT, txn, key, KEY).status;
     pthread_mutex_unlock(&lock);
     return status;
 }
 
 /* One try to add 1 to a counter; its status. */
 static int32_t add_once(int64_t id) {
-    cagzhomul_handle txn = {0};
-    int32_t status = begin_locked(&txn, id);
-    if (status == CAGZHOMUL_OK) status = read_locked(&txn);
-    if (status == CAGZHOMUL_OK) {
-        code ops = set_code(UPDATE, id, value_read(&txn, id) + 1);
-        status = cagzhomul_operations(&txn, ops.bytes, ops.length);
-    }
-    if (status == CAGZHOMUL_OK) status = read_locked(&txn);
-    if (status == CAGZHOMUL_OK) status = cagzhomul_prepare(&txn).status;
+    cagzhomul_reads_handle reads = {0};
+    cagzhomul_txn_handle txn = {0};
+    int32_t status = read_locked(&reads, id);
+    if (status == CAGZHOMUL_OK) status = read_again_locked(&reads, set_code(UPDATE, id, value_read(&reads, id) + 1));
+    if (status == CAGZHOMUL_OK) status = cagzhomul_prepare(&reads, &txn).status;
     if (status == CAGZHOMUL_OK) status = commit_locked(&txn);
-    if (txn.is_open) cagzhomul_close(&txn);
+    if (txn.is_open) cagzhomul_close_txn(&txn);
+    if (reads.is_open) cagzhomul_close_reads(&reads);
     return status;
 }
 
@@ -110,19 +109,19 @@ static void *add_all(void *own) {
 
 /* The value that a counter has in the end. */
 static int64_t value_of(int64_t id) {
-    cagzhomul_handle rows = {0};
+    cagzhomul_bytes_handle rows = {0};
     code asked = query_code(TABLE, COUNT, 1);
     put_key(&asked, id);
-    return cagzhomul_query(&session, MOMENT, &lease, asked.bytes, asked.length, &rows).status == CAGZHOMUL_OK ? value_in(&rows) : -1;
+    return cagzhomul_query(&world, MOMENT, &lease, asked.bytes, asked.length, &rows).status == CAGZHOMUL_OK ? value_in(&rows) : -1;
 }
 
 static int open_counters(void) {
     code opening = counters_code();
-    if (cagzhomul_open_tables(&session, opening.bytes, opening.length) != CAGZHOMUL_OK) return 0;
-    if (cagzhomul_lease(&session, MOMENT, &lease).status != CAGZHOMUL_OK) return 0;
+    if (cagzhomul_open(&world, opening.bytes, opening.length, CAGZHOMUL_ANY_JUMP) != CAGZHOMUL_OK) return 0;
+    if (cagzhomul_lease(&world, MOMENT, &lease).status != CAGZHOMUL_OK) return 0;
     for (int64_t id = 0; id < COUNTERS; id++) {
         code ops = set_code(INSERT, id, 0);
-        if (cagzhomul_write(&session, MOMENT, &lease, ops.bytes, ops.length).status != CAGZHOMUL_OK) return 0;
+        if (cagzhomul_write(&world, MOMENT, &lease, ops.bytes, ops.length).status != CAGZHOMUL_OK) return 0;
     }
     return 1;
 }
@@ -140,7 +139,7 @@ int main(void) {
         wrong += threads[at].wrong, conflicts += threads[at].conflicts;
     }
     for (int64_t id = 0; id < COUNTERS; id++) wrong += value_of(id) != THREADS * ADDITIONS / COUNTERS;
-    wrong += cagzhomul_close(&lease) != CAGZHOMUL_OK || cagzhomul_close(&session) != CAGZHOMUL_OK;
+    wrong += cagzhomul_close_lease(&lease) != CAGZHOMUL_OK || cagzhomul_close_world(&world) != CAGZHOMUL_OK;
     printf("%d additions, %ld wrong\n", THREADS * ADDITIONS, wrong);
     return wrong || !conflicts;
 }

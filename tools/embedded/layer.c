@@ -176,32 +176,50 @@ static code view_code(const store *of, const code *keys) {
 
 /* ---- calls, made again if memory runs out */
 
-static code held(cagzhomul_handle *handle) {
-    code it = {{0}, 0};
-    it.length = cagzhomul_rows_from(handle, 0, it.bytes, CODE_ROOM).length;
-    check(it.length <= CODE_ROOM, "the bytes fit");
-    cagzhomul_close(handle);
-    return it;
+/* Whether these bytes were not written to: they are 9. */
+static int is_clear(const uint8_t *bytes, size_t length) {
+    for (size_t at = 0; at < length; at++)
+        if (bytes[at] != 9) return 0;
+    return 1;
 }
 
-/* The bytes that a call gives, which is to come to this status and number. */
-#define GIVES(status_due, number_due, call)                                                                        \
-    ({                                                                                                              \
-        cagzhomul_handle handle = {0};                                                                              \
-        cagzhomul_layered it = call;                                                                                \
-        if (is_short(it.status)) {                                                                                  \
-            check(!handle.is_open && it.column == 0 && it.number == 0, "nothing was given");                        \
-            it = call;                                                                                              \
-        }                                                                                                           \
-        check(it.status == (status_due) && it.number == (number_due), #call);                                       \
-        check(handle.is_open == (it.status == CAGZHOMUL_OK), "a handle is open if and only if bytes were given");   \
-        it.status == CAGZHOMUL_OK ? held(&handle) : (code){{0}, 0};                                                 \
+static int is_alone(cagzhomul_layered it, int32_t status, uint64_t number) {
+    return it.status == status && it.number == number && it.length == 0;
+}
+
+/* The bytes that a call gives, which is to come to this status and number. It writes to `out`, of so much `room`: first there is
+   room for all, and, in the first run, then for half of them. */
+#define GIVES(status_due, number_due, call)                                                                            \
+    ({                                                                                                                 \
+        code whole = {{0}, 0}, half = {{0}, 0};                                                                        \
+        uint8_t *out = whole.bytes;                                                                                    \
+        size_t room = CODE_ROOM;                                                                                       \
+        memset(whole.bytes, 9, CODE_ROOM), memset(half.bytes, 9, CODE_ROOM);                                           \
+        cagzhomul_layered it = call;                                                                                   \
+        if (is_short(it.status)) {                                                                                     \
+            check(is_alone(it, CAGZHOMUL_OUT_OF_MEMORY, 0) && it.column == 0, "nothing was given");                    \
+            check(is_clear(out, room), "nor written");                                                                 \
+            it = call;                                                                                                 \
+        }                                                                                                              \
+        check(it.status == (status_due) && it.number == (number_due), #call);                                          \
+        check((it.length > 0) == (it.status == CAGZHOMUL_OK), "there are bytes if and only if it was not refused");    \
+        whole.length = it.length < CODE_ROOM ? it.length : CODE_ROOM;                                                  \
+        check(it.length <= CODE_ROOM && is_clear(whole.bytes + whole.length, CODE_ROOM - whole.length), "they fit");   \
+        if (refused < 2) {                                                                                             \
+            const int was_ample = is_ample;                                                                            \
+            out = half.bytes, room = whole.length / 2, is_ample = 1;                                                   \
+            cagzhomul_layered same = call;                                                                             \
+            check(same.status == it.status && same.number == it.number && same.length == it.length, "it is called again"); \
+            check(!memcmp(half.bytes, whole.bytes, room) && is_clear(half.bytes + room, CODE_ROOM - room), "a half of them"); \
+            is_ample = was_ample;                                                                                      \
+        }                                                                                                              \
+        whole;                                                                                                         \
     })
 
 static code transact(const store *of, uint64_t number, const bytes *version, code ops, const char *mark, int32_t status, uint64_t at) {
-    code keys = GIVES(CAGZHOMUL_OK, 0, cagzhomul_layer_reads(version->at, version->length, ops.bytes, ops.length, &handle));
+    code keys = GIVES(CAGZHOMUL_OK, 0, cagzhomul_layer_reads(version->at, version->length, ops.bytes, ops.length, out, room));
     code view = view_code(of, &keys);
-    return GIVES(status, at, cagzhomul_layer_txn(number, version->at, version->length, ops.bytes, ops.length, view.bytes, view.length, (const uint8_t *)mark, strlen(mark), &handle));
+    return GIVES(status, at, cagzhomul_layer_txn(number, version->at, version->length, ops.bytes, ops.length, view.bytes, view.length, (const uint8_t *)mark, strlen(mark), out, room));
 }
 
 static code insert_code(int64_t id, const char *town) {
@@ -213,7 +231,7 @@ static code insert_code(int64_t id, const char *town) {
 static code publish(const store *of, uint32_t before, code step, int32_t status, uint64_t number) {
     bytes version = record_of(of, key_of(0, before + 1));
     code found = pairs_code(of, 1, 1);
-    return GIVES(status, number, cagzhomul_layer_publish(before, version.at, version.length, step.bytes, step.length, found.bytes, found.length, &handle));
+    return GIVES(status, number, cagzhomul_layer_publish(before, version.at, version.length, step.bytes, step.length, found.bytes, found.length, out, room));
 }
 
 /* A query of the table with one condition, or none. */
@@ -228,9 +246,9 @@ static code ask_code(int condition, int64_t id, const char *town) {
 /* How many rows a query finds by this path, of a store that is read whole. */
 static uint64_t rows_found(const store *of, const bytes *version, code query, uint64_t path) {
     code all = pairs_code(of, 'R', 'X');
-    GIVES(CAGZHOMUL_OK, path, cagzhomul_layer_ranges(version->at, version->length, query.bytes, query.length, &handle));
-    GIVES(CAGZHOMUL_OK, path == 2 ? 2 : 0, cagzhomul_layer_row_ranges(version->at, version->length, query.bytes, query.length, all.bytes, all.length, &handle));
-    code rows = GIVES(CAGZHOMUL_OK, 0, cagzhomul_layer_rows(version->at, version->length, query.bytes, query.length, all.bytes, all.length, &handle));
+    GIVES(CAGZHOMUL_OK, path, cagzhomul_layer_ranges(version->at, version->length, query.bytes, query.length, out, room));
+    GIVES(CAGZHOMUL_OK, path == 2 ? 2 : 0, cagzhomul_layer_row_ranges(version->at, version->length, query.bytes, query.length, all.bytes, all.length, out, room));
+    code rows = GIVES(CAGZHOMUL_OK, 0, cagzhomul_layer_rows(version->at, version->length, query.bytes, query.length, all.bytes, all.length, out, room));
     reader from = {rows.bytes + 1, rows.length ? rows.length - 1 : 0};
     return get_number(&from, 8);
 }
@@ -256,9 +274,9 @@ static void add_ranges(store *to, const store *of, const code *ranges) {
 /* What a page counts for, of which all pairs were read; what it needs besides is read, too. */
 static cagzhomul_checked check_page(store *read, const store *of, const bytes *version, const bytes *low, const bytes *to) {
     code pairs = pairs_code(read, 'R', 'X');
-    code rows = GIVES(CAGZHOMUL_OK, 0, cagzhomul_layer_check_rows(version->at, version->length, pairs.bytes, pairs.length, low->at, low->length, to->at, to->length, &handle));
+    code rows = GIVES(CAGZHOMUL_OK, 0, cagzhomul_layer_check_rows(version->at, version->length, pairs.bytes, pairs.length, low->at, low->length, to->at, to->length, out, room));
     add_ranges(read, of, &rows), pairs = pairs_code(read, 'R', 'X');
-    code given = GIVES(CAGZHOMUL_OK, 0, cagzhomul_layer_check_given(version->at, version->length, pairs.bytes, pairs.length, low->at, low->length, to->at, to->length, &handle));
+    code given = GIVES(CAGZHOMUL_OK, 0, cagzhomul_layer_check_given(version->at, version->length, pairs.bytes, pairs.length, low->at, low->length, to->at, to->length, out, room));
     add_ranges(read, of, &given), pairs = pairs_code(read, 'R', 'X');
     cagzhomul_checked it = cagzhomul_layer_check_page(version->at, version->length, pairs.bytes, pairs.length, low->at, low->length, to->at, to->length);
     if (is_short(it.status)) it = cagzhomul_layer_check_page(version->at, version->length, pairs.bytes, pairs.length, low->at, low->length, to->at, to->length);
@@ -301,8 +319,8 @@ static void check_by_pages(const store *kept, const bytes *version) {
     code bad = {{0}, 1};
     cagzhomul_checked it = cagzhomul_layer_check_page(version->at, version->length, bad.bytes, bad.length, none.at, 0, none.at, 0);
     check((it.status == CAGZHOMUL_BAD_CODE || is_short(it.status)) && it.rows == 0 && it.missing == 0 && it.extra == 0, "bytes that are no pairs are refused");
-    GIVES(CAGZHOMUL_BAD_CODE, 0, cagzhomul_layer_check_rows(version->at, version->length, bad.bytes, bad.length, none.at, 0, none.at, 0, &handle));
-    GIVES(CAGZHOMUL_BAD_CODE, 0, cagzhomul_layer_check_given(bad.bytes, bad.length, bad.bytes, bad.length, none.at, 0, none.at, 0, &handle));
+    GIVES(CAGZHOMUL_BAD_CODE, 0, cagzhomul_layer_check_rows(version->at, version->length, bad.bytes, bad.length, none.at, 0, none.at, 0, out, room));
+    GIVES(CAGZHOMUL_BAD_CODE, 0, cagzhomul_layer_check_given(bad.bytes, bad.length, bad.bytes, bad.length, none.at, 0, none.at, 0, out, room));
 }
 
 /* What is due, by the control records whose keys begin with a byte from 0 up to `last`, of a plan of which so many steps have been published. */
@@ -321,17 +339,17 @@ static int is_due(const store *of, uint32_t before, const code *plan, uint64_t p
 }
 
 static code plan_of(const bytes *version, code changes) {
-    return GIVES(CAGZHOMUL_OK, 0, cagzhomul_layer_plan(version->at, version->length, changes.bytes, changes.length, &handle));
+    return GIVES(CAGZHOMUL_OK, 0, cagzhomul_layer_plan(version->at, version->length, changes.bytes, changes.length, out, room));
 }
 
 /* ---- the story */
 
 static void open_store(store *to) {
     code opening = opening_code(10, "town"), none = {{1}, 1};
-    code draft = GIVES(CAGZHOMUL_OK, 0, cagzhomul_layer_open(opening.bytes, opening.length, &handle));
+    code draft = GIVES(CAGZHOMUL_OK, 0, cagzhomul_layer_open(opening.bytes, opening.length, out, room));
     check(applies(to, &draft), "the store is opened");
     check(!applies(to, &draft), "and not a second time");
-    GIVES(CAGZHOMUL_BAD_CODE, 0, cagzhomul_layer_open(none.bytes, none.length, &handle));
+    GIVES(CAGZHOMUL_BAD_CODE, 0, cagzhomul_layer_open(none.bytes, none.length, out, room));
 }
 
 static void write_rows(store *to) {
@@ -365,21 +383,21 @@ static code add_index(store *to) {
 
 static code close_before(const store *of, uint32_t before) {
     bytes version = record_of(of, key_of(0, before + 1));
-    return GIVES(CAGZHOMUL_OK, 0, cagzhomul_layer_close(before, version.at, version.length, &handle));
+    return GIVES(CAGZHOMUL_OK, 0, cagzhomul_layer_close(before, version.at, version.length, out, room));
 }
 
 static code begin(const store *of, uint32_t before, uint32_t element, int32_t status) {
     bytes version = record_of(of, key_of(0, before + 1));
     code keys = {{1}, 1};
     put_number(&keys, 0, 8);
-    return GIVES(status, 0, cagzhomul_layer_begin(before, version.at, version.length, element, keys.bytes, keys.length, &handle));
+    return GIVES(status, 0, cagzhomul_layer_begin(before, version.at, version.length, element, keys.bytes, keys.length, out, room));
 }
 
 /* A piece of the reorganisation of the index, whose range has keys of this kind, read to a key. */
 static code piece(const store *of, uint8_t kind, const char *to, size_t length, int32_t status) {
     bytes reorg = record_of(of, key_of(1, BY_TOWN)), cursor = record_of(of, cursor_of(BY_TOWN, 0));
     code pairs = pairs_code(of, kind, kind);
-    return GIVES(status, 0, cagzhomul_layer_piece(reorg.at, reorg.length, 0, cursor.at, cursor.length, (const uint8_t *)to, length, pairs.bytes, pairs.length, &handle));
+    return GIVES(status, 0, cagzhomul_layer_piece(reorg.at, reorg.length, 0, cursor.at, cursor.length, (const uint8_t *)to, length, pairs.bytes, pairs.length, out, room));
 }
 
 /* The rest of a fill, from its cursor to the end. */
@@ -391,7 +409,7 @@ static code last_part(const store *of) {
     for (size_t at = place_of(of, &from); at < of->count && of->pairs[at].key.at[0] == 'R'; at++) many++;
     put_number(&rest, many, 8);
     for (size_t at = place_of(of, &from); at < of->count && of->pairs[at].key.at[0] == 'R'; at++) put_bytes(&rest, &of->pairs[at].key), put_bytes(&rest, &of->pairs[at].value);
-    return GIVES(CAGZHOMUL_OK, 0, cagzhomul_layer_piece(reorg.at, reorg.length, 0, cursor.at, cursor.length, (const uint8_t *)"S", 1, rest.bytes, rest.length, &handle));
+    return GIVES(CAGZHOMUL_OK, 0, cagzhomul_layer_piece(reorg.at, reorg.length, 0, cursor.at, cursor.length, (const uint8_t *)"S", 1, rest.bytes, rest.length, out, room));
 }
 
 /* The index is filled in two parts, the first as far as the last row that was read. */

@@ -66,15 +66,16 @@ static const char *town_of(long row) {
 
 /* A store, its present lease and moment, and how many rows it has. */
 typedef struct store {
-    cagzhomul_handle session, lease;
+    cagzhomul_world_handle world;
+    cagzhomul_lease_handle lease;
     uint64_t moment;
     long rows;
 } store;
 
 static void renew(store *it, uint64_t moment) {
     it->moment = moment;
-    if (it->lease.is_open) cagzhomul_close(&it->lease);
-    demand(cagzhomul_lease(&it->session, moment, &it->lease).status == CAGZHOMUL_OK, "a lease is granted");
+    if (it->lease.is_open) cagzhomul_close_lease(&it->lease);
+    demand(cagzhomul_lease(&it->world, moment, &it->lease).status == CAGZHOMUL_OK, "a lease is granted");
 }
 
 static void insert(store *it, long many) {
@@ -82,7 +83,7 @@ static void insert(store *it, long many) {
     ops.length = 0;
     put_byte(&ops, 1), put_number(&ops, (uint64_t)many, 8);
     for (long i = 0; i < many; i++, it->rows++) put_op(&ops, INSERT, PEOPLE, key_of(it->rows), TOWN, town_of(it->rows));
-    demand(cagzhomul_write(&it->session, it->moment, &it->lease, ops.bytes, ops.length).status == CAGZHOMUL_OK, "rows are written");
+    demand(cagzhomul_write(&it->world, it->moment, &it->lease, ops.bytes, ops.length).status == CAGZHOMUL_OK, "rows are written");
 }
 
 static void insert_timed(store *it, long many, times *taken) {
@@ -94,29 +95,30 @@ static void insert_timed(store *it, long many, times *taken) {
 }
 
 static void snapshot_timed(store *it, times *taken) {
-    cagzhomul_handle snapshot = {0};
+    cagzhomul_snapshot_handle snapshot = {0};
     double from = now();
-    demand(cagzhomul_snapshot(&it->session, it->moment, &it->lease, &snapshot) == CAGZHOMUL_OK, "a snapshot is taken");
+    demand(cagzhomul_snapshot(&it->world, it->moment, &it->lease, &snapshot) == CAGZHOMUL_OK, "a snapshot is taken");
     note(taken, now() - from);
-    cagzhomul_close(&snapshot);
+    cagzhomul_close_snapshot(&snapshot);
 }
 
 static void publish_timed(store *it, uint64_t moment, code step, times *taken) {
     double from = now();
-    demand(cagzhomul_publish(&it->session, moment, step.bytes, step.length).status == CAGZHOMUL_OK, "a version is published");
+    demand(cagzhomul_publish(&it->world, moment, step.bytes, step.length).status == CAGZHOMUL_OK, "a version is published");
     note(taken, now() - from);
     renew(it, moment);
 }
 
 /* One piece of work: read, prepared and committed; whether the piece has ended. */
 static bool work_timed(store *it, uint32_t piece, times *read, times *commit) {
-    cagzhomul_handle work = {0};
+    cagzhomul_piece_handle work = {0};
+    cagzhomul_prepared_piece_handle prepared = {0};
     double from = now();
-    demand(cagzhomul_read_piece(&it->session, BY_TOWN, piece, LIMIT, &work) == CAGZHOMUL_OK, "a piece is read");
+    demand(cagzhomul_read_piece(&it->world, BY_TOWN, piece, LIMIT, &work) == CAGZHOMUL_OK, "a piece is read");
     note(read, now() - from);
-    demand(cagzhomul_prepare_piece(&work) == CAGZHOMUL_OK, "it is prepared");
+    demand(cagzhomul_prepare_piece(&work, &prepared) == CAGZHOMUL_OK, "it is prepared");
     from = now();
-    cagzhomul_pieced done = cagzhomul_commit_piece(&it->session, it->moment, &work);
+    cagzhomul_pieced done = cagzhomul_commit_piece(&it->world, it->moment, &prepared);
     note(commit, now() - from);
     demand(done.status == CAGZHOMUL_OK, "it is committed");
     return done.ended;
@@ -128,7 +130,7 @@ static void add_index(store *it, long rows) {
     publish_timed(it, it->moment + 10, go_code(BY_TOWN, WRITE_ONLY), &publish);
     renew(it, it->moment + 10);
     double from = now();
-    demand(cagzhomul_begin_reorg(&it->session, it->moment, BY_TOWN, PIECES).status == CAGZHOMUL_OK, "the fill begins");
+    demand(cagzhomul_begin_reorg(&it->world, it->moment, BY_TOWN, PIECES).status == CAGZHOMUL_OK, "the fill begins");
     note(&begin, now() - from);
     long turn = 0;
     for (uint32_t piece = 0; piece < PIECES; piece++)
@@ -144,7 +146,7 @@ static void add_index(store *it, long rows) {
 
 /* A thread that asks for rows by their keys, of its own snapshot. */
 typedef struct reader {
-    cagzhomul_handle snapshot;
+    cagzhomul_snapshot_handle snapshot;
     long rows, asked;
     atomic_int *ends;
 } reader;
@@ -152,12 +154,12 @@ typedef struct reader {
 static void *read_rows(void *given) {
     reader *it = given;
     for (uint64_t at = 1; !atomic_load(it->ends); it->asked++) {
-        cagzhomul_handle rows = {0};
+        cagzhomul_bytes_handle rows = {0};
         at = at * 6364136223846793005u + 1442695040888963407u;
         code query = query_code(PEOPLE, TOWN, 1);
         put_key(&query, key_of((long)((at >> 33) % (uint64_t)it->rows)));
         demand(cagzhomul_snapshot_query(&it->snapshot, query.bytes, query.length, &rows).status == CAGZHOMUL_OK, "a row is read");
-        cagzhomul_close(&rows);
+        cagzhomul_close_bytes(&rows);
     }
     return NULL;
 }
@@ -169,13 +171,13 @@ static void read_on(store *it, int threads, long rows) {
     long asked = 0, before = it->rows;
     for (int i = 0; i < threads; i++) {
         readers[i].rows = it->rows, readers[i].ends = &ends;
-        demand(cagzhomul_snapshot(&it->session, it->moment, &it->lease, &readers[i].snapshot) == CAGZHOMUL_OK, "a snapshot is taken");
+        demand(cagzhomul_snapshot(&it->world, it->moment, &it->lease, &readers[i].snapshot) == CAGZHOMUL_OK, "a snapshot is taken");
     }
     double from = now();
     for (int i = 0; i < threads; i++) demand(!pthread_create(&ids[i], NULL, read_rows, &readers[i]), "a thread starts");
     while (now() - from < 1e6) insert(it, 1);
     atomic_store(&ends, 1);
-    for (int i = 0; i < threads; i++) pthread_join(ids[i], NULL), asked += readers[i].asked, cagzhomul_close(&readers[i].snapshot);
+    for (int i = 0; i < threads; i++) pthread_join(ids[i], NULL), asked += readers[i].asked, cagzhomul_close_snapshot(&readers[i].snapshot);
     double seconds = (now() - from) / 1e6;
     printf("%ld,queries a second on %d threads,%.0f,,\n%ld,inserts a second beside them,%.0f,,\n", rows, threads, (double)asked / seconds, rows,
            (double)(it->rows - before) / seconds);
@@ -194,7 +196,7 @@ static void measure(long rows) {
     times plain = {0}, indexed = {0}, taken = {0};
     code opening = opening_code(10, "town");
     long before = resident();
-    demand(cagzhomul_open_tables(&it.session, opening.bytes, opening.length) == CAGZHOMUL_OK, "tables are opened");
+    demand(cagzhomul_open(&it.world, opening.bytes, opening.length, CAGZHOMUL_ANY_JUMP) == CAGZHOMUL_OK, "tables are opened");
     renew(&it, 5);
     double from = now();
     while (it.rows + BATCH <= rows) insert(&it, BATCH);
@@ -208,7 +210,7 @@ static void measure(long rows) {
     print(rows, "insert with the index", &indexed);
     printf("%ld,bytes a pair with the log,%.0f,,\n", rows, (double)(resident() - before) / (3.0 * (double)it.rows));
     for (int threads = 1; threads <= THREADS; threads *= 2) read_on(&it, threads, rows);
-    cagzhomul_close(&it.lease), cagzhomul_close(&it.session);
+    cagzhomul_close_lease(&it.lease), cagzhomul_close_world(&it.world);
 }
 
 int main(int count, char **words) {

@@ -1,4 +1,4 @@
-/* Whether a session that lives for long takes no more memory than its data: 1,000 rows take so many updates, under leases that end, while
+/* Whether a world that lives for long takes no more memory than its data: 1,000 rows take so many updates, under leases that end, while
    an index comes and goes a hundred times, and the log is cut a thousand times. The resident memory at the end has to be within a tenth of
    that at a tenth of the way.
    soak [UPDATES]: 10,000,000 if it is not said, which takes some minutes. */
@@ -11,7 +11,9 @@
 
 enum { ROOM = 512, ROWS = 1000, LEASE_LENGTH = 10, FOR_EACH_MOMENT = 100, PIECES = 4, LIMIT = 100 };
 
-static cagzhomul_handle session, lease;
+static cagzhomul_world_handle world;
+static cagzhomul_session_handle session;
+static cagzhomul_lease_handle lease;
 static uint64_t moment, until;
 
 static void demand(int holds, const char *what) {
@@ -31,15 +33,15 @@ static long resident(void) {
 
 static void answer(const char *line, const char *wanted) {
     uint8_t out[ROOM] = {0};
-    cagzhomul_outcome it = cagzhomul_reply_to(&session, (const uint8_t *)line, strlen(line), out, ROOM - 1);
+    cagzhomul_outcome it = cagzhomul_reply_to(&session, &world, (const uint8_t *)line, strlen(line), out, ROOM - 1);
     demand(it.status == CAGZHOMUL_OK && !strncmp((const char *)out, wanted, strlen(wanted)), line);
 }
 
 /* A lease that is in force, the old one's successor if that has ended. */
 static void renew(void) {
     if (lease.is_open && moment < until) return;
-    if (lease.is_open) cagzhomul_close(&lease);
-    cagzhomul_granted it = cagzhomul_lease(&session, moment, &lease);
+    if (lease.is_open) cagzhomul_close_lease(&lease);
+    cagzhomul_granted it = cagzhomul_lease(&world, moment, &lease);
     demand(it.status == CAGZHOMUL_OK, "a lease is granted");
     until = it.until;
 }
@@ -49,7 +51,7 @@ static void write_row(uint8_t kind, long row, long round) {
     code ops = ops_code(1);
     renew();
     put_op(&ops, kind, PEOPLE, row, TOWN, towns[(row + round) % 3]);
-    demand(cagzhomul_write(&session, moment, &lease, ops.bytes, ops.length).status == CAGZHOMUL_OK, "a row is written");
+    demand(cagzhomul_write(&world, moment, &lease, ops.bytes, ops.length).status == CAGZHOMUL_OK, "a row is written");
 }
 
 /* The index comes, or goes. */
@@ -60,7 +62,7 @@ static void change_index(int comes) {
     snprintf(line, sizeof line, "next at %llu", (unsigned long long)moment);
     answer(line, "ok version ");
     for (;;) {
-        cagzhomul_advanced it = cagzhomul_advance(&session, moment, PIECES, LIMIT);
+        cagzhomul_advanced it = cagzhomul_advance(&world, moment, PIECES, LIMIT);
         if (it.status == CAGZHOMUL_FINISHED) break;
         demand(it.status == CAGZHOMUL_OK || (it.status == CAGZHOMUL_WAITING && it.until > moment), "the change goes on");
         if (it.status == CAGZHOMUL_WAITING) moment = it.until;
@@ -71,22 +73,23 @@ int main(int count, char **words) {
     long updates = count > 1 ? atol(words[1]) : 10000000, first = 0;
     code opening = opening_code(LEASE_LENGTH, "town");
     demand(updates >= 1000 && updates % 1000 == 0, "thousands of updates");
-    demand(cagzhomul_open_tables(&session, opening.bytes, opening.length) == CAGZHOMUL_OK, "tables are opened");
+    demand(cagzhomul_open(&world, opening.bytes, opening.length, 2 * LEASE_LENGTH) == CAGZHOMUL_OK, "tables are opened");
+    demand(cagzhomul_session_attach(&session) == CAGZHOMUL_OK, "lines are answered in this world");
     for (long row = 0; row < ROWS; row++) write_row(INSERT, row, 0);
     for (long done = 1; done <= updates; done++) {
         write_row(UPDATE, done * 7 % ROWS, done / ROWS);
         if (done % FOR_EACH_MOMENT == 0) moment++;
         if (done % (updates / 100) == 0) change_index(done / (updates / 100) % 2);
-        if (done % (updates / 1000) == 0) demand(cagzhomul_cut(&session, 0) == CAGZHOMUL_OK, "the log is cut");
+        if (done % (updates / 1000) == 0) demand(cagzhomul_cut(&world, 0) == CAGZHOMUL_OK, "the log is cut");
         if (done == updates / 10) first = resident();
     }
     long last = resident();
-    cagzhomul_checked audit = cagzhomul_check(&session);
+    cagzhomul_checked audit = cagzhomul_check(&world);
     demand(audit.status == CAGZHOMUL_OK && audit.rows == ROWS && !audit.missing && !audit.extra, "the audit finds nothing");
-    size_t length = cagzhomul_log_length(&session).length;
-    demand(length > (size_t)updates && cagzhomul_log_start(&session).length == length, "no entry is in memory");
+    size_t length = cagzhomul_log_length(&world).length;
+    demand(length > (size_t)updates && cagzhomul_log_start(&world).length == length, "no entry is in memory");
     printf("%ld updates, %zu entries ever: %ld KB at a tenth of the way, %ld KB at the end\n", updates, length, first, last);
     demand(10 * last <= 11 * first, "the memory at the end is within a tenth");
-    cagzhomul_close(&lease), cagzhomul_close(&session);
+    cagzhomul_close_lease(&lease), cagzhomul_close_session(&session), cagzhomul_close_world(&world);
     return 0;
 }

@@ -1,21 +1,19 @@
-/* Four threads insert rows through one handle, which they lock, while a fifth one lets an index
-   enter the table; each writer has a handle of its own beside it, without a lock. Then all is
+/* Four threads insert rows through one session and its world, which they lock, while a fifth one lets
+   an index enter the table; each writer has both of its own beside them, without a lock. Then all is
    audited. It ends with 0 if nothing was lost. */
-#include "cagzhomul.h"
+#include "talk.h"
 #include <pthread.h>
 #include <stdio.h>
-#include <string.h>
 
 enum { WRITERS = 4, ROWS = 2000, ROOM = 4096 };
 
-static cagzhomul_handle shared;
+static talk shared;
 static pthread_mutex_t lock = PTHREAD_MUTEX_INITIALIZER;
 
 /* Whether the reply to the line begins so. */
-static int begins(cagzhomul_handle *handle, const char *line, const char *wanted) {
+static int begins(talk *with, const char *line, const char *wanted) {
     uint8_t out[ROOM] = {0};
-    cagzhomul_outcome outcome =
-        cagzhomul_reply_to(handle, (const uint8_t *)line, strlen(line), out, ROOM);
+    cagzhomul_outcome outcome = say(with, line, out, ROOM);
     int is_so = outcome.status == CAGZHOMUL_OK && outcome.length >= strlen(wanted) &&
                 memcmp(out, wanted, strlen(wanted)) == 0;
     if (!is_so) fprintf(stderr, "%s: %.*s\n", line, (int)strcspn((char *)out, "\n"), (char *)out);
@@ -32,15 +30,15 @@ static int begins_under_lock(const char *line, const char *wanted) {
 static void *write_rows(void *which) {
     long writer = (long)which, wrong = 0;
     char line[128];
-    cagzhomul_handle own = {0};
-    wrong += cagzhomul_open(&own) != CAGZHOMUL_OK;
+    talk own = {{0}, {0}};
+    wrong += cagzhomul_session_open(&own.session) != CAGZHOMUL_OK;
     wrong += !begins(&own, "table people (id int key)", "ok\n") || !begins(&own, "open", "ok version 1\n");
     for (long row = writer; row < ROWS; row += WRITERS) {
         snprintf(line, sizeof line, "txn s%ld at 5: insert people (%ld) set town = 'Ulm'", writer, row);
         wrong += !begins_under_lock(line, "ok done ");
         wrong += !begins(&own, "check", "ok rows 0 missing 0 extra 0\n");
     }
-    if (cagzhomul_close(&own) != CAGZHOMUL_OK) wrong++;
+    if (!is_over(&own)) wrong++;
     return (void *)wrong;
 }
 
@@ -56,7 +54,7 @@ int main(void) {
     long wrong = 0;
     char line[64];
     pthread_t threads[WRITERS + 1];
-    if (cagzhomul_open(&shared) != CAGZHOMUL_OK) return 1;
+    if (cagzhomul_session_open(&shared.session) != CAGZHOMUL_OK) return 1;
     wrong += !begins(&shared, "table people (id int key, town text)", "ok\n");
     wrong += !begins(&shared, "open", "ok version 1\n");
     for (long writer = 0; writer < WRITERS; writer++) {
@@ -73,7 +71,7 @@ int main(void) {
     }
     snprintf(line, sizeof line, "ok rows %d missing 0 extra 0\n", ROWS);
     wrong += !begins(&shared, "check", line);
-    if (cagzhomul_close(&shared) != CAGZHOMUL_OK) wrong++;
+    if (!is_over(&shared)) wrong++;
     printf("%d rows, %ld wrong\n", ROWS, wrong);
     return wrong != 0;
 }

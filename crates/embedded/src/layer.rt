@@ -1,8 +1,7 @@
 //! The engine over a store that someone else runs: each function is a call of `layer_calls`, whose
-//! bytes are kept in a closed handle.
-ghost use Rattle.std.specs.Prelude.{◌≡◌};
+//! bytes are written to those of the caller.
 ghost use Rattle.layer_calls.specs.Given.{Answer, With, GivesVersion, GivesReorg, GivesCursor, GivesOpening, GivesOps, GivesQuery, GivesStep, GivesView, GivesPairs, GivesKeys};
-ghost use Rattle.layer_calls.specs.Keep.{Keeps};
+ghost use Rattle.layer_calls.specs.Show.{Shows};
 ghost use Rattle.layer_calls.specs.Opening.{OpensWith};
 ghost use Rattle.layer_calls.specs.Txns.{Wants, Drafts};
 ghost use Rattle.layer_calls.specs.Queries.{Asks, AsksRows, Answers};
@@ -12,8 +11,8 @@ ghost use Rattle.layer_calls.specs.Audits.{Audits};
 ghost use Rattle.layer_calls.specs.PageChecks.{PageRows, PageGiven, AuditsPage};
 ghost use Rattle.layer_calls.specs.Dues.{Dues};
 
-use handles::{CheckOutcome, Handle};
-use layer_calls::{DueOutcome, LayerOutcome, keep};
+use handles::CheckOutcome;
+use layer_calls::{DueOutcome, LayerOutcome, show};
 use std::alloc::Global;
 
 /// `layer_calls::open`.
@@ -21,11 +20,11 @@ use std::alloc::Global;
 pub extern "C" fn cagzhomul_layer_open(
     alloc: Global,
     opening: &[u8],
-    draft: &mut Handle,
+    out: &mut [u8],
 ) -> LayerOutcome
-    ensures { (answer : Answer) × With GivesOpening (λ o a. OpensWith o.1 a) opening.now answer × Keeps draft.old.place.value answer result draft.new.place.value }
+    ensures { (answer : Answer) × With GivesOpening (λ o a. OpensWith o.1 a) opening.now answer × Shows answer out.old result out.new }
 {
-    keep(alloc, draft, layer_calls::open(alloc, opening))
+    show(layer_calls::open(alloc, opening), out)
 }
 
 /// `layer_calls::reads`.
@@ -34,11 +33,11 @@ pub extern "C" fn cagzhomul_layer_reads(
     alloc: Global,
     version: &[u8],
     operations: &[u8],
-    keys: &mut Handle,
+    out: &mut [u8],
 ) -> LayerOutcome
-    ensures { (answer : Answer) × With GivesVersion (λ v a. With GivesOps (Wants v) operations.now a) version.now answer × Keeps keys.old.place.value answer result keys.new.place.value }
+    ensures { (answer : Answer) × With GivesVersion (λ v a. With GivesOps (Wants v) operations.now a) version.now answer × Shows answer out.old result out.new }
 {
-    keep(alloc, keys, layer_calls::reads(alloc, version, operations))
+    show(layer_calls::reads(alloc, version, operations), out)
 }
 
 /// `layer_calls::txn`.
@@ -50,12 +49,12 @@ pub extern "C" fn cagzhomul_layer_txn(
     operations: &[u8],
     view: &[u8],
     mark: &[u8],
-    draft: &mut Handle,
+    out: &mut [u8],
 ) -> LayerOutcome
-    ensures { (answer : Answer) × With GivesVersion (λ v a. With GivesOps (λ o b. With GivesView (Drafts number mark.now v o) view.now b) operations.now a) version.now answer × Keeps draft.old.place.value answer result draft.new.place.value }
+    ensures { (answer : Answer) × With GivesVersion (λ v a. With GivesOps (λ o b. With GivesView (Drafts number mark.now v o) view.now b) operations.now a) version.now answer × Shows answer out.old result out.new }
 {
     let answer = layer_calls::txn(alloc, number, version, operations, view, mark);
-    keep(alloc, draft, answer)
+    show(answer, out)
 }
 
 /// `layer_calls::ranges`.
@@ -64,11 +63,11 @@ pub extern "C" fn cagzhomul_layer_ranges(
     alloc: Global,
     version: &[u8],
     query: &[u8],
-    ranges: &mut Handle,
+    out: &mut [u8],
 ) -> LayerOutcome
-    ensures { (answer : Answer) × With GivesVersion (λ v a. With GivesQuery (Asks v) query.now a) version.now answer × Keeps ranges.old.place.value answer result ranges.new.place.value }
+    ensures { (answer : Answer) × With GivesVersion (λ v a. With GivesQuery (Asks v) query.now a) version.now answer × Shows answer out.old result out.new }
 {
-    keep(alloc, ranges, layer_calls::ranges(alloc, version, query))
+    show(layer_calls::ranges(alloc, version, query), out)
 }
 
 /// `layer_calls::row_ranges`.
@@ -78,15 +77,12 @@ pub extern "C" fn cagzhomul_layer_row_ranges(
     version: &[u8],
     query: &[u8],
     pairs: &[u8],
-    ranges: &mut Handle,
+    out: &mut [u8],
 ) -> LayerOutcome
-    ensures { (answer : Answer) × With GivesVersion (λ v a. With GivesQuery (λ q b. With GivesPairs (AsksRows v q) pairs.now b) query.now a) version.now answer × Keeps ranges.old.place.value answer result ranges.new.place.value }
+    ensures { (answer : Answer) × With GivesVersion (λ v a. With GivesQuery (λ q b. With GivesPairs (AsksRows v q) pairs.now b) query.now a) version.now answer × Shows answer out.old result out.new }
 {
-    keep(
-        alloc,
-        ranges,
-        layer_calls::row_ranges(alloc, version, query, pairs),
-    )
+    let answer = layer_calls::row_ranges(alloc, version, query, pairs);
+    show(answer, out)
 }
 
 /// `layer_calls::rows`.
@@ -96,11 +92,11 @@ pub extern "C" fn cagzhomul_layer_rows(
     version: &[u8],
     query: &[u8],
     pairs: &[u8],
-    rows: &mut Handle,
+    out: &mut [u8],
 ) -> LayerOutcome
-    ensures { (answer : Answer) × With GivesVersion (λ v a. With GivesQuery (λ q b. With GivesPairs (Answers v q) pairs.now b) query.now a) version.now answer × Keeps rows.old.place.value answer result rows.new.place.value }
+    ensures { (answer : Answer) × With GivesVersion (λ v a. With GivesQuery (λ q b. With GivesPairs (Answers v q) pairs.now b) query.now a) version.now answer × Shows answer out.old result out.new }
 {
-    keep(alloc, rows, layer_calls::rows(alloc, version, query, pairs))
+    show(layer_calls::rows(alloc, version, query, pairs), out)
 }
 
 /// `layer_calls::plan`.
@@ -109,11 +105,11 @@ pub extern "C" fn cagzhomul_layer_plan(
     alloc: Global,
     version: &[u8],
     changes: &[u8],
-    plan: &mut Handle,
+    out: &mut [u8],
 ) -> LayerOutcome
-    ensures { (answer : Answer) × With GivesVersion (λ v a. Plans v changes.now a) version.now answer × Keeps plan.old.place.value answer result plan.new.place.value }
+    ensures { (answer : Answer) × With GivesVersion (λ v a. Plans v changes.now a) version.now answer × Shows answer out.old result out.new }
 {
-    keep(alloc, plan, layer_calls::plan(alloc, version, changes))
+    show(layer_calls::plan(alloc, version, changes), out)
 }
 
 /// `layer_calls::publish`.
@@ -124,12 +120,12 @@ pub extern "C" fn cagzhomul_layer_publish(
     version: &[u8],
     step: &[u8],
     found: &[u8],
-    draft: &mut Handle,
+    out: &mut [u8],
 ) -> LayerOutcome
-    ensures { (answer : Answer) × With GivesVersion (λ v a. With GivesStep (λ s b. With GivesReorgs (Publishes (newest_of before v) s) found.now b) step.now a) version.now answer × Keeps draft.old.place.value answer result draft.new.place.value }
+    ensures { (answer : Answer) × With GivesVersion (λ v a. With GivesStep (λ s b. With GivesReorgs (Publishes (newest_of before v) s) found.now b) step.now a) version.now answer × Shows answer out.old result out.new }
 {
     let answer = layer_calls::publish(alloc, before, version, step, found);
-    keep(alloc, draft, answer)
+    show(answer, out)
 }
 
 /// `layer_calls::close`.
@@ -138,11 +134,11 @@ pub extern "C" fn cagzhomul_layer_close(
     alloc: Global,
     before: u32,
     version: &[u8],
-    draft: &mut Handle,
+    out: &mut [u8],
 ) -> LayerOutcome
-    ensures { (answer : Answer) × With GivesVersion (λ v a. Closes (newest_of before v) a) version.now answer × Keeps draft.old.place.value answer result draft.new.place.value }
+    ensures { (answer : Answer) × With GivesVersion (λ v a. Closes (newest_of before v) a) version.now answer × Shows answer out.old result out.new }
 {
-    keep(alloc, draft, layer_calls::close(alloc, before, version))
+    show(layer_calls::close(alloc, before, version), out)
 }
 
 /// `layer_calls::begin`.
@@ -153,12 +149,12 @@ pub extern "C" fn cagzhomul_layer_begin(
     version: &[u8],
     element: u32,
     keys: &[u8],
-    draft: &mut Handle,
+    out: &mut [u8],
 ) -> LayerOutcome
-    ensures { (answer : Answer) × With GivesVersion (λ v a. With GivesKeys (Begins (newest_of before v) element) keys.now a) version.now answer × Keeps draft.old.place.value answer result draft.new.place.value }
+    ensures { (answer : Answer) × With GivesVersion (λ v a. With GivesKeys (Begins (newest_of before v) element) keys.now a) version.now answer × Shows answer out.old result out.new }
 {
     let answer = layer_calls::begin(alloc, before, version, element, keys);
-    keep(alloc, draft, answer)
+    show(answer, out)
 }
 
 /// `layer_calls::piece`.
@@ -170,12 +166,12 @@ pub extern "C" fn cagzhomul_layer_piece(
     cursor: &[u8],
     to: &[u8],
     pairs: &[u8],
-    draft: &mut Handle,
+    out: &mut [u8],
 ) -> LayerOutcome
-    ensures { (answer : Answer) × With GivesReorg (λ r a. With GivesCursor (λ c b. With GivesPairs (PiecesAt r piece c to.now) pairs.now b) cursor.now a) reorg.now answer × Keeps draft.old.place.value answer result draft.new.place.value }
+    ensures { (answer : Answer) × With GivesReorg (λ r a. With GivesCursor (λ c b. With GivesPairs (PiecesAt r piece c to.now) pairs.now b) cursor.now a) reorg.now answer × Shows answer out.old result out.new }
 {
     let answer = layer_calls::piece(alloc, reorg, piece, cursor, to, pairs);
-    keep(alloc, draft, answer)
+    show(answer, out)
 }
 
 /// `layer_calls::due`.
@@ -209,12 +205,12 @@ pub extern "C" fn cagzhomul_layer_check_rows(
     pairs: &[u8],
     low: &[u8],
     to: &[u8],
-    ranges: &mut Handle,
+    out: &mut [u8],
 ) -> LayerOutcome
-    ensures { (answer : Answer) × With GivesVersion (λ v a. With GivesPairs (PageRows v low.now to.now) pairs.now a) version.now answer × Keeps ranges.old.place.value answer result ranges.new.place.value }
+    ensures { (answer : Answer) × With GivesVersion (λ v a. With GivesPairs (PageRows v low.now to.now) pairs.now a) version.now answer × Shows answer out.old result out.new }
 {
     let answer = layer_calls::check_rows(alloc, version, pairs, low, to);
-    keep(alloc, ranges, answer)
+    show(answer, out)
 }
 
 /// `layer_calls::check_given`.
@@ -225,12 +221,12 @@ pub extern "C" fn cagzhomul_layer_check_given(
     pairs: &[u8],
     low: &[u8],
     to: &[u8],
-    ranges: &mut Handle,
+    out: &mut [u8],
 ) -> LayerOutcome
-    ensures { (answer : Answer) × With GivesVersion (λ v a. With GivesPairs (PageGiven v low.now to.now) pairs.now a) version.now answer × Keeps ranges.old.place.value answer result ranges.new.place.value }
+    ensures { (answer : Answer) × With GivesVersion (λ v a. With GivesPairs (PageGiven v low.now to.now) pairs.now a) version.now answer × Shows answer out.old result out.new }
 {
     let answer = layer_calls::check_given(alloc, version, pairs, low, to);
-    keep(alloc, ranges, answer)
+    show(answer, out)
 }
 
 /// `layer_calls::check_page`.

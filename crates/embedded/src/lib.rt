@@ -1,26 +1,25 @@
-//! The engine for C: each function is a call of `handles` or `operator_calls` on a handle that the
+//! The engine for C: each function is a call of `handles` or `operator_calls` on handles that the
 //! caller keeps, and takes any bytes and any numbers. What each does, and what its caller owes, is
-//! in `include/cagzhomul.h`.
+//! in `include/cagzhomul.h`. C has a type of handle for each thing; here a parameter is named by it.
 #![tactic(auto)]
 
 mod changes;
+mod closes;
 mod layer;
 mod logs;
 mod pages;
+mod sessions;
 
 ghost use Rattle.std.specs.Prelude.{◌≡◌};
-ghost use Rattle.handles.specs.Calls.{Opens, RepliesTo, RepliesFrom, Closes, ShowsText};
-ghost use Rattle.handles.specs.Leases.{OpensTables, Leases};
-ghost use Rattle.handles.specs.Txns.{Transacts, Reads, GivesOperations, Prepares};
-ghost use Rattle.handles.specs.Commits.{Commits, CommitsDetailed};
-ghost use Rattle.handles.specs.Snapshots.{Snapshots, Checks};
-ghost use Rattle.handles.specs.Queries.{Queries, SnapshotQueries, ReadQueries, RowsFrom};
-ghost use Rattle.handles.specs.Writes.{Writes, WritesDetailed};
+ghost use Rattle.handles.specs.Calls.{ShowsText};
+ghost use Rattle.handles.specs.Leases.{Opens, Leases};
+ghost use Rattle.handles.specs.Txns.{ReadsFirst, ReadsAgain, PreparesTo};
+ghost use Rattle.handles.specs.Commits.{Commits, Proposes};
+ghost use Rattle.handles.specs.Snapshots.{Snapshots, Checks, ChecksSnapshot};
+ghost use Rattle.handles.specs.Queries.{Queries, SnapshotQueries, ReadQueries, BytesFrom};
+ghost use Rattle.handles.specs.Writes.{Writes};
 
-use handles::{
-    CheckOutcome, CommitOutcome, DetailedOutcome, Handle, LeaseOutcome, Outcome, WriteOutcome,
-    show_text,
-};
+use handles::{CheckOutcome, CommitOutcome, Handle, LeaseOutcome, Outcome, show_text};
 use std::alloc::Global;
 use typed_calls::{PrepareOutcome, QueryOutcome};
 
@@ -28,209 +27,170 @@ use typed_calls::{PrepareOutcome, QueryOutcome};
 /// one.
 #[unsafe(no_mangle)]
 pub extern "C" fn cagzhomul_version() -> u32
-    ensures { result ≡ 1004 }
+    ensures { result ≡ 2000 }
 {
-    1004
+    2000
 }
 
 /// `Handle::open`.
 #[unsafe(no_mangle)]
-pub extern "C" fn cagzhomul_open(alloc: Global, handle: &mut Handle) -> i32
-    ensures { Opens handle.old.place.value result handle.new.place.value }
-{
-    handle.open(alloc)
-}
-
-/// `Handle::reply_to`.
-#[unsafe(no_mangle)]
-pub extern "C" fn cagzhomul_reply_to(
+pub extern "C" fn cagzhomul_open(
     alloc: Global,
-    handle: &mut Handle,
-    line: &[u8],
-    out: &mut [u8],
-) -> Outcome
-    ensures { RepliesTo handle.old.place.value line.now out.old result out.new handle.new.place.value }
+    world: &mut Handle,
+    opening: &[u8],
+    furthest_jump: u64,
+) -> i32
+    ensures { Opens world.old.place.value opening.now furthest_jump result world.new.place.value }
 {
-    handle.reply_to(alloc, line, out)
-}
-
-/// `Handle::reply_from`.
-#[unsafe(no_mangle)]
-pub extern "C" fn cagzhomul_reply_from(
-    alloc: Global,
-    handle: &mut Handle,
-    from: usize,
-    out: &mut [u8],
-) -> Outcome
-    ensures replies { RepliesFrom handle.old.place.value from out.old result out.new }
-    ensures same { handle.new.place.value ≡ handle.old.place.value }
-{
-    handle.reply_from(alloc, from, out)
-}
-
-/// `Handle::open_tables`.
-#[unsafe(no_mangle)]
-pub extern "C" fn cagzhomul_open_tables(alloc: Global, handle: &mut Handle, opening: &[u8]) -> i32
-    ensures { OpensTables handle.old.place.value opening.now result handle.new.place.value }
-{
-    handle.open_tables(alloc, opening)
+    world.open(alloc, opening, furthest_jump)
 }
 
 /// `Handle::lease`.
 #[unsafe(no_mangle)]
 pub extern "C" fn cagzhomul_lease(
     alloc: Global,
-    session: &mut Handle,
+    world: &mut Handle,
     moment: u64,
     lease: &mut Handle,
 ) -> LeaseOutcome
-    ensures { Leases session.old.place.value moment lease.old.place.value result session.new.place.value lease.new.place.value }
+    ensures { Leases world.old.place.value moment lease.old.place.value result world.new.place.value lease.new.place.value }
 {
-    session.lease(alloc, moment, lease)
-}
-
-/// `Handle::transaction`.
-#[unsafe(no_mangle)]
-pub extern "C" fn cagzhomul_transaction(
-    alloc: Global,
-    lease: &mut Handle,
-    operations: &[u8],
-    txn: &mut Handle,
-) -> i32
-    ensures transacts { Transacts lease.old.place.value operations.now txn.old.place.value result txn.new.place.value }
-    ensures same { lease.new.place.value ≡ lease.old.place.value }
-{
-    lease.transaction(alloc, operations, txn)
+    world.lease(alloc, moment, lease)
 }
 
 /// `Handle::read`.
 #[unsafe(no_mangle)]
-pub extern "C" fn cagzhomul_read(alloc: Global, session: &mut Handle, txn: &mut Handle) -> i32
-    ensures reads { Reads session.old.place.value txn.old.place.value result txn.new.place.value }
-    ensures same { session.new.place.value ≡ session.old.place.value }
+pub extern "C" fn cagzhomul_read(
+    alloc: Global,
+    world: &mut Handle,
+    lease: &mut Handle,
+    operations: &[u8],
+    reads: &mut Handle,
+) -> i32
+    ensures reads { ReadsFirst world.old.place.value lease.old.place.value operations.now reads.old.place.value result reads.new.place.value }
+    ensures same { world.new.place.value ≡ world.old.place.value }
+    ensures lease_stays { lease.new.place.value ≡ lease.old.place.value }
 {
-    session.read(alloc, txn)
+    world.read(alloc, lease, operations, reads)
+}
+
+/// `Handle::read_again`.
+#[unsafe(no_mangle)]
+pub extern "C" fn cagzhomul_read_again(
+    alloc: Global,
+    world: &mut Handle,
+    reads: &mut Handle,
+    operations: &[u8],
+) -> i32
+    ensures reads { ReadsAgain world.old.place.value reads.old.place.value operations.now result reads.new.place.value }
+    ensures same { world.new.place.value ≡ world.old.place.value }
+{
+    world.read_again(alloc, reads, operations)
 }
 
 /// `Handle::query_read`.
 #[unsafe(no_mangle)]
 pub extern "C" fn cagzhomul_query_read(
     alloc: Global,
-    txn: &mut Handle,
+    reads: &mut Handle,
     query: &[u8],
-    rows: &mut Handle,
+    bytes: &mut Handle,
 ) -> QueryOutcome
-    ensures queries { ReadQueries txn.old.place.value query.now rows.old.place.value result rows.new.place.value }
-    ensures same { txn.new.place.value ≡ txn.old.place.value }
+    ensures queries { ReadQueries reads.old.place.value query.now bytes.old.place.value result bytes.new.place.value }
+    ensures same { reads.new.place.value ≡ reads.old.place.value }
 {
-    txn.query_read(alloc, query, rows)
-}
-
-/// `Handle::operations`.
-#[unsafe(no_mangle)]
-pub extern "C" fn cagzhomul_operations(alloc: Global, txn: &mut Handle, operations: &[u8]) -> i32
-    ensures { GivesOperations txn.old.place.value operations.now result txn.new.place.value }
-{
-    txn.operations(alloc, operations)
+    reads.query_read(alloc, query, bytes)
 }
 
 /// `Handle::prepare`.
 #[unsafe(no_mangle)]
-pub extern "C" fn cagzhomul_prepare(alloc: Global, txn: &mut Handle) -> PrepareOutcome
-    ensures { Prepares txn.old.place.value result txn.new.place.value }
+pub extern "C" fn cagzhomul_prepare(
+    alloc: Global,
+    reads: &mut Handle,
+    txn: &mut Handle,
+) -> PrepareOutcome
+    ensures prepares { PreparesTo reads.old.place.value txn.old.place.value result txn.new.place.value }
+    ensures same { reads.new.place.value ≡ reads.old.place.value }
 {
-    txn.prepare(alloc)
+    reads.prepare(alloc, txn)
 }
 
 /// `Handle::commit`.
 #[unsafe(no_mangle)]
 pub extern "C" fn cagzhomul_commit(
     alloc: Global,
-    session: &mut Handle,
-    moment: u64,
-    txn: &mut Handle,
-) -> CommitOutcome
-    ensures { Commits session.old.place.value moment txn.old.place.value result session.new.place.value txn.new.place.value }
-{
-    session.commit(alloc, moment, txn)
-}
-
-/// `Handle::commit_detailed`.
-#[unsafe(no_mangle)]
-pub extern "C" fn cagzhomul_commit_detailed(
-    alloc: Global,
-    session: &mut Handle,
+    world: &mut Handle,
     moment: u64,
     txn: &mut Handle,
     out: &mut [u8],
-) -> DetailedOutcome
-    ensures { CommitsDetailed session.old.place.value moment txn.old.place.value out.old result out.new session.new.place.value txn.new.place.value }
+) -> CommitOutcome
+    ensures { Commits world.old.place.value moment txn.old.place.value out.old result out.new world.new.place.value txn.new.place.value }
 {
-    session.commit_detailed(alloc, moment, txn, out)
+    world.commit(alloc, moment, txn, out)
+}
+
+/// `Handle::txn_entry`.
+#[unsafe(no_mangle)]
+pub extern "C" fn cagzhomul_txn_entry(
+    alloc: Global,
+    world: &mut Handle,
+    moment: u64,
+    txn: &mut Handle,
+    out: &mut [u8],
+    bytes: &mut Handle,
+) -> CommitOutcome
+    ensures proposes { Proposes world.old.place.value moment txn.old.place.value out.old bytes.old.place.value result out.new txn.new.place.value bytes.new.place.value }
+    ensures same { world.new.place.value ≡ world.old.place.value }
+{
+    world.txn_entry(alloc, moment, txn, out, bytes)
 }
 
 /// `Handle::write`.
 #[unsafe(no_mangle)]
 pub extern "C" fn cagzhomul_write(
     alloc: Global,
-    session: &mut Handle,
+    world: &mut Handle,
     moment: u64,
     lease: &mut Handle,
     operations: &[u8],
-) -> WriteOutcome
-    ensures writes { Writes session.old.place.value moment lease.old.place.value operations.now result session.new.place.value }
+) -> CommitOutcome
+    ensures writes { Writes world.old.place.value moment lease.old.place.value operations.now result world.new.place.value }
     ensures lease_stays { lease.new.place.value ≡ lease.old.place.value }
 {
-    session.write(alloc, moment, lease, operations)
-}
-
-/// `Handle::write_detailed`.
-#[unsafe(no_mangle)]
-pub extern "C" fn cagzhomul_write_detailed(
-    alloc: Global,
-    session: &mut Handle,
-    moment: u64,
-    lease: &mut Handle,
-    operations: &[u8],
-    out: &mut [u8],
-) -> DetailedOutcome
-    ensures writes { WritesDetailed session.old.place.value moment lease.old.place.value operations.now out.old result out.new session.new.place.value }
-    ensures lease_stays { lease.new.place.value ≡ lease.old.place.value }
-{
-    session.write_detailed(alloc, moment, lease, operations, out)
+    world.write(alloc, moment, lease, operations)
 }
 
 /// `Handle::snapshot`.
 #[unsafe(no_mangle)]
 pub extern "C" fn cagzhomul_snapshot(
     alloc: Global,
-    session: &mut Handle,
+    world: &mut Handle,
     moment: u64,
     lease: &mut Handle,
     snapshot: &mut Handle,
 ) -> i32
-    ensures snapshots { Snapshots session.old.place.value moment lease.old.place.value snapshot.old.place.value result snapshot.new.place.value }
-    ensures same { session.new.place.value ≡ session.old.place.value }
+    ensures snapshots { Snapshots world.old.place.value moment lease.old.place.value snapshot.old.place.value result snapshot.new.place.value }
+    ensures same { world.new.place.value ≡ world.old.place.value }
     ensures lease_stays { lease.new.place.value ≡ lease.old.place.value }
 {
-    session.snapshot(alloc, moment, lease, snapshot)
+    world.snapshot(alloc, moment, lease, snapshot)
 }
 
 /// `Handle::query`.
 #[unsafe(no_mangle)]
 pub extern "C" fn cagzhomul_query(
     alloc: Global,
-    session: &mut Handle,
+    world: &mut Handle,
     moment: u64,
     lease: &mut Handle,
     query: &[u8],
-    rows: &mut Handle,
+    bytes: &mut Handle,
 ) -> QueryOutcome
-    ensures queries { Queries session.old.place.value moment lease.old.place.value query.now rows.old.place.value result rows.new.place.value }
-    ensures same { session.new.place.value ≡ session.old.place.value }
+    ensures queries { Queries world.old.place.value moment lease.old.place.value query.now bytes.old.place.value result bytes.new.place.value }
+    ensures same { world.new.place.value ≡ world.old.place.value }
     ensures lease_stays { lease.new.place.value ≡ lease.old.place.value }
 {
-    session.query(alloc, moment, lease, query, rows)
+    world.query(alloc, moment, lease, query, bytes)
 }
 
 /// `Handle::query_snapshot`.
@@ -239,43 +199,44 @@ pub extern "C" fn cagzhomul_snapshot_query(
     alloc: Global,
     snapshot: &mut Handle,
     query: &[u8],
-    rows: &mut Handle,
+    bytes: &mut Handle,
 ) -> QueryOutcome
-    ensures queries { SnapshotQueries snapshot.old.place.value query.now rows.old.place.value result rows.new.place.value }
+    ensures queries { SnapshotQueries snapshot.old.place.value query.now bytes.old.place.value result bytes.new.place.value }
     ensures same { snapshot.new.place.value ≡ snapshot.old.place.value }
 {
-    snapshot.query_snapshot(alloc, query, rows)
+    snapshot.query_snapshot(alloc, query, bytes)
 }
 
-/// `Handle::rows_from`.
+/// `Handle::bytes_from`.
 #[unsafe(no_mangle)]
-pub extern "C" fn cagzhomul_rows_from(
+pub extern "C" fn cagzhomul_bytes_from(
     alloc: Global,
-    handle: &mut Handle,
+    bytes: &mut Handle,
     from: usize,
     out: &mut [u8],
 ) -> Outcome
-    ensures rows { RowsFrom handle.old.place.value from out.old result out.new }
-    ensures same { handle.new.place.value ≡ handle.old.place.value }
+    ensures from { BytesFrom bytes.old.place.value from out.old result out.new }
+    ensures same { bytes.new.place.value ≡ bytes.old.place.value }
 {
-    handle.rows_from(alloc, from, out)
+    bytes.bytes_from(alloc, from, out)
 }
 
 /// `Handle::check`.
 #[unsafe(no_mangle)]
-pub extern "C" fn cagzhomul_check(alloc: Global, handle: &mut Handle) -> CheckOutcome
-    ensures checks { Checks handle.old.place.value result }
-    ensures same { handle.new.place.value ≡ handle.old.place.value }
+pub extern "C" fn cagzhomul_check(alloc: Global, world: &mut Handle) -> CheckOutcome
+    ensures checks { Checks world.old.place.value result }
+    ensures same { world.new.place.value ≡ world.old.place.value }
 {
-    handle.check(alloc)
+    world.check(alloc)
 }
 
-/// `Handle::close`.
+/// `Handle::check_snapshot`.
 #[unsafe(no_mangle)]
-pub extern "C" fn cagzhomul_close(alloc: Global, handle: &mut Handle) -> i32
-    ensures { Closes handle.old.place.value result handle.new.place.value }
+pub extern "C" fn cagzhomul_snapshot_check(alloc: Global, snapshot: &mut Handle) -> CheckOutcome
+    ensures checks { ChecksSnapshot snapshot.old.place.value result }
+    ensures same { snapshot.new.place.value ≡ snapshot.old.place.value }
 {
-    handle.close(alloc)
+    snapshot.check_snapshot(alloc)
 }
 
 /// `show_text`.

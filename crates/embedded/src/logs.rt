@@ -1,9 +1,8 @@
-//! The log of a session's world, its checkpoints, and sessions that open there.
+//! The log of a world, its checkpoints, and worlds that open there.
 ghost use Rattle.std.specs.Prelude.{◌≡◌};
-ghost use Rattle.handles.specs.Calls.{ShowsEntry, Repeats};
-ghost use Rattle.handles.specs.Snapshots.{LogLengths};
-ghost use Rattle.handles.specs.Cuts.{Cuts, LogStarts};
-ghost use Rattle.handles.specs.Checkpoints.{OpensHeld, OpensHere, SavesTo, Takes};
+ghost use Rattle.handles.specs.Entries.{ShowsEntry, Repeats};
+ghost use Rattle.handles.specs.Cuts.{Cuts, LogLengths, LogStarts};
+ghost use Rattle.handles.specs.Checkpoints.{OpensCheckpoint, OpensHere, SavesTo, Takes};
 
 use handles::{Handle, Outcome};
 use std::alloc::Global;
@@ -12,61 +11,61 @@ use std::alloc::Global;
 #[unsafe(no_mangle)]
 pub extern "C" fn cagzhomul_entry(
     alloc: Global,
-    handle: &mut Handle,
+    world: &mut Handle,
     place: usize,
     out: &mut [u8],
 ) -> Outcome
-    ensures shows { ShowsEntry handle.old.place.value place out.old result out.new }
-    ensures same { handle.new.place.value ≡ handle.old.place.value }
+    ensures shows { ShowsEntry world.old.place.value place out.old result out.new }
+    ensures same { world.new.place.value ≡ world.old.place.value }
 {
-    handle.entry(alloc, place, out)
+    world.entry(alloc, place, out)
 }
 
 /// `Handle::repeat`.
 #[unsafe(no_mangle)]
-pub extern "C" fn cagzhomul_repeat(alloc: Global, handle: &mut Handle, entry: &[u8]) -> i32
-    ensures { Repeats handle.old.place.value entry.now result handle.new.place.value }
+pub extern "C" fn cagzhomul_repeat(alloc: Global, world: &mut Handle, entry: &[u8]) -> i32
+    ensures { Repeats world.old.place.value entry.now result world.new.place.value }
 {
-    handle.repeat(alloc, entry)
+    world.repeat(alloc, entry)
 }
 
 /// `Handle::log_length`.
 #[unsafe(no_mangle)]
-pub extern "C" fn cagzhomul_log_length(alloc: Global, session: &mut Handle) -> Outcome
-    ensures length { LogLengths session.old.place.value result }
-    ensures same { session.new.place.value ≡ session.old.place.value }
+pub extern "C" fn cagzhomul_log_length(alloc: Global, world: &mut Handle) -> Outcome
+    ensures length { LogLengths world.old.place.value result }
+    ensures same { world.new.place.value ≡ world.old.place.value }
 {
-    session.log_length(alloc)
+    world.log_length(alloc)
 }
 
 /// `Handle::log_start`.
 #[unsafe(no_mangle)]
-pub extern "C" fn cagzhomul_log_start(alloc: Global, session: &mut Handle) -> Outcome
-    ensures start { LogStarts session.old.place.value result }
-    ensures same { session.new.place.value ≡ session.old.place.value }
+pub extern "C" fn cagzhomul_log_start(alloc: Global, world: &mut Handle) -> Outcome
+    ensures start { LogStarts world.old.place.value result }
+    ensures same { world.new.place.value ≡ world.old.place.value }
 {
-    session.log_start(alloc)
+    world.log_start(alloc)
 }
 
 /// `Handle::cut`.
 #[unsafe(no_mangle)]
-pub extern "C" fn cagzhomul_cut(alloc: Global, session: &mut Handle, keep: usize) -> i32
-    ensures { Cuts keep session.old.place.value result session.new.place.value }
+pub extern "C" fn cagzhomul_cut(alloc: Global, world: &mut Handle, keep: usize) -> i32
+    ensures { Cuts keep world.old.place.value result world.new.place.value }
 {
-    session.cut(alloc, keep)
+    world.cut(alloc, keep)
 }
 
 /// `Handle::checkpoint`.
 #[unsafe(no_mangle)]
 pub extern "C" fn cagzhomul_checkpoint(
     alloc: Global,
-    session: &mut Handle,
+    world: &mut Handle,
     checkpoint: &mut Handle,
 ) -> i32
-    ensures takes { Takes session.old.place.value checkpoint.old.place.value result checkpoint.new.place.value }
-    ensures same { session.new.place.value ≡ session.old.place.value }
+    ensures takes { Takes world.old.place.value checkpoint.old.place.value result checkpoint.new.place.value }
+    ensures same { world.new.place.value ≡ world.old.place.value }
 {
-    session.checkpoint(alloc, checkpoint)
+    world.checkpoint(alloc, checkpoint)
 }
 
 /// `Handle::save`.
@@ -80,16 +79,26 @@ pub extern "C" fn cagzhomul_save(alloc: Global, checkpoint: &mut Handle, bytes: 
 
 /// `Handle::open_checkpoint`.
 #[unsafe(no_mangle)]
-pub extern "C" fn cagzhomul_open_checkpoint(alloc: Global, checkpoint: &mut Handle) -> i32
-    ensures { OpensHeld checkpoint.old.place.value result checkpoint.new.place.value }
+pub extern "C" fn cagzhomul_open_checkpoint(
+    alloc: Global,
+    checkpoint: &mut Handle,
+    furthest_jump: u64,
+    world: &mut Handle,
+) -> i32
+    ensures { OpensCheckpoint checkpoint.old.place.value furthest_jump world.old.place.value result checkpoint.new.place.value world.new.place.value }
 {
-    checkpoint.open_checkpoint(alloc)
+    checkpoint.open_checkpoint(alloc, furthest_jump, world)
 }
 
 /// `Handle::open_at`.
 #[unsafe(no_mangle)]
-pub extern "C" fn cagzhomul_open_at(alloc: Global, handle: &mut Handle, bytes: &[u8]) -> i32
-    ensures { OpensHere handle.old.place.value bytes.now result handle.new.place.value }
+pub extern "C" fn cagzhomul_open_at(
+    alloc: Global,
+    world: &mut Handle,
+    bytes: &[u8],
+    furthest_jump: u64,
+) -> i32
+    ensures { OpensHere world.old.place.value bytes.now furthest_jump result world.new.place.value }
 {
-    handle.open_at(alloc, bytes)
+    world.open_at(alloc, bytes, furthest_jump)
 }

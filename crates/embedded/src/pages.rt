@@ -9,17 +9,17 @@ use std::alloc::Global;
 #[unsafe(no_mangle)]
 pub extern "C" fn cagzhomul_query_page(
     alloc: Global,
-    session: &mut Handle,
+    world: &mut Handle,
     moment: u64,
     lease: &mut Handle,
     request: &[u8],
-    rows: &mut Handle,
+    bytes: &mut Handle,
 ) -> PageOutcome
-    ensures pages { Pages session.old.place.value moment lease.old.place.value request.now rows.old.place.value result rows.new.place.value }
-    ensures same { session.new.place.value ≡ session.old.place.value }
+    ensures pages { Pages world.old.place.value moment lease.old.place.value request.now bytes.old.place.value result bytes.new.place.value }
+    ensures same { world.new.place.value ≡ world.old.place.value }
     ensures lease_stays { lease.new.place.value ≡ lease.old.place.value }
 {
-    session.query_page(alloc, moment, lease, request, rows)
+    world.query_page(alloc, moment, lease, request, bytes)
 }
 
 /// `Handle::query_page_snapshot`.
@@ -28,10 +28,10 @@ pub extern "C" fn cagzhomul_snapshot_query_page(
     alloc: Global,
     snapshot: &mut Handle,
     request: &[u8],
-    rows: &mut Handle,
+    bytes: &mut Handle,
 ) -> PageOutcome
-    ensures pages { SnapshotPages snapshot.old.place.value request.now rows.old.place.value result rows.new.place.value }
+    ensures pages { SnapshotPages snapshot.old.place.value request.now bytes.old.place.value result bytes.new.place.value }
     ensures same { snapshot.new.place.value ≡ snapshot.old.place.value }
 {
-    snapshot.query_page_snapshot(alloc, request, rows)
+    snapshot.query_page_snapshot(alloc, request, bytes)
 }
