@@ -41,11 +41,13 @@ class Arguments(unittest.TestCase):
             lambda now: lease.txn(now).insert("people", 1).commit(), lambda now: lease.txn().insert("people", 1).commit(now),
             lambda now: lease.txn(now).insert("people", 1).write(), lambda now: lease.txn().insert("people", 1).write(now),
             lambda now: lease.modify("people", 1, lambda row: {}, now), lambda now: cagzhomul.Piece(db).commit(now),
+            lambda now: lease.txn(now).insert("people", 1).entry(), lambda now: lease.txn().insert("people", 1).entry(now), db.lease_entry,
         ]
         for call in calls:
             self.refuses("now", call, moments)
             self.refuses("now", lambda now: call(lambda: now), moments)
         self.refuses("moment", db.advance)
+        self.refuses("moment", db.due_entry)
         for clocked in (db.change, db.complete):
             self.refuses("clock", lambda now: clocked(INDEX, lambda: now))
         self.refuses("clock", lambda now: next(db.resume(lambda: now)))
@@ -57,12 +59,17 @@ class Arguments(unittest.TestCase):
             ("limit", lambda it: db.complete(INDEX, lambda: 10, limit=it)), ("pieces", lambda it: db.resume(lambda: 10, pieces=it)),
             ("element", lambda it: db.begin_reorg(0, it)), ("pieces", lambda it: db.begin_reorg(0, 1, it)), ("element", db.progress),
             ("element", lambda it: db.read_piece(it, 0)), ("piece", lambda it: db.read_piece(1, it)), ("limit", lambda it: db.read_piece(1, 0, it)),
+            ("pieces", lambda it: db.due_entry(0, it)), ("limit", lambda it: db.due_entry(0, 8, it)),
             ("keep", db.cut), ("lease_length", lambda it: cagzhomul.open(TABLES, it)), ("attempts", lambda it: cagzhomul.retry(it, lambda: 0)),
         ]
         for name, call in rows:
             self.refuses(name, call)
         self.refuses("keep", lambda it: cagzhomul.open(TABLES, keep=it), [it for it in BAD if it[0] is not None])
         self.refuses("place", db.entry, BAD[:4])
+        saved, jumps = db.checkpoint(), [*(it for it in BAD if it[0] is not None), (0, ValueError)]
+        self.refuses("furthest_jump", lambda it: cagzhomul.open(TABLES, furthest_jump=it), jumps)
+        self.refuses("furthest_jump", lambda it: cagzhomul.open(TABLES, at=saved, furthest_jump=it), jumps)
+        self.refuses("furthest_jump", lambda it: cagzhomul.open(at=saved, furthest_jump=it), jumps)
 
     def test_numbers_out_of_range_are_overflows_too(self) -> None:
         for call in (self.db.lease, self.db.cut, self.db.progress):

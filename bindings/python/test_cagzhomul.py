@@ -1,6 +1,7 @@
 """Run by `python3 -m unittest` in this folder, with CAGZHOMUL_LIBRARY set."""
 
 import copy
+import ctypes
 import os
 import pickle
 import re
@@ -12,10 +13,10 @@ import cagzhomul
 
 HEADER = os.path.join(os.path.dirname(os.path.abspath(__file__)), "..", "..", "include", "cagzhomul.h")
 # The texts of the statuses, from 0.
-TEXTS = """ok; bad line; the handle is closed; the handle is open already; the line is not UTF-8; out of memory; no world is open yet
+TEXTS = """ok; bad line; the handle is closed; the handle is open already; the line is not UTF-8; out of memory; no status
 the log has no such place; the bytes are the code of no entry; no call of this world would add the entry
 changes are under way, and nothing can be done yet; no change is under way; the pieces are not 1 to 64, or the limit is not 1 to 1,000
-the moment is above 2^62; no version is left; the handle holds something of another kind; the work is not at the stage that the call takes
+the moment is above 2^62; no version is left; no status; no status
 the bytes are no code of what they should be; the declaration breaks a limit, or uses a name twice; the lease length is not from 1 to 2^32
 no such table; a named column is not a public column of its table; a value of another type, or a column named twice; more than 64 operations
 what was read is not what the transaction reads; no grant could have given the lease; the lease has ended
@@ -24,7 +25,8 @@ no row of this key is there; the newest version has not been the newest for a fu
 no move joins the two states; a move of the other way; another element stands against it; the name is taken
 a name, a list, a default or a count is over its limit; a reorganisation that the step needs is not finished
 the element wants no reorganisation, or none has begun; the version before may still be used; the reorganisation has begun; no such piece
-the piece has ended; the piece is not one of the element's reorganisation; the piece has moved since it was read; an element that a change names is in change""".replace("\n", "; ").split("; ")
+the piece has ended; the piece is not one of the element's reorganisation; the piece has moved since it was read; an element that a change names is in change
+the moment is further beyond that of the last entry than the world allows""".replace("\n", "; ").split("; ")
 
 # Each has its version, 1, and then the moment. A lease is version 1 from 5 until 15.
 LEASE = "01 0000000000000005 00 0000000000000001 0000000000000005 000000000000000f"
@@ -90,7 +92,7 @@ class Sessions(unittest.TestCase):
 
     def test_errors_are_pickled(self) -> None:
         errors = [kind(status) for status, kind in cagzhomul._ERRORS.items()]
-        errors += [cagzhomul.BadLine(1, 7), cagzhomul.NotPublic("town"), cagzhomul.NotPublic(None), cagzhomul.NoRow(30, 2), cagzhomul.TooEarly(31, 10), cagzhomul.LeaseEnded(26, 15, 20),
+        errors += [cagzhomul.NotOpened(), cagzhomul.WrongStage(), cagzhomul.BadLine(1, 7), cagzhomul.NotPublic("town"), cagzhomul.NotPublic(None), cagzhomul.NoRow(30, 2), cagzhomul.TooEarly(31, 10), cagzhomul.LeaseEnded(26, 15, 20),
                    cagzhomul.Conflict(28, "people", (1, "Ulm")), cagzhomul.StillWaiting("drop index i on t")]
         for error in errors:
             for again in [pickle.loads(pickle.dumps(error, protocol)) for protocol in range(pickle.HIGHEST_PROTOCOL + 1)] + [copy.copy(error)]:
@@ -99,18 +101,41 @@ class Sessions(unittest.TestCase):
         self.assertEqual(str(pickle.loads(pickle.dumps(cagzhomul.NoRow(30, 2)))), "no row of this key is there: operation 2")
 
     def test_every_number_has_a_text(self) -> None:
-        self.assertEqual([cagzhomul.text_of(status) for status in range(47)], TEXTS)
-        self.assertEqual({cagzhomul.text_of(status) for status in (-1, 47, 2**31 - 1, -(2**31))}, {"no status"})
+        self.assertEqual([cagzhomul.text_of(status) for status in range(48)], TEXTS)
+        self.assertEqual({cagzhomul.text_of(status) for status in (-1, 48, 2**31 - 1, -(2**31))}, {"no status"})
 
     def test_the_header_is_declared(self) -> None:
         with open(HEADER, encoding="utf-8") as file:
             header = re.sub(r"/\*.*?\*/", "", file.read(), flags=re.S)
-        functions = {name: 0 if words == "void" else words.count(",") + 1 for name, words in re.findall(r"\bcagzhomul_(\w+)\(([^()]*)\);", header)}
-        self.assertEqual({name: len(parameters) for name, (_, parameters) in cagzhomul._FUNCTIONS.items()}, functions)
+        kinds = {"uint32_t ": cagzhomul._SMALL, "uint64_t ": cagzhomul._NUMBER, "size_t ": cagzhomul._SIZE, "int32_t ": cagzhomul._STATUS, "const uint8_t *": cagzhomul._BYTES,
+                 "uint8_t *": cagzhomul._BYTES, "void": None}
+        closes = {}
+        for handle in cagzhomul._Handle.__subclasses__():
+            name = re.sub("(?<!^)(?=[A-Z])", "_", handle.__name__[1:-len("Handle")]).lower()
+            kinds[f"cagzhomul_{name}_handle *"] = ctypes.POINTER(handle)
+            closes[handle.closed_by] = f"cagzhomul_close_{name}"
+        functions = {name: [kind for it in words.split(",") for start, kind in kinds.items() if it.strip().startswith(start) and kind]
+                     for name, words in re.findall(r"\bcagzhomul_(\w+)\(([^()]*)\);", header)}
+        self.assertEqual({name: parameters for name, (_, parameters) in cagzhomul._FUNCTIONS.items()}, functions)
+        self.assertEqual((len(closes), list(closes)), (10, list(closes.values())))
+        results = {name: result for result, name in re.findall(r"\b(\w+) cagzhomul_(\w+)\([^()]*\);", header)}
+        structs = {"int32_t": cagzhomul._STATUS, "uint32_t": cagzhomul._SMALL, "size_t": cagzhomul._SIZE}
+        for name, (result, _) in cagzhomul._FUNCTIONS.items():
+            self.assertEqual(result, structs.get(results[name]) or getattr(cagzhomul, results[name][len("cagzhomul"):].title()), name)
         statuses = {int(number): name.title().replace("_", "") for name, number in re.findall(r"\bCAGZHOMUL_(\w+) = (\d+)", header)}
-        self.assertEqual(len(statuses), 47)
+        self.assertEqual(sorted(statuses), [it for it in range(48) if it not in (6, 15, 16)])
         for number, error in cagzhomul._ERRORS.items():
             self.assertEqual(error.__name__, statuses[number])
+
+    def test_a_handle_of_another_type_is_refused(self) -> None:
+        kinds = cagzhomul._Handle.__subclasses__()
+        for kind in kinds:
+            close = getattr(cagzhomul._library, kind.closed_by)
+            self.assertEqual(close(kind()), 2)
+            for other in kinds:
+                if other is not kind:
+                    with self.assertRaises(ctypes.ArgumentError):
+                        close(other())
 
     def test_threads_share_a_session(self) -> None:
         with cagzhomul.open() as session:
@@ -225,11 +250,13 @@ class Replicas(unittest.TestCase):
 
     def test_errors(self) -> None:
         session = cagzhomul.open()
-        calls: List[Callable[[], object]] = [lambda: session.entry(1), lambda: session.repeat(b""), lambda: session.advance(0)]
+        calls: List[Callable[[], object]] = [lambda: session.entry(1), lambda: session.repeat(b""), lambda: session.advance(0), lambda: session.due_entry(0), session.status, session.check,
+                                             session.schema, session.log_length, session.fork, session.checkpoint, lambda: session.publish(0, b""), lambda: session.begin_reorg(0, 1),
+                                             lambda: session.read_piece(1, 0), lambda: session.progress(1), lambda: cagzhomul.Piece(session).commit(0)]
         for call in calls:
             with self.assertRaises(cagzhomul.NotOpened) as early:
                 call()
-        self.assertEqual((early.exception.status, str(early.exception)), (6, "no world is open yet"))
+        self.assertEqual((early.exception.status, str(early.exception)), (-1, "no world is open yet"))
         for line in (*DECLARATIONS, "lease a at 5"):
             session.reply_to(line)
         lease = session.entry(1)

@@ -289,7 +289,7 @@ class Page(unittest.TestCase):
 
     def test_the_header_is_declared(self) -> None:
         header = re.sub(r"/\*.*?\*/", "", self.text("include/cagzhomul_layer.h"), flags=re.S)
-        kinds = {"uint32_t": cagzhomul._SMALL, "uint64_t": cagzhomul._NUMBER, "size_t": cagzhomul._SIZE, "const uint8_t *": cagzhomul._BYTES, "cagzhomul_handle *": cagzhomul._HANDLE}
+        kinds = {"uint32_t": cagzhomul._SMALL, "uint64_t": cagzhomul._NUMBER, "size_t": cagzhomul._SIZE, "const uint8_t *": cagzhomul._BYTES, "uint8_t *": cagzhomul._BYTES}
         functions = {
             name: [next(kind for words, kind in kinds.items() if it.strip().startswith(words)) for it in given.split(",")]
             for name, given in re.findall(r"\bcagzhomul_layer_(\w+)\(([^()]*)\);", header)

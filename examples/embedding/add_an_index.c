@@ -20,13 +20,14 @@ static const char *const LINES[] = {
 };
 
 int main(void) {
-    cagzhomul_handle handle = {0};
+    cagzhomul_session_handle session = {0};
+    cagzhomul_world_handle world = {0};
     uint8_t out[1000];
-    int32_t status = cagzhomul_open(&handle);
+    int32_t status = cagzhomul_session_open(&session);
     for (size_t at = 0; status == CAGZHOMUL_OK && at < sizeof LINES / sizeof *LINES; at++) {
         const uint8_t *line = (const uint8_t *)LINES[at];
         cagzhomul_outcome it =
-            cagzhomul_reply_to(&handle, line, strlen(LINES[at]), out, sizeof out);
+            cagzhomul_reply_to(&session, &world, line, strlen(LINES[at]), out, sizeof out);
         status = it.status;
         /* a longer reply is fetched from any byte on by cagzhomul_reply_from */
         fwrite(out, 1, it.length < sizeof out ? it.length : sizeof out, stdout);
@@ -35,6 +36,7 @@ int main(void) {
         size_t length = cagzhomul_text_of(status, out, sizeof out);
         fprintf(stderr, "%.*s\n", (int)length, (const char *)out);
     }
-    cagzhomul_close(&handle);
+    cagzhomul_close_world(&world);
+    cagzhomul_close_session(&session);
     return status != CAGZHOMUL_OK;
 }

@@ -1,14 +1,12 @@
-"""Entries of a log as bytes, in the code of docs/REPLICAS.md: version, moment, kind, fields."""
+"""Entries of a log as bytes, written by hand in the code of docs/REPLICAS.md: version, moment, kind, fields. The intruder's are; those of the
+processes come from the library."""
 
 from __future__ import annotations
 
 import struct
-from typing import Iterable, Mapping, Sequence, Union
+from typing import Iterable, Sequence, Union
 
 Value = Union[None, bool, int, str]
-
-
-PIECE = 4  # the kind of an entry that worked a piece
 
 
 def value(it: Value) -> bytes:
@@ -28,27 +26,9 @@ def listed(items: Iterable[bytes]) -> bytes:
     return struct.pack(">Q", len(items)) + b"".join(items)
 
 
-def _row(kind: int, table: int, key: Sequence[Value]) -> bytes:
-    return struct.pack(">BI", kind, table) + listed(value(it) for it in key)
-
-
-def _cells(cells: Mapping[int, Value]) -> bytes:
-    return listed(struct.pack(">I", column) + value(it) for column, it in sorted(cells.items()))
-
-
-def insert(table: int, key: Sequence[Value], cells: Mapping[int, Value]) -> bytes:
-    """The insertion of a row: its key, and values by column number."""
-    return _row(0, table, key) + _cells(cells)
-
-
-def update(table: int, key: Sequence[Value], cells: Mapping[int, Value]) -> bytes:
-    """New values of a row, by column number."""
-    return _row(1, table, key) + _cells(cells)
-
-
 def delete(table: int, key: Sequence[Value]) -> bytes:
     """The deletion of a row."""
-    return _row(2, table, key)
+    return struct.pack(">BI", 2, table) + listed(value(it) for it in key)
 
 
 class Lease:
@@ -71,16 +51,6 @@ def transaction(moment: int, lease: Lease, operations: Sequence[bytes]) -> bytes
     return struct.pack(">BQB", 1, moment, 1) + lease.bytes() + listed(operations)
 
 
-def moment_of(entry: bytes) -> int:
-    """The moment of an entry."""
-    return struct.unpack(">Q", entry[1:9])[0]
-
-
 def kind_of(entry: bytes) -> int:
     """0 a lease, 1 a transaction, 2 a step, 3 a begin, 4 a piece."""
     return entry[9]
-
-
-def at_moment(entry: bytes, moment: int) -> bytes:
-    """The same entry at another moment."""
-    return entry[:1] + struct.pack(">Q", moment) + entry[9:]

@@ -2,10 +2,11 @@
 
 The log lies in an etcd cluster of three nodes on this machine, which the program starts and ends, with its data in a temporary
 folder. Each process keeps a world of its own; one adds an index and a column while all others insert, update and delete rows. One
-process is killed in the middle and another takes its place, one etcd node is killed and comes back, and slots are written that hold no
-entry, an entry of another opening and a repeated entry. Now and then a process puts a checkpoint beside the slots, and the slots before
-it are deleted; the process that comes later joins by it. At the end all worlds have to be equal, with each acknowledged transaction in
-the log once, those of the killed process too; the last line is then `replicas equal`, and the exit status 0.
+process is killed in the middle and another takes its place, whose clock is an hour ahead for a while; one etcd node is killed and comes
+back; and slots are written that hold no entry, an entry of another opening, a repeated entry and one that is an hour ahead. Now and then
+a process puts a checkpoint beside the slots, and the slots before it are deleted; the process that comes later joins by it. At the end
+all worlds have to be equal, with each acknowledged transaction in the log once, those of the killed process too, and the process with
+the wild clock has to have written after it; the last line is then `replicas equal`, and the exit status 0.
 
 The library is found as bindings/python says (the variable CAGZHOMUL_LIBRARY).
 """
@@ -33,6 +34,7 @@ import entries
 from slots import Slots
 
 HERE = os.path.dirname(os.path.abspath(__file__))
+HOUR = 3_600_000  # in moments
 
 
 def free_ports(count: int) -> List[int]:
@@ -126,16 +128,16 @@ class Servers:
         process.send_signal(signal.SIGKILL)
         process.wait()
 
-    def wait_for(self, words: str, seconds: float) -> bool:
-        """Whether a line with these words came in time."""
-        end = time.monotonic() + seconds
-        while time.monotonic() < end:
+    def wait_for(self, seconds: float, *words: str) -> bool:
+        """Whether lines with each of these words came in time."""
+        left, end = set(words), time.monotonic() + seconds
+        while left and time.monotonic() < end:
             try:
-                if words in self.lines.get(timeout=0.2):
-                    return True
+                line = self.lines.get(timeout=0.2)
+                left -= {it for it in left if it in line}
             except queue.Empty:
                 pass
-        return False
+        return not left
 
 
 class Archive:
@@ -200,15 +202,17 @@ def disturb(slots: Slots, some: random.Random) -> None:
     old = first_batch(slots)
     at = write_next(slots, bytes(some.randrange(256) for _ in range(300)))
     print(f"intruder: random bytes in slot {at}", flush=True)
-    foreign = entries.transaction(0, entries.Lease(1, 0, 10), [entries.insert(7, ["x"], {})])
-    for what, coded in (("an entry of another opening", [foreign]), ("entries that are in the log", old)):
+    foreign = entries.transaction(0, entries.Lease(1, 0, 10), [entries.delete(7, ["x"])])
+    # one of them is on the newest version, and would be next if it were not for its moment
+    ahead = [entries.grant(entries.Lease(version, HOUR, 1_000)) for version in range(1, 7)]
+    for what, coded in (("an entry of another opening", [foreign]), ("entries that are in the log", old), ("leases that are an hour ahead", ahead)):
         coded = [base64.b64encode(it).decode() if isinstance(it, bytes) else it for it in coded]
         data = {"by": "intruder", "batch": "", "ids": [""] * len(coded), "entries": coded}
         print(f"intruder: {what} in slot {write_next(slots, json.dumps(data).encode())}", flush=True)
 
 
-def judge(archive: Archive, results: List[dict], acknowledged: List[str], count: int) -> Optional[str]:
-    """Why the replicas are not equal, or None."""
+def judge(archive: Archive, results: List[dict], acknowledged: List[str], count: int, wild: str) -> Optional[str]:
+    """Why the replicas are not equal, or None; `wild` is the process whose clock was wild."""
     if len(results) != count:
         return f"{count - len(results)} processes gave no result"
     for what in ("status", "pairs", "check", "slots", "passed_over"):
@@ -218,6 +222,10 @@ def judge(archive: Archive, results: List[dict], acknowledged: List[str], count:
         return f"the audit says {results[0]['check']}"
     if {it["state"] for it in json.loads(results[0]["status"])["elements"]} != {"public"}:
         return "an element is not public"
+    if json.loads(results[0]["status"])["moment"] >= HOUR:
+        return "a clock that is an hour ahead has taken all others along"
+    if not all(it["too_far"] and it["acknowledged"] for it in results if it["name"] == wild):
+        return f"{wild} was not too far, or wrote nothing after that"
     if results[0]["passed_over"] == 0:
         return "what the intruder wrote was not passed over"
     if min(number for number, _ in archive.slots.read(0)) == 0:
@@ -249,15 +257,16 @@ def run(options: argparse.Namespace, cluster: Cluster) -> Optional[str]:
     print(f"etcd: node {options.seed % 3} killed", flush=True)
     time.sleep(options.seconds / 6)
     print(cluster.leader(), flush=True)
-    servers.start(f"{names[0]} again")
+    wild = f"{names[0]} again"
+    servers.start(wild, "--wild", str(options.seconds / 12))
     cluster.nodes[options.seed % 3] = cluster.start(options.seed % 3)
     print(f"etcd: node {options.seed % 3} is back", flush=True)
-    if not servers.wait_for("are public", max(300, options.seconds * 10)):
-        return "the change did not end in time"
+    if not servers.wait_for(max(300, options.seconds * 10), "are public", "TooFar"):
+        return f"the change did not end in time, or {wild} was not too far"
     time.sleep(options.seconds / 6)
     servers.tell("stop")
     for _ in servers.running:
-        servers.wait_for("stops;", 30)
+        servers.wait_for(30, "stops;")
     spent = time.monotonic() - began
     archive.end()
     written = next_slot(slots)
@@ -266,7 +275,7 @@ def run(options: argparse.Namespace, cluster: Cluster) -> Optional[str]:
         process.stdin.close()
         process.wait(60)
     time.sleep(0.2)
-    fault = judge(archive, servers.results, servers.acknowledged, len(servers.running))
+    fault = judge(archive, servers.results, servers.acknowledged, len(servers.running), wild)
     done = len(servers.acknowledged)
     if servers.results:
         print(f"{written} slots, {servers.results[0]['passed_over']} entries or slots passed over, {servers.results[0]['check']}")

@@ -45,19 +45,21 @@ __all__ = [
     "Key", "Kind", "Lease", "LeaseEnded", "Moment", "MomentTooLarge", "Move", "Moved", "NameTaken", "NoEntry", "NoRow", "NoTable", "NotAdjacent",
     "NotOpened", "NotPublic", "NotUtf8", "NotWanted", "OutOfMemory", "OverLimit", "Piece", "PlannedStep", "Progress", "Query", "Receipt",
     "Reorganisation", "Row", "Schema", "SchemaColumn", "SchemaElement", "SchemaIndex", "SchemaTable", "Session", "Snapshot", "Spent", "Step", "StillIndexed",
-    "StillUsed", "StillWaiting", "Table", "Tables", "TooEarly", "TooManyOps", "Txn",
+    "StillUsed", "StillWaiting", "Table", "Tables", "TooEarly", "TooFar", "TooManyOps", "Txn",
     "UnexpectedReply", "Unfinished", "Unknown", "Value", "VersionsSpent", "Waiting", "Worked", "WrongElement", "WrongSchema", "WrongStage",
     "WrongType", "WrongWay", "literal", "open", "retry", "text_of",
 ]
 
 # the major version of the library
-_MAJOR = 1
+_MAJOR = 2
+# the furthest jump of a world in which no moment is too far
+_ANY_JUMP = 2**64 - 1
 # how many seconds pass between two looks at a clock that is waited for
 _PAUSE = 0.001
 # how many rows a page may have
 _MOST_ROWS = 1000
 _ROOM, _OK, _BAD_LINE, _CLOSED, _NOT_NEXT, _WAITING, _FINISHED = 4096, 0, 1, 2, 9, 10, 11
-_WRONG_STAGE, _BAD_CODE, _BAD_TABLE, _NOT_PUBLIC, _WRONG_TYPE, _LEASE_ENDED, _CONFLICT, _DUPLICATE, _NO_ROW = 16, 17, 18, 21, 22, 26, 28, 29, 30
+_BAD_CODE, _BAD_TABLE, _NOT_PUBLIC, _WRONG_TYPE, _LEASE_ENDED, _CONFLICT, _DUPLICATE, _NO_ROW = 17, 18, 21, 22, 26, 28, 29, 30
 _DEPENDENT, _OVER_LIMIT = 35, 37
 
 Value = Union[None, bool, int, str]
@@ -68,18 +70,32 @@ Moment = Union[int, Clock]
 Kind = Type[Union[int, str, bool]]
 _Result = TypeVar("_Result")
 _Self = TypeVar("_Self", bound="_Owner")
+_Kept = TypeVar("_Kept", bound="_Handle")
 _STATUS, _SIZE, _SMALL, _NUMBER, _BYTES = ctypes.c_int32, ctypes.c_size_t, ctypes.c_uint32, ctypes.c_uint64, ctypes.c_char_p
 
 
-# What the header declares: its structs, and what each function gives and takes.
-class _Handle(ctypes.Structure): _fields_ = [("at", ctypes.c_void_p), ("is_open", ctypes.c_bool)]
+# What the header declares: its handles, its structs, and what each function gives and takes.
+class _Handle(ctypes.Structure):
+    """A handle, which begins closed. Each thing has a type of its own, with the function that closes it."""
+    _fields_ = [("at", ctypes.c_void_p), ("is_open", ctypes.c_bool)]
+    closed_by = ""
+
+
+class _WorldHandle(_Handle): closed_by = "cagzhomul_close_world"
+class _SessionHandle(_Handle): closed_by = "cagzhomul_close_session"
+class _LeaseHandle(_Handle): closed_by = "cagzhomul_close_lease"
+class _ReadsHandle(_Handle): closed_by = "cagzhomul_close_reads"
+class _TxnHandle(_Handle): closed_by = "cagzhomul_close_txn"
+class _SnapshotHandle(_Handle): closed_by = "cagzhomul_close_snapshot"
+class _BytesHandle(_Handle): closed_by = "cagzhomul_close_bytes"
+class _PieceHandle(_Handle): closed_by = "cagzhomul_close_piece"
+class _PreparedPieceHandle(_Handle): closed_by = "cagzhomul_close_prepared_piece"
+class _CheckpointHandle(_Handle): closed_by = "cagzhomul_close_checkpoint"
 class _Outcome(ctypes.Structure): _fields_ = [("status", _STATUS), ("length", _SIZE)]
 class _Advanced(ctypes.Structure): _fields_ = [("status", _STATUS), ("until", _NUMBER)]
 class _Granted(ctypes.Structure): _fields_ = [("status", _STATUS), ("version", _NUMBER), ("granted", _NUMBER), ("until", _NUMBER), ("place", _NUMBER)]
 class _Prepared(ctypes.Structure): _fields_ = [("status", _STATUS), ("column", _SMALL)]
-class _Committed(ctypes.Structure): _fields_ = [("status", _STATUS), ("place", _NUMBER), ("operation", _SIZE)]
-class _Written(ctypes.Structure): _fields_ = [("status", _STATUS), ("column", _SMALL), ("place", _NUMBER), ("operation", _SIZE)]
-class _Detailed(ctypes.Structure):
+class _Committed(ctypes.Structure):
     _fields_ = [("status", _STATUS), ("column", _SMALL), ("place", _NUMBER), ("operation", _SIZE), ("until", _NUMBER), ("now", _NUMBER), ("length", _SIZE)]
 class _Pieced(ctypes.Structure): _fields_ = [("status", _STATUS), ("ended", ctypes.c_bool), ("place", _NUMBER)]
 class _Progressed(ctypes.Structure): _fields_ = [("status", _STATUS), ("ended", ctypes.c_bool), ("next", _SMALL), ("left", _NUMBER), ("all", _NUMBER)]
@@ -89,27 +105,33 @@ class _Checked(ctypes.Structure): _fields_ = [("status", _STATUS), ("rows", _NUM
 class _Changed(ctypes.Structure): _fields_ = [("status", _STATUS), ("number", _NUMBER)]
 
 
-_HANDLE = ctypes.POINTER(_Handle)
+_WORLD, _SESSION, _CHECKPOINT = ctypes.POINTER(_WorldHandle), ctypes.POINTER(_SessionHandle), ctypes.POINTER(_CheckpointHandle)
+_LEASE, _READS, _TXN = ctypes.POINTER(_LeaseHandle), ctypes.POINTER(_ReadsHandle), ctypes.POINTER(_TxnHandle)
+_SNAPSHOT, _HELD = ctypes.POINTER(_SnapshotHandle), ctypes.POINTER(_BytesHandle)
+_PIECE, _PREPARED = ctypes.POINTER(_PieceHandle), ctypes.POINTER(_PreparedPieceHandle)
+_CODE: List[Any] = [_BYTES, _SIZE]
 _FUNCTIONS: Dict[str, Tuple[Any, List[Any]]] = {
-    "open": (_STATUS, [_HANDLE]), "open_tables": (_STATUS, [_HANDLE, _BYTES, _SIZE]), "close": (_STATUS, [_HANDLE]),
-    "reply_to": (_Outcome, [_HANDLE, _BYTES, _SIZE, _BYTES, _SIZE]), "reply_from": (_Outcome, [_HANDLE, _SIZE, _BYTES, _SIZE]),
-    "entry": (_Outcome, [_HANDLE, _SIZE, _BYTES, _SIZE]), "repeat": (_STATUS, [_HANDLE, _BYTES, _SIZE]),
-    "advance": (_Advanced, [_HANDLE, _NUMBER, _SMALL, _SMALL]), "lease": (_Granted, [_HANDLE, _NUMBER, _HANDLE]),
-    "transaction": (_STATUS, [_HANDLE, _BYTES, _SIZE, _HANDLE]), "read": (_STATUS, [_HANDLE, _HANDLE]),
-    "operations": (_STATUS, [_HANDLE, _BYTES, _SIZE]), "query_read": (_Queried, [_HANDLE, _BYTES, _SIZE, _HANDLE]),
-    "prepare": (_Prepared, [_HANDLE]), "commit": (_Committed, [_HANDLE, _NUMBER, _HANDLE]),
-    "commit_detailed": (_Detailed, [_HANDLE, _NUMBER, _HANDLE, _BYTES, _SIZE]), "write_detailed": (_Detailed, [_HANDLE, _NUMBER, _HANDLE, _BYTES, _SIZE, _BYTES, _SIZE]),
-    "query": (_Queried, [_HANDLE, _NUMBER, _HANDLE, _BYTES, _SIZE, _HANDLE]), "rows_from": (_Outcome, [_HANDLE, _SIZE, _BYTES, _SIZE]),
-    "snapshot_query": (_Queried, [_HANDLE, _BYTES, _SIZE, _HANDLE]), "snapshot_query_page": (_Paged, [_HANDLE, _BYTES, _SIZE, _HANDLE]),
-    "query_page": (_Paged, [_HANDLE, _NUMBER, _HANDLE, _BYTES, _SIZE, _HANDLE]),
-    "snapshot": (_STATUS, [_HANDLE, _NUMBER, _HANDLE, _HANDLE]), "check": (_Checked, [_HANDLE]), "log_length": (_Outcome, [_HANDLE]),
-    "log_start": (_Outcome, [_HANDLE]), "cut": (_STATUS, [_HANDLE, _SIZE]),
-    "checkpoint": (_STATUS, [_HANDLE, _HANDLE]), "save": (_STATUS, [_HANDLE, _HANDLE]), "open_checkpoint": (_STATUS, [_HANDLE]), "version": (_SMALL, []), "open_at": (_STATUS, [_HANDLE, _BYTES, _SIZE]),
-    "publish": (_Changed, [_HANDLE, _NUMBER, _BYTES, _SIZE]), "begin_reorg": (_Changed, [_HANDLE, _NUMBER, _SMALL, _SMALL]),
-    "write": (_Written, [_HANDLE, _NUMBER, _HANDLE, _BYTES, _SIZE]), "plan": (_Outcome, [_HANDLE, _BYTES, _SIZE, _BYTES, _SIZE]),
-    "read_piece": (_STATUS, [_HANDLE, _SMALL, _SMALL, _SMALL, _HANDLE]), "prepare_piece": (_STATUS, [_HANDLE]),
-    "commit_piece": (_Pieced, [_HANDLE, _NUMBER, _HANDLE]), "progress": (_Progressed, [_HANDLE, _SMALL]), "schema": (_STATUS, [_HANDLE, _HANDLE]),
-    "status": (_Outcome, [_HANDLE, _BYTES, _SIZE]), "text_of": (_SIZE, [_STATUS, _BYTES, _SIZE]),
+    "version": (_SMALL, []), "text_of": (_SIZE, [_STATUS, *_CODE]),
+    "open": (_STATUS, [_WORLD, *_CODE, _NUMBER]), "open_at": (_STATUS, [_WORLD, *_CODE, _NUMBER]), "open_checkpoint": (_STATUS, [_CHECKPOINT, _NUMBER, _WORLD]),
+    "log_length": (_Outcome, [_WORLD]), "log_start": (_Outcome, [_WORLD]), "cut": (_STATUS, [_WORLD, _SIZE]), "entry": (_Outcome, [_WORLD, _SIZE, *_CODE]),
+    "repeat": (_STATUS, [_WORLD, *_CODE]), "status": (_Outcome, [_WORLD, *_CODE]), "check": (_Checked, [_WORLD]),
+    "lease": (_Granted, [_WORLD, _NUMBER, _LEASE]), "lease_schema": (_STATUS, [_LEASE, _HELD]),
+    "read": (_STATUS, [_WORLD, _LEASE, *_CODE, _READS]), "read_again": (_STATUS, [_WORLD, _READS, *_CODE]), "query_read": (_Queried, [_READS, *_CODE, _HELD]),
+    "prepare": (_Prepared, [_READS, _TXN]), "commit": (_Committed, [_WORLD, _NUMBER, _TXN, *_CODE]), "txn_entry": (_Committed, [_WORLD, _NUMBER, _TXN, *_CODE, _HELD]),
+    "write": (_Committed, [_WORLD, _NUMBER, _LEASE, *_CODE]),
+    "query": (_Queried, [_WORLD, _NUMBER, _LEASE, *_CODE, _HELD]), "query_page": (_Paged, [_WORLD, _NUMBER, _LEASE, *_CODE, _HELD]),
+    "snapshot": (_STATUS, [_WORLD, _NUMBER, _LEASE, _SNAPSHOT]), "snapshot_check": (_Checked, [_SNAPSHOT]),
+    "snapshot_query": (_Queried, [_SNAPSHOT, *_CODE, _HELD]), "snapshot_query_page": (_Paged, [_SNAPSHOT, *_CODE, _HELD]),
+    "schema": (_STATUS, [_WORLD, _HELD]), "plan": (_Outcome, [_WORLD, *_CODE, *_CODE]), "publish": (_Changed, [_WORLD, _NUMBER, *_CODE]),
+    "begin_reorg": (_Changed, [_WORLD, _NUMBER, _SMALL, _SMALL]), "progress": (_Progressed, [_WORLD, _SMALL]),
+    "advance": (_Advanced, [_WORLD, _NUMBER, _SMALL, _SMALL]), "due_entry": (_Advanced, [_WORLD, _NUMBER, _SMALL, _SMALL, _HELD]),
+    "read_piece": (_STATUS, [_WORLD, _SMALL, _SMALL, _SMALL, _PIECE]), "prepare_piece": (_STATUS, [_PIECE, _PREPARED]), "commit_piece": (_Pieced, [_WORLD, _NUMBER, _PREPARED]),
+    "checkpoint": (_STATUS, [_WORLD, _CHECKPOINT]), "save": (_STATUS, [_CHECKPOINT, _HELD]),
+    "session_open": (_STATUS, [_SESSION]), "session_attach": (_STATUS, [_SESSION]),
+    "reply_to": (_Outcome, [_SESSION, _WORLD, *_CODE, *_CODE]), "reply_from": (_Outcome, [_SESSION, _SIZE, *_CODE]), "bytes_from": (_Outcome, [_HELD, _SIZE, *_CODE]),
+    "close_world": (_STATUS, [_WORLD]), "close_session": (_STATUS, [_SESSION]), "close_lease": (_STATUS, [_LEASE]), "close_reads": (_STATUS, [_READS]),
+    "close_txn": (_STATUS, [_TXN]), "close_snapshot": (_STATUS, [_SNAPSHOT]), "close_bytes": (_STATUS, [_HELD]), "close_piece": (_STATUS, [_PIECE]),
+    "close_prepared_piece": (_STATUS, [_PREPARED]), "close_checkpoint": (_STATUS, [_CHECKPOINT]),
 }
 
 
@@ -120,17 +142,34 @@ def _load() -> ctypes.CDLL:
     if not path:
         raise ImportError("libcagzhomul.so was not found: name it in the variable CAGZHOMUL_LIBRARY")
     library = ctypes.CDLL(path)
+    # first, since a library of another major version has other functions of these names
+    version = getattr(library, "cagzhomul_version", lambda: 0)()
+    if version // 1000 != _MAJOR:
+        raise ImportError(f"{path} has the version {version}, and not {_MAJOR} as its major one")
     for name, (result, parameters) in _FUNCTIONS.items():
         function = getattr(library, f"cagzhomul_{name}", None)
         if function is None:
             raise ImportError(f"{path} has no cagzhomul_{name}: it is older than this module")
         function.restype, function.argtypes = result, parameters
-    if library.cagzhomul_version() // 1000 != _MAJOR:
-        raise ImportError(f"{path} has the version {library.cagzhomul_version()}, and not {_MAJOR} as its major one")
     return library
 
 
 _library = _load()
+
+
+def _close(handle: _Handle) -> None:
+    """Frees what a handle holds. One that is closed stays so."""
+    if handle.is_open:
+        getattr(_library, handle.closed_by)(handle)
+
+
+@contextlib.contextmanager
+def _held(handle: _Kept) -> Iterator[_Kept]:
+    """A handle, which is closed at the end of the block."""
+    try:
+        yield handle
+    finally:
+        _close(handle)
 
 
 def text_of(status: int) -> str:
@@ -207,17 +246,30 @@ class BadLine(CagzhomulError):
         return self.status, self.place
 
 
-class Closed(CagzhomulError): """The session, or the lease, was closed."""
+class Closed(CagzhomulError): """The session, the lease, or what else a call takes was closed."""
 class AlreadyOpen(CagzhomulError): """The handle is open; no object of this module meets it."""
 class NotUtf8(CagzhomulError): """The line's bytes are not UTF-8."""
 class OutOfMemory(CagzhomulError, MemoryError): """Memory ran out. If it did over a line, the session is closed."""
-class NotOpened(CagzhomulError): """The session has no world yet: it is before its line `open`."""
+class NotOpened(CagzhomulError):
+    """The session has no world yet: it is before its line `open`."""
+
+    def __init__(self, status: int = -1, text: str = "no world is open yet") -> None:
+        super().__init__(status, text)
+
+
 class NoEntry(CagzhomulError): """The log has no such place."""
 class BadEntry(CagzhomulError): """The bytes are the code of no entry."""
 class BadCount(CagzhomulError): """The pieces are not 1 to 64, or the limit is not 1 to 1,000."""
 class MomentTooLarge(CagzhomulError): """The moment is above 2^62."""
 class VersionsSpent(CagzhomulError): """A publication is due, and there are 1,000,000 versions."""
-class WrongStage(CagzhomulError): """The transaction, or the piece, is not at the call's stage: it is prepared already, or not yet."""
+class TooFar(CagzhomulError): """The moment is more beyond that of the log's last entry than the world's furthest jump."""
+class WrongStage(CagzhomulError):
+    """The transaction, or the piece, is not at the call's stage: it is prepared already, or not yet."""
+
+    def __init__(self, status: int = -1, text: str = "the work is not at the stage that the call takes") -> None:
+        super().__init__(status, text)
+
+
 class BadCode(CagzhomulError): """The bytes are the code of nothing that is asked for."""
 class BadTable(CagzhomulError): """The declaration breaks a limit, or uses a name twice."""
 class BadLength(CagzhomulError): """The lease length is not from 1 to 2^32."""
@@ -280,10 +332,11 @@ class UnexpectedReply(CagzhomulError): """Bytes of the library in a code that th
 
 
 _ERRORS: Dict[int, Type[CagzhomulError]] = {
-    1: BadLine, 2: Closed, 3: AlreadyOpen, 4: NotUtf8, 5: OutOfMemory, 6: NotOpened, 7: NoEntry, 8: BadEntry,
-    12: BadCount, 13: MomentTooLarge, 14: VersionsSpent, 16: WrongStage, 17: BadCode, 18: BadTable, 19: BadLength, 20: NoTable, 22: WrongType,
+    1: BadLine, 2: Closed, 3: AlreadyOpen, 4: NotUtf8, 5: OutOfMemory, 7: NoEntry, 8: BadEntry,
+    12: BadCount, 13: MomentTooLarge, 14: VersionsSpent, 17: BadCode, 18: BadTable, 19: BadLength, 20: NoTable, 22: WrongType,
     23: TooManyOps, 25: BadLease, 26: LeaseEnded, 27: WrongSchema, 28: Conflict, 32: Unknown, 33: NotAdjacent, 34: WrongWay, 36: NameTaken,
     37: OverLimit, 39: NotWanted, 41: Begun, 42: BadPiece, 43: Spent, 44: WrongElement, 45: Moved, 46: InChange,
+    47: TooFar,
 }
 _NUMBERED: Dict[int, Type[_Numbered]] = {31: TooEarly, _DEPENDENT: Dependent, 38: Unfinished, 40: StillUsed}
 
@@ -934,9 +987,9 @@ class _Names:
         return next((name for name in named if not self.number(asked.table, name)), None)
 
 
-def _found(asked: _Asked, names: _Names, ask: Callable[[bytes, _Handle], Any]) -> List[Row]:
+def _found(asked: _Asked, names: _Names, ask: Callable[[bytes, _BytesHandle], Any]) -> List[Row]:
     """The rows of a query, by a call that answers its code into a closed handle."""
-    columns, rows = names.columns(asked), _Handle()
+    columns, rows = names.columns(asked), _BytesHandle()
     try:
         queried = ask(_query(asked, columns, names), rows)
         if queried.status == _NOT_PUBLIC:
@@ -945,12 +998,12 @@ def _found(asked: _Asked, names: _Names, ask: Callable[[bytes, _Handle], Any]) -
         _check(_WRONG_TYPE if queried.status == _BAD_CODE else queried.status)
         return _coded_rows(_code_of(rows), names.keys[asked.table], columns, names.by_number)
     finally:
-        _library.cagzhomul_close(rows)
+        _library.cagzhomul_close_bytes(rows)
 
 
-def _page(asked: _Asked, names: _Names, within: _Range, ask: Callable[[bytes, _Handle], Any]) -> Tuple[List[Row], bool]:
+def _page(asked: _Asked, names: _Names, within: _Range, ask: Callable[[bytes, _BytesHandle], Any]) -> Tuple[List[Row], bool]:
     """A page of the rows of a query, by a call that answers its request into a closed handle, and whether there are more."""
-    columns, rows = names.columns(asked), _Handle()
+    columns, rows = names.columns(asked), _BytesHandle()
     try:
         paged = ask(within.request(asked, columns, names), rows)
         if paged.status == _NOT_PUBLIC:
@@ -959,10 +1012,10 @@ def _page(asked: _Asked, names: _Names, within: _Range, ask: Callable[[bytes, _H
         _check(_WRONG_TYPE if paged.status == _BAD_CODE else paged.status)
         return _coded_rows(_code_of(rows), names.keys[asked.table], columns, names.by_number), paged.more == 1
     finally:
-        _library.cagzhomul_close(rows)
+        _library.cagzhomul_close_bytes(rows)
 
 
-def _pages(asked: _Asked, names: _Names, within: _Range, ask: Callable[[bytes, _Handle], Any]) -> Iterator[List[Row]]:
+def _pages(asked: _Asked, names: _Names, within: _Range, ask: Callable[[bytes, _BytesHandle], Any]) -> Iterator[List[Row]]:
     """Page after page, each after the last row of the one before; an empty one only if there are no rows at all."""
     more = True
     while more:
@@ -972,31 +1025,21 @@ def _pages(asked: _Asked, names: _Names, within: _Range, ask: Callable[[bytes, _
             within = within._replace(after=_bound([rows[-1][name] for name in names.keys[asked.table]]))
 
 
-def _ranged(asked: _Asked, names: _Names, after: Optional[Key], before: Optional[Key], limit: Optional[int], ask: Callable[[bytes, _Handle], Any]) -> List[Row]:
+def _ranged(asked: _Asked, names: _Names, after: Optional[Key], before: Optional[Key], limit: Optional[int], ask: Callable[[bytes, _BytesHandle], Any]) -> List[Row]:
     """The rows of a query in a range: at most so many, or all if there is no limit."""
     if limit is None:
         return [row for rows in _pages(asked, names, _range(after, before, _MOST_ROWS), ask) for row in rows]
     return _page(asked, names, _range(after, before, limit), ask)[0]
 
 
-def _code_of(rows: _Handle) -> bytes:
-    """The code of the rows that a handle holds."""
+def _code_of(held: _BytesHandle) -> bytes:
+    """The bytes that a handle holds."""
     out = ctypes.create_string_buffer(_ROOM)
-    length = _library.cagzhomul_rows_from(rows, 0, out, _ROOM).length
+    length = _library.cagzhomul_bytes_from(held, 0, out, _ROOM).length
     if length > _ROOM:
         out = ctypes.create_string_buffer(length)
-        _library.cagzhomul_rows_from(rows, 0, out, length)
+        _library.cagzhomul_bytes_from(held, 0, out, length)
     return ctypes.string_at(out, length)
-
-
-def _schema_code(held: _Handle) -> bytes:
-    """The code of the version that a session or a lease is on, for a caller who has its lock."""
-    schema = _Handle()
-    _check(_library.cagzhomul_schema(held, schema))
-    try:
-        return _code_of(schema)
-    finally:
-        _library.cagzhomul_close(schema)
 
 
 class _OutOfRange(OverflowError, ValueError): """A number that an argument cannot have: negative, or of too many bits."""
@@ -1011,9 +1054,24 @@ def _whole(name: str, number: int, bits: int) -> int:
     return number
 
 
+def _jump(furthest_jump: Optional[int]) -> int:
+    """A furthest jump as the library takes it."""
+    if furthest_jump is not None and _whole("furthest_jump", furthest_jump, 64) == 0:
+        raise _OutOfRange("furthest_jump is at least 1, and not 0")
+    return _ANY_JUMP if furthest_jump is None else furthest_jump
+
+
 def _small(name: str, number: int) -> int:
     """A number of an element, a piece, pieces or items."""
     return number if type(number) is int and 0 <= number < 2**32 else _whole(name, number, 32)
+
+
+def _check_act(moment: int, pieces: int, limit: int) -> None:
+    """Refuses arguments of an act of a change that are no numbers, or out of range."""
+    if not (type(moment) is type(pieces) is type(limit) is int and 0 <= moment < 2**64 and 0 <= pieces < 2**32 and 0 <= limit < 2**32):
+        _whole("moment", moment, 64)
+        _small("pieces", pieces)
+        _small("limit", limit)
 
 
 def _at(now: Moment, name: str = "now") -> int:
@@ -1075,21 +1133,26 @@ class Worked(NamedTuple):
 
 
 class _Owner:
-    """What holds a handle of the library, with a lock that has one call of it at a time."""
+    """What holds handles of the library, with a lock that has one call of them at a time."""
 
-    def __init__(self) -> None:
-        self._handle = _Handle()
+    def __init__(self, *handles: _Handle) -> None:
+        self._handles = handles
         self._lock = threading.Lock()
 
     def close(self) -> None:
         """Frees what it holds. What is closed stays so."""
         with self._lock:
-            _library.cagzhomul_close(self._handle)
+            self._end()
+
+    def _end(self) -> None:
+        """The same, for a caller who has the lock."""
+        for it in self._handles:
+            _close(it)
 
     @property
     def is_open(self) -> bool:
         """Whether it holds anything."""
-        return bool(self._handle.is_open)
+        return any(it.is_open for it in self._handles)
 
     def __enter__(self: _Self) -> _Self:
         return self
@@ -1098,8 +1161,9 @@ class _Owner:
         self.close()
 
     def __del__(self) -> None:
-        if getattr(self, "_handle", None) is not None and self._handle.is_open and _library is not None:
-            _library.cagzhomul_close(self._handle)
+        for it in getattr(self, "_handles", ()):
+            if it.is_open and _library is not None:
+                getattr(_library, it.closed_by)(it)
 
 
 class _Audited(_Owner):
@@ -1109,9 +1173,13 @@ class _Audited(_Owner):
         Raises Closed, NotOpened or OutOfMemory.
         """
         with self._lock:
-            done = _library.cagzhomul_check(self._handle)
+            done = self._audit()
         _check(done.status)
         return Audit(done.rows, done.missing, done.extra)
+
+    def _audit(self) -> Any:
+        """What the library finds, for a caller who has the lock."""
+        raise NotImplementedError
 
 
 class Snapshot(_Audited):
@@ -1119,8 +1187,12 @@ class Snapshot(_Audited):
     store. Columns have the names that they have in the version of its lease."""
 
     def __init__(self, _names: _Names) -> None:
-        super().__init__()
+        self._handle = _SnapshotHandle()
+        super().__init__(self._handle)
         self._names = _names
+
+    def _audit(self) -> Any:
+        return _library.cagzhomul_snapshot_check(self._handle)
 
     def query(self, query: Query, *, after: Optional[Key] = None, before: Optional[Key] = None, limit: Optional[int] = None) -> List[Row]:
         """The rows of a query by rising primary key, each a dict of its key columns and the columns
@@ -1141,7 +1213,7 @@ class Snapshot(_Audited):
         [{'id': 2, 'town': 'Bonn'}]
         """
         if after is None and before is None and limit is None:
-            def ask(code: bytes, rows: _Handle) -> Any:
+            def ask(code: bytes, rows: _BytesHandle) -> Any:
                 with self._lock:
                     return _library.cagzhomul_snapshot_query(self._handle, code, len(code), rows)
             return _found(_asked(query), self._names, ask)
@@ -1162,53 +1234,67 @@ class Snapshot(_Audited):
         """
         return _pages(_asked(query), self._names, _range(after, before, size), self._ask_page)
 
-    def _ask_page(self, code: bytes, rows: _Handle) -> Any:
+    def _ask_page(self, code: bytes, rows: _BytesHandle) -> Any:
         with self._lock:
             return _library.cagzhomul_snapshot_query_page(self._handle, code, len(code), rows)
 
 
 class Session(_Audited):
-    """A session, from its start to `close`. Any thread may call it: a lock has one call at a time."""
+    """A session, from its start to `close`: a conversation by lines, and the world that these lines and
+    typed calls are of. Any thread may call it: a lock has one call at a time."""
 
-    def __init__(self, _opening_code: bytes = b"", _checkpoint: Optional[bytes] = None, _forked: Optional[Session] = None) -> None:
-        super().__init__()
+    def __init__(self, _opening_code: bytes = b"", _checkpoint: Optional[bytes] = None, _forked: Optional[Session] = None, _jump: int = _ANY_JUMP) -> None:
+        self._world, self._lines = _WorldHandle(), _SessionHandle()
+        super().__init__(self._lines, self._world)
         self._keep: Optional[int] = None
         self._start = 0
         # whether a version may have been published that the kept lease of a Db is not on
         self._is_newer = False
         self._out = ctypes.create_string_buffer(_ROOM)
-        code = _opening_code
+        self._furthest_jump: int = _jump if _forked is None else _forked._furthest_jump
         if _forked is not None:
-            with _forked._lock:
-                _check(_library.cagzhomul_checkpoint(_forked._handle, self._handle))
-            _check(_library.cagzhomul_open_checkpoint(self._handle))
-            self._start = self.log_start()
+            with _held(_CheckpointHandle()) as taken:
+                with _forked._lock:
+                    _check(_library.cagzhomul_checkpoint(_forked._opened(), taken))
+                _check(_library.cagzhomul_open_checkpoint(taken, self._furthest_jump, self._world))
+        elif _checkpoint is not None:
+            _check(_library.cagzhomul_open_at(self._world, _checkpoint, len(_checkpoint), self._furthest_jump))
+        elif _opening_code:
+            _check(_library.cagzhomul_open(self._world, _opening_code, len(_opening_code), self._furthest_jump))
+        else:
+            _check(_library.cagzhomul_session_open(self._lines))
             return
-        if _checkpoint is not None:
-            _check(_library.cagzhomul_open_at(self._handle, _checkpoint, len(_checkpoint)))
-            self._start = self.log_start()
-            return
-        _check(_library.cagzhomul_open_tables(self._handle, code, len(code)) if code else _library.cagzhomul_open(self._handle))
+        _check(_library.cagzhomul_session_attach(self._lines))
+        self._start = self.log_start()
+
+    def _opened(self) -> _WorldHandle:
+        """Its world, for a caller who has the lock; NotOpened before its line `open`."""
+        if self._lines.is_open and not self._world.is_open:
+            raise NotOpened()
+        return self._world
+
+    def _audit(self) -> Any:
+        return _library.cagzhomul_check(self._opened())
 
     def reply_to(self, line: Union[str, bytes]) -> str:
         """The reply to a line, which is given without its ending: lines with their endings, or none.
 
-        Raises BadLine, Closed, NotUtf8 (for bytes alone) or OutOfMemory. A refusal of the language,
-        as `refused NoServer`, is a reply.
+        Raises BadLine, Closed, NotUtf8 (for bytes alone), TooFar of a line that names such a moment, or
+        OutOfMemory. A refusal of the language, as `refused NoServer`, is a reply.
 
         >>> db.reply_to("lease a at 5"), db.reply_to("commit w at 5")
         ('ok lease 1 5 15\\n', 'refused NoWork\\n')
         """
         words = line.encode() if isinstance(line, str) else line
         with self._lock:
-            outcome = _library.cagzhomul_reply_to(self._handle, words, len(words), self._out, _ROOM)
+            outcome = _library.cagzhomul_reply_to(self._lines, self._world, words, len(words), self._out, _ROOM)
             _check(outcome.status)
             if outcome.length <= _ROOM:
                 reply = ctypes.string_at(self._out, outcome.length).decode()
                 self._is_newer |= reply.startswith("ok version ")
                 return reply
             out = ctypes.create_string_buffer(outcome.length)
-            _check(_library.cagzhomul_reply_from(self._handle, 0, out, outcome.length).status)
+            _check(_library.cagzhomul_reply_from(self._lines, 0, out, outcome.length).status)
             return out.raw.decode()
 
     def _told(self, call: Callable[[Any, int], Any]) -> bytes:
@@ -1234,14 +1320,20 @@ class Session(_Audited):
 
     def _status(self) -> Dict[str, Any]:
         """The same, for a caller who has the lock."""
-        reported: Dict[str, Any] = json.loads(self._written(lambda out, room: _library.cagzhomul_status(self._handle, out, room)))
+        reported: Dict[str, Any] = json.loads(self._written(lambda out, room: _library.cagzhomul_status(self._opened(), out, room)))
         return reported
 
     def schema(self) -> Schema:
         """The newest version: its tables, columns and indexes. Raises Closed, NotOpened or OutOfMemory."""
         with self._lock:
-            code = _schema_code(self._handle)
+            code = self._schema_code()
         return _schema(code)
+
+    def _schema_code(self) -> bytes:
+        """The code of the newest version, for a caller who has the lock."""
+        with _held(_BytesHandle()) as code:
+            _check(_library.cagzhomul_schema(self._opened(), code))
+            return _code_of(code)
 
     def element(self, table: str, name: str) -> int:
         """The number of an index or a column of the newest version. Raises Unknown, and what `schema`
@@ -1255,8 +1347,8 @@ class Session(_Audited):
         """Publishes the version that a step gives, by its code, as `PlannedStep.code` has it; the
         answer is the version's number.
 
-        Raises Closed, NotOpened, BadCode, MomentTooLarge, TooEarly, Unknown, NotAdjacent, WrongWay,
-        Dependent, NameTaken, OverLimit, Unfinished, VersionsSpent or OutOfMemory.
+        Raises Closed, NotOpened, TooFar, BadCode, MomentTooLarge, TooEarly, Unknown, NotAdjacent,
+        WrongWay, Dependent, NameTaken, OverLimit, Unfinished, VersionsSpent or OutOfMemory.
         """
         moment = _at(now)
         with self._lock:
@@ -1264,7 +1356,7 @@ class Session(_Audited):
 
     def _publish(self, moment: int, step: bytes) -> int:
         """The same, for a caller who has the lock."""
-        version = _number_of(_library.cagzhomul_publish(self._handle, moment, step, len(step)))
+        version = _number_of(_library.cagzhomul_publish(self._opened(), moment, step, len(step)))
         self._is_newer = True
         return version
 
@@ -1272,11 +1364,12 @@ class Session(_Audited):
         """Begins the fill or the clear that an element wants, in 1 to 64 pieces; the answer is the
         place of its entry in the log.
 
-        Raises Closed, NotOpened, MomentTooLarge, NotWanted, StillUsed, Begun, BadCount or OutOfMemory.
+        Raises Closed, NotOpened, TooFar, MomentTooLarge, NotWanted, StillUsed, Begun, BadCount or
+        OutOfMemory.
         """
         moment = _at(now)
         with self._lock:
-            return _number_of(_library.cagzhomul_begin_reorg(self._handle, moment, _small("element", element), _small("pieces", pieces)))
+            return _number_of(_library.cagzhomul_begin_reorg(self._opened(), moment, _small("element", element), _small("pieces", pieces)))
 
     def read_piece(self, element: int, piece: int, limit: int = 1000) -> Piece:
         """The next `limit` items (1 to 1,000) of a piece, from 0, of the reorganisation that has begun of
@@ -1286,14 +1379,14 @@ class Session(_Audited):
         """
         work = Piece(self)
         with self._lock:
-            _check(_library.cagzhomul_read_piece(self._handle, _small("element", element), _small("piece", piece), _small("limit", limit), work._handle))
+            _check(_library.cagzhomul_read_piece(self._opened(), _small("element", element), _small("piece", piece), _small("limit", limit), work._work))
         return work
 
     def progress(self, element: int) -> Progress:
         """How far the reorganisation that has begun of an element is. Raises Closed, NotOpened or
         NotWanted."""
         with self._lock:
-            done = _library.cagzhomul_progress(self._handle, _small("element", element))
+            done = _library.cagzhomul_progress(self._opened(), _small("element", element))
         _check(done.status)
         return Progress(bool(done.ended), int(done.next), int(done.left), int(done.all))
 
@@ -1306,13 +1399,13 @@ class Session(_Audited):
         if isinstance(place, bool) or not isinstance(place, int):
             raise TypeError(f"place is an int, and not {type(place).__name__}")
         at = place if 0 < place < 2**63 else 0  # place 0 has no entry
-        return self._told(lambda out, room: _library.cagzhomul_entry(self._handle, at, out, room))
+        return self._told(lambda out, room: _library.cagzhomul_entry(self._opened(), at, out, room))
 
     def log_length(self) -> int:
         """How many entries the log had ever, those that were cut off among them. Raises Closed or
         NotOpened."""
         with self._lock:
-            outcome = _library.cagzhomul_log_length(self._handle)
+            outcome = _library.cagzhomul_log_length(self._opened())
         _check(outcome.status)
         return int(outcome.length)
 
@@ -1320,7 +1413,7 @@ class Session(_Audited):
         """How many entries of the log come before those that are in memory, which `entry` gives: 0
         until it is cut. Raises Closed or NotOpened."""
         with self._lock:
-            outcome = _library.cagzhomul_log_start(self._handle)
+            outcome = _library.cagzhomul_log_start(self._opened())
         _check(outcome.status)
         return int(outcome.length)
 
@@ -1330,7 +1423,7 @@ class Session(_Audited):
         if not (type(keep) is int and 0 <= keep < 2**63):
             _whole("keep", keep, 63)
         with self._lock:
-            _check(_library.cagzhomul_cut(self._handle, keep))
+            _check(_library.cagzhomul_cut(self._opened(), keep))
 
     def checkpoint(self) -> bytes:
         """The checkpoint of the world as it is now, as bytes, from which `open(..., at=...)` goes on. It
@@ -1345,16 +1438,17 @@ class Session(_Audited):
         ...     later.query(0, "select * from people")
         [{'id': 1, 'town': None}]
         """
-        with _Owner() as taken, _Owner() as written:
+        with _held(_CheckpointHandle()) as taken, _held(_BytesHandle()) as written:
             with self._lock:
-                _check(_library.cagzhomul_checkpoint(self._handle, taken._handle))
-            _check(_library.cagzhomul_save(taken._handle, written._handle))
-            return _code_of(written._handle)
+                _check(_library.cagzhomul_checkpoint(self._opened(), taken))
+            _check(_library.cagzhomul_save(taken, written))
+            return _code_of(written)
 
     def fork(self) -> Session:
         """A session that goes on from the world as it is now, apart from this one: a program can try calls
         there, and look at the entries that they add, before it makes them here. No row is copied. It
-        has no leases by name, nothing prepared and no plan, and it is to be closed.
+        has the same furthest jump, but no leases by name, nothing prepared and no plan, and it is to be
+        closed.
 
         Raises Closed, NotOpened or OutOfMemory.
         """
@@ -1364,17 +1458,18 @@ class Session(_Audited):
         """The log has an entry of this place: it is cut if it has grown long enough, for a caller who
         has the lock."""
         if self._keep is not None and place - self._start >= max(2 * self._keep, 1):
-            _check(_library.cagzhomul_cut(self._handle, self._keep))
+            _check(_library.cagzhomul_cut(self._world, self._keep))
             self._start = place - self._keep
 
     def repeat(self, entry: bytes) -> bool:
         """Repeats an entry of another session's log, given by its code, in this session's world.
 
-        False if no accepted call of this world would add the entry. Raises Closed, NotOpened,
-        BadEntry or OutOfMemory. In each of these cases the session is as it was.
+        False if no accepted call of this world would add the entry, as of one whose moment is too far.
+        Raises Closed, NotOpened, BadEntry or OutOfMemory. In each of these cases the session is as it
+        was.
         """
         with self._lock:
-            status = _library.cagzhomul_repeat(self._handle, entry, len(entry))
+            status = _library.cagzhomul_repeat(self._opened(), entry, len(entry))
             self._is_newer |= status == _OK
         if status == _NOT_NEXT:
             return False
@@ -1389,31 +1484,54 @@ class Session(_Audited):
 
         The step says whether it acted, or until when nothing can be done; None if no change is under
         way, and none waits. Raises Closed or NotOpened; if a change waits, then what `Db.change` would
-        for it, and forgets it, except at MomentTooLarge and OutOfMemory; then BadCount, MomentTooLarge,
-        VersionsSpent or OutOfMemory. The session is as it was.
+        for it, and forgets it, except at TooFar, MomentTooLarge and OutOfMemory; then TooFar, BadCount,
+        MomentTooLarge, VersionsSpent or OutOfMemory. The session is as it was.
 
         >>> steps = db.change("add column age int on people", lambda: 0)  # it waits, and the store keeps it
         >>> [db.advance(moment) for moment in (0, 10, 20, 20)]
         [Waiting(until=10), Acted(), Acted(), None]
         """
-        if not (type(moment) is type(pieces) is type(limit) is int and 0 <= moment < 2**64 and 0 <= pieces < 2**32 and 0 <= limit < 2**32):
-            _whole("moment", moment, 64)
-            _small("pieces", pieces)
-            _small("limit", limit)
+        _check_act(moment, pieces, limit)
         with self._lock:
             first = self._begin_waiting(moment)
             if isinstance(first, Acted):
                 return first
-            done = _library.cagzhomul_advance(self._handle, moment, pieces, limit)
+            done = _library.cagzhomul_advance(self._opened(), moment, pieces, limit)
             self._is_newer |= done.status == _OK
             if self._keep is not None and done.status == _OK:
-                self._grown(int(_library.cagzhomul_log_length(self._handle).length))
+                self._grown(int(_library.cagzhomul_log_length(self._world).length))
         if done.status == _WAITING:
             return Waiting(done.until if first is None else min(done.until, first.until))
         if done.status == _FINISHED:
             return first
         _check(done.status)
         return Acted()
+
+    def due_entry(self, moment: int, pieces: int = 8, limit: int = 1000) -> Union[bytes, Waiting, None]:
+        """The code of the entry that `advance` would add now; nothing changes. `repeat` of it in a world
+        that stands here, this one or that of a replica, does the act. The answer is Waiting if nothing
+        can be done before a moment, and None if no change is under way. It does not look at a change
+        that waits in `Db.change`.
+
+        Raises Closed, NotOpened, TooFar, BadCount, MomentTooLarge, VersionsSpent or OutOfMemory.
+
+        >>> steps = db.change("add column age int on people", lambda: 10)
+        >>> db.due_entry(10)
+        Waiting(until=20)
+        >>> entry = db.due_entry(20)
+        >>> db.repeat(entry), db.entry(3) == entry, db.due_entry(20)
+        (True, True, None)
+        """
+        _check_act(moment, pieces, limit)
+        with _held(_BytesHandle()) as entry:
+            with self._lock:
+                done = _library.cagzhomul_due_entry(self._opened(), moment, pieces, limit, entry)
+            if done.status == _WAITING:
+                return Waiting(int(done.until))
+            if done.status == _FINISHED:
+                return None
+            _check(done.status)
+            return _code_of(entry)
 
     def _begin_waiting(self, _moment: int) -> Optional[Step]:
         """Publishes the first step of the change that waits, for a caller who has the lock; None if none
@@ -1433,10 +1551,10 @@ class Db(Session):
     as for a caller who takes each `entry` and then calls `cut`.
     """
 
-    def __init__(self, tables: Tables, lease_length: int = 10, keep: Optional[int] = 10_000, at: Optional[bytes] = None) -> None:
+    def __init__(self, tables: Tables, lease_length: int = 10, keep: Optional[int] = 10_000, at: Optional[bytes] = None, furthest_jump: Optional[int] = None) -> None:
         """Opens it, as `open` does."""
         declared = [_table(*it) for it in tables.items()] if isinstance(tables, Mapping) else list(tables)
-        super().__init__(_opening(_whole("lease_length", lease_length, 64), declared), at)
+        super().__init__(_opening(_whole("lease_length", lease_length, 64), declared), at, _jump=_jump(furthest_jump))
         self._keep = keep if keep is None else _whole("keep", keep, 63)
         # the change that waits for its first step
         self._waiting: Union[None, str, Change] = None
@@ -1457,13 +1575,30 @@ class Db(Session):
         """A lease on the newest version, whose columns and indexes transactions and queries under it
         have. They are at the moment `now`, too, if they name no other: give a clock if time passes.
 
-        Raises Closed, MomentTooLarge or OutOfMemory.
+        Raises Closed, TooFar, MomentTooLarge or OutOfMemory.
 
         >>> with db.lease(5) as lease:
         ...     lease.version, lease.granted, lease.until
         (1, 5, 15)
         """
         return Lease(self, now)
+
+    def lease_entry(self, now: Moment) -> Tuple[Lease, bytes]:
+        """A lease as `lease` would grant it now, and the code of the entry that this would add; nothing
+        changes, and no row is copied. With it a replica asks transactions for their `entry` before its
+        lease is in the log.
+
+        Raises what `lease` does.
+
+        >>> lease, entry = db.lease_entry(5)
+        >>> lease.until, lease.place, db.log_length()
+        (15, 2, 1)
+        >>> db.repeat(entry), db.entry(2) == entry
+        (True, True)
+        """
+        with self.fork() as fork:
+            lease = Lease(self, now, fork)
+            return lease, fork.entry(lease.place)
 
     def query(self, now: Moment, query: Union[str, Query]) -> List[Row]:
         """The rows of a query, as `Lease.query` gives them, under a lease that the store keeps. It takes
@@ -1503,14 +1638,14 @@ class Db(Session):
         with self._lock:
             if not self._is_newer:
                 return True
-            newest = _schema_code(self._handle)
+            newest = self._schema_code()
             self._is_newer = False
         return _schema(newest) == names.schema
 
     def snapshot(self, lease: Lease, now: Moment) -> Snapshot:
         """What the store holds, under a lease; it is to be closed.
 
-        Raises Closed, MomentTooLarge, BadLease, LeaseEnded or OutOfMemory.
+        Raises Closed, TooFar, MomentTooLarge, BadLease, LeaseEnded or OutOfMemory.
 
         >>> with db.snapshot(lease, 0) as snapshot:
         ...     lease.insert("people", 1)
@@ -1520,7 +1655,7 @@ class Db(Session):
         """
         moment, snapshot = _at(now), Snapshot(lease._names)
         with lease._lock, self._lock:
-            _check(lease._in_force(self, moment, _library.cagzhomul_snapshot(self._handle, moment, lease._handle, snapshot._handle)))
+            _check(lease._in_force(self, moment, _library.cagzhomul_snapshot(self._world, moment, lease._handle, snapshot._handle)))
         return snapshot
 
     def plan(self, changes: Sequence[Change]) -> List[PlannedStep]:
@@ -1543,7 +1678,7 @@ class Db(Session):
         """The same, for a caller who has the lock."""
         code = b"\1" + _list([change.code(self._names) for change in changes])
         try:
-            return _planned(self._written(lambda out, room: _library.cagzhomul_plan(self._handle, code, len(code), out, room)))
+            return _planned(self._written(lambda out, room: _library.cagzhomul_plan(self._world, code, len(code), out, room)))
         except CagzhomulError as refusal:
             if refusal.status == _DEPENDENT:
                 raise StillIndexed(_DEPENDENT, "an index is on the column") from None
@@ -1566,7 +1701,7 @@ class Db(Session):
         when no change at all is under way; after an error `resume` goes on.
 
         Raises BadLine for a list of changes; StillWaiting if another change waits; Closed; BadLine;
-        Unknown, NameTaken, StillIndexed, InChange or OverLimit; MomentTooLarge; VersionsSpent;
+        Unknown, NameTaken, StillIndexed, InChange or OverLimit; TooFar; MomentTooLarge; VersionsSpent;
         OutOfMemory. The steps raise what `advance` does.
 
         >>> moment = 0
@@ -1645,17 +1780,21 @@ class Db(Session):
 
 
 class _Grant(_Owner):
-    """A lease as it was granted, with the names of its version."""
+    """A lease as it was granted, by its store or by a fork of that, with the names of its version."""
 
-    def __init__(self, db: Db, moment: int) -> None:
-        super().__init__()
-        with db._lock:
-            granted = _library.cagzhomul_lease(db._handle, moment, self._handle)
+    def __init__(self, db: Db, moment: int, fork: Optional[Session] = None) -> None:
+        self._handle = _LeaseHandle()
+        super().__init__(self._handle)
+        by = db if fork is None else fork
+        with by._lock:
+            granted = _library.cagzhomul_lease(by._world, moment, self._handle)
             _check(granted.status)
-            db._grown(int(granted.place))
-            if db._names.version != granted.version:
-                db._names = _Names(int(granted.version), _schema(_schema_code(self._handle)))
+            by._grown(int(granted.place))
             self._names = db._names
+            if self._names.version != granted.version:
+                with _held(_BytesHandle()) as code:
+                    _check(_library.cagzhomul_lease_schema(self._handle, code))
+                    db._names = self._names = _Names(int(granted.version), _schema(_code_of(code)))
         self.version, self.granted, self.until, self.place = map(int, (granted.version, granted.granted, granted.until, granted.place))
 
     def _in_force(self, db: Db, moment: int, status: int) -> int:
@@ -1667,18 +1806,18 @@ class _Grant(_Owner):
 
     def rows(self, db: Db, moment: int, asked: _Asked) -> List[Row]:
         """The rows of a query of the store under it."""
-        def ask(code: bytes, rows: _Handle) -> Any:
+        def ask(code: bytes, rows: _BytesHandle) -> Any:
             with self._lock, db._lock:
-                queried = _library.cagzhomul_query(db._handle, moment, self._handle, code, len(code), rows)
+                queried = _library.cagzhomul_query(db._world, moment, self._handle, code, len(code), rows)
                 self._in_force(db, moment, queried.status)
                 return queried
         return _found(asked, self._names, ask)
 
     def ranged(self, db: Db, moment: int, asked: _Asked, after: Optional[Key], before: Optional[Key], limit: Optional[int]) -> List[Row]:
         """The same of a range, at most so many."""
-        def ask(code: bytes, rows: _Handle) -> Any:
+        def ask(code: bytes, rows: _BytesHandle) -> Any:
             with self._lock, db._lock:
-                paged = _library.cagzhomul_query_page(db._handle, moment, self._handle, code, len(code), rows)
+                paged = _library.cagzhomul_query_page(db._world, moment, self._handle, code, len(code), rows)
                 self._in_force(db, moment, paged.status)
                 return paged
         return _ranged(asked, self._names, after, before, limit, ask)
@@ -1690,8 +1829,8 @@ class Lease(_Grant):
     It is in force from the moment `granted` on and before the moment `until`; the place of its entry
     in the log is `place`."""
 
-    def __init__(self, db: Db, now: Moment) -> None:
-        super().__init__(db, _at(now))
+    def __init__(self, db: Db, now: Moment, _fork: Optional[Session] = None) -> None:
+        super().__init__(db, _at(now), _fork)
         self._db, self._now = db, now
 
     @property
@@ -1780,9 +1919,9 @@ class Lease(_Grant):
         """The rows of a query as `Snapshot.query` gives them, at this moment or that of the lease. Without
         a limit a range is read in more than one call, and other threads may write between them.
 
-        Raises Closed, MomentTooLarge, BadLease, LeaseEnded, BadCount of the limit, NoTable; of the first
-        faulty column or condition NotPublic or WrongType, then WrongType of `after` and `before`, but a
-        text that is too long is WrongType before all but Closed; OutOfMemory.
+        Raises Closed, TooFar, MomentTooLarge, BadLease, LeaseEnded, BadCount of the limit, NoTable; of the
+        first faulty column or condition NotPublic or WrongType, then WrongType of `after` and `before`,
+        but a text that is too long is WrongType before all but Closed and TooFar; OutOfMemory.
 
         >>> lease.insert("people", 1, town="Ulm")
         Receipt(place=2)
@@ -1807,7 +1946,8 @@ class Txn(_Owner):
     """
 
     def __init__(self, lease: Lease, now: Moment) -> None:
-        super().__init__()
+        self._reads, self._prepared = _ReadsHandle(), _TxnHandle()
+        super().__init__(self._prepared, self._reads)
         self._lease, self._now = lease, now
         self._operations: List[bytes] = []
         self._unknown: Optional[str] = None
@@ -1847,7 +1987,7 @@ class Txn(_Owner):
             self._check_stage()
             if row not in self._got:
                 self._read([b"\1" + it + _list([]) for it in (*self._got, row)])
-                rows = _found(_asked(Query(table, key=key)), names, lambda code, rows: _library.cagzhomul_query_read(self._handle, code, len(code), rows))
+                rows = _found(_asked(Query(table, key=key)), names, lambda code, rows: _library.cagzhomul_query_read(self._reads, code, len(code), rows))
                 self._got[row] = rows[0] if rows else None
             found = self._got[row]
         return None if found is None else dict(found)
@@ -1858,8 +1998,8 @@ class Txn(_Owner):
 
     def _check_stage(self) -> None:
         """Refuses more reads and operations if it is prepared, or if what it has got is let go."""
-        if (self._is_prepared if self.is_open else bool(self._got)):
-            raise WrongStage(_WRONG_STAGE)
+        if (self._is_prepared if self._reads.is_open else bool(self._got)):
+            raise WrongStage()
 
     def insert(self, table: str, key: Key, /, **cells: Value) -> Txn:
         """Adds the insertion of a row: its key, and values by column. Raises WrongStage, as all three do, if
@@ -1898,10 +2038,10 @@ class Txn(_Owner):
         with self._lock:
             self._check_stage()
             self._read(self._operations + self._pins())
-            prepared = _library.cagzhomul_prepare(self._handle)
+            prepared = _library.cagzhomul_prepare(self._reads, self._prepared)
             self._is_prepared = prepared.status == _OK
             if not self._is_prepared:
-                _library.cagzhomul_close(self._handle)
+                self._end()
         self._accept(prepared.status, prepared.column)
         return self
 
@@ -1911,18 +2051,16 @@ class Txn(_Owner):
         code = b"\1" + _list(operations)
         lease, db = self._lease, self._lease._db
         self._is_prepared = False
-        if self.is_open:
-            status = _library.cagzhomul_operations(self._handle, code, len(code))
+        if self._reads.is_open:
+            with db._lock:
+                status = _library.cagzhomul_read_again(db._world, self._reads, code, len(code))
         else:
-            with lease._lock:
-                status = _library.cagzhomul_transaction(lease._handle, code, len(code), self._handle)
+            with lease._lock, db._lock:
+                status = _library.cagzhomul_read(db._world, lease._handle, code, len(code), self._reads)
+        if status not in (_OK, _BAD_CODE):
+            self._end()
         # only a text over 1,024 bytes makes a bad code of what this module writes
         _check(_WRONG_TYPE if status == _BAD_CODE else status)
-        with db._lock:
-            status = _library.cagzhomul_read(db._handle, self._handle)
-        if status != _OK:
-            _library.cagzhomul_close(self._handle)
-        _check(status)
 
     def _pins(self) -> List[bytes]:
         """Operations that change nothing on the rows that it got and does not write: an update without
@@ -1939,9 +2077,9 @@ class Txn(_Owner):
             raise NotPublic(self._lease._names.by_number.get(column) if column else self._unknown, not column and self._is_key_named)
         _check(status)
 
-    def _received(self, done: _Detailed, pair: bytes = b"") -> Receipt:
-        """The receipt of what was committed; raises what the rows refuse, and other refusals, of which that of
-        a conflict is on the pair of this key."""
+    def _refuse(self, done: _Committed, pair: bytes = b"") -> None:
+        """Raises what the rows refuse, and other refusals, of which that of a conflict is on the pair of this
+        key."""
         if done.status in (_DUPLICATE, _NO_ROW):
             raise (Duplicate if done.status == _DUPLICATE else NoRow)(done.status, done.operation)
         if done.status == _LEASE_ENDED:
@@ -1949,6 +2087,10 @@ class Txn(_Owner):
         if done.status == _CONFLICT:
             raise self._lease._names.conflict(pair)
         _check(done.status)
+
+    def _received(self, done: _Committed, pair: bytes = b"") -> Receipt:
+        """The receipt of what was committed; raises what `_refuse` does."""
+        self._refuse(done, pair)
         self.receipt = Receipt(done.place)
         return self.receipt
 
@@ -1958,8 +2100,8 @@ class Txn(_Owner):
         in `receipt`, too. A call after a refusal makes the transaction again. One that has got rows is
         committed as by `commit`.
 
-        Raises WrongStage; Closed; of the first faulty operation NoTable, NotPublic or WrongType, but
-        a text that is too long is WrongType before all; TooManyOps; MomentTooLarge, BadLease,
+        Raises WrongStage; Closed; TooFar; of the first faulty operation NoTable, NotPublic or WrongType,
+        but a text that is too long is WrongType before these; TooManyOps; MomentTooLarge, BadLease,
         LeaseEnded, WrongSchema, OutOfMemory, Duplicate or NoRow.
         """
         if self._got:
@@ -1969,8 +2111,7 @@ class Txn(_Owner):
             self._check_stage()
             code = b"\1" + _list(self._operations)
             with lease._lock, db._lock:
-                # no pair changes meanwhile, so no key is written
-                done = _library.cagzhomul_write_detailed(db._handle, moment, lease._handle, code, len(code), db._out, 0)
+                done = _library.cagzhomul_write(db._world, moment, lease._handle, code, len(code))
                 if done.status == _OK:
                     db._grown(int(done.place))
             # only a text over 1,024 bytes makes a bad code of what this module writes
@@ -1982,28 +2123,74 @@ class Txn(_Owner):
         `receipt`, too. A call after a refusal makes the transaction again; but one that has got rows has
         ended then, since what was computed from them may be wrong by now.
 
-        Raises what `prepare` does, and then Closed, MomentTooLarge, BadLease, LeaseEnded, WrongSchema,
-        Conflict, OutOfMemory, which may come in place of the one before it, Duplicate or NoRow.
+        Raises what `prepare` does, and then Closed, TooFar, MomentTooLarge, BadLease, LeaseEnded,
+        WrongSchema, Conflict, OutOfMemory, which may come in place of the one before it, Duplicate or
+        NoRow.
         """
         moment, db = _at(self._now if now is None else now), self._lease._db
-        if not (self.is_open and self._is_prepared):
-            self.prepare()
-        with self._lock:
-            with db._lock:
-                done, pair = self._commit(moment, db._out, _ROOM)
-                if done.status == _OK:
-                    db._grown(int(done.place))
-            if self.is_open:
-                _library.cagzhomul_close(self._handle)
-            return self._received(done, pair)
 
-    def _commit(self, moment: int, out: Any, room: int) -> Tuple[_Detailed, bytes]:
-        """What its commit comes to, with the key of a pair that has changed, for a caller who has both locks:
-        it is asked once more with more room if all of the key did not fit."""
-        done: _Detailed = _library.cagzhomul_commit_detailed(self._lease._db._handle, moment, self._handle, out, room)
-        if done.length > room:
-            return self._commit(moment, ctypes.create_string_buffer(done.length), done.length)
-        return done, ctypes.string_at(out, done.length)
+        def ask(out: Any, room: int) -> _Committed:
+            done: _Committed = _library.cagzhomul_commit(db._world, moment, self._prepared, out, room)
+            if done.status == _OK:
+                db._grown(int(done.place))
+            return done
+
+        self._prepare_first()
+        with self._lock:
+            try:
+                return self._received(*self._asked(ask))
+            finally:
+                self._end()
+
+    def entry(self, now: Optional[Moment] = None) -> bytes:
+        """The code of the entry that `commit` would add now, at this moment or its own, and prepares it
+        first if it is not; nothing changes. `Session.repeat` of it in a world that stands here, this one
+        or that of a replica, does what the commit would. It has what the transaction writes, and not
+        what it has read: if another entry comes first, the transaction is to be made again.
+
+        It may be asked again, or committed, and takes no more operations. After a refusal it is as after
+        one of `commit`. At the end of a `with` block it would be committed: close it if it is only asked.
+
+        Raises what `commit` does.
+
+        >>> with contextlib.closing(lease.txn()) as txn:
+        ...     entry = txn.insert("people", 1, town="Ulm").entry()
+        >>> db.log_length(), db.repeat(entry), db.entry(2) == entry
+        (1, True, True)
+        """
+        moment, db = _at(self._now if now is None else now), self._lease._db
+        code = _BytesHandle()
+
+        def ask(out: Any, room: int) -> _Committed:
+            would: _Committed = _library.cagzhomul_txn_entry(db._world, moment, self._prepared, out, room, code)
+            return would
+
+        self._prepare_first()
+        with self._lock, _held(code):
+            done, pair = self._asked(ask)
+            if done.status != _OK:
+                self._end()
+            self._refuse(done, pair)
+            return _code_of(code)
+
+    def _prepare_first(self) -> None:
+        """Prepares it if it is not."""
+        if not (self._reads.is_open and self._is_prepared):
+            self.prepare()
+
+    def _asked(self, ask: Callable[[Any, int], _Committed]) -> Tuple[_Committed, bytes]:
+        """What its commit comes to, or would, by a call that takes room for the key of a pair that has changed,
+        and that key, for a caller who has its lock: it is asked once more with more room if all of the key did
+        not fit."""
+        db = self._lease._db
+        if not self._prepared.is_open:  # what `entry` has asked for; its reads are still there
+            _check(_library.cagzhomul_prepare(self._reads, self._prepared).status)
+        with db._lock:
+            out, done = db._out, ask(db._out, _ROOM)
+            if done.length > _ROOM:
+                out = ctypes.create_string_buffer(done.length)
+                done = ask(out, done.length)
+            return done, ctypes.string_at(out, done.length)
 
     def __exit__(self, kind: Optional[Type[BaseException]], _error: Optional[BaseException], _trace: Optional[TracebackType]) -> None:
         try:
@@ -2018,26 +2205,32 @@ class Piece(_Owner):
     store's lock, and then committed."""
 
     def __init__(self, session: Session) -> None:
-        super().__init__()
+        self._work, self._prepared = _PieceHandle(), _PreparedPieceHandle()
+        super().__init__(self._work, self._prepared)
         self._session = session
 
     def prepare(self) -> Piece:
         """Prepares what is put or removed for the items that were read. Raises Closed, WrongStage or
         OutOfMemory."""
         with self._lock:
-            _check(_library.cagzhomul_prepare_piece(self._handle))
+            if self._prepared.is_open:
+                raise WrongStage()
+            _check(_library.cagzhomul_prepare_piece(self._work, self._prepared))
         return self
 
     def commit(self, now: Moment) -> Worked:
         """Commits it, and it is closed: its pairs are written, and the piece goes on behind them. At Moved
         and Conflict it is to be closed and read again.
 
-        Raises Closed, NotOpened, WrongStage, MomentTooLarge, NotWanted, WrongElement, Moved, Conflict
-        or OutOfMemory.
+        Raises Closed, NotOpened, WrongStage, TooFar, MomentTooLarge, NotWanted, WrongElement, Moved,
+        Conflict or OutOfMemory.
         """
         moment, session = _at(now), self._session
         with self._lock, session._lock:
-            done = _library.cagzhomul_commit_piece(session._handle, moment, self._handle)
+            world = session._opened()
+            if world.is_open and self._work.is_open:
+                raise WrongStage()
+            done = _library.cagzhomul_commit_piece(world, moment, self._prepared)
             if done.status == _OK:
                 session._grown(int(done.place))
         _check(done.status)
@@ -2071,10 +2264,10 @@ def retry(attempts: int, attempt: Callable[[], _Result]) -> _Result:
 
 
 @overload
-def open(*, at: Optional[bytes] = None) -> Session: ...
+def open(*, at: Optional[bytes] = None, furthest_jump: Optional[int] = None) -> Session: ...
 @overload
-def open(tables: Tables, lease_length: int = 10, keep: Optional[int] = 10_000, at: Optional[bytes] = None) -> Db: ...
-def open(tables: Optional[Tables] = None, lease_length: int = 10, keep: Optional[int] = 10_000, at: Optional[bytes] = None) -> Session:
+def open(tables: Tables, lease_length: int = 10, keep: Optional[int] = 10_000, at: Optional[bytes] = None, furthest_jump: Optional[int] = None) -> Db: ...
+def open(tables: Optional[Tables] = None, lease_length: int = 10, keep: Optional[int] = 10_000, at: Optional[bytes] = None, furthest_jump: Optional[int] = None) -> Session:
     """A new session, before its line `open`, or a store with these tables.
 
     The tables are `Table`s, or columns by the names of tables: `{"people": {"id": "int key", "town":
@@ -2086,11 +2279,22 @@ def open(tables: Optional[Tables] = None, lease_length: int = 10, keep: Optional
     keys count, are to be those that were opened then, and the lease length is the checkpoint's. Raises
     BadCode if no world may open from the bytes, then BadTable if its tables are others.
 
-    Raises BadTable, BadLength or OutOfMemory, and ValueError for another type.
+    With a `furthest_jump`, of at least 1, a call with a moment that is more than so many moments beyond
+    that of the log's last entry is refused as TooFar, so that a clock that is far ahead does not take
+    all others along. Before the first entry no moment is too far. It is no part of a checkpoint, and
+    all replicas of one log have the same. A session whose world is opened by its line `open` has none.
+
+    Raises BadTable, BadLength or OutOfMemory, and ValueError for another type, and for a furthest jump
+    without tables and `at`.
 
     >>> with cagzhomul.open([Table("shop", {"city": str, "number": int}, {"open": bool}, {"by_open": ["open"]})], lease_length=1000) as db:
     ...     with db.lease(0) as lease:
     ...         lease.until, lease.insert("shop", ("Ulm", 7), open=True), lease.query(0, "select open from shop")
     (1000, Receipt(place=2), [{'city': 'Ulm', 'number': 7, 'open': True}])
     """
-    return Session(_checkpoint=at) if tables is None else Db(tables, lease_length, keep, at)
+    if tables is not None:
+        return Db(tables, lease_length, keep, at, furthest_jump)
+    jump = _jump(furthest_jump)
+    if at is None and furthest_jump is not None:
+        raise ValueError("a world that is opened by the line `open` has no furthest jump")
+    return Session(_checkpoint=at, _jump=jump)

@@ -10,18 +10,17 @@ import struct
 from typing import Any, Callable, Dict, Iterable, List, Mapping, NamedTuple, Optional, Tuple, TypeVar
 
 import cagzhomul
-from cagzhomul import _BYTES, _HANDLE, _NUMBER, _SIZE, _SMALL, _STATUS, _Checked, _Handle, _library, _list, _number, _number_at
+from cagzhomul import _CODE, _NUMBER, _SIZE, _SMALL, _STATUS, _Checked, _library, _list, _number, _number_at
 
 from .store import BadAnswer, Draft, Pair
 
 OK, BAD_COUNT, NOT_PUBLIC, DUPLICATE, NO_ROW, DEPENDENT, UNFINISHED, BAD_PIECE = 0, 12, 21, 29, 30, 35, 38, 42
 
 
-class _Layered(ctypes.Structure): _fields_ = [("status", _STATUS), ("column", _SMALL), ("number", _NUMBER)]
+class _Layered(ctypes.Structure): _fields_ = [("status", _STATUS), ("column", _SMALL), ("number", _NUMBER), ("length", _SIZE)]
 class _Due(ctypes.Structure): _fields_ = [("status", _STATUS), ("act", _SMALL), ("element", _SMALL), ("piece", _NUMBER)]
 
 
-_CODE: List[Any] = [_BYTES, _SIZE]
 _PARAMETERS: Dict[str, List[Any]] = {
     "open": _CODE, "reads": 2 * _CODE, "txn": [_NUMBER, *4 * _CODE], "ranges": 2 * _CODE, "row_ranges": 3 * _CODE, "rows": 3 * _CODE, "plan": 2 * _CODE,
     "publish": [_SMALL, *3 * _CODE], "close": [_SMALL, *_CODE], "begin": [_SMALL, *_CODE, _SMALL, *_CODE], "piece": [*_CODE, _SMALL, *3 * _CODE],
@@ -29,10 +28,9 @@ _PARAMETERS: Dict[str, List[Any]] = {
 }
 # the functions of the library by name, found once
 _CALLS: Dict[str, Any] = {}
-_close, _rows_from = _library.cagzhomul_close, _library.cagzhomul_rows_from
-# how many bytes of an answer are asked for first
-_ROOM = 4096
-_Room: Any = ctypes.c_char * _ROOM
+# arrays of bytes by the logarithm of their length, of which the least is for most answers
+_ROOMS: List[Any] = [ctypes.c_char * (1 << it) for it in range(40)]
+_LEAST = 12
 _Read = TypeVar("_Read")
 # what cagzhomul_layer_due says is due, by its number
 ACTS = "nothing", "begin", "close", "publish", "work"
@@ -44,7 +42,7 @@ def _declared() -> None:
         function = getattr(_library, f"cagzhomul_layer_{name}", None)
         if function is None:
             raise ImportError(f"the library has no cagzhomul_layer_{name}: it is older than this module")
-        function.restype, function.argtypes = (_Due, parameters) if name == "due" else (_Layered, [*parameters, _HANDLE])
+        function.restype, function.argtypes = (_Due, parameters) if name == "due" else (_Layered, [*parameters, *_CODE])
         _CALLS[name] = function
     _library.cagzhomul_layer_check.restype, _library.cagzhomul_layer_check.argtypes = _Checked, 2 * _CODE
     _library.cagzhomul_layer_check_page.restype, _library.cagzhomul_layer_check_page.argtypes = _Checked, 4 * _CODE
@@ -70,29 +68,22 @@ class Refusal(Exception):
 
 def asked(name: str, *given: Any) -> Answered:
     """Calls a function: each of `given` is bytes, which go with their length, or a number. Raises Refusal."""
-    out, words = _Handle(), []
+    words, length = [], 0
     for it in given:
         words.append(it)
         if isinstance(it, bytes):
             words.append(len(it))
-    try:
-        done = _CALLS[name](*words, out)
+            length += len(it)
+    # what is given is about as long as what comes of it; a call that did not fit is made again
+    while True:
+        room = max(_LEAST, (2 * length).bit_length())
+        out = _ROOMS[room]()
+        done = _CALLS[name](*words, out, 1 << room)
         if done.status != OK:
             raise Refusal(done.status, done.column, done.number)
-        return Answered(_code_of(out), done.number)
-    finally:
-        _close(out)
-
-
-def _code_of(held: _Handle) -> bytes:
-    """The code that a handle holds."""
-    room = _Room()
-    length: int = _rows_from(held, 0, room, _ROOM).length
-    if length > _ROOM:
-        room = (ctypes.c_char * length)()
-        _rows_from(held, 0, room, length)
-    code: bytes = room[:length]  # the one copy, of that many bytes
-    return code
+        length = done.length
+        if length <= 1 << room:
+            return Answered(out[:length], done.number)  # the one copy, of that many bytes
 
 
 def due(before: int, version: bytes, found: Iterable[Pair], steps: Iterable[bytes]) -> Tuple[str, int, int]:

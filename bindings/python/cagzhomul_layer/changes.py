@@ -74,7 +74,7 @@ class Records:
     def __init__(self, pairs: Dict[bytes, bytes]) -> None:
         versions = [number_of(key) for key in pairs if key[:1] == VERSIONS]
         if not versions:
-            raise cagzhomul.NotOpened(6)
+            raise cagzhomul.NotOpened()
         self.pairs, self.number, self.is_before_open = pairs, max(versions), len(versions) > 1
         self.version = pairs[version_key(self.number)]
         self.schema = cagzhomul._schema(self.version)

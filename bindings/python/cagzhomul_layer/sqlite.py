@@ -72,7 +72,7 @@ class SqliteStore:
                 except sqlite3.OperationalError:
                     if time.monotonic() >= end:
                         raise
-                    time.sleep(random.uniform(0.001, 0.01))
+                    time.sleep(random.uniform(0.0002, 0.002))
         finally:
             self._connection.execute(f"PRAGMA busy_timeout = {int(1000 * self._seconds)}")
 

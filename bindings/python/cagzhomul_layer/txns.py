@@ -84,7 +84,7 @@ class Server:
         """Reads which version is the newest, and says whether it is another than was known."""
         versions = versions_of(self.store)
         if not versions:
-            raise cagzhomul.NotOpened(6)
+            raise cagzhomul.NotOpened()
         number = max(versions)
         if self._newest is not None and (self._newest.number, self._newest.record) == (number, versions[number]):
             return False
@@ -144,7 +144,7 @@ class Txn:
 
     def _check_stage(self) -> None:
         if self._has_ended:
-            raise cagzhomul.WrongStage(cagzhomul._WRONG_STAGE)
+            raise cagzhomul.WrongStage()
 
     def get(self, table: str, key: Key, /) -> Optional[Row]:
         """A row as the store holds it, a dict of its key columns and all public columns, or None if it is not there; what this

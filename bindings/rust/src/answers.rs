@@ -4,7 +4,6 @@ pub(crate) const OK: i32 = 0;
 pub(crate) const BAD_LINE: i32 = 1;
 pub(crate) const CLOSED: i32 = 2;
 pub(crate) const OUT_OF_MEMORY: i32 = 5;
-pub(crate) const NOT_OPENED: i32 = 6;
 pub(crate) const NO_ENTRY: i32 = 7;
 pub(crate) const BAD_ENTRY: i32 = 8;
 pub(crate) const NOT_NEXT: i32 = 9;
@@ -13,7 +12,6 @@ pub(crate) const FINISHED: i32 = 11;
 pub(crate) const BAD_COUNT: i32 = 12;
 pub(crate) const MOMENT_TOO_LARGE: i32 = 13;
 pub(crate) const VERSIONS_SPENT: i32 = 14;
-pub(crate) const WRONG_STAGE: i32 = 16;
 pub(crate) const BAD_CODE: i32 = 17;
 pub(crate) const BAD_TABLE: i32 = 18;
 pub(crate) const BAD_LENGTH: i32 = 19;
@@ -43,6 +41,10 @@ pub(crate) const SPENT: i32 = 43;
 pub(crate) const WRONG_ELEMENT: i32 = 44;
 pub(crate) const MOVED: i32 = 45;
 pub(crate) const IN_CHANGE: i32 = 46;
+pub(crate) const TOO_FAR: i32 = 47;
+
+/// `CAGZHOMUL_ANY_JUMP`.
+pub(crate) const ANY_JUMP: u64 = u64::MAX;
 
 /// `cagzhomul_outcome`.
 #[repr(C)]
@@ -79,10 +81,10 @@ pub(crate) struct Prepared {
     pub(crate) column: u32,
 }
 
-/// `cagzhomul_detailed`.
+/// `cagzhomul_committed`.
 #[repr(C)]
 #[derive(Clone, Copy)]
-pub(crate) struct Detailed {
+pub(crate) struct Committed {
     pub(crate) status: i32,
     pub(crate) column: u32,
     pub(crate) place: u64,

@@ -1,11 +1,12 @@
 //! Schema changes, driven step by step.
 
+use crate::advance::{Due, Step};
 use crate::code::{self, Code};
 use crate::db::Db;
 use crate::error::Error;
 use crate::names::Names;
 use crate::plan::{number_of, plan_refusal, SchemaChange};
-use crate::session::{fetch, Session, Step};
+use crate::session::{fetch, Session};
 use crate::steps::steps_of;
 use crate::wanted::Wanted;
 use crate::words::is_list;
@@ -178,7 +179,8 @@ impl Session {
         let first = self.publish_first(change, now);
         let waits = matches!(
             first,
-            Ok(Step::Waiting { .. }) | Err(Error::MomentTooLarge | Error::OutOfMemory)
+            Ok(Step::Waiting { .. })
+                | Err(Error::TooFar | Error::MomentTooLarge | Error::OutOfMemory)
         );
         if !waits {
             *waiting = None;
@@ -186,17 +188,30 @@ impl Session {
         first.map(Some)
     }
 
+    /// What [`Session::begin_waiting`] would come to; `None` if no change waits. It is tried in a fork
+    /// of the world.
+    pub(crate) fn due_of_waiting(&self, now: u64) -> Result<Option<Due>, Error> {
+        let waiting = self.waiting.lock().unwrap_or_else(PoisonError::into_inner);
+        let Some(change) = &*waiting else {
+            return Ok(None);
+        };
+        let trial = self.fork()?;
+        Ok(Some(match trial.publish_first(change, now)? {
+            Step::Acted => Due::Entry(trial.entry(trial.log_length()?)?),
+            Step::Waiting { until } => Due::Waiting { until },
+        }))
+    }
+
     /// Publishes the first step of a change's plan, unless it is too early. Both calls are under one
     /// lock, so that the plan is of the newest version.
     fn publish_first(&self, change: &WaitingChange, now: u64) -> Result<Step, Error> {
-        let mut handle = self.lock();
-        let plan =
-            fetch(|_, out| handle.plan(change.code.as_bytes(), out)).map_err(plan_refusal)?;
+        let mut world = self.world()?;
+        let plan = fetch(|_, out| world.plan(change.code.as_bytes(), out)).map_err(plan_refusal)?;
         let steps = steps_of(&plan, &change.names)?;
         let Some(first) = steps.first() else {
             return Err(Error::Reply("a plan without steps".to_string()));
         };
-        match number_of(handle.publish(now, &first.code)) {
+        match number_of(world.publish(now, &first.code)) {
             Ok(_) => {
                 self.published();
                 Ok(Step::Acted)

@@ -1,17 +1,17 @@
 //! A database.
 
+use crate::advance::{Due, Step};
 use crate::change::Change;
-use crate::code;
 use crate::error::Error;
-use crate::ffi::Handle;
+use crate::ffi::LeaseHandle;
 use crate::lease::{Grant, Lease, Store};
-use crate::library::check_library;
 use crate::names::Names;
+use crate::open::OpenOptions;
 use crate::plan::SchemaChange;
 use crate::query::Query;
 use crate::rows::Row;
 use crate::schema::schema_of;
-use crate::session::{done, Session, Step};
+use crate::session::{done, Session};
 use crate::snapshot::Check;
 use crate::table::Table;
 use crate::wanted::Wanted;
@@ -27,7 +27,8 @@ pub const DEFAULT_KEEP: u64 = 10_000;
 ///
 /// Any number of threads may share it: a lock has one call at a time, and transactions are made and
 /// prepared outside it. Moments (`now`) are numbers of the caller's clock; one that is below the
-/// moment of the last entry of the log counts as that.
+/// moment of the last entry of the log counts as that, and [`OpenOptions::furthest_jump`] refuses
+/// those that are too far after it.
 ///
 /// ```
 /// use cagzhomul::{Db, Table};
@@ -64,7 +65,7 @@ impl Db {
     }
 
     /// Opens a store with these tables. A lease lasts `lease_length` moments, from 1 to 2^32, and
-    /// each version stays the newest for as long.
+    /// each version stays the newest for as long. [`OpenOptions`] can also give it a furthest jump.
     ///
     /// Refusals: [`Error::BadTable`], [`Error::BadLength`], [`Error::OutOfMemory`].
     ///
@@ -81,15 +82,11 @@ impl Db {
         lease_length: u64,
         tables: impl IntoIterator<Item = Table>,
     ) -> Result<Db, Error> {
-        check_library()?;
-        let tables: Vec<Table> = tables.into_iter().collect();
-        let mut handle = Handle::closed();
-        done(handle.open_tables(code::opening(lease_length, &tables).as_bytes()))?;
-        Db::over(Session::over(handle), &tables)
+        OpenOptions::new().lease_length(lease_length).open(tables)
     }
 
     /// A store over a session, whose tables are to be these: their names and their keys count.
-    fn over(session: Session, tables: &[Table]) -> Result<Db, Error> {
+    pub(crate) fn over(session: Session, tables: &[Table]) -> Result<Db, Error> {
         let names = Names::new(0, session.schema()?);
         let opened = names.schema().tables.iter().map(|it| (&it.name, &it.key));
         if !opened.eq(tables.iter().map(|it| (&it.name, &it.key))) {
@@ -123,8 +120,7 @@ impl Db {
         checkpoint: &[u8],
         tables: impl IntoIterator<Item = Table>,
     ) -> Result<Db, Error> {
-        let tables: Vec<Table> = tables.into_iter().collect();
-        Db::over(Session::open_at(checkpoint)?, &tables)
+        OpenOptions::new().open_at(checkpoint, tables)
     }
 
     /// The last so many entries of the log stay in memory, and the older ones are given back once there
@@ -149,8 +145,8 @@ impl Db {
     /// Grants a lease on the newest version: transactions and queries under it see that version's
     /// columns and indexes.
     ///
-    /// Refusals: [`Error::Closed`], [`Error::MomentTooLarge`], [`Error::OutOfMemory`], which may
-    /// come in place of the one before it.
+    /// Refusals: [`Error::Closed`], [`Error::TooFar`], [`Error::MomentTooLarge`],
+    /// [`Error::OutOfMemory`], which may come in place of the one before it.
     ///
     /// ```
     /// # use cagzhomul::{Db, Table, Type};
@@ -185,14 +181,17 @@ impl Db {
 
     /// Grants a lease, with the names of its version.
     fn grant(&self, now: u64) -> Result<Grant, Error> {
-        let mut lease = Handle::closed();
-        let mut session = self.session.lock();
-        let granted = session.lease(now, &mut lease);
+        let mut lease = LeaseHandle::closed();
+        let mut world = self.session.world()?;
+        let granted = world.lease(now, &mut lease);
         done(granted.status)?;
-        self.session.grown(&mut session, granted.place);
+        self.session.grown(&mut world, granted.place);
         let mut names = self.names.lock().unwrap_or_else(PoisonError::into_inner);
         if names.version() != granted.version {
-            *names = Arc::new(Names::new(granted.version, schema_of(&mut lease)?));
+            *names = Arc::new(Names::new(
+                granted.version,
+                schema_of(|code| lease.schema(code))?,
+            ));
         }
         Ok(Grant::new(lease, granted, Arc::clone(&names)))
     }
@@ -275,7 +274,7 @@ impl Db {
     /// # Ok::<(), cagzhomul::Error>(())
     /// ```
     pub fn check(&self) -> Result<Check, Error> {
-        Check::of(&mut self.session.lock())
+        Check::found(self.session.world()?.check())
     }
 
     /// The session, which has the lines, and the calls for replicas.
@@ -303,8 +302,8 @@ impl Db {
     /// change waits; [`Error::Closed`]; [`Error::BadLine`], of which
     /// [`BadWords`](crate::BadWords) has the place; [`Error::Unknown`],
     /// [`Error::NameTaken`], [`Error::StillIndexed`], [`Error::InChange`] or [`Error::Limit`];
-    /// [`Error::MomentTooLarge`]; [`Error::VersionsSpent`]; [`Error::OutOfMemory`]. The steps have
-    /// those of [`Db::advance`].
+    /// [`Error::TooFar`]; [`Error::MomentTooLarge`]; [`Error::VersionsSpent`];
+    /// [`Error::OutOfMemory`]. The steps have those of [`Db::advance`].
     ///
     /// ```
     /// # use cagzhomul::{Db, Error, Step, Table, Type};
@@ -372,6 +371,13 @@ impl Db {
     /// ```
     pub fn advance(&self, now: u64, pieces: u32, limit: u32) -> Result<Option<Step>, Error> {
         self.session.advance(now, pieces, limit)
+    }
+
+    /// The entry that [`Db::advance`] would add now, and nothing changes: [`Session::due_entry`].
+    ///
+    /// Refusals: those of [`Session::due_entry`].
+    pub fn due_entry(&self, now: u64, pieces: u32, limit: u32) -> Result<Option<Due>, Error> {
+        self.session.due_entry(now, pieces, limit)
     }
 
     /// The steps that complete the changes under way, and that which waits, whoever began them, as

@@ -14,8 +14,8 @@ pub enum Error {
     BadLine,
     /// The session was closed, since memory ran out over a line.
     Closed,
-    /// The library ran out of memory. If it could not answer a line, a query or a change for it,
-    /// the session is freed, and every later call is refused as [`Error::Closed`].
+    /// The library ran out of memory. If it could not answer a line for it, the session may be freed,
+    /// and then every later call is refused as [`Error::Closed`].
     OutOfMemory,
     /// The session has no world yet: it is before its line `open`. A store of one's own has no
     /// database.
@@ -30,6 +30,9 @@ pub enum Error {
     NotNext,
     /// The pieces are not 1 to 64, or the limit is not 1 to 1,000.
     BadCount,
+    /// The moment is further after that of the log's last entry than the store allows
+    /// ([`OpenOptions::furthest_jump`](crate::OpenOptions::furthest_jump)).
+    TooFar,
     /// The moment is above 2^62.
     MomentTooLarge,
     /// A publication is due, and there are 1,000,000 versions.
@@ -160,14 +163,12 @@ impl Error {
             ffi::BAD_LINE => Error::BadLine,
             ffi::CLOSED => Error::Closed,
             ffi::OUT_OF_MEMORY => Error::OutOfMemory,
-            ffi::NOT_OPENED => Error::NotOpened,
             ffi::NO_ENTRY => Error::NoEntry,
             ffi::BAD_ENTRY => Error::BadEntry,
             ffi::NOT_NEXT => Error::NotNext,
             ffi::BAD_COUNT => Error::BadCount,
             ffi::MOMENT_TOO_LARGE => Error::MomentTooLarge,
             ffi::VERSIONS_SPENT => Error::VersionsSpent,
-            ffi::WRONG_STAGE => Error::WrongStage,
             ffi::BAD_TABLE => Error::BadTable,
             ffi::BAD_LENGTH => Error::BadLength,
             ffi::NO_TABLE => Error::NoTable,
@@ -188,6 +189,7 @@ impl Error {
             ffi::WRONG_ELEMENT => Error::WrongElement,
             ffi::MOVED => Error::Moved,
             ffi::IN_CHANGE => Error::InChange,
+            ffi::TOO_FAR => Error::TooFar,
             other => Error::Status(other),
         }
     }
@@ -215,6 +217,9 @@ impl Error {
             Error::BadCheckpoint => "no world may open from these bytes",
             Error::NotNext => "no call of this world would add the entry",
             Error::BadCount => "the pieces are not 1 to 64, or the limit is not 1 to 1,000",
+            Error::TooFar => {
+                "the moment is further beyond that of the last entry than the world allows"
+            }
             Error::MomentTooLarge => "the moment is above 2^62",
             Error::VersionsSpent => "no version is left",
             Error::BadTable => "the declaration breaks a limit, or uses a name twice",
@@ -313,6 +318,10 @@ mod tests {
             if !matches!(error, Error::Status(_)) {
                 assert_eq!(error.to_string(), ffi::text_of(status), "{status}");
             }
+        }
+        assert_eq!(Error::of(ffi::TOO_FAR), Error::TooFar);
+        for gone in [6, 15, 16] {
+            assert_eq!(Error::of(gone), Error::Status(gone));
         }
         let (until, now) = (15, 20);
         let ended = Error::LeaseEnded { until, now };

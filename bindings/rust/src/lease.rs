@@ -2,7 +2,7 @@
 
 use crate::db::Db;
 use crate::error::Error;
-use crate::ffi::{self, Granted, Handle};
+use crate::ffi::{self, Granted, LeaseHandle, SnapshotHandle, WorldHandle};
 use crate::names::Names;
 use crate::pages::{find_page, KeyRange, Page};
 use crate::query::{find, Query};
@@ -19,13 +19,13 @@ use std::sync::{Arc, Mutex, MutexGuard, PoisonError};
 
 /// A lease as it was granted, with the names of its version.
 pub(crate) struct Grant {
-    handle: Mutex<Handle>,
+    handle: Mutex<LeaseHandle>,
     granted: Granted,
     names: Arc<Names>,
 }
 
 impl Grant {
-    pub(crate) fn new(handle: Handle, granted: Granted, names: Arc<Names>) -> Grant {
+    pub(crate) fn new(handle: LeaseHandle, granted: Granted, names: Arc<Names>) -> Grant {
         let handle = Mutex::new(handle);
         Grant {
             handle,
@@ -47,24 +47,24 @@ impl Grant {
         query: &Query,
     ) -> Result<Vec<Row>, Error> {
         find(query, &self.names, |code, rows| {
-            let mut session = session.lock();
-            let queried = session.query(now, &mut self.lock(), code, rows);
-            self.in_force(&mut session, now, queried.status)?;
+            let mut world = session.world()?;
+            let queried = world.query(now, &mut self.lock(), code, rows);
+            self.in_force(&mut world, now, queried.status)?;
             Ok(queried)
         })
     }
 
-    /// Whether a call of this session under it, with this status, was not refused since it has ended.
-    fn in_force(&self, session: &mut Handle, now: u64, status: i32) -> Result<(), Error> {
+    /// Whether a call of this world under it, with this status, was not refused since it has ended.
+    fn in_force(&self, world: &mut WorldHandle, now: u64, status: i32) -> Result<(), Error> {
         if status != ffi::LEASE_ENDED {
             return Ok(());
         }
-        let (until, now) = (self.granted.until, now.max(moment_of(session)?));
+        let (until, now) = (self.granted.until, now.max(moment_of(world)?));
         Err(Error::LeaseEnded { until, now })
     }
 
     /// The handle. Its lock is taken after that of the session.
-    fn lock(&self) -> MutexGuard<'_, Handle> {
+    fn lock(&self) -> MutexGuard<'_, LeaseHandle> {
         self.handle.lock().unwrap_or_else(PoisonError::into_inner)
     }
 }
@@ -225,10 +225,10 @@ impl<'db> Lease<'db> {
 
     /// The rows of a query, by rising primary key.
     ///
-    /// Refusals: [`Error::Closed`], [`Error::MomentTooLarge`], [`Error::BadLease`],
-    /// [`Error::LeaseEnded`], [`Error::NoTable`]; of the first faulty column or condition
-    /// [`Error::NotPublic`] or [`Error::WrongType`], but a text that is too long is
-    /// [`Error::WrongType`] before all but [`Error::Closed`]; [`Error::OutOfMemory`].
+    /// Refusals: [`Error::Closed`], [`Error::TooFar`], [`Error::MomentTooLarge`],
+    /// [`Error::BadLease`], [`Error::LeaseEnded`], [`Error::NoTable`]; of the first faulty column or
+    /// condition [`Error::NotPublic`] or [`Error::WrongType`], but a text that is too long is
+    /// [`Error::WrongType`] before all but the first two; [`Error::OutOfMemory`].
     ///
     /// ```
     /// # use cagzhomul::{Db, Error, Query, Table, Type, Value};
@@ -259,22 +259,22 @@ impl<'db> Lease<'db> {
         limit: u32,
     ) -> Result<Page, Error> {
         find_page(query, range, limit, self.names(), |code, rows| {
-            let mut session = self.db.session().lock();
-            let paged = session.query_page(now, &mut self.lock(), code, rows);
-            self.grant.in_force(&mut session, now, paged.status)?;
+            let mut world = self.db.session().world()?;
+            let paged = world.query_page(now, &mut self.lock(), code, rows);
+            self.grant.in_force(&mut world, now, paged.status)?;
             Ok(paged)
         })
     }
 
     /// What the store holds now, for queries and audits that need no lock of it.
     ///
-    /// Refusals: [`Error::Closed`], [`Error::MomentTooLarge`], [`Error::BadLease`],
-    /// [`Error::LeaseEnded`], [`Error::OutOfMemory`].
+    /// Refusals: [`Error::Closed`], [`Error::TooFar`], [`Error::MomentTooLarge`],
+    /// [`Error::BadLease`], [`Error::LeaseEnded`], [`Error::OutOfMemory`].
     pub fn snapshot(&self, now: u64) -> Result<Snapshot, Error> {
-        let mut handle = Handle::closed();
-        let mut session = self.db.session().lock();
-        let status = session.snapshot(now, &mut self.lock(), &mut handle);
-        self.grant.in_force(&mut session, now, status)?;
+        let mut handle = SnapshotHandle::closed();
+        let mut world = self.db.session().world()?;
+        let status = world.snapshot(now, &mut self.lock(), &mut handle);
+        self.grant.in_force(&mut world, now, status)?;
         done(status)?;
         Ok(Snapshot::over(handle, Arc::clone(&self.grant.names)))
     }
@@ -284,7 +284,7 @@ impl<'db> Lease<'db> {
         &self.grant.names
     }
 
-    pub(crate) fn lock(&self) -> MutexGuard<'_, Handle> {
+    pub(crate) fn lock(&self) -> MutexGuard<'_, LeaseHandle> {
         self.grant.lock()
     }
 }

@@ -38,6 +38,7 @@
 #![deny(missing_docs)]
 #![deny(unsafe_code)]
 
+mod advance;
 mod answers;
 mod change;
 mod code;
@@ -49,6 +50,7 @@ pub mod layer;
 mod lease;
 mod library;
 mod names;
+mod open;
 mod operations;
 mod pages;
 mod piece;
@@ -67,17 +69,19 @@ mod value;
 mod wanted;
 mod words;
 
+pub use advance::{Due, Step};
 pub use change::Change;
 pub use db::{Db, DEFAULT_KEEP, DEFAULT_LEASE_LENGTH};
 pub use error::Error;
 pub use lease::Lease;
+pub use open::OpenOptions;
 pub use pages::{KeyRange, Page, Pages};
 pub use piece::{Piece, PreparedPiece, Progress, Worked};
 pub use plan::{Entering, Move, PlannedStep, Reorganisation, SchemaChange, State};
 pub use query::Query;
 pub use rows::Row;
 pub use schema::{Schema, SchemaElement, SchemaKind, SchemaTable};
-pub use session::{Session, Step};
+pub use session::Session;
 pub use snapshot::{Check, Snapshot};
 pub use table::{Table, Type};
 pub use txn::{retry, Prepared, Receipt, Txn};

@@ -1,11 +1,11 @@
 //! Queries that are read page by page.
 
 use crate::error::Error;
-use crate::ffi::{self, Handle, Paged};
+use crate::ffi::{self, BytesHandle, Paged};
 use crate::names::Names;
 use crate::query::Query;
 use crate::rows::{rows_of, Row};
-use crate::session::fetch;
+use crate::session::bytes_of;
 use crate::snapshot::Snapshot;
 use crate::value::Key;
 
@@ -103,13 +103,13 @@ pub(crate) fn find_page(
     range: &KeyRange,
     limit: u32,
     names: &Names,
-    ask: impl FnOnce(&[u8], &mut Handle) -> Result<Paged, Error>,
+    ask: impl FnOnce(&[u8], &mut BytesHandle) -> Result<Paged, Error>,
 ) -> Result<Page, Error> {
-    let mut rows = Handle::closed();
+    let mut rows = BytesHandle::closed();
     let paged = ask(query.request(range, limit, names).as_bytes(), &mut rows)?;
     match paged.status {
         ffi::OK => {
-            let code = fetch(|_, out| rows.rows_from(0, out))?;
+            let code = bytes_of(&mut rows)?;
             let rows = rows_of(&code, &query.selected(names), names)?;
             let more = paged.more == 1;
             Ok(Page { rows, more })

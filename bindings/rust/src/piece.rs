@@ -2,7 +2,7 @@
 
 use crate::db::Db;
 use crate::error::Error;
-use crate::ffi::Handle;
+use crate::ffi::{PieceHandle, PreparedPieceHandle};
 use crate::session::done;
 use std::fmt;
 
@@ -32,7 +32,7 @@ pub struct Worked {
 #[must_use = "a piece goes on only as it is committed"]
 pub struct Piece<'db> {
     db: &'db Db,
-    handle: Handle,
+    handle: PieceHandle,
 }
 
 impl<'db> Piece<'db> {
@@ -41,11 +41,10 @@ impl<'db> Piece<'db> {
     ///
     /// Refusal: [`Error::OutOfMemory`].
     pub fn prepare(mut self) -> Result<PreparedPiece<'db>, Error> {
-        done(self.handle.prepare_piece())?;
-        Ok(PreparedPiece {
-            db: self.db,
-            handle: self.handle,
-        })
+        let mut handle = PreparedPieceHandle::closed();
+        done(self.handle.prepare(&mut handle))?;
+        let db = self.db;
+        Ok(PreparedPiece { db, handle })
     }
 }
 
@@ -53,21 +52,21 @@ impl<'db> Piece<'db> {
 #[must_use = "a piece goes on only as it is committed"]
 pub struct PreparedPiece<'db> {
     db: &'db Db,
-    handle: Handle,
+    handle: PreparedPieceHandle,
 }
 
 impl PreparedPiece<'_> {
     /// Commits the items: their pairs are written, and the piece goes on behind them. At
     /// [`Error::Moved`] and [`Error::Conflict`] the piece is to be read again.
     ///
-    /// Refusals: [`Error::Closed`], [`Error::MomentTooLarge`], [`Error::NotWanted`],
-    /// [`Error::WrongElement`], [`Error::Moved`], [`Error::Conflict`], [`Error::OutOfMemory`], which
-    /// may come in place of the two before it.
+    /// Refusals: [`Error::Closed`], [`Error::TooFar`], [`Error::MomentTooLarge`],
+    /// [`Error::NotWanted`], [`Error::WrongElement`], [`Error::Moved`], [`Error::Conflict`],
+    /// [`Error::OutOfMemory`], which may come in place of the two before it.
     pub fn commit(mut self, now: u64) -> Result<Worked, Error> {
-        let mut session = self.db.session().lock();
-        let pieced = session.commit_piece(now, &mut self.handle);
+        let mut world = self.db.session().world()?;
+        let pieced = world.commit_piece(now, &mut self.handle);
         done(pieced.status)?;
-        self.db.session().grown(&mut session, pieced.place);
+        self.db.session().grown(&mut world, pieced.place);
         Ok(Worked {
             place: pieced.place,
             ended: pieced.ended,
@@ -101,9 +100,9 @@ impl Db {
     /// # Ok::<(), cagzhomul::Error>(())
     /// ```
     pub fn read_piece(&self, element: u32, piece: u32, limit: u32) -> Result<Piece<'_>, Error> {
-        let mut handle = Handle::closed();
-        let mut session = self.session().lock();
-        done(session.read_piece(element, piece, limit, &mut handle))?;
+        let mut handle = PieceHandle::closed();
+        let mut world = self.session().world()?;
+        done(world.read_piece(element, piece, limit, &mut handle))?;
         Ok(Piece { db: self, handle })
     }
 
@@ -112,7 +111,7 @@ impl Db {
     ///
     /// Refusals: [`Error::Closed`]; [`Error::NotWanted`] if none has begun, or it is over.
     pub fn progress(&self, element: u32) -> Result<Progress, Error> {
-        let progressed = self.session().lock().progress(element);
+        let progressed = self.session().world()?.progress(element);
         done(progressed.status)?;
         Ok(Progress {
             ended: progressed.ended,

@@ -268,19 +268,19 @@ impl Db {
     pub fn plan(&self, changes: &[SchemaChange]) -> Result<Vec<PlannedStep>, Error> {
         let names = self.names();
         let code = code::changes(changes, |table| names.table(table));
-        let mut session = self.session().lock();
-        let plan = fetch(|_, out| session.plan(code.as_bytes(), out)).map_err(plan_refusal)?;
+        let mut world = self.session().world()?;
+        let plan = fetch(|_, out| world.plan(code.as_bytes(), out)).map_err(plan_refusal)?;
         steps_of(&plan, &names)
     }
 
     /// Publishes a step of a plan: the answer is the number of the version, which is the newest
     /// from then on.
     ///
-    /// Refusals: [`Error::Closed`], [`Error::MomentTooLarge`], [`Error::TooEarly`]; of the first
-    /// move that is not allowed [`Error::Unknown`], [`Error::NotAdjacent`], [`Error::WrongWay`],
-    /// [`Error::Dependent`], [`Error::NameTaken`] or [`Error::Limit`]; [`Error::Unfinished`];
-    /// [`Error::VersionsSpent`]; [`Error::OutOfMemory`], which may come in place of those after
-    /// [`Error::Closed`].
+    /// Refusals: [`Error::Closed`], [`Error::TooFar`], [`Error::MomentTooLarge`],
+    /// [`Error::TooEarly`]; of the first move that is not allowed [`Error::Unknown`],
+    /// [`Error::NotAdjacent`], [`Error::WrongWay`], [`Error::Dependent`], [`Error::NameTaken`] or
+    /// [`Error::Limit`]; [`Error::Unfinished`]; [`Error::VersionsSpent`]; [`Error::OutOfMemory`],
+    /// which may come in place of those after [`Error::TooFar`].
     ///
     /// ```
     /// # use cagzhomul::{Db, Error, SchemaChange, Table, Type};
@@ -292,8 +292,8 @@ impl Db {
     /// # Ok::<(), Error>(())
     /// ```
     pub fn publish(&self, now: u64, step: &PlannedStep) -> Result<u64, Error> {
-        let mut session = self.session().lock();
-        let version = number_of(session.publish(now, &step.code))?;
+        let mut world = self.session().world()?;
+        let version = number_of(world.publish(now, &step.code))?;
         self.session().published();
         Ok(version)
     }
@@ -301,10 +301,11 @@ impl Db {
     /// Begins the fill or the clear that an element wants, in 1 to 64 pieces, each of about as many
     /// rows; the answer is the place of its entry in the log.
     ///
-    /// Refusals: [`Error::Closed`], [`Error::MomentTooLarge`], [`Error::NotWanted`],
-    /// [`Error::StillUsed`], [`Error::Begun`], [`Error::BadCount`], [`Error::OutOfMemory`].
+    /// Refusals: [`Error::Closed`], [`Error::TooFar`], [`Error::MomentTooLarge`],
+    /// [`Error::NotWanted`], [`Error::StillUsed`], [`Error::Begun`], [`Error::BadCount`],
+    /// [`Error::OutOfMemory`].
     pub fn begin_reorg(&self, now: u64, element: u32, pieces: u32) -> Result<u64, Error> {
-        number_of(self.session().lock().begin_reorg(now, element, pieces))
+        number_of(self.session().world()?.begin_reorg(now, element, pieces))
     }
 
     /// The number of an index or a column of the newest version.
@@ -341,7 +342,7 @@ impl Db {
     /// # Ok::<(), cagzhomul::Error>(())
     /// ```
     pub fn status(&self) -> Result<String, Error> {
-        status_of(&mut self.session().lock())
+        status_of(&mut *self.session().world()?)
     }
 }
 

@@ -2,11 +2,11 @@
 
 use crate::code::{self, Code};
 use crate::error::Error;
-use crate::ffi::{self, Handle, Queried};
+use crate::ffi::{self, BytesHandle, Queried};
 use crate::names::{Names, Unknown};
 use crate::pages::KeyRange;
 use crate::rows::{rows_of, Row};
-use crate::session::fetch;
+use crate::session::bytes_of;
 use crate::value::{Key, Value};
 
 /// What a row meets.
@@ -149,13 +149,13 @@ impl Query {
 pub(crate) fn find(
     query: &Query,
     names: &Names,
-    ask: impl FnOnce(&[u8], &mut Handle) -> Result<Queried, Error>,
+    ask: impl FnOnce(&[u8], &mut BytesHandle) -> Result<Queried, Error>,
 ) -> Result<Vec<Row>, Error> {
-    let mut rows = Handle::closed();
+    let mut rows = BytesHandle::closed();
     let queried = ask(query.code(names).as_bytes(), &mut rows)?;
     match queried.status {
         ffi::OK => {
-            let code = fetch(|_, out| rows.rows_from(0, out))?;
+            let code = bytes_of(&mut rows)?;
             rows_of(&code, &query.selected(names), names)
         }
         status => Err(query.refusal(names, status, queried.column)),

@@ -1,7 +1,7 @@
 //! What a transaction has read.
 
 use crate::error::Error;
-use crate::ffi::{self, Handle};
+use crate::ffi::{self, ReadsHandle};
 use crate::lease::Lease;
 use crate::operations::{Kind, Operations};
 use crate::query::{find, Query};
@@ -11,17 +11,22 @@ use crate::value::Key;
 use std::sync::{Mutex, PoisonError};
 
 /// The rows that a transaction has got, and the handle that has read them.
-#[derive(Default)]
 pub(crate) struct Reads {
     /// Each row that it got by its code, with what it held.
     rows: Vec<(Vec<u8>, Option<Row>)>,
     /// It is open once something was read. The lock is for those who share a transaction.
-    handle: Option<Mutex<Handle>>,
-    /// Why what was read is lost.
-    lost: Option<Error>,
+    handle: Mutex<ReadsHandle>,
 }
 
 impl Reads {
+    /// What a transaction has read at its start.
+    pub(crate) fn new() -> Reads {
+        Reads {
+            rows: Vec::new(),
+            handle: Mutex::new(ReadsHandle::closed()),
+        }
+    }
+
     /// The row of this code and key, as it was read first.
     pub(crate) fn get(
         &mut self,
@@ -39,7 +44,7 @@ impl Reads {
             .for_each(|it| named.push_row(Kind::Update, it));
         let handle = self.read(lease, named)?;
         let mut found = find(&Query::of(table).key(key), lease.names(), |query, rows| {
-            Ok(handle.query_read(query, rows))
+            Ok(handle.query(query, rows))
         })?;
         let found = found.pop();
         self.rows.push((row, found.clone()));
@@ -52,37 +57,31 @@ impl Reads {
         mut self,
         lease: &Lease<'_>,
         mut operations: Operations,
-    ) -> Result<Handle, Error> {
+    ) -> Result<ReadsHandle, Error> {
         for (row, found) in &self.rows {
             operations.pin(row, found.is_some());
         }
         self.read(lease, operations)?;
-        let handle = self.handle.take().expect("what was read has a handle");
-        Ok(handle.into_inner().unwrap_or_else(PoisonError::into_inner))
+        let handle = self.handle.into_inner();
+        Ok(handle.unwrap_or_else(PoisonError::into_inner))
     }
 
-    /// Reads the rows that these operations name and that were not read yet.
-    fn read(&mut self, lease: &Lease<'_>, operations: Operations) -> Result<&mut Handle, Error> {
-        if let Some(error) = &self.lost {
-            return Err(error.clone());
-        }
+    /// Reads the rows that these operations name and that were not read yet. A refusal leaves what
+    /// was read.
+    fn read(
+        &mut self,
+        lease: &Lease<'_>,
+        operations: Operations,
+    ) -> Result<&mut ReadsHandle, Error> {
+        let handle = self.handle.get_mut();
+        let handle = handle.unwrap_or_else(PoisonError::into_inner);
         let code = operations.finish();
-        let handle = match &mut self.handle {
-            Some(begun) => {
-                let handle = begun.get_mut().unwrap_or_else(PoisonError::into_inner);
-                taken(handle.operations(code.as_bytes()))?;
-                handle
-            }
-            none => {
-                let mut handle = Handle::closed();
-                taken(lease.lock().transaction(code.as_bytes(), &mut handle))?;
-                let begun = none.insert(Mutex::new(handle));
-                begun.get_mut().unwrap_or_else(PoisonError::into_inner)
-            }
-        };
-        let read = done(lease.db().session().lock().read(handle));
-        self.lost = read.clone().err();
-        read.map(|()| handle)
+        let mut world = lease.db().session().world()?;
+        taken(match handle.is_open() {
+            true => world.read_again(handle, code.as_bytes()),
+            false => world.read(&mut lease.lock(), code.as_bytes(), handle),
+        })?;
+        Ok(handle)
     }
 }
 

@@ -1,10 +1,10 @@
 //! Versions of the schema, and their code as `crates/entry_code` describes it.
 
 use crate::error::Error;
-use crate::ffi::Handle;
+use crate::ffi::BytesHandle;
 use crate::plan::{Entering, State};
 use crate::rows::Reader;
-use crate::session::{done, fetch};
+use crate::session::bytes_given;
 use crate::steps::{entering, kind, name, state};
 use crate::table::Type;
 use crate::value::Value;
@@ -76,11 +76,9 @@ pub enum SchemaKind {
     },
 }
 
-/// The version that a session or a lease is on.
-pub(crate) fn schema_of(held: &mut Handle) -> Result<Schema, Error> {
-    let mut code = Handle::closed();
-    done(held.schema(&mut code))?;
-    read(&fetch(|_, out| code.rows_from(0, out))?)
+/// The version whose code this call gives, of a world or of a lease, into a closed handle.
+pub(crate) fn schema_of(call: impl FnOnce(&mut BytesHandle) -> i32) -> Result<Schema, Error> {
+    read(&bytes_given(call)?)
 }
 
 /// The schema of a version's code.

@@ -2,31 +2,60 @@
 
 use crate::change::WaitingChange;
 use crate::error::Error;
-use crate::ffi::{self, Handle, Outcome};
+use crate::ffi::{self, BytesHandle, CheckpointHandle, Outcome, SessionHandle, WorldHandle};
 use crate::library::check_library;
+use crate::open::OpenOptions;
 use crate::schema::{schema_of, Schema};
 use std::fmt;
+use std::ops::{Deref, DerefMut};
 use std::sync::atomic::{AtomicBool, AtomicU64, Ordering};
 use std::sync::{Mutex, MutexGuard, PoisonError};
 
 /// How many bytes of a reply or a code are fetched at once.
 const ROOM: usize = 1024;
 
-/// How a step of the changes under way went.
-#[derive(Debug, Clone, Copy, PartialEq, Eq, Hash)]
-pub enum Step {
-    /// One act was done: a version was published, a reorganisation begun, or some of its items
-    /// worked. The log has one entry more.
-    Acted,
-    /// Nothing can be done before a moment, and nothing was.
-    Waiting {
-        /// The moment.
-        until: u64,
-    },
+/// The handles of a session.
+pub(crate) struct Held {
+    /// It is closed before the line `open`.
+    world: WorldHandle,
+    /// What the lines keep. It is closed before the first line of a world that no line has opened.
+    lines: SessionHandle,
 }
 
-/// A session of the script language, which takes one line after another. Any thread may call it: a
-/// lock has one call at a time. It is freed when it is dropped.
+impl Held {
+    /// The reply to a line.
+    fn reply_to(&mut self, line: &str) -> Result<String, Error> {
+        let Held { world, lines } = self;
+        if world.is_open() && !lines.is_open() {
+            done(lines.attach())?;
+        }
+        let reply = fetch(|is_first, out| match is_first {
+            true => lines.reply_to(world, line.as_bytes(), out),
+            false => lines.reply_from(0, out),
+        })?;
+        String::from_utf8(reply).map_err(|error| Error::Reply(error.to_string()))
+    }
+}
+
+/// The world of a session, which is open, under the session's lock.
+pub(crate) struct World<'a>(MutexGuard<'a, Held>);
+
+impl Deref for World<'_> {
+    type Target = WorldHandle;
+
+    fn deref(&self) -> &WorldHandle {
+        &self.0.world
+    }
+}
+
+impl DerefMut for World<'_> {
+    fn deref_mut(&mut self) -> &mut WorldHandle {
+        &mut self.0.world
+    }
+}
+
+/// A session of the script language, which takes one line after another, and the world that they are
+/// about. Any thread may call it: a lock has one call at a time. Both are freed when it is dropped.
 ///
 /// ```
 /// # fn main() -> Result<(), cagzhomul::Error> {
@@ -40,50 +69,59 @@ pub enum Step {
 /// # }
 /// ```
 pub struct Session {
-    handle: Mutex<Handle>,
+    held: Mutex<Held>,
+    /// How many moments after the last entry a call may come, for worlds that go on from this one.
+    furthest_jump: u64,
     /// More entries than this are not kept in memory.
     keep: AtomicU64,
     /// How many entries come before those that are in memory, as far as this crate cut them off.
     start: AtomicU64,
     /// Whether a version may have been published that the kept lease of a store is not on. It is
-    /// written under the lock of the handle.
+    /// written under the lock of the handles.
     is_newer: AtomicBool,
-    /// The change that waits for its first step. Its lock is taken before that of the handle.
+    /// The change that waits for its first step. Its lock is taken before that of the handles.
     pub(crate) waiting: Mutex<Option<WaitingChange>>,
 }
 
 impl Session {
-    /// Opens a session at its start: before its line `open`.
+    /// Opens a session at its start: before its line `open`. No moment is too far for the world that
+    /// this line opens.
     ///
     /// Refusals: [`Error::LibraryVersion`], as each opening has, [`Error::OutOfMemory`].
     pub fn open() -> Result<Session, Error> {
         check_library()?;
-        let mut handle = Handle::closed();
-        done(handle.open())?;
-        Ok(Session::over(handle))
+        let (world, mut lines) = (WorldHandle::closed(), SessionHandle::closed());
+        done(lines.open())?;
+        Ok(Session::of(Held { world, lines }, ffi::ANY_JUMP))
     }
 
     /// Opens a session whose world goes on from a checkpoint, as [`Session::checkpoint`] gives its
     /// bytes: with no leases by name, nothing prepared and no plan. The bytes are tested, whoever
-    /// wrote them.
+    /// wrote them. [`OpenOptions::session_at`] can give it a furthest jump.
     ///
     /// Refusals: [`Error::BadCheckpoint`] if no world may open from these bytes, [`Error::OutOfMemory`].
     pub fn open_at(checkpoint: &[u8]) -> Result<Session, Error> {
-        check_library()?;
-        let mut handle = Handle::closed();
-        match handle.open_at(checkpoint) {
-            ffi::BAD_CODE => return Err(Error::BadCheckpoint),
-            status => done(status)?,
-        }
-        let start = handle.log_start().length as u64;
-        let session = Session::over(handle);
-        session.start.store(start, Ordering::Relaxed);
-        Ok(session)
+        OpenOptions::new().session_at(checkpoint)
     }
 
-    pub(crate) fn over(handle: Handle) -> Session {
+    /// A session of a world that no line has opened, and that has this furthest jump.
+    pub(crate) fn over(world: WorldHandle, furthest_jump: u64) -> Session {
+        let lines = SessionHandle::closed();
+        Session::of(Held { world, lines }, furthest_jump)
+    }
+
+    /// As [`Session::over`], for a world that goes on from a checkpoint.
+    pub(crate) fn going_on(mut world: WorldHandle, furthest_jump: u64) -> Session {
+        let start = world.log_start().length as u64;
+        let session = Session::over(world, furthest_jump);
+        session.start.store(start, Ordering::Relaxed);
+        session
+    }
+
+    fn of(held: Held, furthest_jump: u64) -> Session {
         Session {
-            handle: Mutex::new(handle),
+            held: Mutex::new(held),
+            furthest_jump,
             keep: AtomicU64::new(u64::MAX),
             start: AtomicU64::new(0),
             is_newer: AtomicBool::new(false),
@@ -91,10 +129,22 @@ impl Session {
         }
     }
 
-    /// The handle, for as long as the guard lives. A thread that panicked under the lock was in no
-    /// call of the library, so the handle is whole.
-    pub(crate) fn lock(&self) -> MutexGuard<'_, Handle> {
-        self.handle.lock().unwrap_or_else(PoisonError::into_inner)
+    /// The handles, for as long as the guard lives. A thread that panicked under the lock was in no
+    /// call of the library, so the handles are whole.
+    fn lock(&self) -> MutexGuard<'_, Held> {
+        self.held.lock().unwrap_or_else(PoisonError::into_inner)
+    }
+
+    /// The world, for as long as the guard lives.
+    ///
+    /// Refusals: [`Error::Closed`]; [`Error::NotOpened`] before the line `open`.
+    pub(crate) fn world(&self) -> Result<World<'_>, Error> {
+        let held = self.lock();
+        match (held.world.is_open(), held.lines.is_open()) {
+            (true, _) => Ok(World(held)),
+            (false, true) => Err(Error::NotOpened),
+            (false, false) => Err(Error::Closed),
+        }
     }
 
     /// From now on the last so many entries stay in memory, and the log is cut to them once it has more
@@ -111,22 +161,22 @@ impl Session {
     /// Whether this schema, which was the newest, still is; the library is asked if another version may
     /// have been published since.
     pub(crate) fn is_newest(&self, schema: &Schema) -> Result<bool, Error> {
-        let mut handle = self.lock();
+        let mut world = self.world()?;
         if !self.is_newer.load(Ordering::Relaxed) {
             return Ok(true);
         }
-        let newest = schema_of(&mut handle)?;
+        let newest = schema_of(|code| world.schema(code))?;
         self.is_newer.store(false, Ordering::Relaxed);
         Ok(newest == *schema)
     }
 
     /// The log has an entry of this place: it is cut if it has grown long enough.
-    pub(crate) fn grown(&self, handle: &mut Handle, place: u64) {
+    pub(crate) fn grown(&self, world: &mut WorldHandle, place: u64) {
         let keep = self.keep.load(Ordering::Relaxed);
         let kept = place.saturating_sub(self.start.load(Ordering::Relaxed));
         if kept / 2 >= keep
             && kept > keep
-            && handle.cut(usize::try_from(keep).unwrap_or(usize::MAX)) == ffi::OK
+            && world.cut(usize::try_from(keep).unwrap_or(usize::MAX)) == ffi::OK
         {
             self.start.store(place - keep, Ordering::Relaxed);
         }
@@ -135,10 +185,11 @@ impl Session {
     /// The reply to a line, which is given without its ending: lines with their endings, or none.
     ///
     /// A refusal of the language, as `refused NoServer`, is a reply. Refusals: [`Error::Closed`],
-    /// [`Error::BadLine`], and [`Error::OutOfMemory`], which frees the session.
+    /// [`Error::BadLine`], [`Error::TooFar`] of a moment that it names, and [`Error::OutOfMemory`],
+    /// which may free the session.
     pub fn line(&self, line: &str) -> Result<String, Error> {
-        let mut handle = self.lock();
-        let reply = reply_to(&mut handle, line)?;
+        let mut held = self.lock();
+        let reply = held.reply_to(line)?;
         if reply.starts_with("ok version ") {
             self.published();
         }
@@ -167,8 +218,8 @@ impl Session {
     /// ```
     pub fn entry(&self, place: u64) -> Result<Vec<u8>, Error> {
         let place = usize::try_from(place).map_err(|_| Error::NoEntry)?;
-        let mut handle = self.lock();
-        fetch(|_, out| handle.entry(place, out))
+        let mut world = self.world()?;
+        fetch(|_, out| world.entry(place, out))
     }
 
     /// The newest version of the schema: its tables, columns and indexes.
@@ -189,14 +240,15 @@ impl Session {
     /// # }
     /// ```
     pub fn schema(&self) -> Result<Schema, Error> {
-        schema_of(&mut self.lock())
+        let mut world = self.world()?;
+        schema_of(|code| world.schema(code))
     }
 
     /// How many entries the log had ever, those that were cut off among them: the last one's place.
     ///
     /// Refusals: [`Error::Closed`], [`Error::NotOpened`].
     pub fn log_length(&self) -> Result<u64, Error> {
-        let outcome = self.lock().log_length();
+        let outcome = self.world()?.log_length();
         done(outcome.status).map(|()| outcome.length as u64)
     }
 
@@ -205,7 +257,7 @@ impl Session {
     ///
     /// Refusals: [`Error::Closed`], [`Error::NotOpened`].
     pub fn log_start(&self) -> Result<u64, Error> {
-        let outcome = self.lock().log_start();
+        let outcome = self.world()?.log_start();
         done(outcome.status).map(|()| outcome.length as u64)
     }
 
@@ -231,15 +283,14 @@ impl Session {
     /// # }
     /// ```
     pub fn checkpoint(&self) -> Result<Vec<u8>, Error> {
-        let (mut taken, mut written) = (Handle::closed(), Handle::closed());
-        done(self.lock().checkpoint(&mut taken))?;
-        done(taken.save(&mut written))?;
-        fetch(|_, out| written.rows_from(0, out))
+        let mut taken = CheckpointHandle::closed();
+        done(self.world()?.checkpoint(&mut taken))?;
+        bytes_given(|bytes| taken.save(bytes))
     }
 
     /// A session that goes on from the world as it is now, apart from this one: a program can try calls
     /// there, and look at the entries that they add, before it makes them here. No row is copied. It
-    /// has no leases by name, nothing prepared and no plan.
+    /// has the furthest jump of this one, no leases by name, nothing prepared and no plan.
     ///
     /// Refusals: [`Error::Closed`], [`Error::NotOpened`], [`Error::OutOfMemory`].
     ///
@@ -258,13 +309,10 @@ impl Session {
     /// # }
     /// ```
     pub fn fork(&self) -> Result<Session, Error> {
-        let mut taken = Handle::closed();
-        done(self.lock().checkpoint(&mut taken))?;
-        done(taken.open_checkpoint())?;
-        let start = taken.log_start().length as u64;
-        let session = Session::over(taken);
-        session.start.store(start, Ordering::Relaxed);
-        Ok(session)
+        let (mut taken, mut world) = (CheckpointHandle::closed(), WorldHandle::closed());
+        done(self.world()?.checkpoint(&mut taken))?;
+        done(taken.open(self.furthest_jump, &mut world))?;
+        Ok(Session::going_on(world, self.furthest_jump))
     }
 
     /// Gives the memory of the log's entries back, but for the last `keep` of those that are in memory;
@@ -285,7 +333,7 @@ impl Session {
     /// # }
     /// ```
     pub fn cut(&self, keep: usize) -> Result<(), Error> {
-        done(self.lock().cut(keep))
+        done(self.world()?.cut(keep))
     }
 
     /// Repeats an entry of another session's log, given by its code, in this session's world: the
@@ -293,65 +341,13 @@ impl Session {
     ///
     /// A session that had the same opening and repeats each entry once, in the order of its place,
     /// has an equal world. Refusals: [`Error::Closed`], [`Error::NotOpened`], [`Error::BadEntry`],
-    /// [`Error::NotNext`], [`Error::OutOfMemory`], which may come in place of the two before it.
+    /// [`Error::NotNext`], also if its moment is too far, [`Error::OutOfMemory`], which may come in
+    /// place of the two before it.
     pub fn repeat(&self, entry: &[u8]) -> Result<(), Error> {
-        let mut handle = self.lock();
-        done(handle.repeat(entry))?;
+        let mut world = self.world()?;
+        done(world.repeat(entry))?;
         self.published();
         Ok(())
-    }
-
-    /// Does the one act that is due of the changes under way, whoever began them: begins a
-    /// reorganisation in `pieces` pieces (1 to 64), publishes a step in which all that is ready
-    /// moves on, or works `limit` items of a piece (1 to 1,000). If a change of [`Db::change`]
-    /// waits for its first step, that comes before all, as soon as it may be published. `None` if
-    /// no change is under way, and none waits.
-    ///
-    /// Refusals: [`Error::Closed`], [`Error::NotOpened`]; if a change waits, those that
-    /// [`Db::change`] has of it, after which it is forgotten, except at [`Error::MomentTooLarge`]
-    /// and [`Error::OutOfMemory`]; [`Error::BadCount`], [`Error::MomentTooLarge`],
-    /// [`Error::VersionsSpent`], [`Error::OutOfMemory`], which may come in place of the one before
-    /// it.
-    ///
-    /// [`Db::change`]: crate::Db::change
-    ///
-    /// ```
-    /// # fn main() -> Result<(), cagzhomul::Error> {
-    /// # use cagzhomul::{Session, Step};
-    /// let session = Session::open()?;
-    /// for line in ["table t (id int key)", "open", "publish at 10: add column a int on t"] {
-    ///     session.line(line)?;
-    /// }
-    /// assert_eq!(session.advance(12, 8, 1000)?, Some(Step::Waiting { until: 20 }));
-    /// assert_eq!(session.advance(20, 8, 1000)?, Some(Step::Acted));
-    /// assert_eq!(session.advance(20, 8, 1000)?, None);
-    /// # Ok(())
-    /// # }
-    /// ```
-    pub fn advance(&self, now: u64, pieces: u32, limit: u32) -> Result<Option<Step>, Error> {
-        let first = self.begin_waiting(now)?;
-        if first == Some(Step::Acted) {
-            return Ok(first);
-        }
-        let mut handle = self.lock();
-        let advanced = handle.advance(now, pieces, limit);
-        if advanced.status == ffi::OK {
-            self.published();
-            let length = handle.log_length().length as u64;
-            self.grown(&mut handle, length);
-        }
-        match advanced.status {
-            ffi::OK => Ok(Some(Step::Acted)),
-            ffi::WAITING => {
-                let until = match first {
-                    Some(Step::Waiting { until }) => until.min(advanced.until),
-                    _ => advanced.until,
-                };
-                Ok(Some(Step::Waiting { until }))
-            }
-            ffi::FINISHED => Ok(first),
-            status => Err(Error::of(status)),
-        }
     }
 }
 
@@ -369,28 +365,31 @@ pub(crate) fn done(status: i32) -> Result<(), Error> {
     }
 }
 
-/// The reply to a line of the session behind this handle.
-fn reply_to(handle: &mut Handle, line: &str) -> Result<String, Error> {
-    let reply = fetch(|is_first, out| match is_first {
-        true => handle.reply_to(line.as_bytes(), out),
-        false => handle.reply_from(0, out),
-    })?;
-    String::from_utf8(reply).map_err(|error| Error::Reply(error.to_string()))
-}
-
-/// How the world of the session behind this handle stands, as one line of JSON.
-pub(crate) fn status_of(handle: &mut Handle) -> Result<String, Error> {
-    let status = fetch(|_, out| handle.status(out))?;
+/// How a world stands, as one line of JSON.
+pub(crate) fn status_of(world: &mut WorldHandle) -> Result<String, Error> {
+    let status = fetch(|_, out| world.status(out))?;
     String::from_utf8(status).map_err(|error| Error::Reply(error.to_string()))
 }
 
-/// The moment of the log's last entry of the session behind this handle.
-pub(crate) fn moment_of(handle: &mut Handle) -> Result<u64, Error> {
-    let status = status_of(handle)?;
+/// The moment of the log's last entry of a world.
+pub(crate) fn moment_of(world: &mut WorldHandle) -> Result<u64, Error> {
+    let status = status_of(world)?;
     let moment = status.split_once("\"moment\":").map(|it| it.1);
     let digits = moment.and_then(|it| it.split(',').next());
     let number = digits.and_then(|it| it.parse().ok());
     number.ok_or_else(|| Error::Reply(status.clone()))
+}
+
+/// The bytes that a call gives into a closed handle.
+pub(crate) fn bytes_given(call: impl FnOnce(&mut BytesHandle) -> i32) -> Result<Vec<u8>, Error> {
+    let mut bytes = BytesHandle::closed();
+    done(call(&mut bytes))?;
+    bytes_of(&mut bytes)
+}
+
+/// The bytes that a handle holds.
+pub(crate) fn bytes_of(bytes: &mut BytesHandle) -> Result<Vec<u8>, Error> {
+    fetch(|_, out| bytes.copy_from(0, out))
 }
 
 /// All bytes of what a call writes as far as it fits; the call is made again if it did not fit, and

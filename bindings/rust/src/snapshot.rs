@@ -1,7 +1,7 @@
 //! Snapshots and audits.
 
 use crate::error::Error;
-use crate::ffi::{Checked, Handle};
+use crate::ffi::{Checked, SnapshotHandle};
 use crate::names::Names;
 use crate::pages::{find_page, KeyRange, Page, Pages};
 use crate::query::{find, Query};
@@ -25,11 +25,6 @@ impl Check {
     /// Whether nothing is missing and nothing extra.
     pub fn is_clean(&self) -> bool {
         self.missing == 0 && self.extra == 0
-    }
-
-    /// The audit of the session or the snapshot behind this handle.
-    pub(crate) fn of(handle: &mut Handle) -> Result<Check, Error> {
-        Check::found(handle.check())
     }
 
     /// What an audit answered.
@@ -58,17 +53,17 @@ impl Check {
 /// # Ok::<(), cagzhomul::Error>(())
 /// ```
 pub struct Snapshot {
-    handle: Mutex<Handle>,
+    handle: Mutex<SnapshotHandle>,
     names: Arc<Names>,
 }
 
 impl Snapshot {
-    pub(crate) fn over(handle: Handle, names: Arc<Names>) -> Snapshot {
+    pub(crate) fn over(handle: SnapshotHandle, names: Arc<Names>) -> Snapshot {
         let handle = Mutex::new(handle);
         Snapshot { handle, names }
     }
 
-    fn lock(&self) -> MutexGuard<'_, Handle> {
+    fn lock(&self) -> MutexGuard<'_, SnapshotHandle> {
         self.handle.lock().unwrap_or_else(PoisonError::into_inner)
     }
 
@@ -80,7 +75,7 @@ impl Snapshot {
     /// [`Error::OutOfMemory`].
     pub fn query(&self, query: &Query) -> Result<Vec<Row>, Error> {
         find(query, &self.names, |code, rows| {
-            Ok(self.lock().snapshot_query(code, rows))
+            Ok(self.lock().query(code, rows))
         })
     }
 
@@ -101,7 +96,7 @@ impl Snapshot {
     /// ```
     pub fn page(&self, query: &Query, range: &KeyRange, limit: u32) -> Result<Page, Error> {
         find_page(query, range, limit, &self.names, |code, rows| {
-            Ok(self.lock().snapshot_query_page(code, rows))
+            Ok(self.lock().query_page(code, rows))
         })
     }
 
@@ -130,7 +125,7 @@ impl Snapshot {
     ///
     /// Refusal: [`Error::OutOfMemory`].
     pub fn check(&self) -> Result<Check, Error> {
-        Check::of(&mut self.lock())
+        Check::found(self.lock().check())
     }
 }
 

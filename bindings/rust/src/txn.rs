@@ -1,13 +1,13 @@
 //! Transactions.
 
 use crate::error::Error;
-use crate::ffi::{self, Detailed, Handle};
+use crate::ffi::{self, BytesHandle, Committed, ReadsHandle, TxnHandle, WorldHandle};
 use crate::lease::Lease;
 use crate::names::Unknown;
 use crate::operations::{self, Kind, Operations};
 use crate::reads::Reads;
 use crate::rows::Row;
-use crate::session::done;
+use crate::session::{bytes_of, done};
 use crate::value::{Cells, Key};
 use std::fmt;
 
@@ -76,7 +76,8 @@ impl<'a> Txn<'a> {
     /// written counts as an operation, or as two if it is not there.
     ///
     /// Refusals: [`Error::Closed`]; [`Error::NoTable`] or [`Error::WrongType`], but a text that is
-    /// too long is [`Error::WrongType`] before all; [`Error::OutOfMemory`].
+    /// too long is [`Error::WrongType`] before both; [`Error::OutOfMemory`]. After each of them the
+    /// transaction may go on.
     ///
     /// ```
     /// # use cagzhomul::{Db, Error, RowKey, Table, Type};
@@ -94,7 +95,7 @@ impl<'a> Txn<'a> {
     pub fn get(&mut self, table: &str, key: impl Into<Key>) -> Result<Option<Row>, Error> {
         let key = key.into();
         let row = operations::row(self.lease.names().table(table), &key);
-        let reads = self.reads.get_or_insert_with(Box::default);
+        let reads = self.reads.get_or_insert_with(|| Box::new(Reads::new()));
         reads.get(self.lease, row, table, key)
     }
 
@@ -142,7 +143,8 @@ impl<'a> Txn<'a> {
     ///
     /// Refusals: [`Error::Closed`]; of the first faulty operation [`Error::NoTable`],
     /// [`Error::NotPublic`] or [`Error::WrongType`], but a text that is too long is
-    /// [`Error::WrongType`] before all; [`Error::TooManyOps`]; [`Error::OutOfMemory`].
+    /// [`Error::WrongType`] before all but [`Error::Closed`]; [`Error::TooManyOps`];
+    /// [`Error::OutOfMemory`].
     ///
     /// ```
     /// # use cagzhomul::{Db, Error, RowKey, Table, Type};
@@ -157,22 +159,23 @@ impl<'a> Txn<'a> {
     /// ```
     pub fn prepare(self) -> Result<Prepared<'a>, Error> {
         let (lease, unknown) = (self.lease, self.unknown);
-        let reads = self.reads.map_or_else(Reads::default, |reads| *reads);
-        let mut handle = reads.finish(lease, self.operations)?;
-        let prepared = handle.prepare();
-        accepted(lease, unknown, prepared.status, prepared.column)
-            .map(|()| Prepared { lease, handle })
+        let reads = self.reads.map_or_else(Reads::new, |reads| *reads);
+        let mut reads = reads.finish(lease, self.operations)?;
+        let mut txn = TxnHandle::closed();
+        let prepared = reads.prepare(&mut txn);
+        accepted(lease, unknown, prepared.status, prepared.column)?;
+        Ok(Prepared { lease, reads, txn })
     }
 
     /// Reads, prepares and commits it in one call, under the store's lock: the faster way for few
     /// operations, and no row that it names changes meanwhile. One that has got rows is committed
     /// as by [`Txn::commit`].
     ///
-    /// Refusals: [`Error::Closed`]; of the first faulty operation [`Error::NoTable`],
-    /// [`Error::NotPublic`] or [`Error::WrongType`], but a text that is too long is
-    /// [`Error::WrongType`] before all; [`Error::TooManyOps`]; [`Error::MomentTooLarge`],
-    /// [`Error::BadLease`], [`Error::LeaseEnded`], [`Error::WrongSchema`], [`Error::OutOfMemory`],
-    /// [`Error::Duplicate`] and [`Error::NoRow`].
+    /// Refusals: [`Error::Closed`]; [`Error::TooFar`]; of the first faulty operation
+    /// [`Error::NoTable`], [`Error::NotPublic`] or [`Error::WrongType`], but a text that is too long
+    /// is [`Error::WrongType`] before all but the first two; [`Error::TooManyOps`];
+    /// [`Error::MomentTooLarge`], [`Error::BadLease`], [`Error::LeaseEnded`],
+    /// [`Error::WrongSchema`], [`Error::OutOfMemory`], [`Error::Duplicate`] and [`Error::NoRow`].
     ///
     /// ```
     /// # use cagzhomul::{Db, Error, Table, Type};
@@ -190,11 +193,11 @@ impl<'a> Txn<'a> {
         let (lease, unknown) = (self.lease, self.unknown);
         let code = self.operations.finish();
         let written = {
-            // The session before the lease, as for a query.
-            let mut session = lease.db().session().lock();
-            let written = session.write(now, &mut lease.lock(), code.as_bytes());
+            // The world before the lease, as for a query.
+            let mut world = lease.db().session().world()?;
+            let written = world.write(now, &mut lease.lock(), code.as_bytes());
             if written.status == ffi::OK {
-                lease.db().session().grown(&mut session, written.place);
+                lease.db().session().grown(&mut world, written.place);
             }
             written
         };
@@ -214,8 +217,8 @@ impl<'a> Txn<'a> {
 }
 
 /// The receipt of what was committed, or why it was refused: a conflict is on the pair of this key.
-fn received(lease: &Lease<'_>, reported: &Detailed, pair: &[u8]) -> Result<Receipt, Error> {
-    let Detailed {
+fn received(lease: &Lease<'_>, reported: &Committed, pair: &[u8]) -> Result<Receipt, Error> {
+    let Committed {
         place,
         operation,
         until,
@@ -263,35 +266,77 @@ impl fmt::Debug for Txn<'_> {
 #[must_use = "a transaction does nothing until it is committed"]
 pub struct Prepared<'a> {
     lease: &'a Lease<'a>,
-    handle: Handle,
+    reads: ReadsHandle,
+    /// It is closed after an entry was asked for, until it is prepared again.
+    txn: TxnHandle,
 }
 
 impl Prepared<'_> {
     /// Commits it: all of its operations, or none.
     ///
-    /// Refusals: [`Error::Closed`], [`Error::MomentTooLarge`], [`Error::BadLease`],
-    /// [`Error::LeaseEnded`], [`Error::WrongSchema`], [`Error::Conflict`], [`Error::OutOfMemory`],
-    /// which may come in place of the one before it, [`Error::Duplicate`] and [`Error::NoRow`].
+    /// Refusals: [`Error::Closed`], [`Error::TooFar`], [`Error::MomentTooLarge`],
+    /// [`Error::BadLease`], [`Error::LeaseEnded`], [`Error::WrongSchema`], [`Error::Conflict`],
+    /// [`Error::OutOfMemory`], which may come in place of the one before it, [`Error::Duplicate`]
+    /// and [`Error::NoRow`].
     pub fn commit(mut self, now: u64) -> Result<Receipt, Error> {
         let session = self.lease.db().session();
+        self.attempt(|world, txn, out| {
+            let committed = world.commit(now, txn, out);
+            if committed.status == ffi::OK {
+                session.grown(world, committed.place);
+            }
+            committed
+        })
+    }
+
+    /// The code of the entry that [`Prepared::commit`] would add now, and nothing changes: a program
+    /// can store it elsewhere before it commits. [`Session::repeat`](crate::Session::repeat) of it in
+    /// a world that stands here makes the same transaction. It may be asked again, and committed.
+    ///
+    /// Refusals: those of [`Prepared::commit`].
+    ///
+    /// ```
+    /// # use cagzhomul::{Db, Table, Type};
+    /// # let db = Db::open([Table::new("t").key("id", Type::Int)])?;
+    /// # let lease = db.lease(0)?;
+    /// let mut txn = lease.txn().insert("t", 1, ()).prepare()?;
+    /// let entry = txn.entry(0)?;
+    /// assert_eq!((db.session().log_length()?, txn.entry(0)?), (1, entry.clone()));
+    /// let place = txn.commit(0)?.place;
+    /// assert_eq!(db.session().entry(place)?, entry);
+    /// # Ok::<(), cagzhomul::Error>(())
+    /// ```
+    pub fn entry(&mut self, now: u64) -> Result<Vec<u8>, Error> {
+        let mut entry = BytesHandle::closed();
+        self.attempt(|world, txn, out| world.txn_entry(now, txn, out, &mut entry))?;
+        bytes_of(&mut entry)
+    }
+
+    /// Makes a call with the prepared transaction that writes as much of the key of a pair that has
+    /// changed as fits.
+    fn attempt(
+        &mut self,
+        mut call: impl FnMut(&mut WorldHandle, &mut TxnHandle, &mut [u8]) -> Committed,
+    ) -> Result<Receipt, Error> {
+        let Prepared { lease, reads, txn } = self;
+        if !txn.is_open() {
+            done(reads.prepare(txn).status)?;
+        }
         let mut room = [0; ROOM];
         let mut longer = Vec::new();
-        let mut locked = session.lock();
-        let mut committed = locked.commit(now, &mut self.handle, &mut room);
+        let mut world = lease.db().session().world()?;
+        let mut committed = call(&mut world, txn, &mut room);
         if committed.length > ROOM {
-            // a refused commit is made again, with room for the key of the pair
+            // a refused call is made again, with room for the key of the pair
             longer.resize(committed.length, 0);
-            committed = locked.commit(now, &mut self.handle, &mut longer);
+            committed = call(&mut world, txn, &mut longer);
         }
-        if committed.status == ffi::OK {
-            session.grown(&mut locked, committed.place);
-        }
-        drop(locked);
+        drop(world);
         let pair = match longer.is_empty() {
             true => &room[..committed.length],
             false => &longer[..committed.length],
         };
-        received(self.lease, &committed, pair)
+        received(lease, &committed, pair)
     }
 }
 

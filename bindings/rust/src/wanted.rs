@@ -48,15 +48,14 @@ impl<T: Clone + fmt::Display> fmt::Display for Wanted<'_, T> {
 }
 
 impl Session {
-    /// What a call is asked for; if the session is closed, bad words are refused for that.
+    /// What a call is asked for; if the session has no world, bad words are refused for that.
     pub(crate) fn read<'w, T: Clone + FromStr<Err = BadWords>>(
         &self,
         wanted: &'w Wanted<'_, T>,
     ) -> Result<Cow<'w, T>, Error> {
-        wanted.read().map_err(|bad| match self.lock().is_open() {
-            true => bad.into(),
-            false => Error::Closed,
-        })
+        wanted
+            .read()
+            .map_err(|bad| self.world().err().unwrap_or(bad.into()))
     }
 }
 
@@ -99,7 +98,9 @@ wanted_from!(Query, SchemaChange);
 #[cfg(test)]
 mod tests {
     use super::*;
-    use crate::ffi::Handle;
+    use crate::db::Db;
+    use crate::ffi::{WorldHandle, ANY_JUMP};
+    use crate::table::Table;
 
     #[test]
     fn words_and_values_are_read_and_shown() {
@@ -123,10 +124,14 @@ mod tests {
     }
 
     #[test]
-    fn a_closed_session_is_refused_before_bad_words() {
-        let (open, closed) = (Session::open().unwrap(), Session::over(Handle::closed()));
+    fn a_session_without_a_world_is_refused_before_bad_words() {
+        let db = Db::open([Table::new("t").key("id", crate::Type::Int)]).unwrap();
+        let closed = Session::over(WorldHandle::closed(), ANY_JUMP);
         let what = Wanted::<Query>::from("what");
-        assert_eq!(open.read(&what).err(), Some(Error::BadLine));
+        assert_eq!(db.session().read(&what).err(), Some(Error::BadLine));
         assert_eq!(closed.read(&what).err(), Some(Error::Closed));
+        assert_eq!(closed.line(""), Err(Error::Closed));
+        let early = Session::open().unwrap();
+        assert_eq!(early.read(&what).err(), Some(Error::NotOpened));
     }
 }

@@ -160,12 +160,34 @@ fn a_replica_repeats_the_log() -> Result<(), Error> {
     Ok(())
 }
 
+/// A call that wants a world.
+type Call = fn(&Session) -> Result<(), Error>;
+
 #[test]
 fn a_session_before_its_line_open_has_no_world() -> Result<(), Error> {
     let session = Session::open()?;
-    assert_eq!(session.advance(0, 1, 1), Err(Error::NotOpened));
-    assert_eq!(session.entry(1), Err(Error::NotOpened));
-    assert_eq!(session.log_length(), Err(Error::NotOpened));
     assert_eq!(session.line("")?, "");
+    let calls: [Call; 10] = [
+        |session| session.advance(0, 1, 1).map(drop),
+        |session| session.due_entry(0, 1, 1).map(drop),
+        |session| session.entry(1).map(drop),
+        |session| session.repeat(b""),
+        |session| session.schema().map(drop),
+        |session| session.log_length().map(drop),
+        |session| session.log_start().map(drop),
+        |session| session.cut(0),
+        |session| session.checkpoint().map(drop),
+        |session| session.fork().map(drop),
+    ];
+    for call in calls {
+        assert_eq!(call(&session), Err(Error::NotOpened));
+    }
+    session.line("table t (id int key)")?;
+    assert_eq!(session.line("open")?, "ok version 1\n");
+    let before_any = [Error::BadEntry, Error::NoEntry];
+    for call in calls {
+        let refused = call(&session).err();
+        assert!(refused.is_none_or(|error| before_any.contains(&error)));
+    }
     Ok(())
 }

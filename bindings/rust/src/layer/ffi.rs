@@ -1,10 +1,13 @@
 //! The functions of `include/cagzhomul_layer.h` behind safe calls: bytes in, bytes out, and nothing
-//! is kept. What `ffi.rs` says of handles and slices holds here.
+//! is kept. What `ffi.rs` says of slices holds here.
 #![allow(unsafe_code)]
 
 use crate::error::Error;
-use crate::ffi::{Checked, Handle, RawHandle, CLOSED, OK};
-use crate::session::fetch;
+use crate::ffi::{Checked, OK};
+
+/// How many bytes there are at first for what a call gives, besides twice as many as it is given: nearly
+/// all that a call gives fits, and it is not made again.
+const ROOM: usize = 1024;
 
 /// `cagzhomul_layered`.
 #[repr(C)]
@@ -13,6 +16,7 @@ pub(super) struct Refusal {
     pub(super) status: i32,
     pub(super) column: u32,
     pub(super) number: u64,
+    length: usize,
 }
 
 /// What is due, by its number: nothing is 0.
@@ -62,14 +66,16 @@ unsafe extern "C" {
     fn cagzhomul_layer_open(
         opening: *const u8,
         opening_length: usize,
-        draft: *mut RawHandle,
+        out: *mut u8,
+        out_length: usize,
     ) -> Refusal;
     fn cagzhomul_layer_reads(
         version: *const u8,
         version_length: usize,
         operations: *const u8,
         operations_length: usize,
-        keys: *mut RawHandle,
+        out: *mut u8,
+        out_length: usize,
     ) -> Refusal;
     fn cagzhomul_layer_txn(
         number: u64,
@@ -81,14 +87,16 @@ unsafe extern "C" {
         view_length: usize,
         mark: *const u8,
         mark_length: usize,
-        draft: *mut RawHandle,
+        out: *mut u8,
+        out_length: usize,
     ) -> Refusal;
     fn cagzhomul_layer_ranges(
         version: *const u8,
         version_length: usize,
         query: *const u8,
         query_length: usize,
-        ranges: *mut RawHandle,
+        out: *mut u8,
+        out_length: usize,
     ) -> Refusal;
     fn cagzhomul_layer_row_ranges(
         version: *const u8,
@@ -97,7 +105,8 @@ unsafe extern "C" {
         query_length: usize,
         pairs: *const u8,
         pairs_length: usize,
-        ranges: *mut RawHandle,
+        out: *mut u8,
+        out_length: usize,
     ) -> Refusal;
     fn cagzhomul_layer_rows(
         version: *const u8,
@@ -106,14 +115,16 @@ unsafe extern "C" {
         query_length: usize,
         pairs: *const u8,
         pairs_length: usize,
-        rows: *mut RawHandle,
+        out: *mut u8,
+        out_length: usize,
     ) -> Refusal;
     fn cagzhomul_layer_plan(
         version: *const u8,
         version_length: usize,
         changes: *const u8,
         changes_length: usize,
-        plan: *mut RawHandle,
+        out: *mut u8,
+        out_length: usize,
     ) -> Refusal;
     fn cagzhomul_layer_publish(
         before: u32,
@@ -123,13 +134,15 @@ unsafe extern "C" {
         step_length: usize,
         found: *const u8,
         found_length: usize,
-        draft: *mut RawHandle,
+        out: *mut u8,
+        out_length: usize,
     ) -> Refusal;
     fn cagzhomul_layer_close(
         before: u32,
         version: *const u8,
         version_length: usize,
-        draft: *mut RawHandle,
+        out: *mut u8,
+        out_length: usize,
     ) -> Refusal;
     fn cagzhomul_layer_begin(
         before: u32,
@@ -138,7 +151,8 @@ unsafe extern "C" {
         element: u32,
         keys: *const u8,
         keys_length: usize,
-        draft: *mut RawHandle,
+        out: *mut u8,
+        out_length: usize,
     ) -> Refusal;
     fn cagzhomul_layer_piece(
         reorg: *const u8,
@@ -150,7 +164,8 @@ unsafe extern "C" {
         to_length: usize,
         pairs: *const u8,
         pairs_length: usize,
-        draft: *mut RawHandle,
+        out: *mut u8,
+        out_length: usize,
     ) -> Refusal;
     fn cagzhomul_layer_due(
         before: u32,
@@ -171,7 +186,8 @@ unsafe extern "C" {
         low_length: usize,
         to: *const u8,
         to_length: usize,
-        ranges: *mut RawHandle,
+        out: *mut u8,
+        out_length: usize,
     ) -> Refusal;
     fn cagzhomul_layer_check_given(
         version: *const u8,
@@ -182,7 +198,8 @@ unsafe extern "C" {
         low_length: usize,
         to: *const u8,
         to_length: usize,
-        ranges: *mut RawHandle,
+        out: *mut u8,
+        out_length: usize,
     ) -> Refusal;
     fn cagzhomul_layer_check_page(
         version: *const u8,
@@ -197,16 +214,22 @@ unsafe extern "C" {
 }
 
 /// Makes a call of the library: a function, numbers by their names, bytes in brackets, which go with
-/// their length, in the order of the header; the closed handle comes last.
+/// their length, in the order of the header; the room for what it gives comes last.
 macro_rules! asked {
     ($function:ident, $($given:tt),*) => {{
-        let mut out = Handle::closed();
-        // SAFETY: the handle and all slices, as at the top of `ffi.rs`.
-        let done = asked!(@call [$function, out] [] $($given)*);
-        given(done, out)
+        let mut length = 0;
+        $(asked!(@count length $given);)*
+        given(length, |out| {
+            // SAFETY: all slices, as at the top of `ffi.rs`.
+            asked!(@call [$function, out] [] $($given)*)
+        })
     }};
+    (@count $length:ident [$bytes:ident]) => {
+        $length += $bytes.len();
+    };
+    (@count $length:ident $number:ident) => {};
     (@call [$function:ident, $out:ident] [$($words:expr),*]) => {
-        unsafe { $function($($words,)* $out.raw()) }
+        unsafe { $function($($words,)* $out.as_mut_ptr(), $out.len()) }
     };
     (@call $head:tt [$($words:expr),*] [$bytes:ident] $($rest:tt)*) => {
         asked!(@call $head [$($words,)* $bytes.as_ptr(), $bytes.len()] $($rest)*)
@@ -216,18 +239,23 @@ macro_rules! asked {
     };
 }
 
-/// What a call came to that has written to this handle.
-fn given(done: Refusal, mut out: Handle) -> Result<Given, Refusal> {
-    if done.status != OK {
-        return Err(done);
+/// What a call came to that was given so many bytes, and that writes as much of what it gives as fits. It
+/// is made again if that was not all.
+fn given(length: usize, mut call: impl FnMut(&mut [u8]) -> Refusal) -> Result<Given, Refusal> {
+    let mut code = vec![0; ROOM + 2 * length];
+    let mut done = call(&mut code);
+    if done.length > code.len() {
+        code = vec![0; done.length];
+        done = call(&mut code);
     }
-    let unread = |_| Refusal {
-        status: CLOSED,
-        ..done
-    };
-    let code = fetch(|_, room| out.rows_from(0, room)).map_err(unread)?;
-    let number = done.number;
-    Ok(Given { code, number })
+    match done.status {
+        OK => {
+            code.truncate(done.length);
+            let number = done.number;
+            Ok(Given { code, number })
+        }
+        _ => Err(done),
+    }
 }
 
 /// The draft that opens a store, by the code of its opening.
@@ -381,5 +409,33 @@ pub(super) fn check_page(version: &[u8], pairs: &[u8], low: &[u8], to: &[u8]) ->
             to,
             to_length,
         )
+    }
+}
+
+#[cfg(test)]
+mod tests {
+    use super::*;
+
+    #[test]
+    fn a_call_is_made_again_if_what_it_gives_did_not_fit() {
+        // room for 1,024 bytes and twice 10
+        for (length, status, wanted) in [(0, OK, 1), (1044, OK, 1), (1045, OK, 2), (0, 17, 1)] {
+            let mut calls = 0;
+            let given = given(10, |out| {
+                calls += 1;
+                out.iter_mut().take(length).for_each(|byte| *byte = 7);
+                Refusal {
+                    status,
+                    column: 0,
+                    number: 3,
+                    length,
+                }
+            });
+            match given {
+                Ok(Given { code, number }) => assert_eq!((code, number), (vec![7; length], 3)),
+                Err(refusal) => assert_eq!((refusal.status, status), (17, 17)),
+            }
+            assert_eq!(calls, wanted, "{length}");
+        }
     }
 }

@@ -4,9 +4,14 @@ use cagzhomul::Type::{Int, Text};
 use cagzhomul::{Db, Error, Step, Table};
 use std::cell::Cell;
 
-/// A store of people, with their towns.
+/// The table of people, with their towns.
+pub fn table() -> Table {
+    Table::new("people").key("id", Int).column("town", Text)
+}
+
+/// A store of people.
 pub fn people() -> Db {
-    Db::open([Table::new("people").key("id", Int).column("town", Text)]).unwrap()
+    Db::open([table()]).unwrap()
 }
 
 /// Takes the steps of a change, and sets the clock forward at each wait.
