@@ -76,7 +76,8 @@ class Browser(unittest.TestCase):
         return self.page.find_elements(By.CSS_SELECTOR, selector)
 
     def texts(self, selector: str) -> List[str]:
-        return [it.text for it in self.all(selector)]
+        """Read in one script: a page that follows a store may be drawn anew between two calls, and what they found is stale then."""
+        return self.page.execute_script("return [...document.querySelectorAll(arguments[0])].map(it => (it.innerText ?? it.textContent).trim())", selector)
 
     def sent(self) -> int:
         return int(self.page.execute_script("return document.body.dataset.sent"))
