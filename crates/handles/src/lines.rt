@@ -1,6 +1,6 @@
 //! A line of a session whose world is in a handle of its own: script and world are put together,
 //! the line is answered, and they are taken apart again.
-ghost use Rattle.std.specs.Prelude.{◌≡◌, None, Some, IfOk, OnOk, OnErr, length};
+ghost use Rattle.std.specs.Prelude.{◌≡◌, None, Some, length};
 ghost use Rattle.typed_calls.specs.SessionVariants.TheVariants as whole;
 ghost use Rattle.handles.specs.Moments.{any_jump};
 ghost use Rattle.handles.specs.Replies.{reply_status};
@@ -9,14 +9,11 @@ ghost use Rattle.handles.specs.declared.engine.Engine.TheVariants as engine;
 ghost use Rattle.handles.specs.declared.engine.Script.TheVariants as of_script;
 
 use crate::boxes::{filled, room, taken_out};
-use crate::engine::{Conversation, Engine, Names, Script, nothing_declared};
+use crate::engine::{Conversation, Engine, Names, Script};
 use crate::handle::Handle;
 use crate::moments::is_line_too_far;
 use crate::outcome::{Outcome, lay};
-use byte_map::KeyMap;
-use collections::List;
-use std::alloc::{AllocError, Global};
-use std::mem::replace;
+use std::alloc::Global;
 use typed_calls::script_session::{Declarations, Opened, Session};
 use typed_calls::status::{ALREADY_OPEN, BAD_LINE, CLOSED, NOT_UTF8, OK, OUT_OF_MEMORY, TOO_FAR};
 use typed_calls::world::World;
@@ -39,53 +36,28 @@ fn session_with(names: Names, world: World) -> Session
     })
 }
 
-// Takes the names out of an opened session.
-fn names_of(alloc: Global, opened: &mut Opened) -> Names
-    ensures names { opened_with result opened.old.world ≡ opened.old }
-    ensures world { opened.new.world ≡ opened.old.world }
-{
-    Names {
-        leases: replace(&mut opened.leases, KeyMap::new(alloc)),
-        pending: replace(&mut opened.pending, KeyMap::new(alloc)),
-        plan: replace(&mut opened.plan, List::new(Vec::new(alloc))),
-    }
-}
-
-// Takes the world out of an opened session, and leaves one that goes on from it, which ends with the
-// session before the next write, so that no page is copied. Its price is that of a checkpoint.
-fn world_of(alloc: Global, opened: &mut Opened) -> Result<World, AllocError>
-    ensures { IfOk result (λ world. world ≡ opened.old.world) }
-{
-    let checkpoint = opened.world.checkpoint()?;
-    let stand_in = World::open_at(alloc, checkpoint);
-    Ok(replace(&mut opened.world, stand_in))
-}
-
 // Puts the world of a session into its closed handle, and gives what the session keeps besides it.
-// A session of another crate is not taken apart by a pattern, since it says how it is dropped.
 fn keep_parts(
-    alloc: Global,
-    mut session: Session,
+    session: Session,
     furthest: u64,
     room: Box<Engine, Global>,
     handle: &mut Handle,
-) -> Result<Script, AllocError>
+) -> Script
     requires { handle.old.place.value ≡ None }
-    ensures script { IfOk result (λ kept. kept ≡ script_of session) }
-    ensures world { OnOk result (handle.new.place.value ≡ world_of furthest session) }
-    ensures closed { OnErr result (handle.new.place.value ≡ None) }
+    ensures script { result ≡ script_of session }
+    ensures world { handle.new.place.value ≡ world_of furthest session }
 {
-    match &mut session {
-        Session::Declaring(declared) => {
-            let declared = replace(declared, nothing_declared(alloc));
-            Ok(Script::Declaring(declared))
-        }
-        Session::Running(opened) => {
-            let names = names_of(alloc, opened);
-            let world = world_of(alloc, opened)?;
+    match session.into_opened() {
+        Err(declared) => Script::Declaring(declared),
+        Ok(opened) => {
+            let (world, leases, pending, plan) = opened.into_parts();
             let bounded = BoundedWorld { world, furthest };
             handle.put(filled(room, Engine::World(bounded)));
-            Ok(Script::Running(names))
+            Script::Running(Names {
+                leases,
+                pending,
+                plan,
+            })
         }
     }
 }
@@ -117,9 +89,7 @@ fn answer_line(
     let Ok(answer) = session.reply_to(alloc, line) else {
         return (Outcome::refusal(OUT_OF_MEMORY), None);
     };
-    let Ok(script) = keep_parts(alloc, session, furthest, room, handle) else {
-        return (Outcome::refusal(OUT_OF_MEMORY), None);
-    };
+    let script = keep_parts(session, furthest, room, handle);
     let text = answer.text.as_str();
     lay(out, text.as_bytes());
     let outcome = answered(text, answer.is_bad);

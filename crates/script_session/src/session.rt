@@ -1,8 +1,9 @@
 //! What stands between two lines of a script, and the reply to a line.
-ghost use Rattle.std.specs.Prelude.{◌≡◌, IfOk, string_bytes, true, false};
+ghost use Rattle.std.specs.Prelude.{◌≡◌, IfOk, IfErr, string_bytes, true, false};
 ghost use Rattle.script_replies.specs.Texts.{bad_line, line, refused};
 ghost use Rattle.script_session.specs.Session.{empty, nothing_declared};
 ghost use Rattle.script_session.specs.Replies.{Performs, Reply};
+ghost use Rattle.script_session.specs.declared.session.Session.TheVariants.{Declaring, Running};
 
 use crate::answer::answer;
 use crate::declare::declare;
@@ -73,6 +74,21 @@ impl Drop for Opened {
             pending: _,
             plan: _,
         } = self;
+    }
+}
+
+impl Opened {
+    /// The world, the leases, what was prepared, and the plan.
+    pub fn into_parts(self) -> (World, KeyMap<ServerLease>, KeyMap<Pending>, List<Step>)
+        ensures { self ≡ record { world = result.0; leases = result.1; pending = result.2; plan = result.3 } }
+    {
+        let Opened {
+            world,
+            leases,
+            pending,
+            plan,
+        } = self;
+        (world, leases, pending, plan)
     }
 }
 
@@ -158,6 +174,17 @@ impl Session {
         ensures { result ≡ empty }
     {
         Session::Declaring(nothing_declared(alloc))
+    }
+
+    /// What was opened; before `open`, what was declared.
+    pub fn into_opened(self) -> Result<Opened, Declarations>
+        ensures running { IfOk result (λ opened. self ≡ Running opened) }
+        ensures declaring { IfErr result (λ declared. self ≡ Declaring declared) }
+    {
+        match self {
+            Session::Declaring(declared) => Err(declared),
+            Session::Running(opened) => Ok(opened),
+        }
     }
 
     // What a command answers, and what it leaves.
