@@ -262,6 +262,56 @@ typedef struct cagzhomul_progressed {
     uint64_t all;   /* how many there are */
 } cagzhomul_progressed;
 
+/* What is wrong with a value. */
+#define CAGZHOMUL_FAULT_NONE 0         /* nothing is wrong */
+#define CAGZHOMUL_FAULT_KEY_LENGTH 1   /* a key has `place` values, and its table's key has another
+                                          number of columns */
+#define CAGZHOMUL_FAULT_KEY_VALUE 2    /* the value at `place` of a key, counted from 0, is not one
+                                          of its column's type */
+#define CAGZHOMUL_FAULT_COLUMN_VALUE 3 /* the value for `column` is not one of its type */
+#define CAGZHOMUL_FAULT_NAMED_TWICE 4  /* `column` is named twice */
+
+/* The type of a null. The others are 0 int, 1 text and 2 bool, as in the code of a table. */
+#define CAGZHOMUL_NO_TYPE 3
+
+/* Which value is wrong. The fields that a cause does not name are 0. */
+typedef struct cagzhomul_value_fault {
+    int32_t status;  /* the other fields are 0 if it is not CAGZHOMUL_OK */
+    uint32_t cause;  /* CAGZHOMUL_FAULT_NONE, or one of the four after it */
+    size_t item;     /* the operation, or the condition of a query, counted from 0 */
+    size_t place;    /* of a key */
+    uint32_t column; /* the number of the column */
+    uint32_t wanted; /* at KEY_VALUE and COLUMN_VALUE the type of the column */
+    uint32_t given;  /* at these the type of the value; if it is `wanted`, a text has more than
+                        1,024 bytes */
+} cagzhomul_value_fault;
+
+/* Why a table may not be declared. */
+#define CAGZHOMUL_FAULT_NO_TABLE 1         /* no table is declared */
+#define CAGZHOMUL_FAULT_TOO_MANY_TABLES 2  /* more than 16 tables are; `table` is 16 */
+#define CAGZHOMUL_FAULT_TABLE_NAME 3       /* its name is none: 1 to 32 bytes, an ASCII letter and
+                                              then letters, digits and underscores */
+#define CAGZHOMUL_FAULT_TABLE_TWICE 4      /* a later table has the same name */
+#define CAGZHOMUL_FAULT_TABLE_KEY 5        /* its key has no column, or more than 4 */
+#define CAGZHOMUL_FAULT_TOO_MANY_COLUMNS 6 /* more than 32 columns besides its key */
+#define CAGZHOMUL_FAULT_TOO_MANY_INDEXES 7 /* more than 16 indexes */
+#define CAGZHOMUL_FAULT_NAME 8             /* the name at `place` is none */
+#define CAGZHOMUL_FAULT_NAME_TWICE 9       /* a later name is the same as that at `place` */
+#define CAGZHOMUL_FAULT_LIST_LENGTH 10     /* `index` lists no column, or more than 4 */
+#define CAGZHOMUL_FAULT_LISTED_TWICE 11    /* `index` lists the column at `place` again later */
+#define CAGZHOMUL_FAULT_NOT_A_COLUMN 12    /* what `index` lists at `place` is no column of the
+                                              table outside its key */
+
+/* Which declaration is wrong. The fields that a cause does not name are 0. */
+typedef struct cagzhomul_table_fault {
+    int32_t status; /* the other fields are 0 if it is not CAGZHOMUL_OK */
+    uint32_t cause; /* CAGZHOMUL_FAULT_NONE, or one of the twelve above */
+    size_t table;   /* the table, counted from 0 */
+    size_t index;   /* an index of the table, counted from 0 */
+    size_t place;   /* a name of the table, counted from 0 over the columns of its key, the other
+                       columns and the indexes; or one of those that the index lists */
+} cagzhomul_table_fault;
+
 /* ---- worlds */
 
 /* A furthest jump that refuses no moment. */
@@ -617,6 +667,33 @@ int32_t cagzhomul_open_checkpoint(cagzhomul_checkpoint_handle *checkpoint, uint6
  * these bytes, as they are damaged or forged; CAGZHOMUL_OUT_OF_MEMORY. */
 int32_t cagzhomul_open_at(cagzhomul_world_handle *world, const uint8_t *bytes, size_t length,
                           uint64_t furthest_jump);
+
+/* ---- what a refusal is for, by codes in bytes: no handle, no lock, and nothing changes */
+
+/* Which value of a transaction is wrong: exactly if its preparation under this schema is
+ * CAGZHOMUL_WRONG_TYPE, there is a cause. It is of the operation that decides, and there the first
+ * of: the length of its key, the values of its key, the values for columns, a column that is named
+ * twice.
+ * `schema` is what cagzhomul_lease_schema or cagzhomul_schema gives, or the record of a layer's
+ * version, which is the same.
+ * CAGZHOMUL_OK. Refusals: CAGZHOMUL_BAD_CODE, also of a text of more than 1,024 bytes;
+ * CAGZHOMUL_OUT_OF_MEMORY, which may come in its place. */
+cagzhomul_value_fault cagzhomul_txn_fault(const uint8_t *schema, size_t schema_length,
+                                          const uint8_t *operations, size_t operations_length);
+
+/* Which value of a query is wrong: exactly if the query under this schema is CAGZHOMUL_WRONG_TYPE,
+ * there is a cause. It is of the condition that decides; of two bounds the lower comes first.
+ * CAGZHOMUL_OK. Refusals: as for cagzhomul_txn_fault. */
+cagzhomul_value_fault cagzhomul_query_fault(const uint8_t *schema, size_t schema_length,
+                                            const uint8_t *query, size_t query_length);
+
+/* Why the tables of an opening may not be declared: exactly if cagzhomul_open with them is
+ * CAGZHOMUL_BAD_TABLE, there is a cause. The number of tables comes first; then table by table the
+ * causes in the order of their numbers. But its names are gone over place by place, and so are its
+ * indexes, and what each of them lists.
+ * CAGZHOMUL_OK. Refusals: CAGZHOMUL_BAD_CODE; CAGZHOMUL_OUT_OF_MEMORY, which may come in its
+ * place. */
+cagzhomul_table_fault cagzhomul_opening_fault(const uint8_t *opening, size_t opening_length);
 
 /* ---- sessions by lines */
 

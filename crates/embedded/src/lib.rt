@@ -5,6 +5,7 @@
 
 mod changes;
 mod closes;
+mod faults;
 mod layer;
 mod logs;
 mod pages;

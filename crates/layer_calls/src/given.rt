@@ -48,7 +48,7 @@ fn version_in(record: &Record) -> Result<ArcValue<Schema>, LayerOutcome>
 }
 
 /// The version whose record this is.
-pub(crate) fn version(alloc: Global, bytes: &[u8]) -> Result<ArcValue<Schema>, LayerOutcome>
+pub fn version(alloc: Global, bytes: &[u8]) -> Result<ArcValue<Schema>, LayerOutcome>
     ensures { GivesVersion bytes.now result }
 {
     let read = record_of(alloc, RecordKind::Version, bytes);
@@ -92,7 +92,7 @@ pub(crate) fn reorg(alloc: Global, bytes: &[u8]) -> Result<Reorg, LayerOutcome>
 }
 
 /// The lease length and the tables whose code this is.
-pub(crate) fn opening(alloc: Global, bytes: &[u8]) -> Result<(u64, List<TableDef>), LayerOutcome>
+pub fn opening(alloc: Global, bytes: &[u8]) -> Result<(u64, List<TableDef>), LayerOutcome>
     ensures { GivesOpening bytes.now result }
 {
     match opening_of(alloc, bytes) {
@@ -103,7 +103,7 @@ pub(crate) fn opening(alloc: Global, bytes: &[u8]) -> Result<(u64, List<TableDef
 }
 
 /// The operations whose code this is.
-pub(crate) fn ops(alloc: Global, bytes: &[u8]) -> Result<RowOps, LayerOutcome>
+pub fn ops(alloc: Global, bytes: &[u8]) -> Result<RowOps, LayerOutcome>
     ensures { GivesOps bytes.now result }
 {
     match ops_of(alloc, bytes) {
@@ -114,7 +114,7 @@ pub(crate) fn ops(alloc: Global, bytes: &[u8]) -> Result<RowOps, LayerOutcome>
 }
 
 /// The query whose code this is.
-pub(crate) fn query(alloc: Global, bytes: &[u8]) -> Result<Query, LayerOutcome>
+pub fn query(alloc: Global, bytes: &[u8]) -> Result<Query, LayerOutcome>
     ensures { GivesQuery bytes.now result }
 {
     match query_of(alloc, bytes) {

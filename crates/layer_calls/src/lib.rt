@@ -5,7 +5,7 @@
 mod audits;
 mod changes;
 mod dues;
-mod given;
+pub mod given;
 mod opening;
 mod outcome;
 mod page_checks;
