@@ -7,9 +7,9 @@ use cagzhomul::layer::{
 };
 use cagzhomul::Type::{Int, Text};
 use cagzhomul::{Check, Error, Query, Row, SchemaChange, Table, Value};
-use std::cell::RefCell;
+use std::cell::{Cell, RefCell};
 use std::collections::{BTreeSet, VecDeque};
-use std::sync::atomic::{AtomicBool, AtomicUsize, Ordering};
+use std::sync::atomic::{AtomicBool, Ordering};
 use std::thread;
 
 pub const TOWNS: [Option<&str>; 4] = [Some("Ulm"), Some("Bonn"), Some("Rom"), None];
@@ -213,12 +213,17 @@ impl<S: Store> Store for Small<S> {
     }
 }
 
-/// A store of which every fiftieth answer to a draft is lost: it was applied, or refused.
-pub struct Dropping<S>(pub S, AtomicUsize);
+/// A store of which every fiftieth answer to a thread's drafts is lost: it was applied, or refused. It
+/// goes by threads, so that nobody loses two answers in a row, after which a transaction is unknown.
+pub struct Dropping<S>(pub S);
+
+thread_local! {
+    static DRAFTS: Cell<usize> = const { Cell::new(0) };
+}
 
 impl<S> Dropping<S> {
     pub fn new(store: S) -> Dropping<S> {
-        Dropping(store, AtomicUsize::new(0))
+        Dropping(store)
     }
 }
 
@@ -228,7 +233,8 @@ impl<S: Store> Store for Dropping<S> {
     }
 
     fn apply(&self, draft: &Draft) -> Result<(), StoreError> {
-        let count = 1 + self.1.fetch_add(1, Ordering::Relaxed);
+        let count = 1 + DRAFTS.get();
+        DRAFTS.set(count);
         match (self.0.apply(draft), count % 50) {
             (_, 0) => Err(StoreError::Unknown("the answer was lost".to_string())),
             (answer, _) => answer,
