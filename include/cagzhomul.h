@@ -28,10 +28,10 @@
  * library keeps no pointer to them after a call. What an open handle points to, as the rows of a
  * query, is the library's, and the close function of its type frees it.
  *
- * Of the refusals of a function the first in its list that applies is given, but for
- * CAGZHOMUL_OUT_OF_MEMORY: if a function has it, it may come in place of each refusal after
- * CAGZHOMUL_ALREADY_OPEN and CAGZHOMUL_CLOSED, unless the function says of which. The call may then
- * be made again. A refused call changes neither a handle, nor what it holds, nor `out`, except that
+ * Of the refusals of a function the first in its list that applies is given. But where a function
+ * takes a code, CAGZHOMUL_OUT_OF_MEMORY may come in place of CAGZHOMUL_BAD_CODE and of each refusal
+ * after that; and some functions say of which it may. The call may then be made again.
+ * A refused call changes neither a handle, nor what it holds, nor `out`, except that
  * CAGZHOMUL_OUT_OF_MEMORY of cagzhomul_reply_to closes both handles. All lengths are in bytes.
  *
  * Moments: time is a number that the caller gives, the present `moment`. The one that counts is the
@@ -320,7 +320,8 @@ typedef struct cagzhomul_table_fault {
 /* Opens a world in the closed handle: with a lease length, in moments, and with the tables whose
  * code the bytes are, and with a furthest jump. Its log is empty.
  * CAGZHOMUL_OK. Refusals: CAGZHOMUL_ALREADY_OPEN; CAGZHOMUL_BAD_CODE; CAGZHOMUL_BAD_TABLE;
- * CAGZHOMUL_BAD_LENGTH; CAGZHOMUL_OUT_OF_MEMORY. */
+ * CAGZHOMUL_BAD_LENGTH; CAGZHOMUL_OUT_OF_MEMORY, which may come in place of CAGZHOMUL_BAD_CODE
+ * alone. */
 int32_t cagzhomul_open(cagzhomul_world_handle *world, const uint8_t *opening,
                        size_t opening_length, uint64_t furthest_jump);
 
@@ -354,7 +355,8 @@ cagzhomul_outcome cagzhomul_entry(cagzhomul_world_handle *world, size_t place, u
  * come from anywhere. A world that was opened alike and repeats each entry once, in the order of
  * its place, is an equal world; an entry that is handed in again may be accepted again.
  * CAGZHOMUL_OK. Refusals: CAGZHOMUL_CLOSED; CAGZHOMUL_BAD_ENTRY; CAGZHOMUL_NOT_NEXT, also of an
- * entry whose moment is too far; CAGZHOMUL_OUT_OF_MEMORY. */
+ * entry whose moment is too far; CAGZHOMUL_OUT_OF_MEMORY, which may come in place of the two before
+ * it. */
 int32_t cagzhomul_repeat(cagzhomul_world_handle *world, const uint8_t *entry,
                          size_t entry_length);
 
@@ -374,7 +376,8 @@ cagzhomul_outcome cagzhomul_status(cagzhomul_world_handle *world, uint8_t *out,
 
 /* Grants a lease on the newest version of the world, which the closed handle `lease` then holds.
  * CAGZHOMUL_OK. Refusals: CAGZHOMUL_ALREADY_OPEN, of `lease`; CAGZHOMUL_CLOSED, of `world`;
- * CAGZHOMUL_TOO_FAR; CAGZHOMUL_MOMENT_TOO_LARGE; CAGZHOMUL_OUT_OF_MEMORY. */
+ * CAGZHOMUL_TOO_FAR; CAGZHOMUL_MOMENT_TOO_LARGE; CAGZHOMUL_OUT_OF_MEMORY, which may come in place
+ * of the two before it. */
 cagzhomul_granted cagzhomul_lease(cagzhomul_world_handle *world, uint64_t moment,
                                   cagzhomul_lease_handle *lease);
 
@@ -426,7 +429,7 @@ cagzhomul_queried cagzhomul_query_read(cagzhomul_reads_handle *reads, const uint
  * CAGZHOMUL_OK. Refusals: CAGZHOMUL_ALREADY_OPEN, of `txn`; CAGZHOMUL_CLOSED, of `reads`; of the
  * first operation with one of them, the first of CAGZHOMUL_NO_TABLE, CAGZHOMUL_NOT_PUBLIC, with the
  * column, and CAGZHOMUL_WRONG_TYPE; CAGZHOMUL_TOO_MANY_OPS; CAGZHOMUL_VIEW_MISMATCH;
- * CAGZHOMUL_OUT_OF_MEMORY. */
+ * CAGZHOMUL_OUT_OF_MEMORY, which may come in place of all but the first two. */
 cagzhomul_prepared cagzhomul_prepare(cagzhomul_reads_handle *reads, cagzhomul_txn_handle *txn);
 
 /* Commits a prepared transaction to the world: it is logged and written, or the rows refuse it; in
@@ -597,7 +600,7 @@ cagzhomul_progressed cagzhomul_progress(cagzhomul_world_handle *world, uint32_t 
  * CAGZHOMUL_OK, and the log has exactly one entry more; CAGZHOMUL_WAITING, with the moment, or
  * CAGZHOMUL_FINISHED, and nothing changed. Refusals: CAGZHOMUL_CLOSED; CAGZHOMUL_TOO_FAR;
  * CAGZHOMUL_BAD_COUNT; CAGZHOMUL_MOMENT_TOO_LARGE; CAGZHOMUL_VERSIONS_SPENT;
- * CAGZHOMUL_OUT_OF_MEMORY. */
+ * CAGZHOMUL_OUT_OF_MEMORY, which may come in place of the one before it. */
 cagzhomul_advanced cagzhomul_advance(cagzhomul_world_handle *world, uint64_t moment,
                                      uint32_t pieces, uint32_t limit);
 
@@ -605,7 +608,8 @@ cagzhomul_advanced cagzhomul_advance(cagzhomul_world_handle *world, uint64_t mom
  * closed handle `bytes` then holds the code of the entry that it would add now. cagzhomul_repeat of
  * it, in a world that stands as this one does, is that advance.
  * CAGZHOMUL_OK; CAGZHOMUL_WAITING, with the moment, or CAGZHOMUL_FINISHED, and `bytes` stays
- * closed. Refusals: CAGZHOMUL_ALREADY_OPEN, of `bytes`; then as for cagzhomul_advance. */
+ * closed. Refusals: CAGZHOMUL_ALREADY_OPEN, of `bytes`; then as for cagzhomul_advance, but that
+ * CAGZHOMUL_OUT_OF_MEMORY may come in place of all after CAGZHOMUL_TOO_FAR. */
 cagzhomul_advanced cagzhomul_due_entry(cagzhomul_world_handle *world, uint64_t moment,
                                        uint32_t pieces, uint32_t limit,
                                        cagzhomul_bytes_handle *bytes);
@@ -631,8 +635,9 @@ int32_t cagzhomul_prepare_piece(cagzhomul_piece_handle *work,
  * are written, and the piece goes on behind them.
  * CAGZHOMUL_OK. Refusals: CAGZHOMUL_CLOSED, of `world`; CAGZHOMUL_CLOSED, of `prepared`;
  * CAGZHOMUL_TOO_FAR; CAGZHOMUL_MOMENT_TOO_LARGE; CAGZHOMUL_NOT_WANTED; CAGZHOMUL_WRONG_ELEMENT;
- * CAGZHOMUL_MOVED; CAGZHOMUL_CONFLICT; CAGZHOMUL_OUT_OF_MEMORY. A refusal leaves `prepared` as it
- * was: at CAGZHOMUL_MOVED and CAGZHOMUL_CONFLICT it is to be closed, and the piece read again. */
+ * CAGZHOMUL_MOVED; CAGZHOMUL_CONFLICT; CAGZHOMUL_OUT_OF_MEMORY, which may come in place of the two
+ * before it. A refusal leaves `prepared` as it was: at CAGZHOMUL_MOVED and CAGZHOMUL_CONFLICT it is
+ * to be closed, and the piece read again. */
 cagzhomul_pieced cagzhomul_commit_piece(cagzhomul_world_handle *world, uint64_t moment,
                                         cagzhomul_prepared_piece_handle *prepared);
 
@@ -715,8 +720,9 @@ int32_t cagzhomul_session_attach(cagzhomul_session_handle *session);
  * CAGZHOMUL_OK, or CAGZHOMUL_BAD_LINE with the reply `bad line`. Refusals: CAGZHOMUL_CLOSED, of
  * `session`; CAGZHOMUL_ALREADY_OPEN, of `world`, if the session is before its line `open`;
  * CAGZHOMUL_CLOSED, of `world`, if it is behind it; CAGZHOMUL_NOT_UTF8; CAGZHOMUL_TOO_FAR of a line
- * that names a moment that is too far; CAGZHOMUL_OUT_OF_MEMORY, and both the session and the world
- * are freed and their handles closed. After each other refusal the last reply stays. (A reply
+ * that names a moment that is too far; CAGZHOMUL_OUT_OF_MEMORY, which may come in its place, and
+ * both the session and the world are freed and their handles closed. After each other refusal the
+ * last reply stays. (A reply
  * `refused Memory` is another thing: that line was refused by the session, which goes on.) */
 cagzhomul_outcome cagzhomul_reply_to(cagzhomul_session_handle *session,
                                      cagzhomul_world_handle *world, const uint8_t *line,
