@@ -535,8 +535,14 @@ def _values(key: Key) -> Sequence[Value]:
     return key if isinstance(key, (tuple, list)) else (cast(Value, key),)
 
 
+# how a list of one thing begins
+_ONE = _number(1)
+
+
 def _key(key: Key) -> bytes:
-    return _list([_value(value) for value in _values(key)])
+    if isinstance(key, (tuple, list)):
+        return _list([_value(value) for value in key])
+    return _ONE + _value(cast(Value, key))
 
 
 class _Condition(NamedTuple):

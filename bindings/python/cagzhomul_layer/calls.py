@@ -68,17 +68,20 @@ class Refusal(Exception):
 
 def asked(name: str, *given: Any) -> Answered:
     """Calls a function: each of `given` is bytes, which go with their length, or a number. Raises Refusal."""
-    words, length = [], 0
+    words: List[Any] = []
+    length = 0
     for it in given:
-        words.append(it)
-        if isinstance(it, bytes):
-            words.append(len(it))
+        if type(it) is bytes:
+            words += it, len(it)
             length += len(it)
+        else:
+            words.append(it)
     # what is given is about as long as what comes of it; a call that did not fit is made again
+    call = _CALLS[name]
     while True:
         room = max(_LEAST, (2 * length).bit_length())
         out = _ROOMS[room]()
-        done = _CALLS[name](*words, out, 1 << room)
+        done = call(*words, out, 1 << room)
         if done.status != OK:
             raise Refusal(done.status, done.column, done.number)
         length = done.length
@@ -126,9 +129,9 @@ number_code = struct.Struct(">Q").pack
 
 def points_code(points: Mapping[bytes, Optional[bytes]]) -> bytes:
     """The code of keys with their values or none, by rising key."""
-    parts = [b"\1", number_code(len(points))]
+    parts, number = [b"\1", number_code(len(points))], number_code
     for key, value in sorted(points.items()):
-        parts += (number_code(len(key)), key, b"\0") if value is None else (number_code(len(key)), key, b"\1", number_code(len(value)), value)
+        parts += (number(len(key)), key, b"\0") if value is None else (number(len(key)), key, b"\1", number(len(value)), value)
     return b"".join(parts)
 
 
@@ -158,17 +161,19 @@ def _pairs_at(code: bytes, at: int) -> Tuple[List[Pair], int]:
 def _points_at(code: bytes, at: int) -> Tuple[Dict[bytes, Optional[bytes]], int]:
     """The keys, with their values or none, of a list that begins there, and where it ends."""
     points: Dict[bytes, Optional[bytes]] = {}
-    count, at = _number_at(code, at)[0], at + 8
+    number_at = _number_at
+    count, at = number_at(code, at)[0], at + 8
     for _ in range(count):
         start = at + 8
-        at = start + _number_at(code, at)[0]
+        at = start + number_at(code, at)[0]
         key = code[start:at]
         if code[at]:
             start = at + 9
-            at = start + _number_at(code, at + 1)[0]
+            at = start + number_at(code, at + 1)[0]
             points[key] = code[start:at]
         else:
-            points[key], at = None, at + 1
+            points[key] = None
+            at += 1
     return points, at
 
 
