@@ -30,8 +30,11 @@ use Rattle.value_faults.specs.Faults.{has_kind_or_null, wrong_key, wrong_for, wr
 use Rattle.value_faults.specs.inner.Found.{of_cause, decided, names_hidden, is_hidden, condition_found, conditions_found, found_of, query_found}
 use Rattle.value_faults.proofs.Tests.{both_same, none_or, none_key, none_for}
 
-err_same : {f g : QueryFault} → Err {T = Unit {0}} f ≡ Err g → f ≡ g
-err_same e = cc
+abbrev failed : QueryFault → Checks
+failed fault = Err fault
+
+fault_same : (f g : QueryFault) → failed f ≡ failed g → f ≡ g
+fault_same f g e = cc
 
 not_three : (fault : QueryFault) → rank fault < 3 → fault ≢ WrongType
 not_three fault lt e = let r : rank fault ≡ 3 = ap rank e in omega (arith, lt, r)
@@ -52,6 +55,27 @@ none_bound : (column : ℕ) (wanted : ColumnType) (bound : Option Value) → is_
 none_bound column wanted None = refl
 none_bound column wanted (Some value) = none_for has_kind column wanted value
 
+-- ---- conditions in turn
+
+-- the first wrong value, of conditions of which the first is at this place
+record FoundFrom (elements : List ElementDef) (number : ℕ) (columns : List (List ℕ × ColumnType)) (start : ℕ) (cs : List Cond) (found : ValueFault) : Type 0 where
+  before : List Cond
+  after : List Cond
+  condition : Cond
+  split : cs ≡ before ++ condition ∷ after
+  place : found.item ≡ start + length before
+  earlier : conditions_check elements number columns before ≡ passed
+  decides : condition_check elements number columns condition ≡ Err WrongType
+  cause : wrong_condition columns elements number condition ≡ Some found.cause
+
+abbrev FirstOf : List ElementDef → ℕ → List (List ℕ × ColumnType) → ℕ → List Cond → Checks → Option ValueFault → Type 0
+FirstOf elements number columns start cs check None = check ≢ Err WrongType
+FirstOf elements number columns start cs check (Some found) = (check ≡ Err WrongType) × FoundFrom elements number columns start cs found
+
+abbrev ColumnsSay : Checks → Bool → Type 0
+ColumnsSay check true = (fault : QueryFault) × (check ≡ Err fault) × (rank fault < 3)
+ColumnsSay check false = check ≡ passed
+
 module _ (elements : List ElementDef) (number : ℕ) (columns : List (List ℕ × ColumnType)) where
   condition_says : (c : Cond) → Says (wrong_condition columns elements number c) (condition_check elements number columns c) (condition_found columns elements number c)
   condition_says (Key key) = judged (wrong_key has_kind columns key) (is_key_for columns key) (none_key has_kind columns key)
@@ -69,20 +93,8 @@ module _ (elements : List ElementDef) (number : ℕ) (columns : List (List ℕ �
 
   -- ---- conditions in turn
 
-  -- the first wrong value, of conditions of which the first is at this place
-  record FoundFrom (start : ℕ) (cs : List Cond) (found : ValueFault) : Type 0 where
-    before : List Cond
-    after : List Cond
-    condition : Cond
-    split : cs ≡ before ++ condition ∷ after
-    place : found.item ≡ start + length before
-    earlier : conditions_check elements number columns before ≡ passed
-    decides : condition_check elements number columns condition ≡ Err WrongType
-    cause : wrong_condition columns elements number condition ≡ Some found.cause
-
   abbrev AllSay : ℕ → List Cond → Checks → Option ValueFault → Type 0
-  AllSay start cs check None = check ≢ Err WrongType
-  AllSay start cs check (Some found) = (check ≡ Err WrongType) × FoundFrom start cs found
+  AllSay = FirstOf elements number columns
 
   more : (start : ℕ) (c : Cond) (cs : List Cond) (check : Checks) (o : Option ValueFault) → condition_check elements number columns c ≡ passed → AllSay (start + 1) cs check o → AllSay start (c ∷ cs) check o
   more start c cs check None clear rest = rest
@@ -103,33 +115,28 @@ module _ (elements : List ElementDef) (number : ℕ) (columns : List (List ℕ �
   conditions_say : (start : ℕ) (cs : List Cond) → AllSay start cs (conditions_check elements number columns cs) (conditions_found start columns elements number cs)
   conditions_say start [] = λ e. (let x : passed ≡ Err WrongType = e in cc)
   conditions_say start (c ∷ cs) =
-      let rest : Checks = conditions_check elements number columns cs in
       elim (condition_found columns elements number c) as (λ f. Says (wrong_condition columns elements number c) (condition_check elements number columns c) f
-      → AllSay start (c ∷ cs) (condition_check elements number columns c >>>= λ _. rest) (decided start f (conditions_found (start + 1) columns elements number cs))) [
+      → AllSay start (c ∷ cs) (condition_check elements number columns c >>>= λ _. conditions_check elements number columns cs) (decided start f (conditions_found (start + 1) columns elements number cs))) [
         | Clear ↦ λ s.
-            subst (λ check. AllSay start (c ∷ cs) check (conditions_found (start + 1) columns elements number cs)) (ap (λ (r : Checks). r >>>= λ _. rest) (sym s))
-            (more start c cs rest (conditions_found (start + 1) columns elements number cs) s (conditions_say (start + 1) cs))
-        | Other ↦ λ s e. not_three s.0 s.2 (err_same (sym (ap (λ (r : Checks). r >>>= λ _. rest) s.1) ∙ e))
+            subst (λ check. AllSay start (c ∷ cs) check (conditions_found (start + 1) columns elements number cs)) (ap (λ (r : Checks). r >>>= λ _. conditions_check elements number columns cs) (sym s))
+            (more start c cs (conditions_check elements number columns cs) (conditions_found (start + 1) columns elements number cs) s (conditions_say (start + 1) cs))
+        | Other ↦ λ s e. not_three s.0 s.2 (fault_same s.0 WrongType (sym (ap (λ (r : Checks). r >>>= λ _. conditions_check elements number columns cs) s.1) ∙ e))
         | Wrong cause ↦ λ s. (
-            ap (λ (r : Checks). r >>>= λ _. rest) s.0,
-            record {
-              before = [];
-              after = cs;
-              condition = c;
-              split = refl;
-              place = omega arith;
-              earlier = refl;
-              decides = s.0;
-              cause = s.1;
-            },
-          )
+          ap (λ (r : Checks). r >>>= λ _. conditions_check elements number columns cs) s.0,
+          record {
+            before = [];
+            after = cs;
+            condition = c;
+            split = refl;
+            place = omega arith;
+            earlier = refl;
+            decides = s.0;
+            cause = s.1;
+          },
+        )
       ] (condition_says c)
 
   -- ---- the named columns
-
-  abbrev ColumnsSay : Checks → Bool → Type 0
-  ColumnsSay check true = (fault : QueryFault) × (check ≡ Err fault) × (rank fault < 3)
-  ColumnsSay check false = check ≡ passed
 
   columns_say : (named : List ℕ) → ColumnsSay (columns_check elements number named) (names_hidden elements number named)
   columns_say [] = refl
@@ -153,16 +160,15 @@ QuerySays v query check (Some found) = (check ≡ Err WrongType) × FoundIn v qu
 
 at_table : (v : Version) (query : Query) (table : Table) → table_at v query.table ≡ Some table → QuerySays v query (check_in (live v) (Some table.key) query) (found_of (live v) (Some table.key) query)
 at_table v query table known =
-    let rest : Checks = conditions_check (live v) query.table table.key query.conditions in
-    elim (names_hidden (live v) query.table query.columns) as (λ b. ColumnsSay (live v) query.table table.key (columns_check (live v) query.table query.columns) b
-    → QuerySays v query (columns_check (live v) query.table query.columns >>>= λ _. rest) (cond b None (conditions_found 0 table.key (live v) query.table query.conditions))) [
-      | true ↦ λ s e. not_three s.0 s.2 (err_same (sym (ap (λ (r : Checks). r >>>= λ _. rest) s.1) ∙ e))
+    elim (names_hidden (live v) query.table query.columns) as (λ b. ColumnsSay (columns_check (live v) query.table query.columns) b
+    → QuerySays v query (columns_check (live v) query.table query.columns >>>= λ _. conditions_check (live v) query.table table.key query.conditions) (cond b None (conditions_found 0 table.key (live v) query.table query.conditions))) [
+      | true ↦ λ s e. not_three s.0 s.2 (fault_same s.0 WrongType (sym (ap (λ (r : Checks). r >>>= λ _. conditions_check (live v) query.table table.key query.conditions) s.1) ∙ e))
       | false ↦ λ s.
-          subst (λ check. QuerySays v query check (conditions_found 0 table.key (live v) query.table query.conditions)) (ap (λ (r : Checks). r >>>= λ _. rest) (sym s))
+          subst (λ check. QuerySays v query check (conditions_found 0 table.key (live v) query.table query.conditions)) (ap (λ (r : Checks). r >>>= λ _. conditions_check (live v) query.table table.key query.conditions) (sym s))
           (lifted s (conditions_found 0 table.key (live v) query.table query.conditions) (conditions_say (live v) query.table table.key 0 query.conditions))
     ] (columns_say (live v) query.table table.key query.columns)
   where
-    lifted : columns_check (live v) query.table query.columns ≡ passed → (o : Option ValueFault) → AllSay (live v) query.table table.key 0 query.conditions (conditions_check (live v) query.table table.key query.conditions) o
+    lifted : columns_check (live v) query.table query.columns ≡ passed → (o : Option ValueFault) → FirstOf (live v) query.table table.key 0 query.conditions (conditions_check (live v) query.table table.key query.conditions) o
         → QuerySays v query (conditions_check (live v) query.table table.key query.conditions) o
     lifted s None says = says
     lifted s (Some found) says = (says.0, record { table = table; known = known; named = s; first = says.1 })
@@ -170,7 +176,7 @@ at_table v query table known =
 query_says : (v : Version) (query : Query) → QuerySays v query (query_check v query) (query_found v query)
 query_says v query =
     elim (table_at v query.table) as (λ o. table_at v query.table ≡ o → QuerySays v query (check_in (live v) (option_map (λ (t : Table). t.key) o) query) (found_of (live v) (option_map (λ (t : Table). t.key) o) query)) [
-      | None ↦ λ _ e. (let x : NoTable ≡ WrongType = err_same e in cc)
+      | None ↦ λ _ e. (let x : NoTable ≡ WrongType = fault_same NoTable WrongType e in cc)
       | Some table ↦ λ known. at_table v query table known
     ] refl
 

@@ -136,17 +136,17 @@ module _ (v : Version) (served : IsServed v) where
             (more start op ops (ops_check v ops) (ops_found (start + 1) v ops) (sound_clear v served op (op_sound v served op s k.0)) (ops_say (start + 1) ops k.1))
         | Other ↦ λ f s e. not_three s.0 s.2 (some_same (sym (ap (λ o. or_else o (ops_check v ops)) s.1) ∙ e))
         | Wrong cause ↦ λ f s. record {
-            before = [];
-            after = ops;
-            op = op;
-            split = refl;
-            place = omega arith;
-            decides = op_first v served op WrongType s.2;
-            earlier = tt;
-            table = s.0;
-            known = s.1;
-            cause = s.3;
-          }
+          before = [];
+          after = ops;
+          op = op;
+          split = refl;
+          place = omega arith;
+          decides = op_first v served op WrongType s.2;
+          earlier = tt;
+          table = s.0;
+          known = s.1;
+          cause = s.3;
+        }
       ] refl (op_says v op)
 
   -- another fault comes first
