@@ -1,6 +1,6 @@
 -- What is found of conditions is the first wrong value.
 use Rattle.std.proofs.Common.{◌≡◌, ◌≢◌, ◌&&◌, ◌||◌, ◌++◌, ◌+◌, ◌<◌, ℕ, Bool, true, false, cond, List, [], ◌∷◌, length, Option, Some, None, Ok, Err, option_map, refl, sym, ap, subst, ◌∙◌, arith, is_some}
-use Rattle.std.specs.Prelude.{is_none, IfSome, IfNone, IfErr}
+use Rattle.std.specs.Prelude.{is_none, IfSome, IfNone}
 use Rattle.std.specs.List.{AllByRecursion}
 use Rattle.std.specs.Option.{option_or}
 use mathlib.Core.List.{map as each}
@@ -16,7 +16,7 @@ use Rattle.row_query.specs.declared.query.Cond.{Cond}
 use Rattle.row_query.specs.declared.query.Cond.TheVariants.{Key, Equal, Between}
 use Rattle.row_query.specs.declared.query.Query.{Query}
 use Rattle.row_query.specs.declared.fault.QueryFault.{QueryFault}
-use Rattle.row_query.specs.declared.fault.QueryFault.TheVariants.{NoTable, NotPublic, WrongType, Memory}
+use Rattle.row_query.specs.declared.fault.QueryFault.TheVariants.{NoTable, NotPublic, WrongType}
 use Rattle.row_query.specs.Kinds.{has_kind}
 use Rattle.row_query.specs.Refused.{Part, Named, Where, rank, PartFault, IsFirstPartFault, IsRefused}
 use Rattle.row_query.specs.inner.Checks.{is_key_for, may_equal, is_bound, tested, condition_check, conditions_check, columns_check, check_in, query_check}
@@ -27,7 +27,7 @@ use Rattle.value_faults.specs.declared.fault.ValueFault.{ValueFault}
 use Rattle.value_faults.specs.declared.finding.Finding.{Finding}
 use Rattle.value_faults.specs.declared.finding.Finding.TheVariants.{Clear, Other, Wrong}
 use Rattle.value_faults.specs.Faults.{has_kind_or_null, wrong_key, wrong_for, wrong_bound, wrong_condition, IsQueryFault}
-use Rattle.value_faults.specs.inner.Found.{of_cause, decided, names_hidden, is_hidden, condition_found, conditions_found, found_of, query_found}
+use Rattle.value_faults.specs.inner.Found.{of_cause, decided, names_hidden, condition_found, conditions_found, found_of, query_found}
 use Rattle.value_faults.proofs.Tests.{both_same, none_or, none_key, none_for}
 
 abbrev failed : QueryFault → Checks

@@ -1,7 +1,7 @@
 -- What is found of operations is the first wrong value.
-use Rattle.std.proofs.Common.{◌≡◌, ◌≢◌, ◌&&◌, ◌++◌, ◌+◌, ◌<◌, ℕ, Bool, true, false, cond, List, [], ◌∷◌, length, Option, Some, None, option_map, refl, sym, ap, subst, ◌∙◌, arith, is_some}
-use Rattle.std.specs.Prelude.{is_none, not, IfSome, IfNone}
-use Rattle.std.specs.List.{list_any, AllByRecursion}
+use Rattle.std.proofs.Common.{◌≡◌, ◌≢◌, ◌&&◌, ◌++◌, ◌+◌, ◌<◌, ℕ, cond, List, [], ◌∷◌, length, Option, Some, None, option_map, refl, sym, ap, subst, ◌∙◌, arith, is_some}
+use Rattle.std.specs.Prelude.{is_none, IfSome, IfNone}
+use Rattle.std.specs.List.{AllByRecursion}
 use Rattle.std.specs.Option.{option_or}
 use Rattle.std.specs.FinMap as map
 use Rattle.collections.specs.Refusal.{IsFirst, IsClear}
@@ -20,10 +20,9 @@ use Rattle.row_write.specs.declared.fault.PrepareFault.TheVariants.{NoTable, Not
 use Rattle.row_write.specs.Plain.{table_of, key_of, named_of}
 use Rattle.row_write.specs.Prepare.{rank, OpFault, IsFirstOpFault}
 use Rattle.row_write.specs.inner.IndexedColumns.{IsServed}
-use Rattle.row_write.specs.inner.Checks.{first_hidden, suits, suits_all, are_distinct, is_key_for, is_typed, check_named, check_table, op_check, or_else, ops_check, AreKnown, AreKnownUntil as AreKnownUpTo}
+use Rattle.row_write.specs.inner.Checks.{first_hidden, suits, suits_all, are_distinct, is_typed, check_named, check_table, op_check, or_else, ops_check, AreKnownUntil as AreKnownUpTo}
 use Rattle.row_write.proofs.Sound.{served_from}
 use Rattle.row_write.proofs.Decides.{op_first, op_sound, sound_clear, ops_first, ops_sound, sound_none, fault_lowest}
-use Rattle.value_faults.specs.declared.fault.ValueCause.{ValueCause}
 use Rattle.value_faults.specs.declared.fault.ValueFault.{ValueFault}
 use Rattle.value_faults.specs.declared.finding.Finding.{Finding}
 use Rattle.value_faults.specs.declared.finding.Finding.TheVariants.{Clear, Other, Wrong}

@@ -1,5 +1,5 @@
 -- There is no wrong value exactly if the test is passed.
-use Rattle.std.proofs.Common.{◌≡◌, ◌==◌, ◌&&◌, ◌+◌, ℕ, Bool, true, false, cond, List, [], ◌∷◌, length, Option, Some, None, refl, sym, ap, ◌∙◌, arith, eqb-true, eq-eqb, is_some}
+use Rattle.std.proofs.Common.{◌≡◌, ◌==◌, ◌&&◌, ◌+◌, ℕ, Bool, true, false, cond, List, [], ◌∷◌, length, Option, Some, None, refl, sym, ◌∙◌, arith, eqb-true, eq-eqb}
 use Rattle.std.specs.Prelude.{is_none, not}
 use Rattle.std.specs.List.{list_any}
 use Rattle.std.specs.Option.{option_or}
@@ -8,7 +8,7 @@ use Rattle.keycode.specs.declared.value.Value.{Value}
 use Rattle.row_map.specs.declared.shape.ColumnType.{ColumnType}
 use Rattle.value_faults.specs.declared.fault.ValueCause.{ValueCause}
 use Rattle.value_faults.specs.declared.fault.ValueCause.TheVariants.{KeyLength, KeyValue, ColumnValue, NamedTwice}
-use Rattle.value_faults.specs.Faults.{type_given, wrong_at, wrong_from, wrong_key, wrong_for, named_again, named_twice}
+use Rattle.value_faults.specs.Faults.{type_given, wrong_at, wrong_from, wrong_key, wrong_for, named_again}
 
 both_true : (a b : Bool) → (a && b) ≡ true → (a ≡ true) × (b ≡ true)
 both_true true b e = (refl, e)

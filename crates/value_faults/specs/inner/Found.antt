@@ -1,6 +1,6 @@
 -- Cited by private functions alone: passes, of_cause, op_found, first_wrong and 5 more.
 -- How the first wrong value is found: operation by operation, condition by condition.
-use Rattle.std.specs.Prelude.{◌≡◌, ℕ, ◌+◌, Bool, true, false, ◌||◌, List, [], ◌∷◌, Option, Some, None, option_map, is_some, is_none, if◌then◌else◌}
+use Rattle.std.specs.Prelude.{◌≡◌, ℕ, ◌+◌, Bool, false, ◌||◌, List, [], ◌∷◌, Option, Some, None, option_map, is_some, is_none, if◌then◌else◌}
 use Rattle.keycode.specs.declared.value.Value.{Value}
 use Rattle.row_map.specs.declared.shape.ColumnType.{ColumnType}
 use Rattle.row_map.specs.Shape.{has_type, is_key_value}
