@@ -1,5 +1,5 @@
-//! Tests of the layers over rows, as tables with answers from outside: transactions, queries,
-//! audits, checks of one element and reorganisations.
+//! Tests of the layers over rows, as tables with answers from outside: transactions, queries, which
+//! values are wrong, audits, checks of one element and reorganisations.
 #![tactic(auto)]
 
 #[cfg(test)]
@@ -18,3 +18,5 @@ mod row_queries;
 mod row_reads;
 #[cfg(test)]
 mod row_writes;
+#[cfg(test)]
+mod wrong_values;

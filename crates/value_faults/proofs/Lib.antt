@@ -1,0 +1,3 @@
+pub mod Tests
+pub mod Operations
+pub mod Conditions
