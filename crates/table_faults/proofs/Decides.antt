@@ -44,7 +44,7 @@ listed_none index place columns [] = refl
 listed_none index place columns (name ∷ later) =
     listed_step (ListedTwice index place) (NotAColumn index place) (listed_cause index (place + 1) columns later) (is_among name later) (is_among name columns) (is_distinct later) (list_all (λ name. is_among name columns) later) (listed_none index (place + 1) columns later)
 
-length_step : {X : Type 0} (x : X) (o : Option X) (some few fair : Bool) → is_none o ≡ fair → is_none (cond (some && few) o (Some x)) ≡ (some && (few && fair))
+length_step : {X : Type 0} (x : X) (o : Option X) (some few fair : Bool) → is_none o ≡ fair → is_none (cond (not (some && few)) (Some x) o) ≡ (some && (few && fair))
 length_step x o true true fair e = e
 length_step x o true false fair e = refl
 length_step x o false few fair e = refl

@@ -39,7 +39,7 @@ fn size_cause(table: &TableDef) -> Option<TableCause>
     None
 }
 
-// What is wrong with a table that comes before these.
+// What is wrong with a table that comes before those.
 fn table_cause(later: &[TableDef], table: &TableDef) -> Option<TableCause>
     ensures { result ≡ table_cause_of (table_names later.now) table.now }
 {

@@ -1,13 +1,14 @@
 //! What may be wrong with tables as they are declared.
 
-/// Why a table may not be declared.
+/// Why tables may not be declared, lowest first. `declaration_fault` says which comes first of
+/// several names or indexes.
 #[derive(Clone, Copy, PartialEq, Eq)]
 pub enum TableCause {
     /// No table is declared.
     NoTable,
     /// More than 16 tables are declared.
     TooManyTables,
-    /// The table's name is none: 1 to 32 bytes, an ASCII letter and then letters, digits and
+    /// The table's name isn't 1 to 32 bytes, an ASCII letter and then letters, digits and
     /// underscores.
     TableName,
     /// A later table has the same name.
@@ -18,16 +19,16 @@ pub enum TableCause {
     TooManyColumns,
     /// It has more than 16 indexes.
     TooManyIndexes,
-    /// The name at this place is none. Places count from 0 over the columns of the key, then the
-    /// other columns, then the indexes.
+    /// The name at this place isn't that either. Places count from 0, over the columns of the key,
+    /// then the other columns, then the indexes.
     Name { place: usize },
-    /// A later name of the table, in the same order, is the same as the one at this place.
+    /// The name at this place stands again at a later one.
     NameTwice { place: usize },
     /// The index, counted from 0, lists no column, or more than 4.
     ListLength { index: usize },
-    /// The index lists the column at this place, counted from 0, again later.
+    /// The index lists what is at this place of its list, counted from 0, again at a later one.
     ListedTwice { index: usize, place: usize },
-    /// What the index lists at this place is no column of its table outside the key.
+    /// What the index lists at this place is no column of its table, or one of the key.
     NotAColumn { index: usize, place: usize },
 }
 

@@ -16,7 +16,7 @@ fn is_listed(names: &[Text], name: &[u8]) -> bool
     names.iter().any(|n| n.as_bytes() == name)
 }
 
-// The first of the listed names that is listed again, or that is none of these columns.
+// The first of the listed columns that is listed again after it, or that is none of the table's.
 fn listed_cause(index: usize, columns: &[(Text, ColumnType)], listed: &[Text]) -> Option<TableCause>
     ensures { result ≡ listed_cause_of index 0 (names_in columns.now) listed.now }
 {
@@ -35,14 +35,13 @@ fn listed_cause(index: usize, columns: &[(Text, ColumnType)], listed: &[Text]) -
 fn index_cause(index: usize, columns: &[(Text, ColumnType)], listed: &[Text]) -> Option<TableCause>
     ensures { result ≡ index_cause_of index (names_in columns.now) listed.now }
 {
-    if 1 <= listed.len() && listed.len() <= MAX_LISTED {
-        listed_cause(index, columns, listed)
-    } else {
-        Some(TableCause::ListLength { index })
+    if listed.is_empty() || MAX_LISTED < listed.len() {
+        return Some(TableCause::ListLength { index });
     }
+    listed_cause(index, columns, listed)
 }
 
-/// What is wrong with the first index of a table that may not be declared.
+/// What is wrong with the first of a table's indexes that may not be declared.
 pub(crate) fn indexes_cause(table: &TableDef) -> Option<TableCause>
     ensures { result ≡ indexes_cause_of 0 (names_in table.now.columns) table.now.indexes }
 {

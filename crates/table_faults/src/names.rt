@@ -38,8 +38,10 @@ fn stands_again<T>(
     is_named(items, name) || is_named(columns, name) || is_named(indexes, name)
 }
 
-// The first of these, the first of which is at this place, whose name is none, or stands again
-// among those after it, these columns and these indexes.
+// The first of these names that is no name, or that stands again: after it, or among these columns
+// and indexes.
+//
+// - `first`: the place of the first of these names.
 fn part_cause<T>(
     first: usize,
     items: &[(Text, T)],
@@ -62,7 +64,7 @@ fn part_cause<T>(
     None
 }
 
-/// The first name of a table that is none, or that stands again.
+/// The first name of a table that is no name, or that stands again after it.
 pub(crate) fn names_cause(table: &TableDef) -> Option<TableCause>
     requires key { length table.now.key ≤ max_key_columns }
     requires columns { length table.now.columns ≤ max_columns }

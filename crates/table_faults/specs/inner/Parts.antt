@@ -5,7 +5,7 @@ use Rattle.schema_version.specs.Names.{is_name, is_among}
 use Rattle.table_faults.specs.declared.fault.TableCause.{TableCause}
 use Rattle.table_faults.specs.declared.fault.TableCause.TheVariants.{Name, NameTwice}
 
--- of names that come before those others, from this place on: the first that is none, or that stands again after it
+-- of names before those others, from this place on: the first that is no name, or that stands again after it or among those
 abbrev pub part_cause : ℕ → List (List ℕ) → List (List ℕ) → Option TableCause
 part_cause place [] others = None
 part_cause place (name ∷ later) others =
