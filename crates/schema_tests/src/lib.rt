@@ -1,7 +1,9 @@
-//! Tests of versions of the schema, of plans and of the pairs of elements, on values worked out by
-//! hand.
+//! Tests of versions of the schema, of faults of declarations, of plans and of the pairs of
+//! elements, on values worked out by hand.
 #![tactic(auto)]
 
+#[cfg(test)]
+mod declarations;
 #[cfg(test)]
 mod elements;
 #[cfg(test)]
