@@ -121,7 +121,7 @@ class Sessions(unittest.TestCase):
         results = {name: result for result, name in re.findall(r"\b(\w+) cagzhomul_(\w+)\([^()]*\);", header)}
         structs = {"int32_t": cagzhomul._STATUS, "uint32_t": cagzhomul._SMALL, "size_t": cagzhomul._SIZE}
         for name, (result, _) in cagzhomul._FUNCTIONS.items():
-            self.assertEqual(result, structs.get(results[name]) or getattr(cagzhomul, results[name][len("cagzhomul"):].title()), name)
+            self.assertEqual(result, structs.get(results[name]) or getattr(cagzhomul, "_" + results[name][len("cagzhomul"):].title().replace("_", "")), name)
         statuses = {int(number): name.title().replace("_", "") for name, number in re.findall(r"\bCAGZHOMUL_(\w+) = (\d+)", header)}
         self.assertEqual(sorted(statuses), [it for it in range(48) if it not in (6, 15, 16)])
         for number, error in cagzhomul._ERRORS.items():

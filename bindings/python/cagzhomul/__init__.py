@@ -61,6 +61,8 @@ _MOST_ROWS = 1000
 _ROOM, _OK, _BAD_LINE, _CLOSED, _NOT_NEXT, _WAITING, _FINISHED = 4096, 0, 1, 2, 9, 10, 11
 _BAD_CODE, _BAD_TABLE, _NOT_PUBLIC, _WRONG_TYPE, _LEASE_ENDED, _CONFLICT, _DUPLICATE, _NO_ROW = 17, 18, 21, 22, 26, 28, 29, 30
 _DEPENDENT, _OVER_LIMIT = 35, 37
+# only a text over 1,024 bytes makes a bad code of the operations and queries that this module writes
+_OF_A_VALUE = _BAD_CODE, _WRONG_TYPE
 
 Value = Union[None, bool, int, str]
 Key = Union[Value, Sequence[Value]]
@@ -103,6 +105,9 @@ class _Queried(ctypes.Structure): _fields_ = [("status", _STATUS), ("column", _S
 class _Paged(ctypes.Structure): _fields_ = [("status", _STATUS), ("column", _SMALL), ("more", _SMALL)]
 class _Checked(ctypes.Structure): _fields_ = [("status", _STATUS), ("rows", _NUMBER), ("missing", _NUMBER), ("extra", _NUMBER)]
 class _Changed(ctypes.Structure): _fields_ = [("status", _STATUS), ("number", _NUMBER)]
+class _ValueFault(ctypes.Structure):
+    _fields_ = [("status", _STATUS), ("cause", _SMALL), ("item", _SIZE), ("place", _SIZE), ("column", _SMALL), ("wanted", _SMALL), ("given", _SMALL)]
+class _TableFault(ctypes.Structure): _fields_ = [("status", _STATUS), ("cause", _SMALL), ("table", _SIZE), ("index", _SIZE), ("place", _SIZE)]
 
 
 _WORLD, _SESSION, _CHECKPOINT = ctypes.POINTER(_WorldHandle), ctypes.POINTER(_SessionHandle), ctypes.POINTER(_CheckpointHandle)
@@ -127,6 +132,7 @@ _FUNCTIONS: Dict[str, Tuple[Any, List[Any]]] = {
     "advance": (_Advanced, [_WORLD, _NUMBER, _SMALL, _SMALL]), "due_entry": (_Advanced, [_WORLD, _NUMBER, _SMALL, _SMALL, _HELD]),
     "read_piece": (_STATUS, [_WORLD, _SMALL, _SMALL, _SMALL, _PIECE]), "prepare_piece": (_STATUS, [_PIECE, _PREPARED]), "commit_piece": (_Pieced, [_WORLD, _NUMBER, _PREPARED]),
     "checkpoint": (_STATUS, [_WORLD, _CHECKPOINT]), "save": (_STATUS, [_CHECKPOINT, _HELD]),
+    "txn_fault": (_ValueFault, [*_CODE, *_CODE]), "query_fault": (_ValueFault, [*_CODE, *_CODE]), "opening_fault": (_TableFault, _CODE),
     "session_open": (_STATUS, [_SESSION]), "session_attach": (_STATUS, [_SESSION]),
     "reply_to": (_Outcome, [_SESSION, _WORLD, *_CODE, *_CODE]), "reply_from": (_Outcome, [_SESSION, _SIZE, *_CODE]), "bytes_from": (_Outcome, [_HELD, _SIZE, *_CODE]),
     "close_world": (_STATUS, [_WORLD]), "close_session": (_STATUS, [_SESSION]), "close_lease": (_STATUS, [_LEASE]), "close_reads": (_STATUS, [_READS]),
@@ -271,10 +277,42 @@ class WrongStage(CagzhomulError):
 
 
 class BadCode(CagzhomulError): """The bytes are the code of nothing that is asked for."""
-class BadTable(CagzhomulError): """The declaration breaks a limit, or uses a name twice."""
+class BadTable(CagzhomulError):
+    """The declaration breaks a limit, or uses a name twice. `cause` says why: "no table", "too many tables",
+    "table name", "table twice", "key length", "too many columns", "too many indexes", "name", "name twice",
+    "list length", "listed twice" or "not a column". It is of the table `table`, and of its column or index
+    `name`; the last three are of the list of an index, where the last two mean its column `listed`. What a
+    cause does not mean is None; all are None if a checkpoint, or a database that is there, has other tables."""
+
+    def __init__(self, status: int = _BAD_TABLE, table: Optional[str] = None, name: Optional[str] = None, cause: Optional[str] = None, listed: Optional[str] = None) -> None:
+        what = table if name is None else f"{table}.{name}"
+        super().__init__(status, text_of(status) if cause is None else ("" if what is None else f"{what}: ") + _DECLARED[cause].format(listed))
+        self.table, self.name, self.cause, self.listed = table, name, cause, listed
+
+    def _parts(self) -> Tuple[Any, ...]:
+        return self.status, self.table, self.name, self.cause, self.listed
+
+
 class BadLength(CagzhomulError): """The lease length is not from 1 to 2^32."""
 class NoTable(CagzhomulError): """There is no table of this name."""
-class WrongType(CagzhomulError): """A value of another type, too few or many for the key, None in it, or a text over 1,024 bytes."""
+class WrongType(CagzhomulError):
+    """A value that does not fit. `cause` says why: "value" if it is of another type than its column, or None in
+    a key or as a bound; "key length" if a key has another number of values than its table's; "text too
+    long" if a text has more than 1,024 bytes; or "named twice" of a column. It is `value`, for the column
+    `column` of the table `table`, whose values are of the type `wanted`: "int", "str" or "bool". If the
+    whole key is meant, that is `value`, and `column` is None. `operation` is the place of the operation in
+    its transaction, from 0, or None of a query or a `get`. What is not known, or not meant, is None: so
+    are all of them if memory runs out while the value is looked for."""
+
+    def __init__(self, status: int = _WRONG_TYPE, table: Optional[str] = None, column: Optional[str] = None, value: Optional[Key] = None,
+                 wanted: Optional[str] = None, cause: Optional[str] = None, operation: Optional[int] = None) -> None:
+        super().__init__(status, text_of(status) if cause is None else _wrong_value(table, column, value, wanted, cause, operation))
+        self.table, self.column, self.value, self.wanted, self.cause, self.operation = table, column, value, wanted, cause, operation
+
+    def _parts(self) -> Tuple[Any, ...]:
+        return self.status, self.table, self.column, self.value, self.wanted, self.cause, self.operation
+
+
 class TooManyOps(CagzhomulError): """More than 64 operations."""
 class BadLease(CagzhomulError): """No grant could have given the lease: it is one of another world."""
 class LeaseEnded(CagzhomulError):
@@ -329,6 +367,36 @@ class StillWaiting(CagzhomulError):
 
 
 class UnexpectedReply(CagzhomulError): """Bytes of the library in a code that this module does not know."""
+
+
+# what the causes of a BadTable say, each at its number, from 1
+_NO_NAME = "it is no name: 1 to 32 bytes, an ASCII letter and then letters, digits and underscores"
+_DECLARED = {
+    "no table": "no table is declared", "too many tables": "more than 16 tables are declared", "table name": _NO_NAME, "table twice": "two tables have this name",
+    "key length": "the key has no column, or more than 4", "too many columns": "more than 32 columns besides the key", "too many indexes": "more than 16 indexes",
+    "name": _NO_NAME, "name twice": "two columns or indexes of the table have this name", "list length": "the index is over no column, or more than 4",
+    "listed twice": "the index has the column {} twice", "not a column": "the index has {}, which is no column of the table outside its key",
+}
+_MOST_BYTES = 1024
+
+
+def _wrong_value(table: Optional[str], column: Optional[str], value: Optional[Key], wanted: Optional[str], cause: str, operation: Optional[int]) -> str:
+    """What a WrongType says."""
+    what = ".".join(it for it in (table, column) if it is not None)
+    if cause == "value":
+        said = f"None is no {wanted}" if value is None else f"{value!r} is {_a(type(value).__name__)}, and the column is {_a(wanted)}"
+    elif cause == "key length":
+        many = len(_values(cast(Key, value)))
+        said = f"the key {value!r} has {many} value{'' if many == 1 else 's'}, and that of the table another number"
+    elif cause == "text too long":
+        said = f"a text of {len(str(value).encode()):,} bytes, and {_MOST_BYTES:,} are the most"
+    else:
+        said = "the column is named twice"
+    return (f"{what}: " if what else "") + said + ("" if operation is None else f": operation {operation}")
+
+
+def _a(kind: Optional[str]) -> str:
+    return f"an {kind}" if kind == "int" else f"a {kind}"
 
 
 _ERRORS: Dict[int, Type[CagzhomulError]] = {
@@ -545,6 +613,23 @@ def _key(key: Key) -> bytes:
     return _ONE + _value(cast(Value, key))
 
 
+def _bad_table(opening: bytes, tables: Sequence[Table]) -> BadTable:
+    """Why these tables may not be declared, whose opening has this code."""
+    fault = _library.cagzhomul_opening_fault(opening, len(opening))
+    if fault.status != _OK or not 0 < fault.cause <= len(_DECLARED):
+        return BadTable()
+    cause = list(_DECLARED)[fault.cause - 1]
+    if cause == "no table":
+        return BadTable(cause=cause)
+    table = tables[fault.table]
+    if cause in ("name", "name twice"):
+        return BadTable(table=table.name, name=[*table.key, *table.columns, *table.indexes][fault.place], cause=cause)
+    if cause in ("list length", "listed twice", "not a column"):
+        name, listed = list(table.indexes.items())[fault.index]
+        return BadTable(table=table.name, name=name, cause=cause, listed=None if cause == "list length" else listed[fault.place])
+    return BadTable(table=table.name, cause=cause)
+
+
 class _Condition(NamedTuple):
     """What a row meets: its kind, the column that it is on, or None for the key, and the rest of its code."""
     kind: bytes
@@ -609,6 +694,11 @@ def _range(after: Optional[Key], before: Optional[Key], limit: int) -> _Range:
 _TYPES: Tuple[Kind, ...] = (int, str, bool)
 
 
+def _type_number(value: Value) -> int:
+    """The number of a value's type: that of None is 3."""
+    return len(_TYPES) if value is None else _TYPES.index(type(value))
+
+
 def _type(kind: Kind) -> bytes:
     return bytes([_TYPES.index(kind)])
 
@@ -655,6 +745,63 @@ def _value_at(code: bytes, at: int) -> Tuple[Value, int]:
         end = code.index(b"\0\1", at)
         return code[at + 1:end].replace(b"\0\xff", b"\0").decode(), end + 2
     return (None, at + 1) if kind == 1 else (code[at + 1] == 1, at + 2)
+
+
+class _Item(NamedTuple):
+    """What an operation, or a condition of a query, gives: to the table of this number the values of a key, or
+    None, and values for the columns of these numbers."""
+    table: int
+    key: Optional[List[Value]]
+    cells: List[Tuple[int, Value]]
+
+
+def _values_at(code: bytes, at: int) -> Tuple[List[Value], int]:
+    """The values of a key that begins there, and where it ends."""
+    values: List[Value] = []
+    count, at = int(_number_at(code, at)[0]), at + 8
+    for _ in range(count):
+        value, at = _value_at(code, at)
+        values.append(value)
+    return values, at
+
+
+def _operations_in(code: bytes) -> List[_Item]:
+    """The operations of a code that this module wrote."""
+    items: List[_Item] = []
+    at = 9
+    for _ in range(_number_at(code, 1)[0]):
+        is_delete, table = code[at] == 2, int(_small_at(code, at + 1)[0])
+        key, at = _values_at(code, at + 5)
+        item = _Item(table, key, [])
+        count, at = (0, at) if is_delete else (int(_number_at(code, at)[0]), at + 8)
+        for _ in range(count):
+            column = int(_small_at(code, at)[0])
+            value, at = _value_at(code, at + 4)
+            item.cells.append((column, value))
+        items.append(item)
+    return items
+
+
+def _conditions_in(code: bytes) -> List[_Item]:
+    """The conditions of the query of a code that this module wrote."""
+    items: List[_Item] = []
+    table, at = int(_small_at(code, 1)[0]), 13 + 4 * int(_number_at(code, 5)[0])
+    count, at = int(_number_at(code, at)[0]), at + 8
+    for _ in range(count):
+        kind = code[at]
+        if kind == 0:
+            key, at = _values_at(code, at + 1)
+            items.append(_Item(table, key, []))
+            continue
+        item = _Item(table, None, [])
+        column, at = int(_small_at(code, at + 1)[0]), at + 5
+        for _ in range(kind):  # one value, or two bounds, each of which may be none
+            is_there, at = (True, at) if kind == 1 else (code[at] == 1, at + 1)
+            if is_there:
+                value, at = _value_at(code, at)
+                item.cells.append((column, value))
+        items.append(item)
+    return items
 
 
 def _coded_rows(code: bytes, key: Sequence[str], columns: Iterable[int], names: Mapping[int, str]) -> List[Row]:
@@ -947,11 +1094,11 @@ def _words_of(change: Union[str, Change]) -> str:
 
 
 class _Names:
-    """The tables, columns and indexes of one version, by its schema: so they are right whoever published
-    it. The version's number is 0 if no lease is on it yet."""
+    """The tables, columns and indexes of one version, by its schema, of this code: so they are right whoever
+    published it. The version's number is 0 if no lease is on it yet."""
 
-    def __init__(self, version: int, schema: Schema) -> None:
-        self.version, self.schema = version, schema
+    def __init__(self, version: int, schema: Schema, code: bytes = b"") -> None:
+        self.version, self.schema, self.code = version, schema, code
         self.tables = {table.name: table.number for table in schema.tables}
         self.keys = {table.name: list(table.key) for table in schema.tables}
         self.numbers = {(it.table, it.name): it.number for it in schema.elements}
@@ -987,6 +1134,78 @@ class _Names:
         name = self.by_number[column] if column else self.unknown(asked)
         return NotPublic(name, name in self.keys.get(asked.table, ()))
 
+    def wrong_operation(self, code: bytes) -> WrongType:
+        """Which value of these operations, by their code, was refused."""
+        items = _operations_in(code)
+        return self._too_long(items, True) or self._wrong(items, _library.cagzhomul_txn_fault(self.code, len(self.code), code, len(code)), True) or WrongType()
+
+    def wrong_condition(self, code: bytes, within: Optional[_Range] = None) -> WrongType:
+        """Which value of a query, by its code, was refused, or of the keys of its range, whose types count after
+        those of the query."""
+        items = _conditions_in(code)
+        keys = [] if within is None else [_Item(int(_small_at(code, 1)[0]), _values_at(it, 1)[0], []) for it in (within.after, within.before) if it != b"\0"]
+        return (self._too_long(keys + items, False) or self._wrong(items, _library.cagzhomul_query_fault(self.code, len(self.code), code, len(code)), False)
+                or self._wrong_key(keys) or WrongType())
+
+    def _wrong(self, items: Sequence[_Item], fault: _ValueFault, is_txn: bool) -> Optional[WrongType]:
+        """What the library finds in these operations or conditions."""
+        if fault.status != _OK:
+            return WrongType()
+        if fault.cause == 0:
+            return None
+        item, operation = items[fault.item], int(fault.item) if is_txn else None
+        if fault.cause == 1:
+            return self._key_length(item, operation)
+        if fault.cause == 2:
+            column, _, value = list(self._given(item))[fault.place]
+        elif fault.cause == 3:
+            # of the values for the column the first of the type that is wrong
+            column = self.by_number[fault.column]
+            value = next(it for number, it in item.cells if number == fault.column and _type_number(it) == fault.given)
+        else:
+            return WrongType(_WRONG_TYPE, self._table_of(item), self.by_number[fault.column], None, None, "named twice", operation)
+        return WrongType(_WRONG_TYPE, self._table_of(item), column, value, _TYPES[fault.wanted].__name__, "value", operation)
+
+    def _wrong_key(self, keys: Sequence[_Item]) -> Optional[WrongType]:
+        """The first of the keys of a range that is not one of its table."""
+        for item in keys:
+            if len(item.key or ()) != len(self._key_columns(item)):
+                return self._key_length(item, None)
+            for column, kind, value in self._given(item):
+                if kind is not None and type(value) is not kind:
+                    return WrongType(_WRONG_TYPE, self._table_of(item), column, value, kind.__name__, "value")
+        return None
+
+    def _too_long(self, items: Sequence[_Item], is_txn: bool) -> Optional[WrongType]:
+        """The first text of these operations or conditions that is too long: it is refused before all else."""
+        for place, item in enumerate(items):
+            for column, kind, value in self._given(item):
+                if isinstance(value, str) and len(value.encode()) > _MOST_BYTES:
+                    wanted = None if kind is None else kind.__name__
+                    return WrongType(_WRONG_TYPE, self._table_of(item), column, value, wanted, "text too long", place if is_txn else None)
+        return None
+
+    def _key_length(self, item: _Item, operation: Optional[int]) -> WrongType:
+        """That a key has another number of values than its table's."""
+        values = item.key or []
+        return WrongType(_WRONG_TYPE, self._table_of(item), None, values[0] if len(values) == 1 else tuple(values), None, "key length", operation)
+
+    def _given(self, item: _Item) -> Iterator[Tuple[Optional[str], Optional[Kind], Value]]:
+        """The values of an operation or a condition, each with the name and the type of its column."""
+        for (column, kind), value in zip(itertools.chain(self._key_columns(item), itertools.repeat((None, None))), item.key or ()):
+            yield column, kind, value
+        kinds = {it.number: it.what.kind for it in self.schema.elements if isinstance(it.what, SchemaColumn)}
+        for number, value in item.cells:
+            yield self.by_number.get(number), kinds.get(number), value
+
+    def _table_of(self, item: _Item) -> Optional[str]:
+        """The name of its table."""
+        return next((it.name for it in self.schema.tables if it.number == item.table), None)
+
+    def _key_columns(self, item: _Item) -> Sequence[Tuple[Optional[str], Optional[Kind]]]:
+        """The key columns of its table, with their types."""
+        return next((list(it.key.items()) for it in self.schema.tables if it.number == item.table), [])
+
     def unknown(self, asked: _Asked) -> Optional[str]:
         """The first name in a query that its table does not have."""
         named = (*(asked.columns or ()), *(it.column for it in asked.conditions if it.column is not None))
@@ -996,12 +1215,14 @@ class _Names:
 def _found(asked: _Asked, names: _Names, ask: Callable[[bytes, _BytesHandle], Any]) -> List[Row]:
     """The rows of a query, by a call that answers its code into a closed handle."""
     columns, rows = names.columns(asked), _BytesHandle()
+    code = _query(asked, columns, names)
     try:
-        queried = ask(_query(asked, columns, names), rows)
+        queried = ask(code, rows)
         if queried.status == _NOT_PUBLIC:
             raise names.not_public(asked, queried.column)
-        # only a text over 1,024 bytes makes a bad code of what this module writes
-        _check(_WRONG_TYPE if queried.status == _BAD_CODE else queried.status)
+        if queried.status in _OF_A_VALUE:
+            raise names.wrong_condition(code)
+        _check(queried.status)
         return _coded_rows(_code_of(rows), names.keys[asked.table], columns, names.by_number)
     finally:
         _library.cagzhomul_close_bytes(rows)
@@ -1014,8 +1235,9 @@ def _page(asked: _Asked, names: _Names, within: _Range, ask: Callable[[bytes, _B
         paged = ask(within.request(asked, columns, names), rows)
         if paged.status == _NOT_PUBLIC:
             raise names.not_public(asked, paged.column)
-        # only a text over 1,024 bytes makes a bad code of what this module writes
-        _check(_WRONG_TYPE if paged.status == _BAD_CODE else paged.status)
+        if paged.status in _OF_A_VALUE:
+            raise names.wrong_condition(_query(asked, columns, names), within)
+        _check(paged.status)
         return _coded_rows(_code_of(rows), names.keys[asked.table], columns, names.by_number), paged.more == 1
     finally:
         _library.cagzhomul_close_bytes(rows)
@@ -1560,13 +1782,19 @@ class Db(Session):
     def __init__(self, tables: Tables, lease_length: int = 10, keep: Optional[int] = 10_000, at: Optional[bytes] = None, furthest_jump: Optional[int] = None) -> None:
         """Opens it, as `open` does."""
         declared = [_table(*it) for it in tables.items()] if isinstance(tables, Mapping) else list(tables)
-        super().__init__(_opening(_whole("lease_length", lease_length, 64), declared), at, _jump=_jump(furthest_jump))
+        opening = _opening(_whole("lease_length", lease_length, 64), declared)
+        try:
+            super().__init__(opening, at, _jump=_jump(furthest_jump))
+        except BadTable:
+            raise _bad_table(opening, declared) from None
         self._keep = keep if keep is None else _whole("keep", keep, 63)
         # the change that waits for its first step
         self._waiting: Union[None, str, Change] = None
         self._kept: Optional[_Grant] = None
         self._keeping = threading.Lock()
-        self._names = _Names(0, self.schema())
+        with self._lock:
+            code = self._schema_code()
+        self._names = _Names(0, _schema(code), code)
         if [(it.name, list(it.key.items())) for it in declared] != [(it.name, list(it.key.items())) for it in self._names.schema.tables]:
             self.close()
             raise BadTable(_BAD_TABLE)
@@ -1800,7 +2028,8 @@ class _Grant(_Owner):
             if self._names.version != granted.version:
                 with _held(_BytesHandle()) as code:
                     _check(_library.cagzhomul_lease_schema(self._handle, code))
-                    db._names = self._names = _Names(int(granted.version), _schema(_code_of(code)))
+                    schema = _code_of(code)
+                    db._names = self._names = _Names(int(granted.version), _schema(schema), schema)
         self.version, self.granted, self.until, self.place = map(int, (granted.version, granted.granted, granted.until, granted.place))
 
     def _in_force(self, db: Db, moment: int, status: int) -> int:
@@ -1992,8 +2221,12 @@ class Txn(_Owner):
         with self._lock:
             self._check_stage()
             if row not in self._got:
-                self._read([b"\1" + it + _list([]) for it in (*self._got, row)])
-                rows = _found(_asked(Query(table, key=key)), names, lambda code, rows: _library.cagzhomul_query_read(self._reads, code, len(code), rows))
+                wanted = _asked(Query(table, key=key))
+                try:
+                    self._read([b"\1" + it + _list([]) for it in (*self._got, row)])
+                except WrongType:  # of no operation of the transaction
+                    raise names.wrong_condition(_query(wanted, names.columns(wanted), names)) from None
+                rows = _found(wanted, names, lambda code, rows: _library.cagzhomul_query_read(self._reads, code, len(code), rows))
                 self._got[row] = rows[0] if rows else None
             found = self._got[row]
         return None if found is None else dict(found)
@@ -2065,8 +2298,9 @@ class Txn(_Owner):
                 status = _library.cagzhomul_read(db._world, lease._handle, code, len(code), self._reads)
         if status not in (_OK, _BAD_CODE):
             self._end()
-        # only a text over 1,024 bytes makes a bad code of what this module writes
-        _check(_WRONG_TYPE if status == _BAD_CODE else status)
+        if status == _BAD_CODE:
+            raise lease._names.wrong_operation(code)
+        _check(status)
 
     def _pins(self) -> List[bytes]:
         """Operations that change nothing on the rows that it got and does not write: an update without
@@ -2081,6 +2315,8 @@ class Txn(_Owner):
         """Raises what a refused preparation does."""
         if status == _NOT_PUBLIC:
             raise NotPublic(self._lease._names.by_number.get(column) if column else self._unknown, not column and self._is_key_named)
+        if status in _OF_A_VALUE:
+            raise self._lease._names.wrong_operation(b"\1" + _list(self._operations))
         _check(status)
 
     def _refuse(self, done: _Committed, pair: bytes = b"") -> None:
@@ -2120,8 +2356,7 @@ class Txn(_Owner):
                 done = _library.cagzhomul_write(db._world, moment, lease._handle, code, len(code))
                 if done.status == _OK:
                     db._grown(int(done.place))
-            # only a text over 1,024 bytes makes a bad code of what this module writes
-            self._accept(_WRONG_TYPE if done.status == _BAD_CODE else _OK if done.status in (_DUPLICATE, _NO_ROW, _LEASE_ENDED) else done.status, done.column)
+            self._accept(_OK if done.status in (_DUPLICATE, _NO_ROW, _LEASE_ENDED) else done.status, done.column)
             return self._received(done)
 
     def commit(self, now: Optional[Moment] = None) -> Receipt:

@@ -77,10 +77,13 @@ def open(store: Store, tables: Tables, limit: int = 10_000, seconds: float = 30)
 
 def _is_opened(store: Store, tables: Sequence[cagzhomul.Table]) -> bool:
     """Opens a database with these tables in an empty store; False if nobody knows whether that was done."""
+    opening = cagzhomul._opening(1, tables)
     try:
-        draft = calls.draft_of(asked("open", cagzhomul._opening(1, tables)).code)
+        draft = calls.draft_of(asked("open", opening).code)
         store.apply(Draft(draft.compare, [(b"", calls.END, [])], draft.write))
     except Refusal as refusal:
+        if refusal.status == cagzhomul._BAD_TABLE:
+            raise cagzhomul._bad_table(opening, tables) from None
         cagzhomul._check(refusal.status)
     except Refused as refused:
         return refused.key is not None  # another has opened it, or the store holds something else
@@ -197,7 +200,9 @@ class Layer:
             except Refusal as refusal:
                 # a column may have come, or gone, in a newer version
                 if not self._server.refresh():
-                    raise error_of(refusal, version.names, version.names.unknown(wanted)) from None
+                    names = version.names
+                    code = cagzhomul._query(wanted, names.columns(wanted), names)
+                    raise error_of(refusal, names, names.unknown(wanted), lambda: names.wrong_condition(code)) from None
                 continue
             if rows is not None:
                 return rows

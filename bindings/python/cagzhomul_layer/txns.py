@@ -60,15 +60,16 @@ def _ops_code(ops: Sequence[_Op], names: cagzhomul._Names) -> bytes:
     return b"".join(parts)
 
 
-def error_of(refusal: Refusal, names: cagzhomul._Names, unknown: Optional[str]) -> cagzhomul.CagzhomulError:
-    """The exception of a refused transaction or query; `unknown` is the first name in it that its table does not have."""
+def error_of(refusal: Refusal, names: cagzhomul._Names, unknown: Optional[str], wrong: Callable[[], cagzhomul.WrongType]) -> cagzhomul.CagzhomulError:
+    """The exception of a refused transaction or query; `unknown` is the first name in it that its table does not have, and `wrong` finds
+    its value that is wrong."""
     if refusal.status == calls.NOT_PUBLIC:
         return cagzhomul.NotPublic(names.by_number.get(refusal.column) if refusal.column else unknown)
     if refusal.status in (calls.DUPLICATE, calls.NO_ROW):
         return (cagzhomul.Duplicate if refusal.status == calls.DUPLICATE else cagzhomul.NoRow)(refusal.status, refusal.number)
-    # only a text over 1,024 bytes makes a bad code of what this module writes
-    status = cagzhomul._WRONG_TYPE if refusal.status == cagzhomul._BAD_CODE else refusal.status
-    return cagzhomul._ERRORS.get(status, cagzhomul.CagzhomulError)(status)
+    if refusal.status in cagzhomul._OF_A_VALUE:
+        return wrong()
+    return cagzhomul._ERRORS.get(refusal.status, cagzhomul.CagzhomulError)(refusal.status)
 
 
 class Server:
@@ -90,7 +91,7 @@ class Server:
         number = max(versions)
         if self._newest is not None and (self._newest.number, self._newest.record) == (number, versions[number]):
             return False
-        self._newest = Version(number, versions[number], cagzhomul._Names(number, cagzhomul._schema(versions[number])))
+        self._newest = Version(number, versions[number], cagzhomul._Names(number, cagzhomul._schema(versions[number]), versions[number]))
         return True
 
     def version(self) -> Version:
@@ -171,15 +172,16 @@ class Txn:
         version = self._version or self._server.version()
         names = version.names
         columns = names.columns(wanted)
+        query = cagzhomul._query(wanted, columns, names)
         try:
             keys = calls.points_of(asked("reads", version.record, _ops_code([_Op(1, *row, {})], names)).code) if row[0] in names.tables else {}
             found = self._server.store.read([version_key(version.number), *keys]).values
             if found.pop(version_key(version.number)) != version.record:
                 return False
             pairs = sorted((it, value) for it, value in found.items() if value is not None)
-            code = asked("rows", version.record, cagzhomul._query(wanted, columns, names), calls.pairs_code(pairs)).code
+            code = asked("rows", version.record, query, calls.pairs_code(pairs)).code
         except Refusal as refusal:
-            raise error_of(refusal, names, None) from None
+            raise error_of(refusal, names, None, lambda: names.wrong_condition(query)) from None
         rows = cagzhomul._coded_rows(code, names.keys[row[0]], columns, names.by_number)
         self._version = version
         self._got[row] = rows[0] if rows else None
@@ -253,7 +255,8 @@ class Txn:
             # a column may have come, or gone, in a newer version
             if refusal.status not in (calls.DUPLICATE, calls.NO_ROW) and self._version is None and self._server.refresh():
                 return False
-            raise error_of(refusal, version.names, self._unknown(version.names)) from None
+            names = version.names
+            raise error_of(refusal, names, self._unknown(names), lambda: names.wrong_operation(_ops_code(self._ops, names))) from None
         if self._got:
             raise Conflict(28)
         return False

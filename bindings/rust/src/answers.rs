@@ -43,6 +43,14 @@ pub(crate) const MOVED: i32 = 45;
 pub(crate) const IN_CHANGE: i32 = 46;
 pub(crate) const TOO_FAR: i32 = 47;
 
+/// `CAGZHOMUL_FAULT_NONE`, and causes after it.
+pub(crate) const FAULT_NONE: u32 = 0;
+pub(crate) const FAULT_KEY_LENGTH: u32 = 1;
+pub(crate) const FAULT_KEY_VALUE: u32 = 2;
+pub(crate) const FAULT_NAMED_TWICE: u32 = 4;
+/// `CAGZHOMUL_NO_TYPE`.
+pub(crate) const NO_TYPE: u32 = 3;
+
 /// `CAGZHOMUL_ANY_JUMP`.
 pub(crate) const ANY_JUMP: u64 = u64::MAX;
 
@@ -147,4 +155,35 @@ pub(crate) struct Progressed {
     pub(crate) next: u32,
     pub(crate) left: u64,
     pub(crate) all: u64,
+}
+
+/// `cagzhomul_value_fault`.
+#[repr(C)]
+#[derive(Clone, Copy)]
+pub(crate) struct ValueFault {
+    pub(crate) status: i32,
+    pub(crate) cause: u32,
+    pub(crate) item: usize,
+    pub(crate) place: usize,
+    pub(crate) column: u32,
+    wanted: u32,
+    pub(crate) given: u32,
+}
+
+impl ValueFault {
+    /// Whether a value is wrong.
+    pub(crate) fn is_one(&self) -> bool {
+        self.status == OK && self.cause != FAULT_NONE
+    }
+}
+
+/// `cagzhomul_table_fault`.
+#[repr(C)]
+#[derive(Clone, Copy)]
+pub(crate) struct TableFault {
+    pub(crate) status: i32,
+    pub(crate) cause: u32,
+    pub(crate) table: usize,
+    pub(crate) index: usize,
+    pub(crate) place: usize,
 }

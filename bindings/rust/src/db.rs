@@ -10,8 +10,7 @@ use crate::open::OpenOptions;
 use crate::plan::SchemaChange;
 use crate::query::Query;
 use crate::rows::Row;
-use crate::schema::schema_of;
-use crate::session::{done, Session};
+use crate::session::{bytes_given, done, Session};
 use crate::snapshot::Check;
 use crate::table::Table;
 use crate::wanted::Wanted;
@@ -75,7 +74,7 @@ impl Db {
     /// let table = || Table::new("t").key("id", Type::Int);
     /// assert_eq!(Db::with_lease_length(100, [table()])?.lease(0)?.until(), 100);
     /// assert_eq!(Db::with_lease_length(0, [table()]).err(), Some(Error::BadLength));
-    /// assert_eq!(Db::open([table(), table()]).err(), Some(Error::BadTable));
+    /// assert!(matches!(Db::open([table(), table()]), Err(Error::BadTable(Some(_)))));
     /// # Ok::<(), Error>(())
     /// ```
     pub fn with_lease_length(
@@ -87,10 +86,10 @@ impl Db {
 
     /// A store over a session, whose tables are to be these: their names and their keys count.
     pub(crate) fn over(session: Session, tables: &[Table]) -> Result<Db, Error> {
-        let names = Names::new(0, session.schema()?);
+        let names = Names::read(0, session.schema_code()?)?;
         let opened = names.schema().tables.iter().map(|it| (&it.name, &it.key));
         if !opened.eq(tables.iter().map(|it| (&it.name, &it.key))) {
-            return Err(Error::BadTable);
+            return Err(Error::BadTable(None));
         }
         session.keep(DEFAULT_KEEP);
         Ok(Db {
@@ -188,10 +187,8 @@ impl Db {
         self.session.grown(&mut world, granted.place);
         let mut names = self.names.lock().unwrap_or_else(PoisonError::into_inner);
         if names.version() != granted.version {
-            *names = Arc::new(Names::new(
-                granted.version,
-                schema_of(|code| lease.schema(code))?,
-            ));
+            let code = bytes_given(|code| lease.schema(code))?;
+            *names = Arc::new(Names::read(granted.version, code)?);
         }
         Ok(Grant::new(lease, granted, Arc::clone(&names)))
     }

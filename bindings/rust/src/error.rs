@@ -1,5 +1,6 @@
 //! Why a call was refused.
 
+use crate::faults::{BadDeclaration, WrongValue};
 use crate::ffi;
 use crate::layer::StoreError;
 use crate::value::RowKey;
@@ -37,8 +38,9 @@ pub enum Error {
     MomentTooLarge,
     /// A publication is due, and there are 1,000,000 versions.
     VersionsSpent,
-    /// The declaration breaks a limit, or uses a name twice.
-    BadTable,
+    /// The declaration breaks a limit, or uses a name twice: which, and how. `None` if memory ran out
+    /// while it was looked for, or if a checkpoint, or a database that is there, has other tables.
+    BadTable(Option<Box<BadDeclaration>>),
     /// The lease length is not from 1 to 2^32.
     BadLength,
     /// There is no table of this name.
@@ -51,8 +53,9 @@ pub enum Error {
         is_key: bool,
     },
     /// A value of another type than its column, another number of values in a key, null in a key, a
-    /// text over 1,024 bytes, or a column that is named twice.
-    WrongType,
+    /// text over 1,024 bytes, or a column that is named twice: which. `None` if memory ran out while it
+    /// was looked for.
+    WrongType(Option<Box<WrongValue>>),
     /// More than 64 operations.
     TooManyOps,
     /// No grant could have given the lease: it is one of another world.
@@ -169,10 +172,10 @@ impl Error {
             ffi::BAD_COUNT => Error::BadCount,
             ffi::MOMENT_TOO_LARGE => Error::MomentTooLarge,
             ffi::VERSIONS_SPENT => Error::VersionsSpent,
-            ffi::BAD_TABLE => Error::BadTable,
+            ffi::BAD_TABLE => Error::BadTable(None),
             ffi::BAD_LENGTH => Error::BadLength,
             ffi::NO_TABLE => Error::NoTable,
-            ffi::WRONG_TYPE => Error::WrongType,
+            ffi::WRONG_TYPE => Error::WrongType(None),
             ffi::TOO_MANY_OPS => Error::TooManyOps,
             ffi::BAD_LEASE => Error::BadLease,
             ffi::WRONG_SCHEMA => Error::WrongSchema,
@@ -222,11 +225,11 @@ impl Error {
             }
             Error::MomentTooLarge => "the moment is above 2^62",
             Error::VersionsSpent => "no version is left",
-            Error::BadTable => "the declaration breaks a limit, or uses a name twice",
+            Error::BadTable(_) => "the declaration breaks a limit, or uses a name twice",
             Error::BadLength => "the lease length is not from 1 to 2^32",
             Error::NoTable => "no such table",
             Error::NotPublic { .. } => "a named column is not a public column of its table",
-            Error::WrongType => "a value of another type, or a column named twice",
+            Error::WrongType(_) => "a value of another type, or a column named twice",
             Error::TooManyOps => "more than 64 operations",
             Error::BadLease => "no grant could have given the lease",
             Error::LeaseEnded { .. } => "the lease has ended",
@@ -266,7 +269,11 @@ impl Error {
 
 impl fmt::Display for Error {
     fn fmt(&self, f: &mut fmt::Formatter<'_>) -> fmt::Result {
-        f.write_str(self.text())?;
+        match self {
+            Error::WrongType(Some(wrong)) => return wrong.fmt(f),
+            Error::BadTable(Some(bad)) => return bad.fmt(f),
+            _ => f.write_str(self.text())?,
+        }
         match self {
             Error::NotPublic {
                 column: Some(column),

@@ -254,6 +254,19 @@ unsafe extern "C" {
         out: *mut u8,
         out_length: usize,
     ) -> Outcome;
+    pub(crate) fn cagzhomul_txn_fault(
+        schema: *const u8,
+        schema_length: usize,
+        operations: *const u8,
+        operations_length: usize,
+    ) -> ValueFault;
+    pub(crate) fn cagzhomul_query_fault(
+        schema: *const u8,
+        schema_length: usize,
+        query: *const u8,
+        query_length: usize,
+    ) -> ValueFault;
+    pub(crate) fn cagzhomul_opening_fault(opening: *const u8, opening_length: usize) -> TableFault;
     pub(crate) fn cagzhomul_text_of(status: i32, out: *mut u8, out_length: usize) -> usize;
     pub(crate) fn cagzhomul_version() -> u32;
 }

@@ -402,6 +402,26 @@ impl CheckpointHandle {
     }
 }
 
+/// Which value of operations is wrong under a schema, both by their codes.
+pub(crate) fn txn_fault(schema: &[u8], operations: &[u8]) -> ValueFault {
+    let (at, length) = (operations.as_ptr(), operations.len());
+    // SAFETY: both slices, as at the top of this file.
+    unsafe { cagzhomul_txn_fault(schema.as_ptr(), schema.len(), at, length) }
+}
+
+/// Which value of a query is wrong under a schema, both by their codes.
+pub(crate) fn query_fault(schema: &[u8], query: &[u8]) -> ValueFault {
+    let (at, length) = (query.as_ptr(), query.len());
+    // SAFETY: both slices, as at the top of this file.
+    unsafe { cagzhomul_query_fault(schema.as_ptr(), schema.len(), at, length) }
+}
+
+/// Why the tables of an opening may not be declared, by its code.
+pub(crate) fn opening_fault(opening: &[u8]) -> TableFault {
+    // SAFETY: the slice, as at the top of this file.
+    unsafe { cagzhomul_opening_fault(opening.as_ptr(), opening.len()) }
+}
+
 /// The library's version.
 pub(crate) fn version() -> u32 {
     // SAFETY: it takes nothing.

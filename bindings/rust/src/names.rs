@@ -2,7 +2,8 @@
 
 use crate::error::Error;
 use crate::rows::Reader;
-use crate::schema::Schema;
+use crate::schema::{self, Schema, SchemaKind};
+use crate::table::Type;
 use crate::value::{RowKey, Value};
 
 /// A name in a call that its table does not have.
@@ -18,12 +19,34 @@ pub(crate) struct Unknown {
 pub(crate) struct Names {
     version: u64,
     schema: Schema,
+    /// The schema's code.
+    code: Vec<u8>,
 }
 
 impl Names {
-    /// The names of this version, whose number is 0 if no lease is on it yet.
+    /// The names of this version, by the code of its schema. Its number is 0 if no lease is on it yet.
+    pub(crate) fn read(version: u64, code: Vec<u8>) -> Result<Names, Error> {
+        let schema = schema::read(&code)?;
+        Ok(Names {
+            version,
+            schema,
+            code,
+        })
+    }
+
+    /// The names of a schema that has no code.
+    #[cfg(test)]
     pub(crate) fn new(version: u64, schema: Schema) -> Names {
-        Names { version, schema }
+        Names {
+            version,
+            schema,
+            code: Vec::new(),
+        }
+    }
+
+    /// The code of its schema.
+    pub(crate) fn code(&self) -> &[u8] {
+        &self.code
     }
 
     /// The version whose names these are.
@@ -46,6 +69,24 @@ impl Names {
     pub(crate) fn table_of(&self, number: u32) -> Option<&str> {
         let mut tables = self.schema.tables.iter();
         Some(&tables.find(|table| table.number == number)?.name)
+    }
+
+    /// The key columns of a table, with their types.
+    pub(crate) fn key(&self, table: &str) -> &[(String, Type)] {
+        let found = self.schema.tables.iter().find(|it| it.name == table);
+        found.map_or(&[], |it| &it.key)
+    }
+
+    /// The type of a column of a table that is not of its key.
+    pub(crate) fn type_of(&self, table: &str, column: &str) -> Option<Type> {
+        let mut elements = self.schema.elements.iter();
+        match elements
+            .find(|it| it.name == column && it.table == table)?
+            .what
+        {
+            SchemaKind::Column { kind, .. } => Some(kind),
+            SchemaKind::Index { .. } => None,
+        }
     }
 
     /// The number of a column or an index of a table, or 0, which is none.
@@ -118,7 +159,7 @@ impl Names {
 mod tests {
     use super::*;
     use crate::plan::State;
-    use crate::schema::{SchemaElement, SchemaKind};
+    use crate::schema::SchemaElement;
 
     /// t with the public columns 1 and 2 and the column 3, which is only deleted, and u with the index 4.
     fn names() -> Names {

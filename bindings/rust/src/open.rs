@@ -3,6 +3,7 @@
 use crate::code;
 use crate::db::{Db, DEFAULT_LEASE_LENGTH};
 use crate::error::Error;
+use crate::faults::bad_table;
 use crate::ffi::{self, WorldHandle};
 use crate::library::check_library;
 use crate::session::{done, Session};
@@ -63,7 +64,10 @@ impl OpenOptions {
         let tables: Vec<Table> = tables.into_iter().collect();
         let opening = code::opening(self.lease_length, &tables);
         let mut world = WorldHandle::closed();
-        done(world.open(opening.as_bytes(), self.furthest_jump))?;
+        match world.open(opening.as_bytes(), self.furthest_jump) {
+            ffi::BAD_TABLE => return Err(bad_table(opening.as_bytes(), &tables)),
+            status => done(status)?,
+        }
         Db::over(Session::over(world, self.furthest_jump), &tables)
     }
 

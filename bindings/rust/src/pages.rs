@@ -114,6 +114,6 @@ pub(crate) fn find_page(
             let more = paged.more == 1;
             Ok(Page { rows, more })
         }
-        status => Err(query.refusal(names, status, paged.column)),
+        status => Err(query.refusal_in(range, names, status, paged.column)),
     }
 }

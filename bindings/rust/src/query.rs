@@ -2,6 +2,7 @@
 
 use crate::code::{self, Code};
 use crate::error::Error;
+use crate::faults::wrong_condition;
 use crate::ffi::{self, BytesHandle, Queried};
 use crate::names::{Names, Unknown};
 use crate::pages::KeyRange;
@@ -129,10 +130,24 @@ impl Query {
 
     /// Why it was refused, by the status and the number of a column beside it.
     pub(crate) fn refusal(&self, names: &Names, status: i32, column: u32) -> Error {
+        self.refusal_in(&KeyRange::all(), names, status, column)
+    }
+
+    /// The same of a page of it.
+    pub(crate) fn refusal_in(
+        &self,
+        range: &KeyRange,
+        names: &Names,
+        status: i32,
+        column: u32,
+    ) -> Error {
         match status {
             ffi::NOT_PUBLIC => names.not_public(column, self.unknown(names)),
             // Only a text over 1,024 bytes makes a bad code of what this crate writes.
-            ffi::BAD_CODE => Error::WrongType,
+            ffi::BAD_CODE | ffi::WRONG_TYPE => {
+                let code = self.code(names);
+                wrong_condition(names, code.as_bytes(), &self.table, &self.conditions, range)
+            }
             status => Error::of(status),
         }
     }

@@ -1,6 +1,8 @@
 //! What a transaction has read.
 
+use crate::code::Code;
 use crate::error::Error;
+use crate::faults::wrong_operation;
 use crate::ffi::{self, ReadsHandle};
 use crate::lease::Lease;
 use crate::operations::{Kind, Operations};
@@ -42,55 +44,48 @@ impl Reads {
         let rows = self.rows.iter().map(|it| &it.0);
         rows.chain([&row])
             .for_each(|it| named.push_row(Kind::Update, it));
-        let handle = self.read(lease, named)?;
-        let mut found = find(&Query::of(table).key(key), lease.names(), |query, rows| {
-            Ok(handle.query(query, rows))
-        })?;
+        let (query, names) = (Query::of(table).key(key), lease.names());
+        let (handle, status) = self.read(lease, &named.finish())?;
+        if status != ffi::OK {
+            return Err(query.refusal(names, status, 0));
+        }
+        let mut found = find(&query, names, |query, rows| Ok(handle.query(query, rows)))?;
         let found = found.pop();
         self.rows.push((row, found.clone()));
         Ok(found)
     }
 
     /// Reads what these operations name and was not read yet, and what was got and they do not name
-    /// is pinned: the handle may be prepared.
+    /// is pinned: the handle may be prepared. The code is that of all operations.
     pub(crate) fn finish(
         mut self,
         lease: &Lease<'_>,
         mut operations: Operations,
-    ) -> Result<ReadsHandle, Error> {
+    ) -> Result<(ReadsHandle, Code), Error> {
         for (row, found) in &self.rows {
             operations.pin(row, found.is_some());
         }
-        self.read(lease, operations)?;
+        let code = operations.finish();
+        match self.read(lease, &code)?.1 {
+            // Only a text over 1,024 bytes makes a bad code of what this crate writes.
+            ffi::BAD_CODE => return Err(wrong_operation(lease.names(), code.as_bytes())),
+            status => done(status)?,
+        }
         let handle = self.handle.into_inner();
-        Ok(handle.unwrap_or_else(PoisonError::into_inner))
+        Ok((handle.unwrap_or_else(PoisonError::into_inner), code))
     }
 
-    /// Reads the rows that these operations name and that were not read yet. A refusal leaves what
-    /// was read.
-    fn read(
-        &mut self,
-        lease: &Lease<'_>,
-        operations: Operations,
-    ) -> Result<&mut ReadsHandle, Error> {
+    /// Reads the rows that operations name, by their code, and that were not read yet, and gives the
+    /// status. A refusal leaves what was read.
+    fn read(&mut self, lease: &Lease<'_>, code: &Code) -> Result<(&mut ReadsHandle, i32), Error> {
         let handle = self.handle.get_mut();
         let handle = handle.unwrap_or_else(PoisonError::into_inner);
-        let code = operations.finish();
         let mut world = lease.db().session().world()?;
-        taken(match handle.is_open() {
+        let status = match handle.is_open() {
             true => world.read_again(handle, code.as_bytes()),
             false => world.read(&mut lease.lock(), code.as_bytes(), handle),
-        })?;
-        Ok(handle)
-    }
-}
-
-/// Whether a code was taken. Only a text over 1,024 bytes makes a bad code of what this crate
-/// writes.
-fn taken(status: i32) -> Result<(), Error> {
-    match status {
-        ffi::BAD_CODE => Err(Error::WrongType),
-        status => done(status),
+        };
+        Ok((handle, status))
     }
 }
 

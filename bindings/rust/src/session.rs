@@ -5,7 +5,7 @@ use crate::error::Error;
 use crate::ffi::{self, BytesHandle, CheckpointHandle, Outcome, SessionHandle, WorldHandle};
 use crate::library::check_library;
 use crate::open::OpenOptions;
-use crate::schema::{schema_of, Schema};
+use crate::schema::{self, schema_of, Schema};
 use std::fmt;
 use std::ops::{Deref, DerefMut};
 use std::sync::atomic::{AtomicBool, AtomicU64, Ordering};
@@ -240,8 +240,13 @@ impl Session {
     /// # }
     /// ```
     pub fn schema(&self) -> Result<Schema, Error> {
+        schema::read(&self.schema_code()?)
+    }
+
+    /// The code of the newest version.
+    pub(crate) fn schema_code(&self) -> Result<Vec<u8>, Error> {
         let mut world = self.world()?;
-        schema_of(|code| world.schema(code))
+        bytes_given(|code| world.schema(code))
     }
 
     /// How many entries the log had ever, those that were cut off among them: the last one's place.

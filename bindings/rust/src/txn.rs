@@ -1,6 +1,8 @@
 //! Transactions.
 
+use crate::code::Code;
 use crate::error::Error;
+use crate::faults::wrong_operation;
 use crate::ffi::{self, BytesHandle, Committed, ReadsHandle, TxnHandle, WorldHandle};
 use crate::lease::Lease;
 use crate::names::Unknown;
@@ -160,10 +162,10 @@ impl<'a> Txn<'a> {
     pub fn prepare(self) -> Result<Prepared<'a>, Error> {
         let (lease, unknown) = (self.lease, self.unknown);
         let reads = self.reads.map_or_else(Reads::new, |reads| *reads);
-        let mut reads = reads.finish(lease, self.operations)?;
+        let (mut reads, code) = reads.finish(lease, self.operations)?;
         let mut txn = TxnHandle::closed();
         let prepared = reads.prepare(&mut txn);
-        accepted(lease, unknown, prepared.status, prepared.column)?;
+        accepted(lease, unknown, prepared.status, prepared.column, &code)?;
         Ok(Prepared { lease, reads, txn })
     }
 
@@ -202,10 +204,12 @@ impl<'a> Txn<'a> {
             written
         };
         match written.status {
-            ffi::BAD_CODE => Err(Error::WrongType),
-            ffi::NOT_PUBLIC => Err(lease.names().not_public(written.column, unknown)),
-            _ => received(lease, &written, &[]),
+            ffi::BAD_CODE | ffi::WRONG_TYPE | ffi::NOT_PUBLIC => {
+                accepted(lease, unknown, written.status, written.column, &code)?;
+            }
+            _ => {}
         }
+        received(lease, &written, &[])
     }
 
     /// Prepares it and commits it: [`Txn::prepare`], and then [`Prepared::commit`].
@@ -237,15 +241,19 @@ fn received(lease: &Lease<'_>, reported: &Committed, pair: &[u8]) -> Result<Rece
     }
 }
 
-/// Whether a preparation was accepted; `unknown` is the first name of no column.
+/// Whether the preparation of operations, by their code, was accepted; `unknown` is the first name of
+/// no column.
 fn accepted(
     lease: &Lease<'_>,
     unknown: Option<Unknown>,
     status: i32,
     column: u32,
+    code: &Code,
 ) -> Result<(), Error> {
     match status {
         ffi::NOT_PUBLIC => Err(lease.names().not_public(column, unknown)),
+        // Only a text over 1,024 bytes makes a bad code of what this crate writes.
+        ffi::BAD_CODE | ffi::WRONG_TYPE => Err(wrong_operation(lease.names(), code.as_bytes())),
         status => done(status),
     }
 }

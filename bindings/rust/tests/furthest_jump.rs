@@ -6,7 +6,7 @@ mod shared;
 use cagzhomul::{
     Db, Error, KeyRange, Lease, OpenOptions, Query, SchemaChange, Session, Step, Type,
 };
-use shared::{people, table};
+use shared::{people, plain, table};
 
 const JUMP: u64 = 100;
 /// by_town enters: it will be element 2, after town.
@@ -174,7 +174,7 @@ fn options_have_a_lease_length_and_a_furthest_jump() -> Result<(), Error> {
     let none = OpenOptions::new().lease_length(0).open([table()]);
     assert_eq!(none.err(), Some(Error::BadLength));
     let both = OpenOptions::new().open([table(), table()]);
-    assert_eq!(both.err(), Some(Error::BadTable));
+    assert_eq!(both.err().map(plain), Some(Error::BadTable(None)));
     let bytes = OpenOptions::new().session_at(b"");
     assert_eq!(bytes.err(), Some(Error::BadCheckpoint));
     Ok(())

@@ -1,12 +1,15 @@
 //! Transactions and queries over a store of one's own: refusals, and versions that are closed.
 
 mod layer_shared;
+#[allow(dead_code)] // stores of the engine are others
+mod shared;
 
 use cagzhomul::layer::{Draft, Layer, MemoryStore, Store, StoreError};
 use cagzhomul::Type::Int;
 use cagzhomul::{Error, Key, Query, SchemaChange, Table, Value};
 use layer_shared::How::{Gone, Late, Lost};
 use layer_shared::{damage_is_counted, number, opened, row, sound, tables, Dice, Scripted, TOWNS};
+use shared::plain;
 use std::cell::Cell;
 
 type Db = Layer<MemoryStore>;
@@ -28,7 +31,7 @@ type Call<'a> = &'a dyn Fn(&Db) -> Result<(), Error>;
 fn refuse<const N: usize>(cases: [(Call<'_>, Error); N]) {
     let db = opened(5, MemoryStore::new());
     for (at, (call, due)) in cases.into_iter().enumerate() {
-        assert_eq!(call(&db), Err(due), "case {at}");
+        assert_eq!(call(&db).map_err(plain), Err(due), "case {at}");
     }
     assert_eq!(db.query(&Query::of("people")).unwrap().len(), 5);
     sound(&db);
@@ -44,7 +47,7 @@ fn refusals_of_operations() {
         txn.commit().map(drop)
     };
     let insert = |db: &Db, table: &str, key: Key| db.insert(table, key, ()).map(drop);
-    let (operation, wrong) = (0, Error::WrongType);
+    let (operation, wrong) = (0, Error::WrongType(None));
     refuse([
         (
             &|db| insert(db, "people", 3.into()),
@@ -85,8 +88,11 @@ fn refusals_of_transactions() {
     };
     refuse([
         (&|db| get(db, "nobody", 1.into()), Error::NoTable),
-        (&|db| get(db, "people", "a".into()), Error::WrongType),
-        (&|db| get(db, "people", (&long).into()), Error::WrongType),
+        (&|db| get(db, "people", "a".into()), Error::WrongType(None)),
+        (
+            &|db| get(db, "people", (&long).into()),
+            Error::WrongType(None),
+        ),
         (&ended, Error::WrongStage),
         (&many, Error::TooManyOps),
     ]);
@@ -104,15 +110,15 @@ fn refusals_of_queries_and_changes() {
         (&|db| query(db, people().columns(["no"])), not_public("no")),
         (
             &|db| query(db, people().equal("age", "a")),
-            Error::WrongType,
+            Error::WrongType(None),
         ),
         (&|db| add(db, "town", "age"), Error::NameTaken),
         (&|db| add(db, "i", "nothing"), Error::Unknown),
         (&abandon, Error::Unknown),
-        (&other, Error::BadTable),
+        (&other, Error::BadTable(None)),
     ]);
     let nameless = Layer::open(MemoryStore::new(), [Table::new("").key("id", Int)]);
-    assert_eq!(nameless.err(), Some(Error::BadTable));
+    assert_eq!(nameless.err().map(plain), Some(Error::BadTable(None)));
     assert_eq!(Layer::new(MemoryStore::new()).err(), Some(Error::NotOpened));
 }
 

@@ -4,7 +4,7 @@ mod shared;
 
 use cagzhomul::Type::{Bool, Int, Text};
 use cagzhomul::{Cells, Db, Error, Lease, Query, Row, Snapshot, Table, Value};
-use shared::{drive, people};
+use shared::{drive, people, plain};
 use std::cell::Cell;
 use std::thread;
 
@@ -100,20 +100,31 @@ fn queries_are_refused_for_their_names_and_values() -> Result<(), Error> {
         (q().columns(["id"]), public("id")),
         (q().key(1).equal("id", 1).equal("town", 5), public("id")),
         (q().between("age", None, Some(1)), public("age")),
-        (q().key("1").equal("x", 1), Error::WrongType),
-        (q().key((1, 2)), Error::WrongType),
-        (q().key(Value::Null), Error::WrongType),
-        (q().equal("town", 5), Error::WrongType),
-        (q().between("town", Some(false), None), Error::WrongType),
+        (q().key("1").equal("x", 1), Error::WrongType(None)),
+        (q().key((1, 2)), Error::WrongType(None)),
+        (q().key(Value::Null), Error::WrongType(None)),
+        (q().equal("town", 5), Error::WrongType(None)),
+        (
+            q().between("town", Some(false), None),
+            Error::WrongType(None),
+        ),
         (
             q().between("town", Some(Value::Null), None),
-            Error::WrongType,
+            Error::WrongType(None),
         ),
-        (Query::of("nobody").equal("x", &long), Error::WrongType),
-        (q().between("town", None, Some(&long)), Error::WrongType),
+        (
+            Query::of("nobody").equal("x", &long),
+            Error::WrongType(None),
+        ),
+        (
+            q().between("town", None, Some(&long)),
+            Error::WrongType(None),
+        ),
     ] {
-        assert_eq!(snapshot.query(&query), Err(error.clone()), "{query:?}");
-        assert_eq!(lease.find(5, &query), Err(error), "{query:?}");
+        let found = snapshot.query(&query).map_err(plain);
+        assert_eq!(found, Err(error.clone()), "{query:?}");
+        let found = lease.find(5, &query).map_err(plain);
+        assert_eq!(found, Err(error), "{query:?}");
     }
     assert_eq!(
         lease.find(5, &q().equal("town", &long[1..])),

@@ -4,7 +4,7 @@ mod shared;
 
 use cagzhomul::Type::{Int, Text};
 use cagzhomul::{retry, Check, Db, Error, Lease, Query, Receipt, Row, RowKey, Table, Txn, Value};
-use shared::{drive, people};
+use shared::{drive, people, plain};
 use std::cell::Cell;
 use std::thread;
 
@@ -236,11 +236,26 @@ fn gets_are_refused_and_the_transaction_goes_on() -> Result<(), Error> {
     let mut txn = lease.txn();
     for is_first in [true, false] {
         assert_eq!(txn.get("nobody", 1), Err(Error::NoTable));
-        assert_eq!(txn.get("people", "1"), Err(Error::WrongType));
-        assert_eq!(txn.get("people", (1, 2)), Err(Error::WrongType));
-        assert_eq!(txn.get("people", Value::Null), Err(Error::WrongType));
-        assert_eq!(txn.get("people", &long), Err(Error::WrongType));
-        assert_eq!(txn.get("nobody", &long), Err(Error::WrongType));
+        assert_eq!(
+            txn.get("people", "1").map_err(plain),
+            Err(Error::WrongType(None))
+        );
+        assert_eq!(
+            txn.get("people", (1, 2)).map_err(plain),
+            Err(Error::WrongType(None))
+        );
+        assert_eq!(
+            txn.get("people", Value::Null).map_err(plain),
+            Err(Error::WrongType(None))
+        );
+        assert_eq!(
+            txn.get("people", &long).map_err(plain),
+            Err(Error::WrongType(None))
+        );
+        assert_eq!(
+            txn.get("nobody", &long).map_err(plain),
+            Err(Error::WrongType(None))
+        );
         assert_eq!(
             txn.get("people", if is_first { 1 } else { 2 })?.is_some(),
             is_first

@@ -226,7 +226,7 @@ fn a_store_at_a_checkpoint_has_its_schema_and_no_other_tables() -> Result<(), Er
         vec![table("people", "id", Int), table("other", "id", Int)],
     ] {
         let refused = Db::open_at(&saved, others.clone()).err();
-        assert_eq!(refused, Some(Error::BadTable), "{others:?}");
+        assert_eq!(refused, Some(Error::BadTable(None)), "{others:?}");
     }
     let refused = Db::open_at(&saved[1..], []).err();
     assert_eq!(refused, Some(Error::BadCheckpoint));

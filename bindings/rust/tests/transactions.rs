@@ -7,7 +7,7 @@ use cagzhomul::{
     Cells, Check, Db, Error, Key, Lease, Prepared, Query, RowKey, Session, Snapshot, Table, Txn,
     Value,
 };
-use shared::people;
+use shared::{people, plain};
 use std::thread;
 
 #[test]
@@ -71,12 +71,15 @@ fn a_transaction_in_one_call_is_as_one_in_four() -> Result<(), Error> {
             .txn()
             .update("people", 1, [(column, "x".repeat(1025))])
     };
-    assert_eq!(named("town").write(5), Err(Error::WrongType));
+    assert_eq!(
+        named("town").write(5).map_err(plain),
+        Err(Error::WrongType(None))
+    );
     let (column, is_key) = (Some("name".to_string()), false);
     let other = lease.txn().update("people", 1, [("name", "x")]);
     assert_eq!(other.write(5), Err(Error::NotPublic { column, is_key }));
     let wrong = lease.txn().delete("people", "1");
-    assert_eq!(wrong.write(5), Err(Error::WrongType));
+    assert_eq!(wrong.write(5).map_err(plain), Err(Error::WrongType(None)));
     assert_eq!(
         lease.txn().delete("nobody", 1).write(5),
         Err(Error::NoTable)
@@ -132,7 +135,7 @@ fn a_transaction_is_refused_for_its_names_and_values() -> Result<(), Error> {
         ((1, 2).into(), ().into()),
         (Value::Null.into(), ().into()),
     ] {
-        assert_eq!(insert("people", key, cells), Error::WrongType);
+        assert_eq!(plain(insert("people", key, cells)), Error::WrongType(None));
     }
     assert_eq!(db.line("log")?, "ok log 1\n");
     Ok(())
@@ -238,8 +241,10 @@ fn queries_are_refused_as_lines_are() -> Result<(), Error> {
         Err(Error::NoTable)
     );
     assert_eq!(
-        lease.query(5, "select * from people where town = 5"),
-        Err(Error::WrongType)
+        lease
+            .query(5, "select * from people where town = 5")
+            .map_err(plain),
+        Err(Error::WrongType(None))
     );
     assert_eq!(
         lease.query(15, "select * from people"),

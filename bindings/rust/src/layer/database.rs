@@ -2,6 +2,8 @@
 
 use crate::code;
 use crate::error::Error;
+use crate::faults::bad_table;
+use crate::ffi::BAD_TABLE;
 use crate::layer::acts::{Act, Acts};
 use crate::layer::chance::{self, Mark};
 use crate::layer::codes::{draft_of, END};
@@ -74,7 +76,7 @@ impl<S: Store> Layer<S> {
         let opened = schema.tables.iter().map(|it| (&it.name, &it.key));
         match opened.eq(tables.iter().map(|it| (&it.name, &it.key))) {
             true => Ok(layer),
-            false => Err(Error::BadTable),
+            false => Err(Error::BadTable(None)),
         }
     }
 
@@ -270,8 +272,12 @@ impl<S: Store> Layer<S> {
 
 /// Opens a database with these tables in an empty store; false if nobody knows whether that was done.
 fn is_opened<S: Store>(store: &S, tables: &[Table]) -> Result<bool, Error> {
-    let given = ffi::open(code::opening(1, tables).as_bytes());
-    let mut draft: Draft = draft_of(&given.map_err(refused)?.code)?;
+    let opening = code::opening(1, tables);
+    let given = ffi::open(opening.as_bytes()).map_err(|refusal| match refusal.status {
+        BAD_TABLE => bad_table(opening.as_bytes(), tables),
+        _ => refused(refusal),
+    });
+    let mut draft: Draft = draft_of(&given?.code)?;
     draft.ranges = vec![ComparedRange {
         low: Vec::new(),
         high: END.to_vec(),

@@ -6,7 +6,6 @@ use crate::layer::codes::{draft_of, mark_key, number_of, version_key, REORGS, VE
 use crate::layer::ffi::{self, Refusal};
 use crate::layer::store::{bad_answer, read_page, Range, Store, StoreError};
 use crate::names::Names;
-use crate::schema;
 use std::collections::BTreeMap;
 use std::sync::{Arc, Mutex, PoisonError};
 use std::time::{Duration, Instant};
@@ -26,8 +25,8 @@ pub(super) struct Version {
 impl Version {
     /// The version of this number and record.
     pub(super) fn of(number: u64, record: Vec<u8>) -> Result<Version, StoreError> {
-        let schema = schema::read(&record).map_err(|_| bad_answer("a version in another code"))?;
-        let names = Names::new(number, schema);
+        let names = Names::read(number, record.clone());
+        let names = names.map_err(|_| bad_answer("a version in another code"))?;
         Ok(Version { record, names })
     }
 

@@ -1,7 +1,8 @@
 //! Transactions over a store.
 
 use crate::error::Error;
-use crate::ffi::{BAD_CODE, DUPLICATE, NOT_PUBLIC, NO_ROW};
+use crate::faults::wrong_operation;
+use crate::ffi::{BAD_CODE, DUPLICATE, NOT_PUBLIC, NO_ROW, WRONG_TYPE};
 use crate::layer::chance::{self, Mark};
 use crate::layer::codes::{draft_of, keys_of, mark_key, pairs_code, points_code, VERSIONS};
 use crate::layer::draft::Draft;
@@ -308,7 +309,7 @@ impl<'a, S: Store> Txn<'a, S> {
             DUPLICATE => Error::Duplicate { operation },
             NO_ROW => Error::NoRow { operation },
             // only a text over 1,024 bytes makes a bad code of what this crate writes
-            BAD_CODE => Error::WrongType,
+            BAD_CODE | WRONG_TYPE => wrong_operation(names, &self.operations(names)),
             status => Error::of(status),
         }
     }

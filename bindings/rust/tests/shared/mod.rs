@@ -25,3 +25,13 @@ pub fn drive(db: &Db, change: &str, now: &Cell<u64>) -> Result<Vec<Step>, Error>
         })
         .collect()
 }
+
+/// The error without the value, or the declaration, that it is for.
+#[allow(dead_code)] // not all tests look at refusals
+pub fn plain(error: Error) -> Error {
+    match error {
+        Error::WrongType(_) => Error::WrongType(None),
+        Error::BadTable(_) => Error::BadTable(None),
+        other => other,
+    }
+}
