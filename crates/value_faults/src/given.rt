@@ -151,11 +151,13 @@ fn first_wrong(schema: &Schema, ops: &[RowOp]) -> Option<ValueFault>
     None
 }
 
-/// Which value of a transaction is wrong: exactly if `row_write::prepare` refuses the operations by
-/// `WrongType`, it is of the operation that decides. Of this operation it is the first of: its key
-/// has another number of values; a value of its key that is not of its column's type, of which Null
-/// is none; a named value that is neither of its column's type nor Null; a column that is named
-/// again after it.
+/// The wrong value that a transaction is refused for: there is one exactly if `row_write::prepare`
+/// refuses the operations by `WrongType`.
+///
+/// It is of the operation that decides. Of this operation it is the first of: its key has another
+/// number of values than the table's key has columns; a value of its key is not one of its column's
+/// type, as Null never is; a named value is neither one of its column's type nor Null; a named
+/// column is named again after it.
 ///
 /// - `schema`: the version under which the transaction is to run.
 /// - `ops`: its operations.
