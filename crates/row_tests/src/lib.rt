@@ -19,4 +19,6 @@ mod row_reads;
 #[cfg(test)]
 mod row_writes;
 #[cfg(test)]
+mod wrong_conditions;
+#[cfg(test)]
 mod wrong_values;

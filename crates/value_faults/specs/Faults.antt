@@ -1,5 +1,5 @@
 -- Cited by the contracts of txn_fault, query_fault.
--- Which value it is for which a transaction or a query is refused.
+-- Which value a transaction or a query is refused for.
 use Rattle.std.specs.Prelude.{◌≡◌, ℕ, ◌+◌, ◌==◌, ◌||◌, Bool, List, [], ◌∷◌, ◌++◌, length, Option, Some, None, if◌then◌else◌}
 use Rattle.std.specs.List.{list_any, AllByRecursion}
 use Rattle.std.specs.Option.{option_or}
@@ -54,7 +54,7 @@ wrong_from test place (column ∷ columns) (value ∷ key) = option_or (wrong_at
 abbrev pub wrong_key : (ColumnType → Value → Bool) → List (List ℕ × ColumnType) → List Value → Option ValueCause
 wrong_key test columns key = if length columns == length key then wrong_from test 0 columns key else Some (KeyLength (length key))
 
--- the value for this column, if it fails the test
+-- the value for this column, if the column has a type and the value fails the test
 abbrev pub wrong_for : (ColumnType → Value → Bool) → ℕ → Option ColumnType → Value → Option ValueCause
 wrong_for test column None value = None
 wrong_for test column (Some wanted) value = if test wanted value then None else Some (ColumnValue column wanted (type_given value))
@@ -75,7 +75,7 @@ abbrev pub named_twice : List (ℕ × Value) → Option ValueCause
 named_twice [] = None
 named_twice (named ∷ rest) = option_or (named_again named.0 rest) (named_twice rest)
 
--- the key, then the named values, then what is named twice
+-- what is wrong with its key; or else with a named value; or else a column that is named twice
 abbrev pub wrong_operation : List (List ℕ × ColumnType) → List ElementDef → RowOp → Option ValueCause
 wrong_operation columns elements op =
     option_or (wrong_key has_type columns (key_of op)) (option_or (wrong_named elements (table_of op) (named_of op)) (named_twice (named_of op)))
@@ -101,7 +101,7 @@ abbrev pub wrong_bound : ℕ → Option ColumnType → Option Value → Option V
 wrong_bound column wanted None = None
 wrong_bound column wanted (Some bound) = wrong_for has_kind column wanted bound
 
--- the key; the value; the low bound, then the high one
+-- what is wrong with its key, with its value, or with its low bound, or else with the high one
 abbrev pub wrong_condition : List (List ℕ × ColumnType) → List ElementDef → ℕ → Cond → Option ValueCause
 wrong_condition columns elements table (Key key) = wrong_key has_kind columns key
 wrong_condition columns elements table (Equal column value) = wrong_for has_kind_or_null column (column_type elements table column) value

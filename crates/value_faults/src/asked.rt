@@ -118,16 +118,19 @@ fn find(schema: &Schema, query: &Query) -> Option<ValueFault>
     first_wrong(columns, elements, query.table, query.conditions.as_slice())
 }
 
-/// Which value of a query is wrong: exactly if `row_query::answer` refuses the query by
-/// `WrongType`, it is of the condition that decides. Of this condition it is the first of: its key
-/// has another number of values; a value of its key that is not of its column's kind, of which Null
-/// is none; the value of `Equal` that is neither of the column's kind nor Null; of `Between` the
-/// low bound and then the high one. A text is of its kind however long it is.
+/// The wrong value that a query is refused for: there is one exactly if `row_query::answer` refuses
+/// the query by `WrongType`.
+///
+/// It is of the condition that decides. Of this condition it is the first of: its key has another
+/// number of values than the table's key has columns; a value of its key is not of its column's
+/// kind, as Null never is; the value of `Equal` is neither of the column's kind nor Null; the low
+/// bound of `Between` is not of it; the high one is not. A text is of its kind however long it is.
+/// The cause is never `NamedTwice`.
 ///
 /// - `schema`: the version under which the query is to run.
 /// - `query`: a table, columns and conditions.
 ///
-/// It takes no memory, and never answers `NamedTwice`.
+/// It takes no memory.
 pub fn query_fault(schema: &Schema, query: &Query) -> Option<ValueFault>
     ensures found { IfSome result (λ fault. IsQueryFault schema.now query.now fault) }
     ensures none { IfNone result (¬ (IsRefused schema.now query.now WrongType)) }

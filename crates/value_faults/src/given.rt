@@ -1,7 +1,6 @@
 //! The first wrong value of a transaction.
 ghost use Rattle.std.specs.Prelude.{◌≡◌, ◌==◌, None, is_some, IfSome, IfNone};
 ghost use Rattle.std.specs.List.{list_any, AllByRecursion};
-ghost use Rattle.keycode.specs.declared.value.Value.{Value as Held};
 ghost use Rattle.keycode.specs.Valid.{IsValue};
 ghost use Rattle.row_write.specs.declared.fault.PrepareFault.TheVariants.{WrongType};
 ghost use Rattle.row_write.specs.Plain.{table_of, key_of as key_of_op, named_of};
@@ -63,7 +62,7 @@ fn has_hidden(elements: &[ElementDef], table: u32, cells: &[(u32, Value)]) -> bo
 // The first named value that is wrong.
 fn wrong_named(elements: &[ElementDef], table: u32, cells: &[(u32, Value)]) -> Option<ValueCause>
     ensures test { result ≡ wrong_named_of elements.now table cells.now }
-    ensures known { result ≡ None → AllByRecursion (λ (c : _ × Held). IsValue c.1) cells.now }
+    ensures known { result ≡ None → AllByRecursion (λ c. IsValue c.1) cells.now }
 {
     for (number, value) in cells {
         let kind = public_column_type(elements, table, *number);
@@ -151,11 +150,13 @@ fn first_wrong(schema: &Schema, ops: &[RowOp]) -> Option<ValueFault>
     None
 }
 
-/// Which value of a transaction is wrong: exactly if `row_write::prepare` refuses the operations by
-/// `WrongType`, it is of the operation that decides. Of this operation it is the first of: its key
-/// has another number of values; a value of its key that is not of its column's type, of which Null
-/// is none; a named value that is neither of its column's type nor Null; a column that is named
-/// again after it.
+/// The wrong value that a transaction is refused for: there is one exactly if `row_write::prepare`
+/// refuses the operations by `WrongType`.
+///
+/// It is of the operation that decides. Of this operation it is the first of: its key has another
+/// number of values than the table's key has columns; a value of its key is not one of its column's
+/// type, as Null never is; a named value is neither one of its column's type nor Null; a named
+/// column is named again after it.
 ///
 /// - `schema`: the version under which the transaction is to run.
 /// - `ops`: its operations.

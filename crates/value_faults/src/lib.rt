@@ -1,4 +1,4 @@
-//! Which value it is for which a transaction or a query is refused.
+//! Which value a transaction or a query is refused for.
 #![tactic(auto)]
 
 mod asked;
