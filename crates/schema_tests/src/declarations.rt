@@ -1,5 +1,5 @@
 //! Why tables may not be declared.
-use crate::make::text;
+use crate::make::{self, text};
 use collections::List;
 use keycode::Text;
 use row_map::ColumnType::Int;
@@ -36,9 +36,7 @@ const NAME_32: &str = "n2345678901234567890123456789012";
 
 const NAME_33: &str = "n23456789012345678901234567890123";
 
-static TABLES: [Case; 14] = [
-    (&[], Some((0, NoTable))),
-    (&[T], None),
+static TABLES: [Case; 12] = [
     (&[T, U], None),
     (&[("", ID, &[], &[])], Some((0, TableName))),
     (&[T, ("2t", ID, &[], &[])], Some((1, TableName))),
@@ -62,30 +60,37 @@ static TABLES: [Case; 14] = [
     ),
 ];
 
-/// How many tables, how many columns the key of each has, and the fault.
-static COUNTS: [(usize, usize, Option<(usize, TableCause)>); 6] = [
-    (0, 1, Some((0, NoTable))),
-    (1, 1, None),
-    (16, 1, None),
-    (17, 1, Some((16, TooManyTables))),
-    // Of two faults the lower one is given.
-    (17, 0, Some((16, TooManyTables))),
-    (16, 0, Some((0, KeyLength))),
+/// The names of tables, a byte each, and the fault.
+static COUNTS: [(&[u8], Option<(usize, TableCause)>); 4] = [
+    (b"", Some((0, NoTable))),
+    (b"t", None),
+    (b"abcdefghijklmnop", None),
+    // The lower fault is given: the last has the name of the first.
+    (b"abcdefghijklmnopa", Some((16, TooManyTables))),
 ];
 
-/// How many columns the key of the table 1 has, how many others and how many indexes the table has,
-/// and what is wrong with it.
-static SIZES: [(usize, usize, usize, Option<TableCause>); 9] = [
-    (0, 1, 0, Some(KeyLength)),
-    (4, 1, 0, None),
-    (5, 1, 0, Some(KeyLength)),
-    (1, 32, 0, None),
-    (1, 33, 0, Some(TooManyColumns)),
-    (1, 1, 16, None),
-    (1, 1, 17, Some(TooManyIndexes)),
+const COLUMNS_32: &[u8] = b"ABCDEFGHIJKLMNOPQRSTUVWXYZabcdef";
+
+const COLUMNS_33: &[u8] = b"ABCDEFGHIJKLMNOPQRSTUVWXYZabcdefg";
+
+/// The names of the key's columns, of other columns and of indexes over A, a byte each, and the
+/// fault.
+static SIZES: [(&[u8], &[u8], &[u8], Option<(usize, TableCause)>); 9] = [
+    (b"", b"A", b"", Some((0, KeyLength))),
+    (b"wxyz", b"A", b"", None),
+    (b"vwxyz", b"A", b"", Some((0, KeyLength))),
+    (b"z", COLUMNS_32, b"", None),
+    (b"z", COLUMNS_33, b"", Some((0, TooManyColumns))),
+    (b"z", b"A", b"hijklmnopqrstuvw", None),
+    (b"z", b"A", b"hijklmnopqrstuvwx", Some((0, TooManyIndexes))),
     // Of two faults the lower one is given.
-    (5, 33, 17, Some(KeyLength)),
-    (1, 33, 17, Some(TooManyColumns)),
+    (b"vwxyz", COLUMNS_33, b"", Some((0, KeyLength))),
+    (
+        b"z",
+        COLUMNS_33,
+        b"hijklmnopqrstuvwxx",
+        Some((0, TooManyColumns)),
+    ),
 ];
 
 static NAMES: [Case; 18] = [
@@ -288,73 +293,47 @@ fn holds(alloc: Global, case: &Case) -> Result<bool, AllocError> {
     has_fault(alloc, &tables(alloc, case.0)?, case.1)
 }
 
-/// The name of a letter and a number.
-fn numbered(alloc: Global, letter: &'static str, number: usize) -> Result<Text, AllocError> {
-    let mut name = String::new(alloc);
-    write!(name, "{letter}{number}")?;
-    Ok(Text::new(name))
-}
-
-fn numbered_columns(
+fn holds_of_tables(
     alloc: Global,
-    letter: &'static str,
-    count: usize,
-) -> Result<Columns, AllocError> {
-    let mut all = Vec::new(alloc);
-    for number in 0..count {
-        all.push((numbered(alloc, letter, number)?, Int))?;
-    }
-    Ok(List::new(all))
-}
-
-fn numbered_indexes(alloc: Global, count: usize) -> Result<List<(Text, List<Text>)>, AllocError> {
-    let mut all = Vec::new(alloc);
-    for number in 0..count {
-        all.push((numbered(alloc, "i", number)?, texts(alloc, &["c0"])?))?;
-    }
-    Ok(List::new(all))
-}
-
-/// A table of a name, with so many columns of the key, other columns and indexes.
-fn sized(alloc: Global, name: Text, sizes: (usize, usize, usize)) -> Result<TableDef, AllocError> {
-    Ok(TableDef {
-        name,
-        key: numbered_columns(alloc, "k", sizes.0)?,
-        columns: numbered_columns(alloc, "c", sizes.1)?,
-        indexes: numbered_indexes(alloc, sizes.2)?,
-    })
-}
-
-fn has_count_fault(
-    alloc: Global,
-    count: usize,
-    key: usize,
+    names: &[u8],
     wanted: Option<(usize, TableCause)>,
 ) -> Result<bool, AllocError> {
     let mut tables = Vec::new(alloc);
-    for number in 0..count {
-        let name = numbered(alloc, "t", number)?;
-        tables.push(sized(alloc, name, (key, 1, 1))?)?;
+    for name in names {
+        tables.push(make::table(alloc, &(*name, b"", b"", b""))?)?;
     }
     has_fault(alloc, &tables, wanted)
 }
 
-fn has_size_fault(
+fn sized(
     alloc: Global,
-    sizes: (usize, usize, usize),
-    wanted: Option<TableCause>,
+    key: &[u8],
+    columns: &[u8],
+    indexes: &[u8],
+) -> Result<TableDef, AllocError> {
+    Ok(TableDef {
+        name: text(alloc, "t")?,
+        key: make::ints(alloc, key)?,
+        columns: make::ints(alloc, columns)?,
+        indexes: make::indexes(alloc, indexes, b"A")?,
+    })
+}
+
+fn holds_of_sizes(
+    alloc: Global,
+    names: (&[u8], &[u8], &[u8]),
+    wanted: Option<(usize, TableCause)>,
 ) -> Result<bool, AllocError> {
-    let mut tables = vec![in alloc; table(alloc, &T)?]?;
-    tables.push(sized(alloc, text(alloc, "u")?, sizes)?)?;
-    has_fault(alloc, &tables, wanted.map(|cause| (1, cause)))
+    let table = sized(alloc, names.0, names.1, names.2)?;
+    has_fault(alloc, &vec![in alloc; table]?, wanted)
 }
 
 #[test]
 fn faults_of_counts(rt: HostRuntime) {
     for row in 0..COUNTS.len() {
-        let (count, key, wanted) = COUNTS[row];
+        let (names, wanted) = COUNTS[row];
         assert!(rt;
-            has_count_fault(rt.alloc(), count, key, wanted) == Ok(true),
+            holds_of_tables(rt.alloc(), names, wanted) == Ok(true),
             "row {row}"
         );
     }
@@ -364,9 +343,9 @@ fn faults_of_counts(rt: HostRuntime) {
 fn faults_of_sizes(rt: HostRuntime) {
     for row in 0..SIZES.len() {
         let (key, columns, indexes, wanted) = SIZES[row];
-        let sizes = (key, columns, indexes);
+        let names = (key, columns, indexes);
         assert!(rt;
-            has_size_fault(rt.alloc(), sizes, wanted) == Ok(true),
+            holds_of_sizes(rt.alloc(), names, wanted) == Ok(true),
             "row {row}"
         );
     }

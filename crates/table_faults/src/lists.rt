@@ -16,7 +16,7 @@ fn is_listed(names: &[Text], name: &[u8]) -> bool
     names.iter().any(|n| n.as_bytes() == name)
 }
 
-// The first of the listed columns that is listed again after it, or that is none of the table's.
+// The first of the listed columns that is listed again after it, or that is no such column.
 fn listed_cause(index: usize, columns: &[(Text, ColumnType)], listed: &[Text]) -> Option<TableCause>
     ensures { result ≡ listed_cause_of index 0 (names_in columns.now) listed.now }
 {
