@@ -42,10 +42,10 @@ class Bad(NamedTuple):
 
 # keys that are wrong in a table, for an operation, a query by a key, a `get` and a bound of a page
 KEYS: List[Tuple[str, Key, Wrong]] = [
-    ("people", (), Wrong("people", None, (), None, "key length", "people: the key () has 0 values, and that of the table another number")),
-    ("people", (1, 2), Wrong("people", None, (1, 2), None, "key length", "people: the key (1, 2) has 2 values, and that of the table another number")),
-    ("shops", "Ulm", Wrong("shops", None, "Ulm", None, "key length", "shops: the key 'Ulm' has 1 value, and that of the table another number")),
-    ("shops", ("Ulm", 1, True), Wrong("shops", None, ("Ulm", 1, True), None, "key length", "shops: the key ('Ulm', 1, True) has 3 values, and that of the table another number")),
+    ("people", (), Wrong("people", None, (), None, "key length", "people: the key () has 0 values, and the table's key has another number of columns")),
+    ("people", (1, 2), Wrong("people", None, (1, 2), None, "key length", "people: the key (1, 2) has 2 values, and the table's key has another number of columns")),
+    ("shops", "Ulm", Wrong("shops", None, "Ulm", None, "key length", "shops: the key 'Ulm' has 1 value, and the table's key has another number of columns")),
+    ("shops", ("Ulm", 1, True), Wrong("shops", None, ("Ulm", 1, True), None, "key length", "shops: the key ('Ulm', 1, True) has 3 values, and the table's key has another number of columns")),
     ("people", "1", Wrong("people", "id", "1", "int", "value", "people.id: '1' is a str, and the column is an int")),
     ("people", True, Wrong("people", "id", True, "int", "value", "people.id: True is a bool, and the column is an int")),
     ("people", (None,), Wrong("people", "id", None, "int", "value", "people.id: None is no int")),
@@ -82,7 +82,7 @@ WORDS: List[Tuple[str, Wrong]] = [
     ("town = 7", Wrong("people", "town", 7, "str", "value", "people.town: 7 is an int, and the column is a str")),
     ("town between null and 'B'", Wrong("people", "town", None, "str", "value", "people.town: None is no str")),
     ("town between 'A' and null", Wrong("people", "town", None, "str", "value", "people.town: None is no str")),
-    ("key = (1, 2)", Wrong("people", None, (1, 2), None, "key length", "people: the key (1, 2) has 2 values, and that of the table another number")),
+    ("key = (1, 2)", Wrong("people", None, (1, 2), None, "key length", "people: the key (1, 2) has 2 values, and the table's key has another number of columns")),
     (f"old = 1 and town = '{LONG}'", Wrong("people", "town", LONG, "str", "text too long", "people.town: a text of 1,025 bytes, and 1,024 are the most")),
 ]
 NAMELESS = "it is no name: 1 to 32 bytes, an ASCII letter and then letters, digits and underscores"
@@ -143,7 +143,7 @@ class Faults(unittest.TestCase):
                     calls += [lambda: lease.delete(table, key), lambda: over.delete(table, key)]
                 for call in calls:
                     self.is_wrong(due, 0, call)
-                # behind others, and before one that is wrong, too
+                # after others, and before one that is wrong, too
                 txns: Txns = [lease.txn(), over.txn()]
                 for txn in txns:
                     txn.insert("people", 2, town=LONGEST, old=None).delete("people", 2).insert(table, key, **cells).update("people", 7, town=7)

@@ -243,7 +243,7 @@ typedef struct table_case {
 #define FOUR(it) it it it it
 #define SIXTEEN(it) FOUR(FOUR(it))
 
-/* Where there are 16 names they are all the same, and so there is another cause after the one that is found. */
+/* Tables with more than one cause have the first. The names of 16 and more things are all the same, which is a later cause. */
 static const table_case of_openings[] = {
     {A_TABLE "u(a:i,b:i,c:i,d:i||) v(a_1:i|b:i,c:i,d:i,e:i|B:b+c+d+e)", CAGZHOMUL_FAULT_NONE, 0, 0, 0},
     {"", CAGZHOMUL_FAULT_NO_TABLE, 0, 0, 0},
@@ -342,7 +342,7 @@ static void agree_tables(const bytes *code) {
     agree(it.status, it.cause, opened(code), CAGZHOMUL_BAD_TABLE);
 }
 
-/* What is looked at while memory is ample is so with the first allocation refused, too, then with the second, and so on, until none is left. */
+/* Looks with ample memory, then with the first allocation refused, then with the second, and so on, until none is left. */
 #define EACH_REFUSED(looked)                                                                           \
     {                                                                                                  \
         looked;                                                                                        \

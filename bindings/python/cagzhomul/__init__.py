@@ -387,7 +387,7 @@ def _wrong_value(table: Optional[str], column: Optional[str], value: Optional[Ke
         said = f"None is no {wanted}" if value is None else f"{value!r} is {_a(type(value).__name__)}, and the column is {_a(wanted)}"
     elif cause == "key length":
         many = len(_values(cast(Key, value)))
-        said = f"the key {value!r} has {many} value{'' if many == 1 else 's'}, and that of the table another number"
+        said = f"the key {value!r} has {many} value{'' if many == 1 else 's'}, and the table's key has another number of columns"
     elif cause == "text too long":
         said = f"a text of {len(str(value).encode()):,} bytes, and {_MOST_BYTES:,} are the most"
     else:

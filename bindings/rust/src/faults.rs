@@ -175,7 +175,7 @@ impl fmt::Display for WrongValue {
                 let values = values.join(", ");
                 write!(
                     f,
-                    "the key ({values}) has {many} value{plural}, and that of the table another number"
+                    "the key ({values}) has {many} value{plural}, and the table's key has another number of columns"
                 )
             }
             ValueCause::NamedTwice => f.write_str("the column is named twice"),

@@ -61,7 +61,7 @@ fn keys() -> Vec<(&'static str, Key, Due)> {
                 people,
                 None,
                 length(none),
-                "people: the key () has 0 values, and that of the table another number",
+                "people: the key () has 0 values, and the table's key has another number of columns",
             ),
         ),
         (
@@ -71,7 +71,7 @@ fn keys() -> Vec<(&'static str, Key, Due)> {
                 people,
                 None,
                 length((1, "a")),
-                "people: the key (1, 'a') has 2 values, and that of the table another number",
+                "people: the key (1, 'a') has 2 values, and the table's key has another number of columns",
             ),
         ),
         (
@@ -81,7 +81,7 @@ fn keys() -> Vec<(&'static str, Key, Due)> {
                 shops,
                 None,
                 length("Ulm"),
-                "shops: the key ('Ulm') has 1 value, and that of the table another number",
+                "shops: the key ('Ulm') has 1 value, and the table's key has another number of columns",
             ),
         ),
         (
@@ -91,7 +91,7 @@ fn keys() -> Vec<(&'static str, Key, Due)> {
                 shops,
                 None,
                 length(three()),
-                "shops: the key ('Ulm', 1, true) has 3 values, and that of the table another number",
+                "shops: the key ('Ulm', 1, true) has 3 values, and the table's key has another number of columns",
             ),
         ),
         (
