@@ -282,8 +282,7 @@ typedef struct cagzhomul_value_fault {
     size_t place;    /* of a key */
     uint32_t column; /* the number of the column */
     uint32_t wanted; /* at KEY_VALUE and COLUMN_VALUE the type of the column */
-    uint32_t given;  /* at these the type of the value; if it is `wanted`, a text has more than
-                        1,024 bytes */
+    uint32_t given;  /* at these the type of the value */
 } cagzhomul_value_fault;
 
 /* Why a table may not be declared. */
@@ -687,7 +686,8 @@ cagzhomul_value_fault cagzhomul_txn_fault(const uint8_t *schema, size_t schema_l
                                           const uint8_t *operations, size_t operations_length);
 
 /* Which value of a query is wrong: exactly if the query under this schema is CAGZHOMUL_WRONG_TYPE,
- * there is a cause. It is of the condition that decides; of two bounds the lower comes first.
+ * there is a cause. It is of the condition that decides; of two bounds the lower comes first. Of a
+ * page's request the keys of its range are not looked at, whose types count after its query.
  * CAGZHOMUL_OK. Refusals: as for cagzhomul_txn_fault. */
 cagzhomul_value_fault cagzhomul_query_fault(const uint8_t *schema, size_t schema_length,
                                             const uint8_t *query, size_t query_length);

@@ -25,7 +25,7 @@ pub struct ValueOutcome {
     pub column: u32,
     /// At 2 and 3 the type of the column: 0 int, 1 text, 2 bool.
     pub wanted: u32,
-    /// At 2 and 3 the type of the value, 3 if it is Null. If it is `wanted`, a text is too long.
+    /// At 2 and 3 the type of the value, 3 if it is Null.
     pub given: u32,
 }
 
