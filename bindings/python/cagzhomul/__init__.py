@@ -157,6 +157,11 @@ def _load() -> ctypes.CDLL:
         if function is None:
             raise ImportError(f"{path} has no cagzhomul_{name}: it is older than this module")
         function.restype, function.argtypes = result, parameters
+    # what is over in microseconds keeps the interpreter, which other threads would else take over
+    for name in ("write", "lease", "read", "prepare", "commit"):
+        function = getattr(ctypes.PyDLL(path), f"cagzhomul_{name}")
+        function.restype, function.argtypes = _FUNCTIONS[name]
+        setattr(library, f"cagzhomul_{name}", function)
     return library
 
 
@@ -1091,6 +1096,15 @@ def _words_of(change: Union[str, Change]) -> str:
     if isinstance(change, Abandon):
         return f"abandon {change.table}.{change.name}"
     return f"drop {'index' if isinstance(change, DropIndex) else 'column'} {change.name} on {change.table}"
+
+
+# the front of the code of one operation: the code's version, how many there are, the kind, and the number of the table
+_one_operation = struct.Struct(">BQBI").pack
+
+
+def _cells(names: _Names, table: str, cells: Mapping[str, Value]) -> bytes:
+    """The code of values by column; 0 is no column."""
+    return _list([_number(names.number(table, column), 4) + _value(value) for column, value in cells.items()])
 
 
 class _Names:
@@ -2090,7 +2104,7 @@ class Lease(_Grant):
         Traceback (most recent call last):
         cagzhomul.Duplicate: a row of this key is there: operation 0
         """
-        return self.txn().insert(table, key, **cells).write()
+        return self._write(0, table, key, cells)
 
     def update(self, table: str, key: Key, /, **cells: Value) -> Receipt:
         """Updates a row by a transaction of its own: as `Txn.update` and `Txn.write`.
@@ -2098,7 +2112,7 @@ class Lease(_Grant):
         >>> lease.insert("people", 1), lease.update("people", 1, town="Bonn")
         (Receipt(place=2), Receipt(place=3))
         """
-        return self.txn().update(table, key, **cells).write()
+        return self._write(1, table, key, cells)
 
     def delete(self, table: str, key: Key, /) -> Receipt:
         """Deletes a row by a transaction of its own: as `Txn.delete` and `Txn.write`.
@@ -2106,7 +2120,20 @@ class Lease(_Grant):
         >>> lease.insert("people", 1), lease.delete("people", 1)
         (Receipt(place=2), Receipt(place=3))
         """
-        return self.txn().delete(table, key).write()
+        return self._write(2, table, key, None)
+
+    def _write(self, kind: int, table: str, key: Key, cells: Optional[Mapping[str, Value]]) -> Receipt:
+        """Writes one operation by a transaction of its own, which is made only if it is refused, to say why."""
+        names, db, moment = self._names, self._db, _at(self._now)
+        code = _one_operation(1, 1, kind, names.tables.get(table, 0)) + _key(key)
+        if cells is not None:
+            code += _cells(names, table, cells)
+        with self._lock, db._lock:
+            done = _library.cagzhomul_write(db._world, moment, self._handle, code, len(code))
+            if done.status == _OK:
+                db._grown(done.place)
+                return Receipt(done.place)
+        return self.txn()._add(kind, table, key, cells)._written_so(done)
 
     def modify(self, table: str, key: Key, function: Callable[[Optional[Row]], Optional[Mapping[str, Value]]], now: Optional[Moment] = None) -> Optional[Receipt]:
         """Changes a row by what it holds, at this moment or that of the lease: gets the row, calls the
@@ -2257,7 +2284,7 @@ class Txn(_Owner):
         names, row = self._lease._names, self._row(table, key)
         code = bytes([kind]) + row
         if cells is not None:
-            code += _list([_number(names.number(table, column), 4) + _value(value) for column, value in cells.items()])
+            code += _cells(names, table, cells)
         with self._lock:
             self._check_stage()
             self._operations.append(code)
@@ -2356,8 +2383,12 @@ class Txn(_Owner):
                 done = _library.cagzhomul_write(db._world, moment, lease._handle, code, len(code))
                 if done.status == _OK:
                     db._grown(int(done.place))
-            self._accept(_OK if done.status in (_DUPLICATE, _NO_ROW, _LEASE_ENDED) else done.status, done.column)
-            return self._received(done)
+            return self._written_so(done)
+
+    def _written_so(self, done: _Committed) -> Receipt:
+        """The receipt of what was written in one call; raises why it was not."""
+        self._accept(_OK if done.status in (_DUPLICATE, _NO_ROW, _LEASE_ENDED) else done.status, done.column)
+        return self._received(done)
 
     def commit(self, now: Optional[Moment] = None) -> Receipt:
         """Commits it, at this moment or its own, and prepares it first if it is not. The receipt is in
