@@ -17,8 +17,7 @@ from typing import Any, Callable, List, Set, Type
 import store_cases
 import store_servers
 import store_worker
-from cagzhomul_layer import BadAnswer, Draft, Page, Range, Refused, Store, StoreError, Transacting, Unknown, Unreachable, checked, values_of
-from cagzhomul_layer.store import Values
+from cagzhomul_layer import BadAnswer, Draft, Page, Range, Refused, Store, StoreError, Unknown, Unreachable, checked, values_of
 from cagzhomul_layer.faults import Counting, Dropping
 from cagzhomul_layer.memory import MemoryStore
 from store_cases import ONE, TWO, Pairs
@@ -41,14 +40,6 @@ def settled(call: Callable[[], None]) -> None:
             time.sleep(0.001)
 
 
-def ways(store: Store) -> List[Callable[[Draft], None]]:
-    """The calls by which the store takes a draft: with points that were read in the same transaction, or none, if it can do that."""
-    if not isinstance(store, Transacting):
-        return [store.apply]
-    transact = store.transact
-    return [store.apply, lambda draft: transact([], lambda found: draft), lambda draft: transact(draft.compare, lambda found: draft)]
-
-
 def reset(store: Store, pairs: Pairs) -> None:
     """Leaves these pairs and no other."""
     there = store_worker.pairs_of(store, *store_cases.ALL)
@@ -68,16 +59,16 @@ class Kept(unittest.TestCase):
 
     def test_each_case(self) -> None:
         store = self.store("cases")
-        for (name, before, draft, due), hand_in in itertools.product(store_cases.CASES, ways(store)):
+        for name, before, draft, due in store_cases.CASES:
             with self.subTest(name):
                 reset(store, before)
                 if isinstance(due, bytes):
                     with self.assertRaises(Refused) as refused:
-                        hand_in(draft)
+                        store.apply(draft)
                     self.assertEqual(refused.exception.key, due)
                     due = before
                 else:
-                    hand_in(draft)
+                    store.apply(draft)
                 self.assertEqual(store_worker.pairs_of(store, *store_cases.ALL), due)
 
     def test_pages(self) -> None:
@@ -306,40 +297,6 @@ class OfSqlite(Served):
         for name in ("", "a b", "1a", "a;", "\u00fc"):
             with self.assertRaises(ValueError):
                 Where("sqlite", where.address, name).open()
-
-    def test_one_transaction(self) -> None:
-        """What `transact` reads is what it writes over: nobody writes between, and what `make` raises, or None, leaves all as it was."""
-        store = self.store("one")
-        assert isinstance(store, Transacting)
-        other = self.where("one").open(0.05)
-        self.addCleanup(other.close)
-        found: List[object] = []
-
-        def writes(values: Values) -> Draft:
-            found.append(dict(values))
-            self.refused(Unreachable, other, Draft({}, (), {b"a": b"8"}))
-            return Draft({}, (), {b"a": b"2", b"c": b"3"})
-
-        def fails(values: Values) -> Draft:
-            raise ValueError("no draft")
-
-        reset(store, {b"a": b"1"})
-        with self.assertRaises(ValueError):
-            store.transact([b"a"], fails)
-        store.transact([b"a"], lambda values: None)
-        self.assertEqual(store_worker.pairs_of(store, *store_cases.ALL), {b"a": b"1"})
-        store.transact([b"a", b"c"], writes)
-        self.assertEqual((found, store_worker.pairs_of(store, *store_cases.ALL)), ([{b"a": b"1", b"c": None}], {b"a": b"2", b"c": b"3"}))
-        other.apply(Draft({b"a": b"2"}, (), {b"a": None}))
-        counting = Counting(store)
-        lost = Dropping(counting, 2)
-        assert isinstance(lost, Transacting) and not isinstance(Counting(MemoryStore()), Transacting)
-        lost.transact([b"a"], lambda values: Draft(values, (), {b"a": b"4"}))
-        with self.assertRaises(Unknown):
-            lost.transact([b"a"], lambda values: Draft(values, (), {b"a": b"5"}))
-        with self.assertRaises(Refused):
-            lost.transact([b"a"], lambda values: Draft({b"c": None}, (), {b"a": b"6"}))
-        self.assertEqual((store.read([b"a"]).values, counting.counts.reads, counting.counts.applied, counting.counts.refused), ({b"a": b"5"}, 3, 2, 1))
 
     def test_lies(self) -> None:
         where = self.where("lies")

@@ -3,26 +3,17 @@
 from __future__ import annotations
 
 import dataclasses
-from functools import partial
-from typing import Callable, Iterable, Optional, Sequence
+from typing import Iterable, Sequence
 
-from .store import Draft, Found, Range, Refused, Store, Transacting, Unknown, Values
-
-# what a store that is Transacting can do
-Transact = Callable[[Iterable[bytes], Callable[[Values], Optional[Draft]]], None]
+from .store import Draft, Found, Range, Refused, Store, Unknown
 
 
 class Dropping:
     """Each `every`th draft ends in `Unknown`: the store below was given it, and applied or refused it; or,
     if `before` is set, by turns it was not given it."""
 
-    transact: Transact  # if the store below has it
-
     def __init__(self, store: Store, every: int = 50, before: bool = False) -> None:
         self._store, self._every, self._before, self._count = store, every, before, 0
-        if isinstance(store, Transacting):
-            transact = store.transact
-            self.transact = lambda points, make: self._dropped(partial(transact, points, make))
 
     def read(self, points: Iterable[bytes], ranges: Sequence[Range] = ()) -> Found:
         """As the store below."""
@@ -30,15 +21,12 @@ class Dropping:
 
     def apply(self, draft: Draft) -> None:
         """As the store below, but for the drafts that are dropped."""
-        self._dropped(partial(self._store.apply, draft))
-
-    def _dropped(self, hand_in: Callable[[], None]) -> None:
         self._count += 1
         turn, rest = divmod(self._count, self._every)
         if rest == 0 and self._before and turn % 2 == 0:
             raise Unknown("the request was lost")
         try:
-            hand_in()
+            self._store.apply(draft)
         except Refused:
             if rest != 0:
                 raise
@@ -64,12 +52,8 @@ class Counts:
 class Counting:
     """Counts the calls of the store below, in `counts`."""
 
-    transact: Transact  # if the store below has it
-
     def __init__(self, store: Store) -> None:
         self._store, self.counts = store, Counts()
-        if isinstance(store, Transacting):
-            self._below, self.transact = store.transact, self._transact
 
     def read(self, points: Iterable[bytes], ranges: Sequence[Range] = ()) -> Found:
         """As the store below."""
@@ -81,19 +65,8 @@ class Counting:
 
     def apply(self, draft: Draft) -> None:
         """As the store below."""
-        self._counted(partial(self._store.apply, draft))
-
-    def _transact(self, points: Iterable[bytes], make: Callable[[Values], Optional[Draft]]) -> None:
-        def made(found: Values) -> Optional[Draft]:
-            self.counts.reads += 1
-            self.counts.points += len(found)
-            return make(found)
-
-        self._counted(partial(self._below, points, made))
-
-    def _counted(self, hand_in: Callable[[], None]) -> None:
         try:
-            hand_in()
+            self._store.apply(draft)
         except Refused:
             self.counts.refused += 1
             raise

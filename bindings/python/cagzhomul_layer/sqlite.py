@@ -6,9 +6,9 @@ import contextlib
 import random
 import sqlite3
 import time
-from typing import Callable, Iterable, Iterator, List, Optional, Sequence, Type, Union
+from typing import Iterable, Iterator, List, Sequence, Type, Union
 
-from .store import Draft, Found, Page, Pair, Range, StoreError, TooLarge, Unknown, Unreachable, Values, page_of, values_of
+from .store import Draft, Found, Page, Pair, Range, Refused, StoreError, TooLarge, Unknown, Unreachable, page_of, values_of
 
 # how many points are asked for by one statement; SQLite takes 999 parameters or more
 _MANY = 500
@@ -110,33 +110,13 @@ class SqliteStore:
         with self._transaction(is_write=False):
             return self._found(points, ranges)
 
-    def _apply(self, draft: Draft, found: Found) -> None:
-        """Refuses the draft if what was found, all that it compares, is other than that, and then writes."""
-        draft.check(found)
-        put = [(key, value) for key, value in draft.write.items() if value is not None]
-        if put:
-            self._connection.executemany(self._put, put)
-        if len(put) < len(draft.write):
-            self._connection.executemany(self._remove, [(key,) for key, value in draft.write.items() if value is None])
-
     def apply(self, draft: Draft) -> None:
         """See `Store`. `IMMEDIATE` takes the file's one lock for writers before anything is compared, so
         nobody writes between; `Unreachable` if others held it for too long."""
         with self._transaction(is_write=True):
-            self._apply(draft, self._found(draft.compare, draft.compared_ranges()))
-
-    def transact(self, points: Iterable[bytes], make: Callable[[Values], Optional[Draft]]) -> None:
-        """See `Transacting`, and `apply`: what was read need not be read again to be compared."""
-        with self._transaction(is_write=True):
-            found = self._found(points, ())
-            draft = make(found.values)
-            if draft is None:
-                return
-            more = [key for key in draft.compare if key not in found.values]
-            if more or draft.ranges:
-                others = self._found(more, draft.compared_ranges())
-                found = Found({**found.values, **others.values}, others.ranges)
-            self._apply(draft, found)
+            draft.check(self._found(draft.compare, draft.compared_ranges()))
+            self._connection.executemany(self._put, [(key, value) for key, value in draft.write.items() if value is not None])
+            self._connection.executemany(self._remove, [(key,) for key, value in draft.write.items() if value is None])
 
     def close(self) -> None:
         """See `Store`."""

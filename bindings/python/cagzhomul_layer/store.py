@@ -8,7 +8,7 @@ from __future__ import annotations
 
 import itertools
 from dataclasses import dataclass, field
-from typing import Callable, Dict, Iterable, List, Mapping, NamedTuple, Optional, Protocol, Sequence, Tuple, runtime_checkable
+from typing import Dict, Iterable, List, Mapping, NamedTuple, Optional, Protocol, Sequence, Tuple
 
 Pair = Tuple[bytes, bytes]
 Values = Mapping[bytes, Optional[bytes]]
@@ -106,16 +106,6 @@ class Store(Protocol):
 
     def close(self) -> None:
         """Ends what the object holds; it is not used afterwards."""
-
-
-@runtime_checkable
-class Transacting(Store, Protocol):
-    """A store that also reads and writes in one transaction. A transaction of the layer is then one call, and nothing that it reads can
-    change before it writes. It suits a store that is near: what it locks stays locked while the draft is made."""
-
-    def transact(self, points: Iterable[bytes], make: Callable[[Values], Optional[Draft]]) -> None:
-        """Reads these points, and applies the draft that `make` gives of what it read, or none if it gives None, in one atomic
-        transaction. What `make` raises ends it, and leaves the store as it was; else as `apply`."""
 
 
 def checked(page: Page, of: Range) -> Page:

@@ -6,7 +6,6 @@ import os
 import random
 import struct
 import time
-from functools import partial
 from typing import Callable, Dict, List, Mapping, NamedTuple, Optional, Sequence, Tuple
 
 import cagzhomul
@@ -15,7 +14,7 @@ from cagzhomul import Conflict, Key, Query, Row, Value
 from . import calls
 from .calls import VERSIONS, Refusal, asked, mark_key, number_code, version_key
 from .changes import versions_of
-from .store import BadAnswer, Draft, Refused, Store, StoreError, Transacting, Unknown, Unreachable, Values
+from .store import BadAnswer, Draft, Refused, Store, StoreError, Unknown, Unreachable
 
 # the code of no operations, and of no keys
 _NOTHING = b"\1" + bytes(8)
@@ -79,7 +78,6 @@ class Server:
 
     def __init__(self, store: Store, seconds: float) -> None:
         self.store, self.seconds = store, seconds
-        self.transact = store.transact if isinstance(store, Transacting) else None
         self._newest: Optional[Version] = None
         self.refresh()
 
@@ -249,14 +247,15 @@ class Txn:
         """Makes its draft and hands it in; False if it is to be made again."""
         version = self._version or self._server.version()
         try:
-            if self._is_applied(self._hands_in(version)):
-                return True
+            draft = self._draft(version)
         except Refusal as refusal:
             # a column may have come, or gone, in a newer version
             if refusal.status not in (calls.DUPLICATE, calls.NO_ROW) and self._version is None and self._server.refresh():
                 return False
             names = version.names
             raise error_of(refusal, names, self._unknown(names), lambda: names.wrong_operation(_ops_code(self._ops, names))) from None
+        if draft is None or self._is_applied(draft):
+            return True
         if self._got:
             raise Conflict(28)
         return False
@@ -265,33 +264,23 @@ class Txn:
         """The first name of a column in it that its table does not have."""
         return next((name for it in self._ops for name in it.cells if not names.number(it.table, name)), None)
 
-    def _hands_in(self, version: Version) -> Callable[[], None]:
-        """A call that hands its draft in. It is made of what it got, and of what the store holds of the rest: within the call, if the store
-        can do that, or before."""
+    def _draft(self, version: Version) -> Optional[Draft]:
+        """Its draft, from what it got and what it reads for the rest; None if a draft of it is applied."""
         code = _ops_code(self._all_ops(), version.names)
-        keys, mark, server = calls.points_of(asked("reads", version.record, code).code), mark_key(self.mark), self._server
+        keys = calls.points_of(asked("reads", version.record, code).code)
+        wanted = [key for key in keys if key not in self._view] + [mark_key(self.mark)] * self._is_unsure
+        found = self._server.store.read(wanted).values if wanted else {}
+        if found.pop(mark_key(self.mark), None) is not None:
+            return None
+        view = {key: self._view[key] if key in self._view else found[key] for key in keys}
+        return calls.draft_of(asked("txn", version.number, version.record, code, calls.points_code(view), self.mark).code)
 
-        def made(found: Values) -> Optional[Draft]:
-            """The draft; None if one is applied."""
-            if found.get(mark) is not None:
-                return None
-            view = {key: self._view[key] if key in self._view else found[key] for key in keys}
-            return calls.draft_of(asked("txn", version.number, version.record, code, calls.points_code(view), self.mark).code)
-
-        if server.transact is not None:
-            return partial(server.transact, [version_key(version.number), mark, *keys], made)
-        wanted = [key for key in keys if key not in self._view] + [mark] * self._is_unsure
-        draft = made(server.store.read(wanted).values if wanted else {})
-        if draft is None:
-            return lambda: None
-        return partial(server.store.apply, draft)
-
-    def _is_applied(self, hand_in: Callable[[], None]) -> bool:
-        """Hands a draft in, and again while answers are lost; False if it is refused, and reads the version if that is why."""
+    def _is_applied(self, draft: Draft) -> bool:
+        """Hands a draft in, the same again while answers are lost; False if it is refused, and reads the version if that is why."""
         end = time.monotonic() + self._server.seconds
         while True:
             try:
-                hand_in()
+                self._server.store.apply(draft)
                 return True
             except Refused as refused:
                 if self._is_unsure and refused.key == mark_key(self.mark):
