@@ -24,11 +24,7 @@ pub extern "C" fn cagzhomul_txn_fault(
 
 /// `fault_calls::query_fault`.
 #[unsafe(no_mangle)]
-pub extern "C" fn cagzhomul_query_fault(
-    alloc: Global,
-    schema: &[u8],
-    query: &[u8],
-) -> ValueOutcome
+pub extern "C" fn cagzhomul_query_fault(alloc: Global, schema: &[u8], query: &[u8]) -> ValueOutcome
     ensures { (found : Result FoundValue Refused) × With GivesVersion (λ v a. With GivesQuery (FindsQuery v) query.now a) schema.now found × (result ≡ of_value found) }
 {
     fault_calls::query_fault(alloc, schema, query)

@@ -16,10 +16,7 @@ fn find_txn(alloc: Global, schema: &[u8], operations: &[u8]) -> Result<ValueOutc
 {
     let schema = given::version(alloc, schema)?;
     let ops = given::ops(alloc, operations)?;
-    Ok(ValueOutcome::found(value_faults::txn_fault(
-        schema.get(),
-        ops.as_slice(),
-    )))
+    Ok(ValueOutcome::found(value_faults::txn_fault(schema.get(), ops.as_slice())))
 }
 
 // What the search in a query comes to.
@@ -28,10 +25,7 @@ fn find_query(alloc: Global, schema: &[u8], query: &[u8]) -> Result<ValueOutcome
 {
     let schema = given::version(alloc, schema)?;
     let query = given::query(alloc, query)?;
-    Ok(ValueOutcome::found(value_faults::query_fault(
-        schema.get(),
-        &query,
-    )))
+    Ok(ValueOutcome::found(value_faults::query_fault(schema.get(), &query)))
 }
 
 // What was found, or a status alone.
