@@ -1,5 +1,5 @@
 //! Which value or which declaration a refusal is for: each function is a call of `fault_calls`.
-ghost use Rattle.std.specs.Prelude.{◌≡◌, ◌×◌, Result};
+ghost use Rattle.std.specs.Prelude.{◌≡◌, Result};
 ghost use Rattle.layer_calls.specs.Given.{With, GivesVersion, GivesOps, GivesQuery, GivesOpening};
 ghost use Rattle.layer_calls.specs.declared.outcome.LayerOutcome.{LayerOutcome as Refused};
 ghost use Rattle.fault_calls.specs.Outcomes.{of_value, of_table};

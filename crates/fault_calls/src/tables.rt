@@ -1,5 +1,5 @@
 //! Why tables may not be declared.
-ghost use Rattle.std.specs.Prelude.{◌≡◌, ◌×◌, Result};
+ghost use Rattle.std.specs.Prelude.{◌≡◌, Result};
 ghost use Rattle.layer_calls.specs.Given.{With, GivesOpening};
 ghost use Rattle.layer_calls.specs.declared.outcome.LayerOutcome.{LayerOutcome as Refused};
 ghost use Rattle.fault_calls.specs.Outcomes.{of_table};

@@ -1,5 +1,5 @@
 //! Which value a transaction or a query is refused for.
-ghost use Rattle.std.specs.Prelude.{◌≡◌, ◌×◌, Result};
+ghost use Rattle.std.specs.Prelude.{◌≡◌, Result};
 ghost use Rattle.layer_calls.specs.Given.{With, GivesVersion, GivesOps, GivesQuery};
 ghost use Rattle.layer_calls.specs.declared.outcome.LayerOutcome.{LayerOutcome as Refused};
 ghost use Rattle.fault_calls.specs.Outcomes.{of_value};
