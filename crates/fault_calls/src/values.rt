@@ -8,24 +8,41 @@ ghost use Rattle.fault_calls.specs.declared.outcome.ValueOutcome.{ValueOutcome a
 
 use crate::outcome::ValueOutcome;
 use layer_calls::{LayerOutcome, given};
+use row_query::Query;
+use row_write::RowOp;
+use schema_version::Schema;
 use std::alloc::Global;
 
-// What the search in operations comes to.
+// What is found in operations.
+fn found_in_ops(schema: &Schema, ops: &[RowOp]) -> Result<ValueOutcome, LayerOutcome>
+    ensures { FindsTxn schema.now ops.now result }
+{
+    Ok(ValueOutcome::found(value_faults::txn_fault(schema, ops)))
+}
+
+// What is found in the operations whose code these bytes are.
 fn find_txn(alloc: Global, schema: &[u8], operations: &[u8]) -> Result<ValueOutcome, LayerOutcome>
     ensures { With GivesVersion (λ v a. With GivesOps (FindsTxn v) operations.now a) schema.now result }
 {
     let schema = given::version(alloc, schema)?;
     let ops = given::ops(alloc, operations)?;
-    Ok(ValueOutcome::found(value_faults::txn_fault(schema.get(), ops.as_slice())))
+    found_in_ops(schema.get(), ops.as_slice())
 }
 
-// What the search in a query comes to.
+// What is found in a query.
+fn found_in_query(schema: &Schema, query: &Query) -> Result<ValueOutcome, LayerOutcome>
+    ensures { FindsQuery schema.now query.now result }
+{
+    Ok(ValueOutcome::found(value_faults::query_fault(schema, query)))
+}
+
+// What is found in the query whose code these bytes are.
 fn find_query(alloc: Global, schema: &[u8], query: &[u8]) -> Result<ValueOutcome, LayerOutcome>
     ensures { With GivesVersion (λ v a. With GivesQuery (FindsQuery v) query.now a) schema.now result }
 {
     let schema = given::version(alloc, schema)?;
     let query = given::query(alloc, query)?;
-    Ok(ValueOutcome::found(value_faults::query_fault(schema.get(), &query)))
+    found_in_query(schema.get(), &query)
 }
 
 // What was found, or a status alone.
