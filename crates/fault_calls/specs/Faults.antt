@@ -1,13 +1,12 @@
 -- Cited by the contracts of txn_fault, query_fault, opening_fault.
 -- What is found: the value, or the declaration, for which a call is refused; nothing exactly if it is not refused for one.
-use Rattle.std.specs.Prelude.{◌≡◌, ℕ, List, Option, Some, None, Result, Ok}
+use Rattle.std.specs.Prelude.{◌≡◌, List, Option, Some, None, Result, Ok}
 use Rattle.row_query.specs.Refused.{IsRefused}
 use Rattle.row_query.specs.declared.query.Query.{Query}
 use Rattle.row_query.specs.declared.fault.QueryFault.TheVariants as query
 use Rattle.row_write.specs.Prepare.{IsFirstOpFault}
 use Rattle.row_write.specs.declared.op.RowOp.{RowOp}
 use Rattle.row_write.specs.declared.fault.PrepareFault.TheVariants as prepare
-use Rattle.schema_version.specs.Declare.{IsLawful}
 use Rattle.schema_version.specs.Version.{Version}
 use Rattle.schema_version.specs.declared.table.TableDef.{TableDef}
 use Rattle.value_faults.specs.Faults.{IsTxnFault, IsQueryFault}
