@@ -3,8 +3,8 @@
  * world.
  *
  * A typed call takes numbers, and codes in bytes: tables, operations, steps and queries, as
- * docs/FORMAT.md describes them. What it makes, as a lease, a transaction or a query's rows, is in
- * a handle of its own.
+ * docs/FORMAT.md describes them. What it makes, such as a lease, a transaction or a query's rows,
+ * is in a handle of its own.
  *
  * The language is described in docs/SCRIPT.md: a session takes one line after another, and each has
  * a reply in UTF-8, of no line, one or several, each with its line ending.
@@ -25,8 +25,8 @@
  *   handler, or from the forked child of a process with threads.
  *
  * Who owns what: the caller owns the handle, the line, the entry, each code and `out`, and the
- * library keeps no pointer to them after a call. What an open handle points to, as the rows of a
- * query, is the library's, and the close function of its type frees it.
+ * library keeps no pointer to them after a call. What an open handle points to, such as the rows of
+ * a query, is the library's, and the close function of its type frees it.
  *
  * Of the refusals of a function the first in its list that applies is given. But where a function
  * takes a code, CAGZHOMUL_OUT_OF_MEMORY may come in place of CAGZHOMUL_BAD_CODE and of each refusal
