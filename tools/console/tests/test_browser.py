@@ -235,7 +235,7 @@ class Browser(unittest.TestCase):
                 self.until("return document.querySelectorAll('#elements tr').length === 2")
                 self.assertEqual([self.texts(f"#elements tr:nth-child({it}) td") for it in (1, 2)],
                                  [["people", "town", "column str", "public", ""], ["people", "by_town", "index (town)", "delete-only, adding", ""]])
-                self.until("return document.querySelector('#servers td:nth-child(3)').className === 'ended'")
+                self.until("return document.querySelector('#servers td:nth-child(3)')?.className === 'ended'")
                 self.assertEqual(self.texts("#servers td"), ["<b>a</b>", "1", "10"])
                 self.until("return document.querySelectorAll('#marks line').length === 1")
                 self.page.execute_cdp_cmd("Emulation.setDeviceMetricsOverride", {"width": 390, "height": 800, "deviceScaleFactor": 1, "mobile": True})
