@@ -1,6 +1,7 @@
 //! Why a call was refused.
 
-use crate::faults::{BadDeclaration, WrongValue};
+use crate::declarations::BadDeclaration;
+use crate::faults::WrongValue;
 use crate::ffi;
 use crate::layer::StoreError;
 use crate::value::RowKey;

@@ -2,8 +2,8 @@
 
 use crate::code;
 use crate::db::{Db, DEFAULT_LEASE_LENGTH};
+use crate::declarations::bad_table;
 use crate::error::Error;
-use crate::faults::bad_table;
 use crate::ffi::{self, WorldHandle};
 use crate::library::check_library;
 use crate::session::{done, Session};

@@ -1,8 +1,8 @@
 //! A database over a store.
 
 use crate::code;
+use crate::declarations::bad_table;
 use crate::error::Error;
-use crate::faults::bad_table;
 use crate::ffi::BAD_TABLE;
 use crate::layer::acts::{Act, Acts};
 use crate::layer::chance::{self, Mark};
