@@ -30,6 +30,9 @@ from cagzhomul_layer.memory import MemoryStore  # noqa: E402
 
 EXAMPLES = sorted((ROOT / "examples").glob("*.script"))
 PICTURES = os.environ.get("CONSOLE_PICTURES")
+# the texts that elements show; a picture's have no innerText, and the title among them is not shown
+TEXTS = """return [...document.querySelectorAll(arguments[0])].map(it => it.innerText
+    ?? [...it.childNodes].filter(part => part.nodeName !== 'title').map(part => part.textContent).join('')).map(it => it.trim())"""
 
 
 class Browser(unittest.TestCase):
@@ -77,7 +80,7 @@ class Browser(unittest.TestCase):
 
     def texts(self, selector: str) -> List[str]:
         """Read in one script: a page that follows a store may be drawn anew between two calls, and what they found is stale then."""
-        return self.page.execute_script("return [...document.querySelectorAll(arguments[0])].map(it => (it.innerText ?? it.textContent).trim())", selector)
+        return self.page.execute_script(TEXTS, selector)
 
     def sent(self) -> int:
         return int(self.page.execute_script("return document.body.dataset.sent"))
