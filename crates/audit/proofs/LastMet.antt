@@ -15,21 +15,28 @@ use Rattle.row_map.specs.declared.key.KeyOf.TheVariants.{Exists, Column, Index}
 use Rattle.row_map.specs.Keys.{IsKey, key_code, row_code}
 use Rattle.row_map.specs.ReadKey.{key_at}
 use Rattle.row_map.specs.Rows.{Bytes, Pairs}
-use Rattle.row_map.proofs.Entries.{each_entry}
+use Rattle.row_map.specs.Ranges.{is_within}
+use Rattle.row_map.specs.Walk.{key_range}
+use Rattle.row_map.proofs.Entries.{each_entry, each_found}
+use Rattle.row_map.proofs.KeyRanges.{find_key_range, key_range_sorted}
+use Rattle.row_map.proofs.Splits.{some_in}
 use Rattle.row_map.proofs.KeyLaws.{key_takes, key_again}
 use Rattle.element_state.specs.lemmas.Clears.{both_true, left_true, right_true}
 use Rattle.audit.specs.declared.met.MetRow.{MetRow}
 use Rattle.audit.specs.Audit.{Pair}
 use Rattle.audit.specs.Encoded.{found, key_read, is_exists, is_row}
-use Rattle.audit.specs.inner.Met.{IsThere, after, is_named}
+use Rattle.audit.specs.inner.Met.{ArePresent, IsThere, after, is_named}
 use Rattle.audit.proofs.Exists.{found_says, Named, named_is, same_row}
-
--- each is a pair of the store
-abbrev pub ArePresent : Pairs → List Pair → Type 0
-ArePresent pairs = AllByRecursion (λ (pair : Pair). map.get pairs pair.0 ≡ Some pair.1)
 
 pub all_present : (pairs : Pairs) (walk : List Pair) → walk ≡ map.entries pairs → ArePresent pairs walk
 all_present pairs walk is = subst (ArePresent pairs) (sym is) (each_entry bytes_cmp bytes_cmp_total bytes_cmp-IsAntisymmetric (λ (x w : Bytes). map.get pairs x ≡ Some w) pairs (λ x w e. e))
+
+-- the pairs of a range of keys are pairs of the store
+pub present_within : (pairs : Pairs) (low high : Bytes) (walk : List Pair) → walk ≡ key_range pairs low high → ArePresent pairs walk
+present_within pairs low high walk is =
+    subst (ArePresent pairs) (sym is)
+    (each_found bytes_cmp bytes_cmp_total bytes_cmp-IsAntisymmetric (λ (x w : Bytes). map.get pairs x ≡ Some w) (key_range pairs low high) (key_range_sorted pairs low high)
+    (λ q w e. (some_in (is_within low high q) (map.get pairs q) w (sym (find_key_range pairs low high q) ∙ e)).1))
 
 pub present_first : (pairs : Pairs) (here next : List Pair) (p : Pair) → here ≡ p ∷ next → ArePresent pairs here → (map.get pairs p.0 ≡ Some p.1) × ArePresent pairs next
 present_first pairs here next p is all = subst (ArePresent pairs) is all

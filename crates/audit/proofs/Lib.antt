@@ -11,3 +11,4 @@ pub mod Sums
 pub mod Hits
 pub mod Counting
 pub mod OwnPairs
+pub mod Divided

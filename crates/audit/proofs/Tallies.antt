@@ -1,5 +1,5 @@
 -- Sums of what pairs count for, and the audit that they come to.
-use Rattle.std.proofs.Common.{◌≡◌, ℕ, suc, ◌+◌, ◌-◌, ◌<◌, ◌≤◌, get_or, not, cond, List, [], ◌∷◌, refl, sym, ap, subst, ◌∙◌, add_assoc, zero-add, add-zero, arith}
+use Rattle.std.proofs.Common.{◌≡◌, ℕ, suc, ◌+◌, ◌-◌, ◌<◌, ◌≤◌, get_or, not, cond, List, [], ◌∷◌, ◌++◌, Result, Ok, Err, IfOk, refl, sym, ap, subst, ◌∙◌, add_assoc, zero-add, add-zero, arith}
 use Rattle.std.specs.Prelude.{count_by, sum_by}
 use Rattle.std.specs.FinMap as map
 use Rattle.std.specs.List.{AllByRecursion}
@@ -13,7 +13,7 @@ use Rattle.audit.specs.declared.report.CheckReport.{CheckReport}
 use Rattle.audit.specs.Audit.{Pair, IsAudit, is_exists_pair, missing_beside, has_reason}
 use Rattle.audit.specs.Encoded.{key_read}
 use Rattle.audit.specs.Meaning.{AreByteStrings}
-use Rattle.audit.specs.inner.RowCounts.{IsByteString, AreStrings, given_beside, has_plain_reason, judged, added, tally}
+use Rattle.audit.specs.inner.RowCounts.{IsByteString, AreStrings, AllStrings, given_beside, has_plain_reason, judged, added, tally}
 use Rattle.audit.proofs.Counting.{counted_from_rows}
 use Rattle.audit.proofs.Zero.{all_found}
 
@@ -40,28 +40,34 @@ pub all_bytes : (bytes : Bytes) → ((i : ℕ) → get_or bytes i 0 < 256) → I
 all_bytes [] below = tt
 all_bytes (b ∷ bytes) below = (below 0, all_bytes bytes (λ i. below (suc i)))
 
-abbrev pub AllStrings : List Pair → Type 0
-AllStrings = AllByRecursion AreStrings
+pub strings_begun : (total ahead : List Pair) → ahead ≡ total → AllStrings ahead → AllStrings total
+strings_begun total ahead is all = subst AllStrings is all
 
-pub strings_begun : (pairs : Pairs) (ahead : List Pair) → ahead ≡ map.entries pairs → AllStrings ahead → AllStrings (map.entries pairs)
-strings_begun pairs ahead is all = subst AllStrings is all
+pub strings_more : (total here next : List Pair) (p : Pair) → here ≡ p ∷ next → AreStrings p → (AllStrings here → AllStrings total) → AllStrings next → AllStrings total
+strings_more total here next p found own so_far rest = so_far (subst AllStrings (sym found) (own, rest))
 
-pub strings_more : (pairs : Pairs) (here next : List Pair) (p : Pair) → here ≡ p ∷ next → AreStrings p → (AllStrings here → AllStrings (map.entries pairs)) → AllStrings next → AllStrings (map.entries pairs)
-strings_more pairs here next p found own so_far rest = so_far (subst AllStrings (sym found) (own, rest))
+pub strings_done : (total here : List Pair) → here ≡ [] → (AllStrings here → AllStrings total) → AllStrings total
+strings_done total here none_left so_far = so_far (subst AllStrings (sym none_left) tt)
 
-pub strings_done : (pairs : Pairs) (here : List Pair) → here ≡ [] → (AllStrings here → AllStrings (map.entries pairs)) → AreByteStrings pairs
-strings_done pairs here none_left so_far =
-    let all : AllStrings (map.entries pairs) = so_far (subst AllStrings (sym none_left) tt) in
-    all_found bytes_cmp-IsAntisymmetric (λ (x w : Bytes). AreStrings (x, w)) pairs all
+pub strings_of : (pairs : Pairs) → AllStrings (map.entries pairs) → AreByteStrings pairs
+strings_of pairs all = all_found bytes_cmp-IsAntisymmetric (λ (x w : Bytes). AreStrings (x, w)) pairs all
+
+pub strings_told : {E : Type 0} (pairs : Pairs) (walk : List Pair) → walk ≡ map.entries pairs → (r : Result Counts E) → IfOk r (λ counts. AllStrings walk) → IfOk r (λ counts. AreByteStrings pairs)
+strings_told pairs walk is (Ok counts) all = strings_of pairs (subst AllStrings is all)
+strings_told pairs walk is (Err fault) all = tt
+
+pub strings_both : (xs ys : List Pair) → AllStrings xs → AllStrings ys → AllStrings (xs ++ ys)
+strings_both [] ys all more = more
+strings_both (x ∷ xs) ys all more = (all.0, strings_both xs ys all.1 more)
 
 -- ---- the counts
 
 module _ (version : Version) (pairs : Pairs) where
-  pub tally_begun : (counts : Counts) (ahead : List Pair) → counts ≡ none → ahead ≡ map.entries pairs → added counts (tally version pairs ahead) ≡ tally version pairs (map.entries pairs)
-  tally_begun counts ahead none_is ahead_is =
+  pub tally_begun : (total counts : Counts) (ahead : List Pair) → counts ≡ none → tally version pairs ahead ≡ total → added counts (tally version pairs ahead) ≡ total
+  tally_begun total counts ahead none_is ahead_is =
       ap (λ (r : Counts). added r (tally version pairs ahead)) none_is
       ∙ none_added (tally version pairs ahead)
-      ∙ ap (tally version pairs) ahead_is
+      ∙ ahead_is
 
   pub tally_more : (total counts more sum : Counts) (here next : List Pair) (p : Pair) → here ≡ p ∷ next
       → more ≡ judged version pairs p → sum ≡ added counts more → added counts (tally version pairs here) ≡ total → added sum (tally version pairs next) ≡ total
@@ -76,6 +82,11 @@ module _ (version : Version) (pairs : Pairs) where
       sym (added_none counts)
       ∙ ap (λ (l : List Pair). added counts (tally version pairs l)) (sym none_left)
       ∙ so_far
+
+  -- the counts of some pairs and of those after them
+  pub tally_both : (xs ys : List Pair) → tally version pairs (xs ++ ys) ≡ added (tally version pairs xs) (tally version pairs ys)
+  tally_both [] ys = sym (none_added (tally version pairs ys))
+  tally_both (x ∷ xs) ys = ap (added (judged version pairs x)) (tally_both xs ys) ∙ sym (added_assoc (judged version pairs x) (tally version pairs xs) (tally version pairs ys))
 
   -- the counts of a tally are those of its parts
   record IsTally (es : List Pair) (counts : Counts) : Type 0 where

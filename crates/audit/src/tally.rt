@@ -3,9 +3,9 @@ ghost use Rattle.std.specs.Prelude.{◌≡◌, IfOk, Some};
 ghost use Rattle.row_map.specs.declared.key.KeyOf.TheVariants.{Exists};
 ghost use Rattle.audit.specs.Audit.{IsAudit, missing_by};
 ghost use Rattle.audit.specs.Meaning.{AreByteStrings};
-ghost use Rattle.audit.specs.inner.RowCounts.{IsByteString, AreStrings, given_beside, judged as judged_of, tally};
+ghost use Rattle.audit.specs.inner.RowCounts.{IsByteString, AreStrings, AllStrings, given_beside, judged as judged_of, tally};
 ghost use Rattle.audit.specs.inner.Made.{AreMade};
-ghost use Rattle.audit.specs.inner.Met.{IsThere};
+ghost use Rattle.audit.specs.inner.Met.{ArePresent, IsThere};
 ghost use Rattle.std.specs.FinMap as map;
 
 use crate::counts::Counts;
@@ -15,7 +15,7 @@ use crate::reason::has_plain_reason;
 use crate::report::CheckReport;
 use crate::wanted::{Made, Wanted, all_made, count_wanted};
 use keycode::Value;
-use row_map::{KeyOf, Near, PairView};
+use row_map::{KeyOf, Near, PairView, Walk};
 use schema_version::Schema;
 use std::alloc::{AllocError, Global};
 
@@ -113,10 +113,16 @@ fn lemma_strings(pair: (&[u8], &[u8]))
     lemma_bytes(pair.1);
 }
 
-// What all pairs count for.
-fn tally_pairs<V: PairView>(alloc: Global, schema: &Schema, view: &V) -> Result<Counts, AllocError>
-    ensures counts { IfOk result (λ counts. counts ≡ tally schema.now (V.pairs view.now) (map.entries (V.pairs view.now))) }
-    ensures strings { IfOk result (λ counts. AreByteStrings (V.pairs view.now)) }
+// What the pairs that are left to go over count for.
+pub(crate) fn tally_walk<V: PairView>(
+    alloc: Global,
+    schema: &Schema,
+    view: &V,
+    ahead: Walk<'_>,
+) -> Result<Counts, AllocError>
+    requires { ArePresent (V.pairs view.now) ahead }
+    ensures counts { IfOk result (λ counts. counts ≡ tally schema.now (V.pairs view.now) ahead.entry) }
+    ensures strings { IfOk result (λ counts. AllStrings ahead.entry) }
 {
     let mut counts = Counts {
         rows: 0,
@@ -129,13 +135,25 @@ fn tally_pairs<V: PairView>(alloc: Global, schema: &Schema, view: &V) -> Result<
     let mut last = None;
     // The pairs of a row stand side by side.
     let mut near = Near::new();
-    let mut walk = view.walk();
+    let mut walk = ahead;
     while let Some(pair) = walk.next() {
         lemma_strings(pair);
         let more = judge_pair(alloc, schema, view, &mut near, elements, &mut last, pair)?;
         counts = counts.and(more)?;
     }
     Ok(counts)
+}
+
+// What all pairs count for.
+pub(crate) fn tally_all<V: PairView>(
+    alloc: Global,
+    schema: &Schema,
+    view: &V,
+) -> Result<Counts, AllocError>
+    ensures counts { IfOk result (λ counts. counts ≡ tally schema.now (V.pairs view.now) (map.entries (V.pairs view.now))) }
+    ensures strings { IfOk result (λ counts. AreByteStrings (V.pairs view.now)) }
+{
+    tally_walk(alloc, schema, view, view.walk())
 }
 
 /// Counts the rows of a store, the pairs that it lacks and the pairs that it has too much, by a
@@ -157,7 +175,7 @@ pub fn audit<V: PairView>(
 ) -> Result<CheckReport, AllocError>
     ensures { IfOk result (λ report. IsAudit schema.now (V.pairs view.now) report) }
 {
-    let counts = tally_pairs(alloc, schema, view)?;
+    let counts = tally_all(alloc, schema, view)?;
     schema.lemma_known();
     Ok(counts.report())
 }

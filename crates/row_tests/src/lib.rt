@@ -5,6 +5,8 @@
 #[cfg(test)]
 mod audits;
 #[cfg(test)]
+mod audits_on_threads;
+#[cfg(test)]
 mod element_checks;
 #[cfg(test)]
 mod fixtures;

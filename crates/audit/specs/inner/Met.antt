@@ -1,6 +1,8 @@
--- Cited by private functions alone: remember, is_last, is_there, is_column and 2 more.
+-- Cited by private functions alone: remember, is_last, is_there, is_column and 3 more.
 -- The row that was met last on a walk over the pairs of a store.
 use Rattle.std.specs.Prelude.{◌≡◌, ℕ, ◌==◌, Bool, true, false, ◌&&◌, List, Option, Some, None}
+use Rattle.std.specs.FinMap as map
+use Rattle.std.specs.List.{AllByRecursion}
 use Rattle.std.specs.Ordering.{is_eq}
 use Rattle.keycode.specs.declared.value.Value.{Value}
 use Rattle.keycode.specs.Order.{values_cmp}
@@ -8,7 +10,12 @@ use Rattle.row_map.specs.declared.key.KeyOf.{KeyOf}
 use Rattle.row_map.specs.declared.key.KeyOf.TheVariants.{Exists}
 use Rattle.row_map.specs.Rows.{Pairs}
 use Rattle.audit.specs.declared.met.MetRow.{MetRow}
+use Rattle.audit.specs.Audit.{Pair}
 use Rattle.audit.specs.Encoded.{is_row}
+
+-- each is a pair of the store
+abbrev pub ArePresent : Pairs → List Pair → Type 0
+ArePresent pairs = AllByRecursion (λ (pair : Pair). map.get pairs pair.0 ≡ Some pair.1)
 
 -- the row that was met last has its `exists` pair
 abbrev pub IsThere : Pairs → Option MetRow → Type 0

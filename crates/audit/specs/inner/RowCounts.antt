@@ -63,3 +63,6 @@ IsByteString = AllByRecursion (λ b. b < 2 ^ 8)
 
 abbrev pub AreStrings : Pair → Type 0
 AreStrings pair = IsByteString pair.0 × IsByteString pair.1
+
+abbrev pub AllStrings : List Pair → Type 0
+AllStrings = AllByRecursion AreStrings
