@@ -1,5 +1,6 @@
 -- The world's answer is the lock's.
 use Rattle.std.proofs.Common.{◌≡◌, ℕ, Option, Result, Ok, Err, refl, subst, sym}
+use Rattle.rollout.specs.Calls.{given_back}
 use Rattle.rollout.specs.State.{State}
 use Rattle.locked_store.specs.Answers.{Answers, AnswersBack, Empties, Finds, Found, Takes, TakesBack, TakesOut, reported, to_fault}
 use Rattle.locked_store.specs.Known.{Known}
@@ -35,3 +36,14 @@ pub answers_back_so : {T E P : Type 0} (start : State) (v : Known) (prepared : P
     → told ≡ to_fault answer → TakesBack start v found answer left w step place → AnswersBack start v prepared told w step place
 answers_back_so start v prepared answer told w step place found left is takes =
     subst (λ r. AnswersBack start v prepared r w step place) (sym is) (answers_back start v prepared answer w step place found left takes)
+
+-- of a call that leaves what was prepared with its caller
+answers_kept : {T E P : Type 0} (start : State) (v : Known) (prepared : P) (answer : Result T E) (w : Known) (step : State → Result T (E × P) → State → Type 0) (place : T → Option ℕ) (found left : State)
+    → TakesBack start v found answer left w (λ c r d. step c (given_back prepared r) d) place → AnswersBack start v prepared (to_fault (given_back prepared answer)) w step place
+answers_kept start v prepared (Ok x) w step place found left takes = (found, left, takes)
+answers_kept start v prepared (Err e) w step place found left takes = (found, left, takes)
+
+pub answers_kept_so : {T E P : Type 0} (start : State) (v : Known) (prepared : P) (answer : Result T E) (told : Result T (SharedFault E × P)) (w : Known) (step : State → Result T (E × P) → State → Type 0) (place : T → Option ℕ) (found left : State)
+    → told ≡ to_fault (given_back prepared answer) → TakesBack start v found answer left w (λ c r d. step c (given_back prepared r) d) place → AnswersBack start v prepared told w step place
+answers_kept_so start v prepared answer told w step place found left is takes =
+    subst (λ r. AnswersBack start v prepared r w step place) (sym is) (answers_kept start v prepared answer w step place found left takes)

@@ -6,7 +6,7 @@ ghost use Rattle.locked_store.specs.Answers.{Answers, AnswersBack, Empties, Find
 ghost use Rattle.rollout.specs.BeginReorg.{BeginStep};
 ghost use Rattle.rollout.specs.WorkOff.{NextStep};
 ghost use Rattle.rollout.specs.Due.{IsDue};
-ghost use Rattle.rollout.specs.Calls.{LeaseStep, CommitStep, IsReadView, IsCheck, effective_moment};
+ghost use Rattle.rollout.specs.Calls.{LeaseStep, CommitStep, given_back, IsReadView, IsCheck, effective_moment};
 ghost use Rattle.rollout.specs.Piece.{PieceStep, ReadStep, standing_at, piece_standing_at};
 ghost use Rattle.rollout.specs.Publish.{PublishStep};
 ghost use Rattle.rollout.specs.Query.{QueryStep};
@@ -50,6 +50,16 @@ fn through_back<T, E, P>(answer: Result<T, (E, P)>) -> Result<T, (SharedFault<E>
     match answer {
         Ok(value) => Ok(value),
         Err((fault, back)) => Err((SharedFault::World(fault), back)),
+    }
+}
+
+// The same, of a world that leaves what was prepared with its caller.
+fn with_prepared<T, E, P: Drop>(answer: Result<T, E>, prepared: P) -> Result<T, (SharedFault<E>, P)>
+    ensures { result ≡ to_fault (given_back prepared answer) }
+{
+    match answer {
+        Ok(value) => Ok(value),
+        Err(fault) => Err((SharedFault::World(fault), prepared)),
     }
 }
 
@@ -131,7 +141,10 @@ impl<L: SharedLedger> Shared<L> {
         if let Err(WentBack { seen }) = locked.check_front(me) {
             return Err((SharedFault::WentBack { seen }, prepared));
         }
-        through_back(locked.commit(alloc, me, moment, prepared))
+        let answer = locked.commit(alloc, me, moment, &prepared);
+        // what was prepared is let go outside of the lock
+        drop(locked);
+        with_prepared(answer, prepared)
     }
 
     /// The rows that a query asks for, as `World::query` gives them.

@@ -1,7 +1,7 @@
 //! Commits of a critical section, which count the entry that they add.
 ghost use Rattle.std.specs.Prelude.{◌≡◌, ◌+◌, ◌≤◌};
 ghost use Rattle.locked_store.specs.Answers.{CountsBack, commit_place, piece_place};
-ghost use Rattle.rollout.specs.Calls.{CommitStep};
+ghost use Rattle.rollout.specs.Calls.{CommitStep, given_back};
 ghost use Rattle.rollout.specs.Piece.{PieceStep};
 ghost use Rattle.rollout.specs.State.{entry_count};
 
@@ -29,18 +29,18 @@ pub(crate) fn commit_counted<L: SharedLedger>(
     books: &mut Books<L>,
     me: &mut Handle<L>,
     moment: u64,
-    prepared: Prepared,
-) -> Result<Committed, (CommitFault, Prepared)>
+    prepared: &Prepared,
+) -> Result<Committed, CommitFault>
     requires seen { me.old.front ≤ entry_count world.old }
     requires few { added.old ≤ entry_count world.old }
-    ensures step { CommitStep world.old moment prepared result world.new }
+    ensures step { CommitStep world.old moment prepared.now (given_back prepared.now result) world.new }
     ensures added { entry_count world.new + added.old ≡ entry_count world.old + added.new }
     ensures total { books.new.added.total + added.old ≡ books.old.added.total + added.new }
     ensures taken { (books.new.taken.total ≡ books.old.taken.total) × (books.new.cut ≡ books.old.cut) }
     ensures front { me.new.front ≡ entry_count world.new }
     ensures counts { CountsBack me.old result commit_place me.new }
 {
-    let result = world.commit(alloc, moment, prepared);
+    let result = world.commit_kept(alloc, moment, prepared);
     let len = log_len(world);
     match &result {
         Ok(Committed::Done(_)) => {

@@ -5,7 +5,7 @@ ghost use Rattle.locked_store.specs.Cores.{IsCore, WasLength};
 ghost use Rattle.rollout.specs.BeginReorg.{BeginStep};
 ghost use Rattle.rollout.specs.WorkOff.{NextStep};
 ghost use Rattle.rollout.specs.Due.{IsDue};
-ghost use Rattle.rollout.specs.Calls.{LeaseStep, CommitStep, IsReadView, IsCheck, effective_moment};
+ghost use Rattle.rollout.specs.Calls.{LeaseStep, CommitStep, given_back, IsReadView, IsCheck, effective_moment};
 ghost use Rattle.rollout.specs.Piece.{PieceStep, ReadStep, standing_at, piece_standing_at};
 ghost use Rattle.rollout.specs.Publish.{PublishStep};
 ghost use Rattle.rollout.specs.Query.{QueryStep};
@@ -163,10 +163,10 @@ impl<L: SharedLedger> Locked<L> {
         alloc: Global,
         me: &mut Handle<L>,
         moment: u64,
-        prepared: Prepared,
-    ) -> Result<Committed, (CommitFault, Prepared)>
+        prepared: &Prepared,
+    ) -> Result<Committed, CommitFault>
         requires { me.old.front ≤ entry_count self.old }
-        ensures { TakesBack L.start me.old self.old result self.new me.new (λ c r d. CommitStep c moment prepared r d) commit_place }
+        ensures { TakesBack L.start me.old self.old result self.new me.new (λ c r d. CommitStep c moment prepared.now (given_back prepared.now r) d) commit_place }
     {
         self.lemma_is_core();
         let Locked {

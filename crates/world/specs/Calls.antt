@@ -119,6 +119,11 @@ CommitAt old now prepared (Ok (committed.Refused op why)) new =
     × Holds prepared.expect old.pairs
 CommitAt old now prepared (Err fault) new = IsRefusal commit_rank (CommitCondition old now prepared) commit_fault.Memory fault × (new ≡ old)
 
+-- the answer to one who keeps what was prepared, as it is to one who gets it back with a refusal
+abbrev pub given_back : {T E P : Type 0} → P → Result T E → Result T (E × P)
+given_back prepared (Ok done) = Ok done
+given_back prepared (Err fault) = Err (fault, prepared)
+
 -- a refusal gives the prepared transaction back
 abbrev pub CommitStep : State → ℕ → PreparedTxn → Result Committed (CommitFault × PreparedTxn) → State → Type 0
 CommitStep old moment prepared (Ok done) new = CommitAt old (effective_moment old moment) prepared (Ok done) new

@@ -3,7 +3,7 @@ ghost use Rattle.std.specs.Prelude.{◌≡◌, ◌≤◌, IfOk, Some};
 ghost use Rattle.lease.specs.Refusals.{Serves};
 ghost use Rattle.replay.specs.declared.entry.What.TheVariants.{Txn};
 ghost use Rattle.replay.specs.Replay.{version_at};
-ghost use Rattle.world.specs.Calls.{CommitStep, CommitAt};
+ghost use Rattle.world.specs.Calls.{CommitStep, CommitAt, given_back};
 ghost use Rattle.world.specs.State.{facts_of};
 ghost use Rattle.world.specs.Faults.{set_reported, lease_reported};
 ghost use Rattle.world.specs.declared.commit.CommitFault.TheVariants.{Memory};
@@ -107,19 +107,32 @@ impl World {
     ) -> Result<Committed, (CommitFault, Prepared)>
         ensures step { CommitStep self.old moment prepared result self.new }
     {
-        let now = self.effective_moment(moment);
-        match self.line.standing(prepared.lease(), now) {
-            Ok(()) => (),
-            Err(fault) => return Err((CommitFault::from(fault), prepared)),
-        }
-        let schema = self.under(prepared.lease(), now);
-        if !prepared.schema().get().is_same(schema.get()) {
-            return Err((CommitFault::WrongSchema, prepared));
-        }
-        match self.commit_at(alloc, now, &prepared) {
+        match self.commit_kept(alloc, moment, &prepared) {
             Ok(done) => Ok(done),
             Err(fault) => Err((fault, prepared)),
         }
+    }
+
+    /// Commits a prepared transaction that stays with the caller, as `commit` does. What it takes
+    /// to let it go is then not spent under a lock.
+    pub fn commit_kept(
+        &mut self,
+        alloc: Global,
+        moment: u64,
+        prepared: &Prepared,
+    ) -> Result<Committed, CommitFault>
+        ensures step { CommitStep self.old moment prepared.now (given_back prepared.now result) self.new }
+    {
+        let now = self.effective_moment(moment);
+        match self.line.standing(prepared.lease(), now) {
+            Ok(()) => (),
+            Err(fault) => return Err(CommitFault::from(fault)),
+        }
+        let schema = self.under(prepared.lease(), now);
+        if !prepared.schema().get().is_same(schema.get()) {
+            return Err(CommitFault::WrongSchema);
+        }
+        self.commit_at(alloc, now, prepared)
     }
 
     // The commit of a transaction whose lease serves at the moment that counts.
