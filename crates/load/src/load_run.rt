@@ -215,10 +215,12 @@ fn compare_counts(
     }
 }
 
-// What the world has in the end, beside the receipts.
-fn check_receipts(
+// What the world has in the end, on so many threads, and beside that the receipts.
+fn check_receipts<R: Threads + Clock + Sync>(
+    rt: &R,
     alloc: Global,
     world: &World,
+    threads: usize,
     receipts: &[Receipt],
     outcome: Result<(), LoadFault>,
     pace: Pace,
@@ -229,8 +231,17 @@ fn check_receipts(
         Ok(()) | Err(LoadFault::Refused) => {}
         Err(fault) => return Err(fault),
     }
-    let found = world.check(alloc)?;
-    let (is_counted, fault) = compare_counts(alloc, world, receipts)?;
+    let (found, compared) = join(
+        rt,
+        || world.check_on(rt, alloc, threads),
+        || -> Result<(bool, Option<ReceiptFault>), LoadFault>
+            ensures { IfOk result (λ r. r.0 ≡ true → r.1 ≡ None → AreTheLog (entries_before world.entry.now) (entries_kept world.entry.now) 0 receipts.entry.now) }
+        { compare_counts(alloc, world, receipts) },
+    );
+    let found = found?;
+    let (is_counted, fault) = compared?;
+    let mut pace = pace;
+    pace.audited = now(rt);
     Ok(Report {
         rows: found.rows,
         missing: found.missing,
@@ -285,7 +296,15 @@ fn load_in<
         settled: now(rt),
         audited: None,
     };
-    check_receipts(alloc, &world, receipts.as_slice(), outcome, pace)
+    check_receipts(
+        rt,
+        alloc,
+        &world,
+        (size.servers + size.workers) as usize,
+        receipts.as_slice(),
+        outcome,
+        pace,
+    )
 }
 
 // What a load of this size finds.
@@ -304,11 +323,9 @@ fn load<R: Threads + Wait + Eprint + Clock + Sync, W: Write + Send>(
     let blanks = Blanks::new(count);
     let requests = requests.as_slice();
     let meter = Meter::new(rt, alloc, size.rows, options)?;
-    let mut report = load_in::<Brand, R, W>(
+    load_in::<Brand, R, W>(
         rt, alloc, blanks, world, count, requests, size, options, &meter, writer,
-    )?;
-    report.pace.audited = now(rt);
-    Ok(report)
+    )
 }
 
 // Says on standard error how long the parts took, unless there is no memory for that.
