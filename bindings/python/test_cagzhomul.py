@@ -6,10 +6,14 @@ import os
 import pickle
 import re
 import threading
+import types
+import typing
 import unittest
 from typing import Callable, Dict, List, Tuple, Type, Union
 
 import cagzhomul
+from cagzhomul import _library
+from cagzhomul._errors import _ERRORS
 
 HEADER = os.path.join(os.path.dirname(os.path.abspath(__file__)), "..", "..", "include", "cagzhomul.h")
 # The texts of the statuses, from 0.
@@ -91,7 +95,7 @@ class Sessions(unittest.TestCase):
         self.assertTrue(issubclass(cagzhomul.OutOfMemory, MemoryError))
 
     def test_errors_are_pickled(self) -> None:
-        errors = [kind(status) for status, kind in cagzhomul._ERRORS.items()]
+        errors = [kind(status) for status, kind in _ERRORS.items()]
         errors += [cagzhomul.NotOpened(), cagzhomul.WrongStage(), cagzhomul.BadLine(1, 7), cagzhomul.NotPublic("town"), cagzhomul.NotPublic(None), cagzhomul.NoRow(30, 2), cagzhomul.TooEarly(31, 10), cagzhomul.LeaseEnded(26, 15, 20),
                    cagzhomul.Conflict(28, "people", (1, "Ulm")), cagzhomul.StillWaiting("drop index i on t")]
         for error in errors:
@@ -100,6 +104,17 @@ class Sessions(unittest.TestCase):
                 self.assertEqual((str(again), again.args, vars(again)), (str(error), error.args, vars(error)))
         self.assertEqual(str(pickle.loads(pickle.dumps(cagzhomul.NoRow(30, 2)))), "no row of this key is there: operation 2")
 
+    def test_public_names_are_of_the_module(self) -> None:
+        for name in cagzhomul.__all__:
+            item = getattr(cagzhomul, name)
+            if isinstance(item, (type, types.FunctionType)):
+                self.assertEqual((item.__module__, item.__qualname__), ("cagzhomul", name))
+                typing.get_type_hints(item)  # those of a class are looked up in its module
+        with self.assertRaises(ValueError) as refused:
+            cagzhomul.open({"t": {"id": "int key"}}, lease_length=-1)
+        self.assertEqual(type(refused.exception).__module__, "cagzhomul")
+        self.assertEqual(str(pickle.loads(pickle.dumps(refused.exception))), str(refused.exception))
+
     def test_every_number_has_a_text(self) -> None:
         self.assertEqual([cagzhomul.text_of(status) for status in range(48)], TEXTS)
         self.assertEqual({cagzhomul.text_of(status) for status in (-1, 48, 2**31 - 1, -(2**31))}, {"no status"})
@@ -107,30 +122,30 @@ class Sessions(unittest.TestCase):
     def test_the_header_is_declared(self) -> None:
         with open(HEADER, encoding="utf-8") as file:
             header = re.sub(r"/\*.*?\*/", "", file.read(), flags=re.S)
-        kinds = {"uint32_t ": cagzhomul._SMALL, "uint64_t ": cagzhomul._NUMBER, "size_t ": cagzhomul._SIZE, "int32_t ": cagzhomul._STATUS, "const uint8_t *": cagzhomul._BYTES,
-                 "uint8_t *": cagzhomul._BYTES, "void": None}
+        kinds = {"uint32_t ": _library._SMALL, "uint64_t ": _library._NUMBER, "size_t ": _library._SIZE, "int32_t ": _library._STATUS, "const uint8_t *": _library._BYTES,
+                 "uint8_t *": _library._BYTES, "void": None}
         closes = {}
-        for handle in cagzhomul._Handle.__subclasses__():
+        for handle in _library._Handle.__subclasses__():
             name = re.sub("(?<!^)(?=[A-Z])", "_", handle.__name__[1:-len("Handle")]).lower()
             kinds[f"cagzhomul_{name}_handle *"] = ctypes.POINTER(handle)
             closes[handle.closed_by] = f"cagzhomul_close_{name}"
         functions = {name: [kind for it in words.split(",") for start, kind in kinds.items() if it.strip().startswith(start) and kind]
                      for name, words in re.findall(r"\bcagzhomul_(\w+)\(([^()]*)\);", header)}
-        self.assertEqual({name: parameters for name, (_, parameters) in cagzhomul._FUNCTIONS.items()}, functions)
+        self.assertEqual({name: parameters for name, (_, parameters) in _library._FUNCTIONS.items()}, functions)
         self.assertEqual((len(closes), list(closes)), (10, list(closes.values())))
         results = {name: result for result, name in re.findall(r"\b(\w+) cagzhomul_(\w+)\([^()]*\);", header)}
-        structs = {"int32_t": cagzhomul._STATUS, "uint32_t": cagzhomul._SMALL, "size_t": cagzhomul._SIZE}
-        for name, (result, _) in cagzhomul._FUNCTIONS.items():
-            self.assertEqual(result, structs.get(results[name]) or getattr(cagzhomul, "_" + results[name][len("cagzhomul"):].title().replace("_", "")), name)
+        structs = {"int32_t": _library._STATUS, "uint32_t": _library._SMALL, "size_t": _library._SIZE}
+        for name, (result, _) in _library._FUNCTIONS.items():
+            self.assertEqual(result, structs.get(results[name]) or getattr(_library, "_" + results[name][len("cagzhomul"):].title().replace("_", "")), name)
         statuses = {int(number): name.title().replace("_", "") for name, number in re.findall(r"\bCAGZHOMUL_(\w+) = (\d+)", header)}
         self.assertEqual(sorted(statuses), [it for it in range(48) if it not in (6, 15, 16)])
-        for number, error in cagzhomul._ERRORS.items():
+        for number, error in _ERRORS.items():
             self.assertEqual(error.__name__, statuses[number])
 
     def test_a_handle_of_another_type_is_refused(self) -> None:
-        kinds = cagzhomul._Handle.__subclasses__()
+        kinds = _library._Handle.__subclasses__()
         for kind in kinds:
-            close = getattr(cagzhomul._library, kind.closed_by)
+            close = getattr(_library._library, kind.closed_by)
             self.assertEqual(close(kind()), 2)
             for other in kinds:
                 if other is not kind:

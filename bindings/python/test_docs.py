@@ -1,6 +1,8 @@
 """The examples of the documentation: of the modules' docstrings and of README.md. Run by `python3 -m unittest` in this folder, with CAGZHOMUL_LIBRARY set."""
 
+import contextlib
 import doctest
+import time
 import unittest
 from typing import Optional
 
@@ -14,7 +16,7 @@ TABLES = {"people": {"id": "int key", "town": "text"}}
 
 def in_memory(test: doctest.DocTest) -> None:
     db = cagzhomul.open(TABLES)
-    test.globs.update(cagzhomul=cagzhomul, db=db, lease=db.lease(0))
+    test.globs.update(cagzhomul=cagzhomul, contextlib=contextlib, time=time, db=db, lease=db.lease(0))
 
 
 def over_a_store(test: doctest.DocTest) -> None:

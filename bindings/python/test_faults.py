@@ -7,6 +7,8 @@ from typing import Callable, List, Mapping, NamedTuple, Optional, Sequence, Tupl
 
 import cagzhomul
 from cagzhomul import BadTable, Key, Query, Table, Value, WrongType
+from cagzhomul._library import _ValueFault
+from cagzhomul._tables import _bad_table, _opening
 from cagzhomul_layer import layer
 from cagzhomul_layer.memory import MemoryStore
 
@@ -223,8 +225,8 @@ class Faults(unittest.TestCase):
     def test_without_a_fault_there_is_no_data(self) -> None:
         with cagzhomul.open(SHOPS) as db, db.lease(0) as lease:
             names = lease._names
-            plain = [WrongType(), WrongType(22), names.wrong_operation(b"\1" + bytes(8)), names._wrong([], cagzhomul._ValueFault(5), True), BadTable(), BadTable(18)]
-            plain += [cagzhomul._bad_table(b"", SHOPS), cagzhomul._bad_table(cagzhomul._opening(10, SHOPS), SHOPS)]
+            plain = [WrongType(), WrongType(22), names.wrong_operation(b"\1" + bytes(8)), names._wrong([], _ValueFault(5), True), BadTable(), BadTable(18)]
+            plain += [_bad_table(b"", SHOPS), _bad_table(_opening(10, SHOPS), SHOPS)]
             for error in plain:
                 assert error is not None
                 self.assertEqual((str(error), {*vars(error).values()}), (cagzhomul.text_of(error.status), {None, error.status}))

@@ -6,7 +6,8 @@ import re
 import unittest
 from typing import Any, Dict
 
-from cagzhomul import _ANY_JUMP, _BytesHandle, _CheckpointHandle, _close, _LeaseHandle, _library, _SnapshotHandle, _WorldHandle
+from cagzhomul._arguments import _ANY_JUMP
+from cagzhomul._library import _BytesHandle, _CheckpointHandle, _close, _LeaseHandle, _library, _SnapshotHandle, _WorldHandle
 
 PAGE = os.path.join(os.path.dirname(os.path.abspath(__file__)), "..", "..", "docs", "FORMAT.md")
 ROOM = 4096

@@ -15,6 +15,7 @@ from typing import Callable, List, Sequence, Tuple, Type
 import cagzhomul
 import cagzhomul_layer
 from cagzhomul import Abandon, AddColumn, AddIndex, DropColumn, Query, Row
+from cagzhomul._library import _BYTES, _NUMBER, _SIZE, _SMALL, _library
 from cagzhomul_layer import Draft, Refused, Store, Unknown, Unreachable, calls, layer
 from cagzhomul_layer.memory import MemoryStore
 from layer_cases import TABLES, TOWNS, Base, Scripted, opened
@@ -289,12 +290,12 @@ class Page(unittest.TestCase):
 
     def test_the_header_is_declared(self) -> None:
         header = re.sub(r"/\*.*?\*/", "", self.text("include/cagzhomul_layer.h"), flags=re.S)
-        kinds = {"uint32_t": cagzhomul._SMALL, "uint64_t": cagzhomul._NUMBER, "size_t": cagzhomul._SIZE, "const uint8_t *": cagzhomul._BYTES, "uint8_t *": cagzhomul._BYTES}
+        kinds = {"uint32_t": _SMALL, "uint64_t": _NUMBER, "size_t": _SIZE, "const uint8_t *": _BYTES, "uint8_t *": _BYTES}
         functions = {
             name: [next(kind for words, kind in kinds.items() if it.strip().startswith(words)) for it in given.split(",")]
             for name, given in re.findall(r"\bcagzhomul_layer_(\w+)\(([^()]*)\);", header)
         }
-        library = {name: list(getattr(cagzhomul._library, f"cagzhomul_layer_{name}").argtypes) for name in (*calls._PARAMETERS, "check", "check_page")}
+        library = {name: list(getattr(_library, f"cagzhomul_layer_{name}").argtypes) for name in (*calls._PARAMETERS, "check", "check_page")}
         self.assertEqual(library, functions)
 
     def test_the_example(self) -> None:

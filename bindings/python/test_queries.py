@@ -7,6 +7,9 @@ from typing import Any, Callable, Dict, List, Tuple, Type
 
 import cagzhomul
 from cagzhomul import Query, Row, Schema, SchemaColumn, SchemaElement, SchemaTable, Table, Value, literal
+from cagzhomul._names import _Names
+from cagzhomul._queries import _asked, _query
+from cagzhomul._rows import _coded_rows
 from test_stores import EVERY_TYPE, PEOPLE, Clock
 
 LONG = "x" * 1025
@@ -78,19 +81,19 @@ class Queries(unittest.TestCase):
 
     def test_codes_are_those_worked_out_by_hand(self) -> None:
         elements = [SchemaElement(number, "t", name, SchemaColumn(str), "public", False) for number, name in ((1, "a"), (2, "b"), (3, "c"))]
-        names = cagzhomul._Names(1, Schema((SchemaTable(1, "t", {"id": int}),), tuple(elements), 4))
+        names = _Names(1, Schema((SchemaTable(1, "t", {"id": int}),), tuple(elements), 4))
         # columns b and c of row 7, if it has nothing in b, and in c a text from "a" on
-        asked = cagzhomul._asked(Query("t", ["b", "c"], key=7, equal={"b": None}, between={"c": ("a", None)}))
+        asked = _asked(Query("t", ["b", "c"], key=7, equal={"b": None}, between={"c": ("a", None)}))
         code = """01 00000001 0000000000000002 00000002 00000003 0000000000000003 00 0000000000000001 028000000000000007
             01 00000002 01 02 00000003 01 03610001 00"""
-        self.assertEqual(cagzhomul._query(asked, names.columns(asked), names), bytes.fromhex(code))
-        self.assertEqual(cagzhomul._query(cagzhomul._asked(Query("u", [])), [], names), bytes.fromhex("01 00000000" + 32 * "0"))
+        self.assertEqual(_query(asked, names.columns(asked), names), bytes.fromhex(code))
+        self.assertEqual(_query(_asked(Query("u", [])), [], names), bytes.fromhex("01 00000000" + 32 * "0"))
         # the row 7, with true in b, a text with zeros in c and nothing in a
         rows = """01 0000000000000001 0000000000000001 028000000000000007 0000000000000002
             00000002 0401 00000003 0300ff6100ff0001"""
-        found = cagzhomul._coded_rows(bytes.fromhex(rows), ["id"], [3, 1, 2], names.by_number)
+        found = _coded_rows(bytes.fromhex(rows), ["id"], [3, 1, 2], names.by_number)
         self.assertEqual(list(found[0].items()), [("id", 7), ("a", None), ("b", True), ("c", "\0a\0")])
-        self.refused(cagzhomul.UnexpectedReply, lambda: cagzhomul._coded_rows(bytes.fromhex("02" + 16 * "0"), ["id"], [], {}))
+        self.refused(cagzhomul.UnexpectedReply, lambda: _coded_rows(bytes.fromhex("02" + 16 * "0"), ["id"], [], {}))
 
     def test_rows_are_found_by_each_path(self) -> None:
         with cagzhomul.open(EVERY_TYPE) as db, db.lease(5) as lease:
@@ -184,7 +187,7 @@ class Queries(unittest.TestCase):
                 self.assertEqual(last.query(Query("people")), [{"id": 1, "age": 7}, {"id": 2, "age": 33}])
                 self.assertEqual(third.find(Query("people", between={"age": (8, None)})), [{"id": 2, "age": 33}])
             self.assertEqual(new.query(Query("people", ["town"], equal={"age": 7})), [{"id": 1, "town": "Ulm"}])
-            self.assertEqual([[it._names.by_number[column] for column in it._names.columns(cagzhomul._asked(Query("people")))] for it in (old, new, last)], [["town"], ["town", "age"], ["age"]])
+            self.assertEqual([[it._names.by_number[column] for column in it._names.columns(_asked(Query("people")))] for it in (old, new, last)], [["town"], ["town", "age"], ["age"]])
             for snapshot, column in ((old, "age"), (old, "by_age"), (new, "early"), (new, "by_age"), (last, "town"), (last, "by_age")):
                 for query in (Query("people", [column]), Query("people", equal={column: None}), Query("people", ["id", column])):
                     named = "id" if query.columns and len(query.columns) == 2 else column

@@ -5,6 +5,8 @@ from typing import Callable, List, Tuple, Type
 
 import cagzhomul
 from cagzhomul import Query, Schema, SchemaColumn, SchemaElement, SchemaIndex, SchemaTable, Table, Value
+from cagzhomul._names import _Names
+from cagzhomul._schema import _schema
 from test_stores import EVERY_TYPE, PEOPLE, Clock
 
 PUBLIC, WRITE_ONLY, DELETE_ONLY = "public", "write_only", "delete_only"
@@ -39,13 +41,13 @@ class Schemas(unittest.TestCase):
             00000006"""
         elements = (SchemaElement(1, "t", "a", SchemaColumn(str), PUBLIC, False), SchemaElement(3, "t", "c", SchemaColumn(int, 7), DELETE_ONLY, True),
                     SchemaElement(4, "t", "i", SchemaIndex(("c", "a")), WRITE_ONLY, False))
-        schema = cagzhomul._schema(bytes.fromhex(code))
+        schema = _schema(bytes.fromhex(code))
         self.assertEqual(schema, Schema((SchemaTable(1, "t", {"id": int, "n": str}), SchemaTable(2, "u", {"b": bool})), elements, 6))
         self.assertEqual([list(table.key) for table in schema.tables], [["id", "n"], ["b"]])
-        self.assertEqual(cagzhomul._schema(bytes.fromhex("01" + 32 * "0" + "00000001")), Schema((), (), 1))
-        self.refused(cagzhomul.UnexpectedReply, lambda: cagzhomul._schema(bytes.fromhex("02" + 32 * "0" + "00000001")))
+        self.assertEqual(_schema(bytes.fromhex("01" + 32 * "0" + "00000001")), Schema((), (), 1))
+        self.refused(cagzhomul.UnexpectedReply, lambda: _schema(bytes.fromhex("02" + 32 * "0" + "00000001")))
         # the last names the public columns: that of the text alone
-        self.assertEqual(cagzhomul._Names(1, schema).public, {"t": [1], "u": []})
+        self.assertEqual(_Names(1, schema).public, {"t": [1], "u": []})
 
     def test_what_is_declared_is_public(self) -> None:
         columns: List[Tuple[int, str, SchemaColumn]] = [(2, "n", SchemaColumn(int)), (3, "s", SchemaColumn(str)), (4, "f", SchemaColumn(bool))]

@@ -9,6 +9,8 @@ from typing import Callable, Dict, Iterator, List, Tuple, Type
 import cagzhomul
 import test_cagzhomul
 from cagzhomul import Acted, Audit, Receipt, Table, Value, Waiting, literal
+from cagzhomul._codes import _value
+from cagzhomul._tables import _opening
 
 PEOPLE = {"people": {"id": "int key", "town": "text"}}
 EVERY_TYPE = [Table("first", {"id": int}, {"c": int}),
@@ -47,11 +49,11 @@ class Stores(unittest.TestCase):
     def test_codes_are_those_worked_out_by_hand(self) -> None:
         opening = """01 000000000000000a 0000000000000001 0000000000000001 74 0000000000000001 0000000000000002 6964 00
             0000000000000001 0000000000000001 61 02 0000000000000001 0000000000000001 69 0000000000000001 0000000000000001 61"""
-        self.assertEqual(cagzhomul._opening(10, [Table("t", {"id": int}, {"a": bool}, {"i": ["a"]})]), bytes.fromhex(opening))
+        self.assertEqual(_opening(10, [Table("t", {"id": int}, {"a": bool}, {"i": ["a"]})]), bytes.fromhex(opening))
         values = {None: "01", 5: "028000000000000005", -1: "027fffffffffffffff", -(2**63): "020000000000000000", "": "030001",
                   "\0a\0": "0300ff6100ff0001", "\u00fc": "03c3bc0001"}
-        self.assertEqual({value: cagzhomul._value(value).hex() for value in values}, values)
-        self.assertEqual([cagzhomul._value(value).hex() for value in (False, True, 2**63 - 1)], ["0400", "0401", "02ffffffffffffffff"])
+        self.assertEqual({value: _value(value).hex() for value in values}, values)
+        self.assertEqual([_value(value).hex() for value in (False, True, 2**63 - 1)], ["0400", "0401", "02ffffffffffffffff"])
         with cagzhomul.open(PEOPLE) as db, db.lease(5) as lease:
             self.assertEqual(lease.txn(6).insert("people", 1, town="Ulm").commit(), Receipt(2))
             self.assertEqual([db.entry(1), db.entry(2)], [bytes.fromhex(test_cagzhomul.LEASE), bytes.fromhex(test_cagzhomul.INSERTION)])

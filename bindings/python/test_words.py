@@ -7,6 +7,7 @@ from typing import Callable, List, Tuple
 
 import cagzhomul
 from cagzhomul import Table
+from cagzhomul._words import _words_of
 from test_stores import Clock
 
 LONG = "'" + "x" * 1025 + "'"
@@ -138,7 +139,7 @@ class Words(unittest.TestCase):
             with self.subTest(words), cagzhomul.open(TABLES) as db, cagzhomul.open(TABLES) as other:
                 self.assertEqual(outcome(lambda: db.change(typed, lambda: 1)), outcome(lambda: other.change(words, lambda: 1)))
                 if isinstance(typed, cagzhomul.Abandon):  # nothing waits
-                    self.assertEqual(cagzhomul._words_of(typed), words)
+                    self.assertEqual(_words_of(typed), words)
                     continue
                 with self.assertRaises(cagzhomul.StillWaiting) as refused:
                     db.change(typed, lambda: 1)

@@ -10,7 +10,9 @@ import struct
 from typing import Any, Callable, Dict, Iterable, List, Mapping, NamedTuple, Optional, Tuple, TypeVar
 
 import cagzhomul
-from cagzhomul import _CODE, _NUMBER, _SIZE, _SMALL, _STATUS, _Checked, _library, _list, _number, _number_at
+from cagzhomul._codes import _list, _name_at, _number, _number_at
+from cagzhomul._library import _CODE, _NUMBER, _SIZE, _SMALL, _STATUS, _Checked, _library
+from cagzhomul._schema import _kind_at
 
 from .store import BadAnswer, Draft, Pair
 
@@ -228,8 +230,8 @@ def draft_of(code: bytes) -> Draft:
 
 def bounds_of(record: bytes) -> List[Tuple[bytes, bytes]]:
     """The bounds of the pieces of a reorganisation, by its record."""
-    at = cagzhomul._name_at(record, 9)[1]  # after the code's version, the element's number, its table and its name
-    at = cagzhomul._kind_at(record, at)[1] + 3  # and its state, its way and the work
+    at = _name_at(record, 9)[1]  # after the code's version, the element's number, its table and its name
+    at = _kind_at(record, at)[1] + 3  # and its state, its way and the work
     return pairs_of(b"\1" + record[at:])
 
 

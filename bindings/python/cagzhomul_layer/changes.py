@@ -10,6 +10,13 @@ from typing import Dict, Iterable, Iterator, List, NamedTuple, Optional, Sequenc
 
 import cagzhomul
 from cagzhomul import PlannedStep, SchemaElement
+from cagzhomul._arguments import _small
+from cagzhomul._changes import _Parts, _planned
+from cagzhomul._codes import _list, _number
+from cagzhomul._errors import _ERRORS, _NUMBERED
+from cagzhomul._library import _BAD_CODE, _OVER_LIMIT
+from cagzhomul._names import _Names
+from cagzhomul._schema import _STATES, _schema
 
 from . import calls
 from .calls import CURSORS, MARKS, REORGS, VERSIONS, Refusal, asked, cursor_key, number_of, reorg_key, version_key
@@ -17,7 +24,6 @@ from .store import BadAnswer, Draft, Page, Range, Refused, Store, TooLarge, Unkn
 
 # how many reorganisations, and cursors, a store may have; an element of 48 for each table has one of them, with up to 64 cursors
 _MANY = 100_000
-_STATES = cagzhomul._STATES
 # the state after each on an element's way: of an index or a column with a default, and of another column
 _ADDED = {"delete_only": "write_only", "write_only": "public"}, {"delete_only": "public"}
 _DROPPED = {"write_only": "delete_only", "delete_only": "absent"}, {"delete_only": "absent"}
@@ -77,7 +83,7 @@ class Records:
             raise cagzhomul.NotOpened()
         self.pairs, self.number, self.is_before_open = pairs, max(versions), len(versions) > 1
         self.version = pairs[version_key(self.number)]
-        self.schema = cagzhomul._schema(self.version)
+        self.schema = _schema(self.version)
         self.bounds = {number_of(key): calls.bounds_of(record) for key, record in pairs.items() if key[:1] == REORGS}
 
     @staticmethod
@@ -118,14 +124,14 @@ class Records:
         for it in self.schema.elements:
             state = next_state(it)
             if state is not None and (self.is_ended(it.number) if wants(it) else True):
-                moves.append(b"\1" + cagzhomul._number(it.number, 4) + bytes([_STATES.index(state)]))
+                moves.append(b"\1" + _number(it.number, 4) + bytes([_STATES.index(state)]))
         return moves
 
     def due(self, steps: Optional[Sequence[PlannedStep]], most: int) -> Tuple[str, int, int, bytes]:
         """What the library says is to be done: an act, its element and piece, and the step that it publishes; `nothing` if all is done.
         `steps` are those that are left of a plan; None if up to `most` elements at once are to go their ways."""
         moves = self.ready_moves()[:most] if steps is None else []
-        codes = [b"\1" + cagzhomul._list(moves)] if moves else [it.code for it in (steps or [])[:1]]
+        codes = [b"\1" + _list(moves)] if moves else [it.code for it in (steps or [])[:1]]
         try:
             act, element, piece = calls.due(self.number - 1, self.version, sorted(self.pairs.items()), codes)
         except Refusal as refusal:
@@ -149,7 +155,7 @@ class Operator:
     """Does schema changes over a store. `pieces` (1 to 64) and `limit` (at least 1) are as for `Layer.change`."""
 
     def __init__(self, store: Store, pieces: int, limit: int) -> None:
-        self._store, self._pieces, self._limit = store, cagzhomul._small("pieces", pieces), cagzhomul._small("limit", limit)
+        self._store, self._pieces, self._limit = store, _small("pieces", pieces), _small("limit", limit)
         # how many pairs of a piece are read, and fewer than which are too few
         self._some, self._least = limit, 1
         # how many elements move at once
@@ -273,7 +279,7 @@ class Operator:
             if done is not None:
                 yield done
 
-    def change(self, parts: Sequence[cagzhomul._Parts]) -> Iterator[Act]:
+    def change(self, parts: Sequence[_Parts]) -> Iterator[Act]:
         """Begins changes, and gives the acts that complete them: those of a least plan, unless another program publishes a version
         meanwhile, or a step is too large for the store; then what is under way is completed, and those that had not begun are planned anew."""
         left = list(parts)
@@ -282,20 +288,20 @@ class Operator:
             yield from self._planned(left)
             yield from self.resume()
 
-    def _plan(self, parts: Sequence[cagzhomul._Parts]) -> List[PlannedStep]:
+    def _plan(self, parts: Sequence[_Parts]) -> List[PlannedStep]:
         """The least plan of changes from the newest version."""
         records = self._present()
-        names = cagzhomul._Names(records.number, records.schema)
+        names = _Names(records.number, records.schema)
         try:
-            return cagzhomul._planned(asked("plan", records.version, b"\1" + cagzhomul._list([it.code(names) for it in parts])).code)
+            return _planned(asked("plan", records.version, b"\1" + _list([it.code(names) for it in parts])).code)
         except Refusal as refusal:
             if refusal.status == calls.DEPENDENT:
                 raise cagzhomul.StillIndexed(refusal.status, "an index is on the column") from None
             # only a default over 1,024 bytes makes a bad code of what this module writes
-            status = cagzhomul._OVER_LIMIT if refusal.status == cagzhomul._BAD_CODE else refusal.status
-            raise cagzhomul._ERRORS.get(status, cagzhomul.CagzhomulError)(status) from None
+            status = _OVER_LIMIT if refusal.status == _BAD_CODE else refusal.status
+            raise _ERRORS.get(status, cagzhomul.CagzhomulError)(status) from None
 
-    def _planned(self, left: List[cagzhomul._Parts]) -> Iterator[Act]:
+    def _planned(self, left: List[_Parts]) -> Iterator[Act]:
         """The acts of a plan of these changes, as far as no other program publishes a version; those that it begins are taken from the
         list."""
         steps, is_first = self._plan(left), True
@@ -329,7 +335,7 @@ class Operator:
         return newest.pairs.get(key) == draft.write[key]
 
     @staticmethod
-    def _take_begun(left: List[cagzhomul._Parts], step: PlannedStep, records: Records) -> None:
+    def _take_begun(left: List[_Parts], step: PlannedStep, records: Records) -> None:
         """Takes the changes away that a step has begun: an element enters, or goes on its way, or turns."""
         elements = {it.number: (it.table, it.name) for it in records.schema.elements}
         tables = {it.number: it.name for it in records.schema.tables}
@@ -342,6 +348,6 @@ class Operator:
 
 def _error(refusal: Refusal) -> cagzhomul.CagzhomulError:
     """The exception of a refused act."""
-    if refusal.status in cagzhomul._NUMBERED:
-        return cagzhomul._NUMBERED[refusal.status](refusal.status, refusal.number)
-    return cagzhomul._ERRORS.get(refusal.status, cagzhomul.CagzhomulError)(refusal.status)
+    if refusal.status in _NUMBERED:
+        return _NUMBERED[refusal.status](refusal.status, refusal.number)
+    return _ERRORS.get(refusal.status, cagzhomul.CagzhomulError)(refusal.status)

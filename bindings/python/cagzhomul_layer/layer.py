@@ -21,6 +21,13 @@ from typing import Callable, Dict, Iterator, List, Mapping, Optional, Sequence, 
 
 import cagzhomul
 from cagzhomul import Audit, Change, Conflict, Key, Query, Row, Schema, Tables, Value
+from cagzhomul._arguments import _whole
+from cagzhomul._errors import _ERRORS, _check
+from cagzhomul._library import _BAD_TABLE
+from cagzhomul._queries import _Asked, _query
+from cagzhomul._rows import _coded_rows
+from cagzhomul._tables import _bad_table, _opening, _table
+from cagzhomul._words import _change_of, _query_of
 
 from . import calls, checks
 from .calls import Refusal, asked, version_key
@@ -60,7 +67,7 @@ def open(store: Store, tables: Tables, limit: int = 10_000, seconds: float = 30)
     >>> db.query("select town from people where town = 'Ulm'")
     [{'id': 1, 'town': 'Ulm'}]
     """
-    declared = [cagzhomul._table(*it) for it in tables.items()] if isinstance(tables, Mapping) else list(tables)
+    declared = [_table(*it) for it in tables.items()] if isinstance(tables, Mapping) else list(tables)
     end = time.monotonic() + seconds
     while not versions_of(store) and not _is_opened(store, declared):
         if time.monotonic() >= end:
@@ -71,20 +78,20 @@ def open(store: Store, tables: Tables, limit: int = 10_000, seconds: float = 30)
     except cagzhomul.NotOpened:
         raise BadAnswer("the store holds something else") from None
     if [(it.name, list(it.key.items())) for it in declared] != [(it.name, list(it.key.items())) for it in layer.schema.tables]:
-        raise cagzhomul.BadTable(cagzhomul._BAD_TABLE)
+        raise cagzhomul.BadTable(_BAD_TABLE)
     return layer
 
 
 def _is_opened(store: Store, tables: Sequence[cagzhomul.Table]) -> bool:
     """Opens a database with these tables in an empty store; False if nobody knows whether that was done."""
-    opening = cagzhomul._opening(1, tables)
+    opening = _opening(1, tables)
     try:
         draft = calls.draft_of(asked("open", opening).code)
         store.apply(Draft(draft.compare, [(b"", calls.END, [])], draft.write))
     except Refusal as refusal:
-        if refusal.status == cagzhomul._BAD_TABLE:
-            raise cagzhomul._bad_table(opening, tables) from None
-        cagzhomul._check(refusal.status)
+        if refusal.status == _BAD_TABLE:
+            raise _bad_table(opening, tables) from None
+        _check(refusal.status)
     except Refused as refused:
         return refused.key is not None  # another has opened it, or the store holds something else
     except (Unknown, BadAnswer):
@@ -101,7 +108,7 @@ class Layer:
     Raises NotOpened if there is no database in the store; what reads of the store do."""
 
     def __init__(self, store: Store, limit: int = 10_000, seconds: float = 30) -> None:
-        self._server, self._limit = Server(store, seconds), cagzhomul._whole("limit", limit, 63)
+        self._server, self._limit = Server(store, seconds), _whole("limit", limit, 63)
 
     @property
     def schema(self) -> Schema:
@@ -192,7 +199,7 @@ class Layer:
         >>> db.query(Query("people", equal={"town": "Ulm"})) == db.query("select * from people where town = 'Ulm'")
         True
         """
-        wanted = cagzhomul._query_of(query)
+        wanted = _query_of(query)
         while True:
             version = self._server.version()
             try:
@@ -201,17 +208,17 @@ class Layer:
                 # a column may have come, or gone, in a newer version
                 if not self._server.refresh():
                     names = version.names
-                    code = cagzhomul._query(wanted, names.columns(wanted), names)
+                    code = _query(wanted, names.columns(wanted), names)
                     raise error_of(refusal, names, names.unknown(wanted), lambda: names.wrong_condition(code)) from None
                 continue
             if rows is not None:
                 return rows
             self._server.refresh()
 
-    def _rows(self, version: Version, wanted: cagzhomul._Asked) -> Optional[List[Row]]:
+    def _rows(self, version: Version, wanted: _Asked) -> Optional[List[Row]]:
         """The rows of a query under a version; None if that is closed, or the index changed between two reads."""
         columns = version.names.columns(wanted)
-        query = cagzhomul._query(wanted, columns, version.names)
+        query = _query(wanted, columns, version.names)
         first = asked("ranges", version.record, query)
         ranges = calls.pairs_of(first.code)
         pairs = self._read(version, ranges)
@@ -225,7 +232,7 @@ class Layer:
         if pairs is None:
             return None
         code = asked("rows", version.record, query, calls.pairs_code(sorted(pairs.items()))).code
-        return cagzhomul._coded_rows(code, version.names.keys[wanted.table], columns, version.names.by_number)
+        return _coded_rows(code, version.names.keys[wanted.table], columns, version.names.by_number)
 
     def _read(self, version: Version, ranges: Sequence[Tuple[bytes, bytes]]) -> Optional[Dict[bytes, bytes]]:
         """All pairs of these ranges, of one moment; None if the version was closed by then."""
@@ -258,7 +265,7 @@ class Layer:
         (True, ['town'])
         """
         listed = [changes] if isinstance(changes, (str, *_CHANGES)) else list(changes)
-        parts = [cagzhomul._change_of(it) for it in listed]
+        parts = [_change_of(it) for it in listed]
         acts = Operator(self._server.store, pieces, limit).change(parts)
         first = next(acts, None)
         return itertools.chain([] if first is None else [first], acts)
@@ -282,7 +289,7 @@ class Layer:
         a sound store, and a row counts if it was there when its page was read. It begins again if a version opens or closes meanwhile.
 
         Raises TooManyPairs for a row of more pairs than the database's own `limit`; OutOfMemory; what reads of the store do."""
-        if cagzhomul._whole("limit", limit, 63) < 1:
+        if _whole("limit", limit, 63) < 1:
             raise ValueError("a page of no pairs")
         while True:
             versions = versions_of(self._server.store)
@@ -291,6 +298,6 @@ class Layer:
             except checks.RowTooLarge:
                 raise TooManyPairs(self._limit) from None
             except Refusal as refusal:
-                raise cagzhomul._ERRORS.get(refusal.status, cagzhomul.CagzhomulError)(refusal.status) from None
+                raise _ERRORS.get(refusal.status, cagzhomul.CagzhomulError)(refusal.status) from None
             if counts is not None and versions == versions_of(self._server.store):
                 return counts

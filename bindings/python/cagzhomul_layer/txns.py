@@ -10,6 +10,13 @@ from typing import Callable, Dict, List, Mapping, NamedTuple, Optional, Sequence
 
 import cagzhomul
 from cagzhomul import Conflict, Key, Query, Row, Value
+from cagzhomul._codes import _key, _value
+from cagzhomul._errors import _ERRORS
+from cagzhomul._library import _OF_A_VALUE
+from cagzhomul._names import _Names
+from cagzhomul._queries import _Asked, _asked, _query
+from cagzhomul._rows import _coded_rows
+from cagzhomul._schema import _schema
 
 from . import calls
 from .calls import VERSIONS, Refusal, asked, mark_key, number_code, version_key
@@ -32,7 +39,7 @@ class Version(NamedTuple):
 
     number: int
     record: bytes
-    names: cagzhomul._Names
+    names: _Names
 
 
 class _Op(NamedTuple):
@@ -47,7 +54,7 @@ class _Op(NamedTuple):
 _kind_and_table, _column = struct.Struct(">BI").pack, struct.Struct(">I").pack
 
 
-def _ops_code(ops: Sequence[_Op], names: cagzhomul._Names) -> bytes:
+def _ops_code(ops: Sequence[_Op], names: _Names) -> bytes:
     """The code of operations in a version."""
     parts = [b"\1", number_code(len(ops))]
     for kind, table, key, cells in ops:
@@ -55,20 +62,20 @@ def _ops_code(ops: Sequence[_Op], names: cagzhomul._Names) -> bytes:
         if kind != 2:
             parts.append(number_code(len(cells)))
             for name, value in cells.items():
-                parts += _column(names.number(table, name)), cagzhomul._value(value)
+                parts += _column(names.number(table, name)), _value(value)
     return b"".join(parts)
 
 
-def error_of(refusal: Refusal, names: cagzhomul._Names, unknown: Optional[str], wrong: Callable[[], cagzhomul.WrongType]) -> cagzhomul.CagzhomulError:
+def error_of(refusal: Refusal, names: _Names, unknown: Optional[str], wrong: Callable[[], cagzhomul.WrongType]) -> cagzhomul.CagzhomulError:
     """The exception of a refused transaction or query; `unknown` is the first name in it that its table does not have, and `wrong` finds
     its value that is wrong."""
     if refusal.status == calls.NOT_PUBLIC:
         return cagzhomul.NotPublic(names.by_number.get(refusal.column) if refusal.column else unknown)
     if refusal.status in (calls.DUPLICATE, calls.NO_ROW):
         return (cagzhomul.Duplicate if refusal.status == calls.DUPLICATE else cagzhomul.NoRow)(refusal.status, refusal.number)
-    if refusal.status in cagzhomul._OF_A_VALUE:
+    if refusal.status in _OF_A_VALUE:
         return wrong()
-    return cagzhomul._ERRORS.get(refusal.status, cagzhomul.CagzhomulError)(refusal.status)
+    return _ERRORS.get(refusal.status, cagzhomul.CagzhomulError)(refusal.status)
 
 
 class Server:
@@ -89,7 +96,7 @@ class Server:
         number = max(versions)
         if self._newest is not None and (self._newest.number, self._newest.record) == (number, versions[number]):
             return False
-        self._newest = Version(number, versions[number], cagzhomul._Names(number, cagzhomul._schema(versions[number]), versions[number]))
+        self._newest = Version(number, versions[number], _Names(number, _schema(versions[number]), versions[number]))
         return True
 
     def version(self) -> Version:
@@ -156,21 +163,21 @@ class Txn:
         Raises WrongStage if it has ended; NoTable or WrongType; Conflict if the version under which it got rows is closed; what reads
         of the store do."""
         self._check_stage()
-        row = table, cagzhomul._key(key)
+        row = table, _key(key)
         if row not in self._got:
-            while not self._is_got(row, cagzhomul._asked(Query(table, key=key))):
+            while not self._is_got(row, _asked(Query(table, key=key))):
                 if self._version is not None:
                     raise Conflict(28)
                 self._server.refresh()
         found = self._got[row]
         return None if found is None else dict(found)
 
-    def _is_got(self, row: Tuple[str, bytes], wanted: cagzhomul._Asked) -> bool:
+    def _is_got(self, row: Tuple[str, bytes], wanted: _Asked) -> bool:
         """Reads a row; False if the version is closed."""
         version = self._version or self._server.version()
         names = version.names
         columns = names.columns(wanted)
-        query = cagzhomul._query(wanted, columns, names)
+        query = _query(wanted, columns, names)
         try:
             keys = calls.points_of(asked("reads", version.record, _ops_code([_Op(1, *row, {})], names)).code) if row[0] in names.tables else {}
             found = self._server.store.read([version_key(version.number), *keys]).values
@@ -180,7 +187,7 @@ class Txn:
             code = asked("rows", version.record, query, calls.pairs_code(pairs)).code
         except Refusal as refusal:
             raise error_of(refusal, names, None, lambda: names.wrong_condition(query)) from None
-        rows = cagzhomul._coded_rows(code, names.keys[row[0]], columns, names.by_number)
+        rows = _coded_rows(code, names.keys[row[0]], columns, names.by_number)
         self._version = version
         self._got[row] = rows[0] if rows else None
         self._view.update(found)
@@ -200,7 +207,7 @@ class Txn:
 
     def _add(self, kind: int, table: str, key: Key, cells: Mapping[str, Value]) -> Txn:
         self._check_stage()
-        self._ops.append(_Op(kind, table, cagzhomul._key(key), cells))
+        self._ops.append(_Op(kind, table, _key(key), cells))
         return self
 
     def _all_ops(self) -> List[_Op]:
@@ -260,7 +267,7 @@ class Txn:
             raise Conflict(28)
         return False
 
-    def _unknown(self, names: cagzhomul._Names) -> Optional[str]:
+    def _unknown(self, names: _Names) -> Optional[str]:
         """The first name of a column in it that its table does not have."""
         return next((name for it in self._ops for name in it.cells if not names.number(it.table, name)), None)
 

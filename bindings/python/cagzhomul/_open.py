@@ -1,0 +1,47 @@
+"""How a session or a store is opened."""
+
+from __future__ import annotations
+
+from typing import Optional, overload
+
+from ._arguments import _jump
+from ._db import Db
+from ._session import Session
+from ._tables import Tables
+
+
+@overload
+def open(*, at: Optional[bytes] = None, furthest_jump: Optional[int] = None) -> Session: ...
+@overload
+def open(tables: Tables, lease_length: int = 10, keep: Optional[int] = 10_000, at: Optional[bytes] = None, furthest_jump: Optional[int] = None) -> Db: ...
+def open(tables: Optional[Tables] = None, lease_length: int = 10, keep: Optional[int] = 10_000, at: Optional[bytes] = None, furthest_jump: Optional[int] = None) -> Session:
+    """A new session, before its line `open`, or a store with these tables.
+
+    The tables are `Table`s, or columns by the names of tables: `{"people": {"id": "int key", "town":
+    "text"}}`. A lease lasts `lease_length` moments, from 1 to 2^32, and each version stays the newest
+    for as long. A store keeps the last `keep` entries of its log in memory and gives the older ones
+    back once there are as many of them, or never if that is None.
+
+    With `at`, the bytes of a `checkpoint`, it goes on from there: the tables, of which the names and the
+    keys count, are to be those that were opened then, and the lease length is the checkpoint's. Raises
+    BadCode if no world may open from the bytes, then BadTable if its tables are others.
+
+    With a `furthest_jump`, of at least 1, a call with a moment that is more than so many moments beyond
+    that of the log's last entry is refused as TooFar, so that a clock that is far ahead does not take
+    all others along. Before the first entry no moment is too far. It is no part of a checkpoint, and
+    all replicas of one log have the same. A session whose world is opened by its line `open` has none.
+
+    Raises BadTable, BadLength or OutOfMemory, and ValueError for another type, and for a furthest jump
+    without tables and `at`.
+
+    >>> with cagzhomul.open([Table("shop", {"city": str, "number": int}, {"open": bool}, {"by_open": ["open"]})], lease_length=1000) as db:
+    ...     with db.lease(0) as lease:
+    ...         lease.until, lease.insert("shop", ("Ulm", 7), open=True), lease.query(0, "select open from shop")
+    (1000, Receipt(place=2), [{'city': 'Ulm', 'number': 7, 'open': True}])
+    """
+    if tables is not None:
+        return Db(tables, lease_length, keep, at, furthest_jump)
+    jump = _jump(furthest_jump)
+    if at is None and furthest_jump is not None:
+        raise ValueError("a world that is opened by the line `open` has no furthest jump")
+    return Session(_checkpoint=at, _jump=jump)
