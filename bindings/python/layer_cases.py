@@ -3,7 +3,7 @@
 from __future__ import annotations
 
 import unittest
-from typing import Any, Callable, List, Optional, Sequence, Tuple
+from typing import Any, Callable, Optional, Sequence, Tuple
 
 from cagzhomul import Query, Row
 from cagzhomul_layer import Draft, Found, Refused, Store, TooLarge, Unknown, Unreachable, layer

@@ -13,12 +13,12 @@ import random
 import sys
 import threading
 import time
-from typing import Callable, Dict, Iterable, List, NamedTuple, Optional, Set, Tuple, TypeVar
+from typing import Callable, Dict, Iterable, List, NamedTuple, Set, Tuple, TypeVar
 
 import cagzhomul
 from cagzhomul import AddColumn, AddIndex, Change, Conflict, DropColumn, DropIndex, Query, Schema
 from cagzhomul_layer import Range, Store, StoreError, Unknown, Unreachable, layer
-from cagzhomul_layer.calls import END, MARKS, PAIRS
+from cagzhomul_layer.calls import MARKS, PAIRS
 from cagzhomul_layer.faults import Dropping
 from store_servers import Where
 

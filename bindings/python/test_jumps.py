@@ -1,7 +1,7 @@
 """The furthest jump of a world: run by `python3 -m unittest` in this folder, with CAGZHOMUL_LIBRARY set."""
 
 import unittest
-from typing import Any, Callable, Dict, List, Tuple, Type
+from typing import Any, Callable, Dict, Tuple, Type
 
 import cagzhomul
 from cagzhomul import Acted, Query, Receipt, Waiting

@@ -16,7 +16,7 @@ import cagzhomul
 import cagzhomul_layer
 from cagzhomul import Abandon, AddColumn, AddIndex, DropColumn, Query, Row
 from cagzhomul._library import _BYTES, _NUMBER, _SIZE, _SMALL, _library
-from cagzhomul_layer import Draft, Refused, Store, Unknown, Unreachable, calls, layer
+from cagzhomul_layer import Draft, Refused, Unknown, Unreachable, calls, layer
 from cagzhomul_layer.memory import MemoryStore
 from layer_cases import TABLES, TOWNS, Base, Scripted, opened
 

@@ -276,8 +276,6 @@ class Modifies(unittest.TestCase):
 
     def test_no_addition_of_eight_threads_is_lost(self) -> None:
         with cagzhomul.open(COUNTERS) as db, db.lease(5) as lease, ThreadPoolExecutor(THREADS) as pool:
-            conflicts = 0
-
             def add_one(key: int) -> Receipt:
                 txn = lease.txn()
                 row = txn.get("counters", key)

@@ -29,30 +29,39 @@ def load_words(program, rows, servers):
     return [program, "load", *(word for name, size in sizes.items() for word in (f"--{name}", str(size)))]
 
 
+def parts_of(program, rows, servers):
+    """The milliseconds of the rows of a load, of the index and of the audit, as it measures them itself, as the peers do."""
+    _, wrote, said = ended([*load_words(program, rows, servers), "--time"], "")
+    found = PARTS.search(said)
+    if wrote != LOADED % rows or not found:
+        raise Missing(f"the load of {rows} rows found a difference, or does not say how long its parts took")
+    return [int(it) for it in found.groups()]
+
+
 def load_time(rows, servers):
-    """How long a load takes, with the index that is added meanwhile and the audit."""
+    """How long a load takes, with the index that is added meanwhile and the audit; or the processor's time of all that it does."""
 
     def measure(program):
-        empty, _ = timed([program, "run"], HEAD)
-        taken, wrote = timed(load_words(program, rows, servers))
-        if wrote != LOADED % rows:
-            raise Missing(f"the load of {rows} rows found a difference")
-        return {"": taken - empty}
+        if runs.COUNTS_PROCESSOR:
+            empty, _ = timed([program, "run"], HEAD)
+            taken, wrote = timed(load_words(program, rows, servers))
+            if wrote != LOADED % rows:
+                raise Missing(f"the load of {rows} rows found a difference")
+            return {"": taken - empty}
+        inserted, filled, audited = parts_of(program, rows, servers)
+        return {"": (max(inserted, filled) + audited) / 1000}
 
     return measure
 
 
 def unaudited_time(rows, servers):
-    """How long the rows and the index of a load take, as it measures them itself, without the audit."""
+    """How long the rows and the index of a load take, without the audit."""
 
     def measure(program):
         if runs.COUNTS_PROCESSOR:
             raise Missing("the processor's time of a part of a load is not known")
-        _, wrote, said = ended([*load_words(program, rows, servers), "--time"], "")
-        found = PARTS.search(said)
-        if wrote != LOADED % rows or not found:
-            raise Missing(f"the load of {rows} rows found a difference, or does not say how long its parts took")
-        return {"": max(int(found[1]), int(found[2])) / 1000}
+        inserted, filled, _ = parts_of(program, rows, servers)
+        return {"": max(inserted, filled) / 1000}
 
     return measure
 

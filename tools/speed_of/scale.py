@@ -1,5 +1,4 @@
 """Times of the library's calls as a table grows, and queries on threads (tools/embedded/scale.c)."""
-import os
 import subprocess
 
 from speed_of.case import Case, Missing

@@ -8,7 +8,7 @@ import json
 import time
 from typing import Any, Dict, Iterable, List, Optional, Sequence, Tuple
 
-from .store import BadAnswer, Draft, Found, Page, Pair, Range, Refused, StoreError, TooLarge, Unknown, Unreachable, page_of, values_of
+from .store import BadAnswer, Draft, Found, Pair, Range, Refused, StoreError, TooLarge, Unknown, Unreachable, page_of, values_of
 
 Json = Dict[str, Any]
 # codes of refusals by which nothing was written: a bad argument, no right, no login. One for lack of space

@@ -8,7 +8,7 @@ import sqlite3
 import time
 from typing import Iterable, Iterator, List, Sequence, Type, Union
 
-from .store import Draft, Found, Page, Pair, Range, Refused, StoreError, TooLarge, Unknown, Unreachable, page_of, values_of
+from .store import Draft, Found, Page, Pair, Range, StoreError, TooLarge, Unknown, Unreachable, page_of, values_of
 
 # how many points are asked for by one statement; SQLite takes 999 parameters or more
 _MANY = 500
