@@ -1,4 +1,5 @@
-"""Other programs that do the work of a load (tools/peers), beside loads; and the library, a map and SQLite from Rust."""
+"""Other programs that do the work of a load (tools/peers), beside loads; the library, a map and SQLite from Rust; and single writes of the
+library and of SQLite from C."""
 import functools
 import os
 import re
@@ -15,7 +16,7 @@ SPENT = re.compile(r"(\d+) rows, ([\d.]+) s, ")
 FOLDER = tempfile.TemporaryDirectory()
 
 
-def own_time(words):
+def own_time(words, rows=ROWS):
     """The time that a peer measures by itself, without its start; or the processor's time."""
     begun = runs.spent()
     try:
@@ -23,7 +24,7 @@ def own_time(words):
     except (OSError, subprocess.TimeoutExpired) as error:
         raise Missing(str(error)) from error
     found = SPENT.search(run.stdout)
-    if run.returncode != 0 or not found or int(found[1]) != ROWS:
+    if run.returncode != 0 or not found or int(found[1]) != rows:
         lines = run.stderr.strip().splitlines()
         raise Missing(lines[0] if lines else f"status {run.returncode}")
     return runs.spent() - begun if runs.COUNTS_PROCESSOR else float(found[2])
@@ -70,6 +71,27 @@ def in_rust():
     return f"{FOLDER.name}/cargo/release/examples/peers"
 
 
+def written(what, keys, rows):
+    """How long so many single-row writes take."""
+
+    def measure(_program):
+        words = ["gcc -std=c11 -O2 -pthread", f"-I{ROOT}/include", f"-I{ROOT}/tools/embedded"]
+        path = compiled("writes", " ".join(words), "writes.c", f"{library()}/libcagzhomul.a", "-lsqlite3")
+        return {"": own_time([path, what, keys, str(rows)], rows)}
+
+    return measure
+
+
+def writes():
+    """Single-row writes into a table with an index, of SQLite and of the library, in the order of keys and scattered."""
+    found = []
+    for keys in ("rising", "scattered"):
+        for rows in (ROWS, 10 * ROWS):
+            for what, name in (("sqlite", "SQLite in memory"), ("library", "Cagzhomul's library")):
+                found.append(Case("peers", f"C: {name}, writes at {keys} keys", rows, written(what, keys, rows), work=rows, base=f"writes {keys} {rows}", is_shared=True))
+    return found
+
+
 def cases():
     """Loads with 4 servers and with 1, and the peers."""
     found = []
@@ -88,4 +110,4 @@ def cases():
     ]
     for name, measure in peers:
         found.append(Case("peers", name, ROWS, measure, work=ROWS, base="peers", is_shared=True))
-    return found
+    return found + writes()
