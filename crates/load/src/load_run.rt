@@ -337,8 +337,8 @@ fn report_pace<R: Eprint>(rt: &R, alloc: Global, report: &Report, rows: u32) {
 
 /// Runs a load: it opens the table t (id int key, a int), has servers insert rows, each by a
 /// transaction of its own, while another thread adds the index i on (a) step by step and workers
-/// fill it; then it audits the store, compares all receipts with the log, and writes what it found
-/// in five lines.
+/// fill it; then it audits the store on as many threads, beside that compares all receipts with the
+/// log, and writes what it found in five lines.
 ///
 /// - `size`: how many servers, rows, pieces of the fill, workers, and rows of a piece that are
 ///   filled at a time.
