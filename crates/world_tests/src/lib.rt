@@ -11,6 +11,8 @@ mod events;
 #[cfg(test)]
 mod fixtures;
 #[cfg(test)]
+mod kept_work;
+#[cfg(test)]
 mod leases;
 #[cfg(test)]
 mod pieces;

@@ -42,8 +42,8 @@ fn work_of(
     }
 }
 
-// An insert prepared by the schema of a version.
-fn prepared(
+/// An insert prepared by the schema of a version.
+pub(crate) fn prepared(
     alloc: Global,
     world: &World,
     version: u64,
