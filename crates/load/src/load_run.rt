@@ -300,7 +300,7 @@ fn load_in<
         rt,
         alloc,
         &world,
-        (size.servers + size.workers) as usize,
+        size.servers as usize + size.workers as usize,
         receipts.as_slice(),
         outcome,
         pace,
