@@ -1,6 +1,7 @@
 -- Pages that are written where they stand.
-use Rattle.std.proofs.Common.{◌≡◌, ℕ, ◌+◌, ◌<◌, ◌≤◌, T, Bool, true, false, cond, List, [], ◌∷◌, ◌++◌, length, get_or, take, drop, set, Option, Some, None, refl, sym, ap, subst, ◌∙◌, arith, append-nil}
-use Rattle.std.specs.Option.{is_some}
+use Rattle.std.proofs.Common.{◌≡◌, ℕ, ◌+◌, ◌<◌, ◌≤◌, T, Bool, true, false, cond, List, [], ◌∷◌, ◌++◌, length, get_or, take, drop, set, Option, Some, None, refl, sym, ap, subst, ◌∙◌, arith, append-nil, true≢false}
+use Rattle.std.specs.Option.{is_some, is_none, option_map}
+use Rattle.std.specs.List as lists
 use Rattle.std.specs.FinMap.Entries.{find, length-put, length_without}
 use Rattle.std.proofs.lemmas.List.{drop_more, take-take, length-take-le, take_more_set, take_all, length-set, length-append}
 use Rattle.byte_map.specs.Order.{bytes_cmp}
@@ -43,6 +44,27 @@ near_all es (w ∷ ws) h =
     let rest : IsNear (length (changed es w.0 w.1)) (length (changed_all (changed es w.0 w.1) ws)) (length ws) = near_all (changed es w.0 w.1) ws (sorted_changed es w.0 w.1 h) in
     (omega (arith, one.0, rest.0), omega (arith, one.1, rest.1))
 
+-- puts take no pair away
+at_least : (b : Bool) (n m : ℕ) → n ≡ cond b m (m + 1) → m ≤ n
+at_least true n m is = omega (arith, is)
+at_least false n m is = omega (arith, is)
+
+puts_keep : (es : Entries (List ℕ)) (ws : Writes) → IsSorted es → lists.find (λ (w : List ℕ × Option (List ℕ)). is_none w.1) ws ≡ None → length es ≤ length (changed_all es ws)
+puts_keep es [] h none = omega arith
+puts_keep es ((k, None) ∷ ws) h none = absurd cc
+puts_keep es ((k, Some v) ∷ ws) h none =
+    let one : length es ≤ length (changed es k (Some v)) = at_least (is_some (find bytes_cmp k es)) _ _ (length-put bytes_cmp bytes_cmp_total k v es h) in
+    let rest : length (changed es k (Some v)) ≤ length (changed_all (changed es k (Some v)) ws) = puts_keep (changed es k (Some v)) ws (sorted_changed es k (Some v) h) none in
+    omega (arith, one, rest)
+
+pub some_put : {X : Type 0} (now : X → List ℕ × Option (List ℕ)) (es : Entries (List ℕ)) (ws : Writes) (found : Option X) (b : Bool) → IsSorted es → 0 < length es → option_map now found ≡ lists.find (λ (w : List ℕ × Option (List ℕ)). is_none w.1) ws
+    → b ≡ is_some found → b ≡ false → 0 < length (changed_all es ws)
+some_put now es ws None b h some is b_is out = omega (arith, some, puts_keep es ws h (sym is))
+some_put now es ws (Some w) b h some is b_is out = absurd (true≢false (sym b_is ∙ out))
+
+pub some_more : (es : Entries (List ℕ)) (ws : Writes) → IsSorted es → length ws < length es → 0 < length (changed_all es ws)
+some_more es ws h fewer = omega (arith, fewer, (near_all es ws h).1)
+
 -- room for the changes that are left
 pub room_left : (f : Flat) (ws : Writes) (i : ℕ) (w : List ℕ × Option (List ℕ)) → i < length ws → w ≡ get_or ws i w → HasRoom f (wanted (drop i ws)) (length (drop i ws)) → HasRoom f (size w.0 w.1 + wanted (drop (i + 1) ws)) (1 + length (drop (i + 1) ws))
 room_left f ws i w lt is h =
@@ -58,7 +80,7 @@ room_one f a b n h = record {
 
 -- one page is written, and the pages after it are
 module _ (ps : Pages) (at : ℕ) (page : Entries (List ℕ)) (lt : at < length ps) (is : page ≡ get_or ps at page) where
-  one_page : joined (take 1 (drop at ps)) ≡ page
+  pub one_page : joined (take 1 (drop at ps)) ≡ page
   one_page =
       ap (λ (l : Pages). joined (take 1 l)) (drop_more ps at page lt)
       ∙ append-nil (get_or ps at page)

@@ -28,6 +28,18 @@ pub(crate) fn cut(alloc: Global, pairs: FlatPairs, rising: bool) -> Result<Vec<P
     parts(alloc, &pairs, rising)
 }
 
+/// Cuts pairs into pages: those before a place, and those from there on. Refused only when out of
+/// memory.
+pub(crate) fn cut_at(alloc: Global, pairs: &FlatPairs, at: usize) -> Result<Vec<Page>, AllocError>
+    requires { at ≤ length pairs.now.pairs }
+    ensures { IfOk result (λ pages. joined pages.items ≡ pairs.now.pairs) }
+{
+    let mut pages = cut(alloc, pairs.part(alloc, 0, at)?, true)?;
+    let mut rest = cut(alloc, pairs.part(alloc, at, pairs.len())?, true)?;
+    pages.append(&mut rest)?;
+    Ok(pages)
+}
+
 /// Copies pairs into pages.
 fn parts(alloc: Global, pairs: &FlatPairs, rising: bool) -> Result<Vec<Page>, AllocError>
     ensures { IfOk result (λ pages. joined pages.items ≡ pairs.now.pairs) }

@@ -1,6 +1,8 @@
 //! Changes of chunks and pages that no snapshot shares, made in place.
-ghost use Rattle.std.specs.Prelude.{◌≡◌, ◌+◌, ◌≤◌, ◌<◌, ◌^◌, true, IfSome, IfNone, length};
-ghost use Rattle.byte_map.specs.Sorted.{IsSorted, changed_all};
+ghost use Rattle.std.specs.Prelude.{◌≡◌, ◌+◌, ◌≤◌, ◌<◌, ◌^◌, true, IfSome, IfNone, length, is_none, false, List, ℕ};
+ghost use Rattle.std.specs.List.{find};
+ghost use Rattle.std.specs.Option.{option_copied};
+ghost use Rattle.byte_map.specs.Sorted.{Entries, IsSorted, changed_all};
 ghost use Rattle.page_map.specs.Empties.{empties};
 ghost use Rattle.page_map.specs.inner.FlatPairs.{HasRoom, wanted};
 ghost use Rattle.page_map.specs.Pages.{joined, AllFull};
@@ -125,20 +127,41 @@ fn write_pages(
 
 /// Makes room for these writes, if they neither cut nor empty the page.
 fn is_ready(pairs: &mut FlatPairs, writes: &[(Bytes, Option<Bytes>)]) -> bool
+    requires { IsSorted pairs.old.pairs }
     ensures kept { pairs.new.pairs ≡ pairs.old.pairs }
-    ensures some { result ≡ true → length writes.now < length pairs.old.pairs }
+    ensures some { result ≡ true → 0 < length (changed_all pairs.old.pairs writes.now) }
     ensures few { result ≡ true → length pairs.old.pairs + length writes.now ≤ 64 }
     ensures room { result ≡ true → HasRoom pairs.new (wanted writes.now) (length writes.now) }
 {
     let count = writes.len();
     let len = pairs.len();
-    if len > PAGE_LIMIT || count > PAGE_LIMIT - len || count >= len || pairs.is_worn() {
+    if len == 0 || len > PAGE_LIMIT || count > PAGE_LIMIT - len || pairs.is_worn() {
+        return false;
+    }
+    if may_empty(len, writes) {
         return false;
     }
     match bytes_of(writes) {
         Some(bytes) => pairs.reserve(bytes, count).is_ok(),
         None => false,
     }
+}
+
+/// Whether these writes may leave nothing of so many pairs.
+fn may_empty(len: usize, writes: &[(Bytes, Option<Bytes>)]) -> bool
+    ensures { (es : Entries (List ℕ)) → IsSorted es → length es ≡ len → 0 < len → result ≡ false → 0 < length (changed_all es writes.now) }
+{
+    if writes.len() < len {
+        return false;
+    }
+    first_removal(writes).is_some()
+}
+
+/// The first write that removes a pair.
+fn first_removal<'a>(writes: &'a [(Bytes, Option<Bytes>)]) -> Option<&'a (Bytes, Option<Bytes>)>
+    ensures { option_copied result ≡ find (λ w. is_none w.1) writes.now }
+{
+    writes.iter().find(|write| write.1.is_none())
 }
 
 /// How many bytes the writes lay.

@@ -73,6 +73,16 @@ write_pages-write_all_reserved-new_count-requires-clause-sorted t c =
     let held : c.is_ready.new.pairs.pairs ≡ page = c.if-not-is_ready.ensures.kept ∙ ap (λ f. f.pairs) c.in-Some.ensures.value ∙ c.page.view_is ∙ sym c.index-prefix-at.is in
     subst IsSorted (sym held) (subst IsSorted (sym is) (sorted_one ps at page c.requires.sorted lt))
 
+pub write_pages-is_ready-requires : goal.write_pages-is_ready-requires
+write_pages-is_ready-requires t c =
+    let ps = c.args.pages.now in
+    let at = c.place_of-at.result in
+    let page = c.index-prefix-at.result in
+    let lt : at < length ps = omega (arith, c.if-at-pages.false) in
+    let is : page ≡ get_or ps at page = c.index-prefix-at.is ∙ ap (λ l. get_or l at page) c.split_at_mut-prefix.ensures.front ∙ get_or-take (at + 1) ps at page (omega arith) in
+    let held : c.in-Some.pairs.now.pairs ≡ page = ap (λ f. f.pairs) c.in-Some.ensures.value ∙ c.page.view_is ∙ sym c.index-prefix-at.is in
+    subst IsSorted (sym held) (subst IsSorted (sym is) (sorted_one ps at page c.requires.sorted lt))
+
 pub write_pages-pair-requires : goal.write_pages-pair-requires
 write_pages-pair-requires t c =
     let ps = c.args.pages.now in
@@ -92,8 +102,9 @@ write_pages-pair-requires t c =
     let size : length c.is_ready.new.pairs.pairs ≡ length page = ap length held in
     let kept : length c.is_ready.new.pairs.pairs ≡ length c.in-Some.pairs.now.pairs = ap length c.if-not-is_ready.ensures.kept in
     let some = c.if-not-is_ready.ensures.some refl in
-    let few = c.if-not-is_ready.ensures.few refl in
-    omega (arith, near.1, now, here, size, kept, some)
+    let written : length c.write_all_reserved-new_count.new.self.pairs ≡ length (changed_all c.in-Some.pairs.now.pairs c.split_at.result.0.now) =
+    ap length (c.write_all_reserved-new_count.ensures.written ∙ ap (λ l. changed_all l c.split_at.result.0.now) c.if-not-is_ready.ensures.kept) in
+    omega (arith, written, some)
 
 pub write_pages-overflow_sub-result : goal.write_pages-overflow_sub-result
 write_pages-overflow_sub-result t c =
@@ -137,9 +148,11 @@ write_pages-invariant_of-page-2 t c =
     let size : length c.is_ready.new.pairs.pairs ≡ length page = ap length held in
     let kept : length c.is_ready.new.pairs.pairs ≡ length c.in-Some.pairs.now.pairs = ap length c.if-not-is_ready.ensures.kept in
     let some = c.if-not-is_ready.ensures.some refl in
+    let written : length c.write_all_reserved-new_count.new.self.pairs ≡ length (changed_all c.in-Some.pairs.now.pairs c.split_at.result.0.now) =
+    ap length (c.write_all_reserved-new_count.ensures.written ∙ ap (λ l. changed_all l c.split_at.result.0.now) c.if-not-is_ready.ensures.kept) in
     let few = c.if-not-is_ready.ensures.few refl in
     record {
-      page = (omega (arith, near.1, now, here, size, kept, some), omega (arith, near.0, now, here, size, kept, few));
+      page = (omega (arith, written, some), omega (arith, near.0, now, here, size, kept, few));
       counted = c.write_all_reserved-new_count.ensures.counted;
       prefix = λ first stands. subst (λ (l : List (List ℕ × List ℕ)). IsPrefix c.prefix_of-page-inside.result (get_or l 0 first).0) (sym c.pair.ensures ∙ stands) c.prefix_of-page-inside.ensures;
     }

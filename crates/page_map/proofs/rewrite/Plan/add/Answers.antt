@@ -15,11 +15,11 @@ returns-clause-plan c =
     let new : Plan = record { pieces = c.push.new.self; reach = c.args.at + 1; base = c.args.self.now.base; room = c.in_ok-room.room; len = c.in_ok-len.len; shifts = c.saturating_add-self.result } in
     planned c.args.pages.now c.args.self.now c.requires.plan c.args.at c.requires.ahead c.requires.in_range new piece refl c.in_ok-push.ensures.items refl refl
     (c.in_ok-room.ensures ∙ ap (λ l. c.args.self.now.room + length l) c.as_slice-count.ensures.value)
-    (c.in_ok-len.ensures ∙ (λ i. (c.args.self.now.len - c.len_at.ensures i) + (c.len.ensures ∙ ap length (sym c.in_ok-new.ensures)) i))
+    (c.in_ok-len.ensures ∙ (λ i. (c.args.self.now.len - c.len_at.ensures i) + (c.in_ok-new.ensures.many ∙ ap length (sym c.in_ok-new.ensures.pages)) i))
 
 pub returns-clause-made : goal.returns-clause-made
 returns-clause-made c =
     let piece : Piece = record { at = c.args.at; pages = c.in_ok-new.new } in
     let new : Plan = record { pieces = c.push.new.self; reach = c.args.at + 1; base = c.args.self.now.base; room = c.in_ok-room.room; len = c.in_ok-len.len; shifts = c.saturating_add-self.result } in
     made_more c.args.pages.now c.args.self.now c.requires.plan c.args.at c.requires.ahead c.requires.in_range new piece refl c.in_ok-push.ensures.items
-    ∙ ap (λ l. joined (made c.args.pages.now (reverse c.args.self.now.pieces.items)) ++ (joined (drop c.args.self.now.reach (take c.args.at c.args.pages.now)) ++ l)) (c.in_ok-new.ensures ∙ c.in_ok-pairs.ensures)
+    ∙ ap (λ l. joined (made c.args.pages.now (reverse c.args.self.now.pieces.items)) ++ (joined (drop c.args.self.now.reach (take c.args.at c.args.pages.now)) ++ l)) c.in_ok-new.ensures.pages

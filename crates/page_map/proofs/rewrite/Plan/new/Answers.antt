@@ -6,6 +6,7 @@ use Rattle.byte_map.specs.Sorted.{all_below, changed_all}
 use Rattle.byte_map.proofs.Ranges.{sorted_drop}
 use Rattle.page_map.specs.Pages.{joined, Stands}
 use Rattle.page_map.specs.inner.Plan.{made}
+use Rattle.page_map.proofs.Appends.{sorted_take}
 use Rattle.page_map.proofs.Placing.{first_left, some_left, step, finish}
 use Rattle.page_map.proofs.rewrite.Plan.new.Goals as goal
 
@@ -49,6 +50,10 @@ loop-done-preserved c =
           c.in_ok-add.ensures.made
           c.loop-done.invariant.whole;
     }
+
+pub add-requires-clause-writes : goal.add-requires-clause-writes
+add-requires-clause-writes c =
+    sorted_take c.split_at.result.1.now c.count_before-count.result _ (sorted_drop c.args.writes.now _ c.loop-done.done c.requires.writes c.split_at.ensures.back) c.split_at-in-loop-done.ensures.front
 
 pub returns-clause-all : goal.returns-clause-all
 returns-clause-all c =
