@@ -43,7 +43,7 @@ use Rattle.replay.proofs.Agree.{at_number}
 use Rattle.replay.proofs.Begun.{get_passed}
 use Rattle.replay.proofs.Different.{begin_different}
 use Rattle.replay.specs.Kept.{IsInPiece, IsReached, IsInPieces, AreInPieces}
-use Rattle.drafts.specs.Given.{AreGiven, GivenBeginsKeep}
+use Rattle.drafts.specs.Given.{AreGiven, MayBeginAt, begun_at, GivenBeginsKeep}
 use Rattle.replay.proofs.Time.{at, kept_later}
 
 some_one : {A : Type 0} {v w : A} → Some v ≡ (let o : Option A = Some w in o) → v ≡ w
@@ -229,4 +229,4 @@ module _ (facts : Facts) (now : ℕ) (b : Progress) (later : facts.moment ≤ no
   }
 
 pub given_begins_keep : GivenBeginsKeep
-given_begins_keep facts now b later there wants settled new given kept = given_kept facts now b later there wants settled new given kept
+given_begins_keep facts now b later may kept = given_kept facts now b later may.there may.wants may.settled may.new may.given kept

@@ -19,10 +19,12 @@ use Rattle.replay.proofs.Time.{opened_kept}
 use Rattle.drafts.specs.Store.{Store, OfVersion, version_key, applied, opened}
 use Rattle.drafts.specs.Calls.{Call, Transact, Close, Begin, Divide, Piece, Publish, draft_of}
 use Rattle.drafts.specs.Mirror.{Mirrors, open_at}
-use Rattle.drafts.specs.Laws.{AreDrafted, AreApplied, after_calls, rows_by, HasEntry, DraftsKeep, AreLogged, HasNext, AllKeep, opening_of, Agrees, RunsHaveLogs, RunsAgree, HasNewest, RunsStayOpen}
+use Rattle.drafts.specs.Laws.{AreDrafted, AreApplied, after_calls, rows_by, HasEntry, DraftsKeep, AreLogged, IsEntryOf, AreEntriesOf, HasNext, AllKeep, opening_of, Agrees, RunsHaveLogs, RunsReplay, RunsAgree, HasNewest, RunsStayOpen}
+use Rattle.drafts.specs.Log.{LogEntry, Logged, BegunAt, after_one, after_log, MayComeNext, AllCome, LogsAgree}
 use Rattle.drafts.proofs.Begins.{begin_kept}
 use Rattle.drafts.proofs.Closes.{close_kept}
 use Rattle.drafts.proofs.Divides.{divide_kept}
+use Rattle.drafts.proofs.Given.{given_begins_keep}
 use Rattle.drafts.proofs.Opens.{opens, read_of, usable, newest_open, open_none}
 use Rattle.drafts.proofs.Pieces.{piece_kept}
 use Rattle.drafts.proofs.Publications.{publish_kept}
@@ -37,30 +39,39 @@ drafts_keep facts store (Divide d) k m made logged may = absurd logged
 drafts_keep facts store (Piece w) k m made logged may = piece_kept facts store w k m made may
 drafts_keep facts store (Publish p) k m made logged may = publish_kept facts store p k m made may
 
-by_entry : (facts : Facts) (store : Store) (call : Call) → IsKept facts → HasEntry facts store call → HasNext facts store call
-by_entry facts store call k e = record { next = after facts e.entry; kept = call_kept facts e.entry.moment e.entry.what e.later e.may k; mirrors = e.mirrors; rows = e.rows }
+by_entry : (facts : Facts) (store : Store) (call : Call) → ((entry : Entry) → IsEntryOf call (Logged entry)) → IsKept facts → HasEntry facts store call → HasNext facts store call
+by_entry facts store call of k e = record { one = Logged e.entry; entry_of = of e.entry; comes = (e.later, e.may); kept = call_kept facts e.entry.moment e.entry.what e.later e.may k; mirrors = e.mirrors; rows = e.rows }
 
 pub all_keep : AllKeep
-all_keep facts store (Transact txn mark) k m made may = by_entry facts store (Transact txn mark) k (txn_kept facts store txn mark k m made may)
-all_keep facts store (Close newest) k m made may = by_entry facts store (Close newest) k (close_kept facts store newest k m may)
-all_keep facts store (Begin b) k m made may = by_entry facts store (Begin b) k (begin_kept facts store b k m made may)
+all_keep facts store (Transact txn mark) k m made may = by_entry facts store (Transact txn mark) (λ e. tt) k (txn_kept facts store txn mark k m made may)
+all_keep facts store (Close newest) k m made may = by_entry facts store (Close newest) (λ e. tt) k (close_kept facts store newest k m may)
+all_keep facts store (Begin b) k m made may = by_entry facts store (Begin b) (λ e. tt) k (begin_kept facts store b k m made may)
 all_keep facts store (Divide d) k m made may = divide_kept facts store d k m made may
-all_keep facts store (Piece w) k m made may = by_entry facts store (Piece w) k (piece_kept facts store w k m made may)
-all_keep facts store (Publish p) k m made may = by_entry facts store (Publish p) k (publish_kept facts store p k m made may)
+all_keep facts store (Piece w) k m made may = by_entry facts store (Piece w) (λ e. tt) k (piece_kept facts store w k m made may)
+all_keep facts store (Publish p) k m made may = by_entry facts store (Publish p) (λ e. tt) k (publish_kept facts store p k m made may)
 
 -- what a list of drafts comes to
-pub record Ends (store : Store) (rows : Rows) : Type 0 where
-  pub facts : Facts
-  pub kept : IsKept facts
-  pub mirrors : Mirrors facts store
-  pub rows_are : facts.rows ≡ rows
+pub record Ends (facts : Facts) (store : Store) (rows : Rows) (calls : List Call) : Type 0 where
+  pub log : List LogEntry
+  pub entries : AreEntriesOf calls log
+  pub comes : AllCome facts log
+  pub kept : IsKept (after_log facts log)
+  pub mirrors : Mirrors (after_log facts log) store
+  pub rows_are : (after_log facts log).rows ≡ rows
 
-pub all_end : (facts : Facts) (store : Store) (calls : List Call) → IsKept facts → Mirrors facts store → AreDrafted calls → AreApplied store calls → Ends (after_calls store calls) (rows_by facts.rows calls)
-all_end facts store [] k m made may = record { facts = facts; kept = k; mirrors = m; rows_are = refl }
+pub all_end : (facts : Facts) (store : Store) (calls : List Call) → IsKept facts → Mirrors facts store → AreDrafted calls → AreApplied store calls → Ends facts (after_calls store calls) (rows_by facts.rows calls) calls
+all_end facts store [] k m made may = record { log = []; entries = tt; comes = tt; kept = k; mirrors = m; rows_are = refl }
 all_end facts store (call ∷ calls) k m made may =
     let e = all_keep facts store call k m made.0 may.0 in
-    let rest = all_end e.next (applied (draft_of call) store) calls e.kept e.mirrors made.1 may.1 in
-    record { facts = rest.facts; kept = rest.kept; mirrors = rest.mirrors; rows_are = rest.rows_are ∙ ap (λ (rows : Rows). rows_by rows calls) e.rows }
+    let rest = all_end (after_one facts e.one) (applied (draft_of call) store) calls e.kept e.mirrors made.1 may.1 in
+    record {
+      log = e.one ∷ rest.log;
+      entries = (e.entry_of, rest.entries);
+      comes = (e.comes, rest.comes);
+      kept = rest.kept;
+      mirrors = rest.mirrors;
+      rows_are = rest.rows_are ∙ ap (λ (rows : Rows). rows_by rows calls) e.rows;
+    }
 
 -- ---- all drafts
 
@@ -118,10 +129,26 @@ module _ (schema : Version) (sound : IsSoundVersion schema) where
     pairs = refl;
   }
 
-pub runs_have_logs : RunsHaveLogs
-runs_have_logs schema calls sound made logged may =
+pub runs_replay : RunsReplay
+runs_replay schema calls sound made logged may =
     let all = all_go (start (opening_of schema)) (opened schema) calls (opened_so schema sound) (first_mirror schema sound) made logged may in
     record { log = all.log; follows = all.follows; mirrors = all.mirrors; rows_are = all.rows_are }
+
+pub runs_have_logs : RunsHaveLogs
+runs_have_logs schema calls sound made may =
+    let all = all_end (start (opening_of schema)) (opened schema) calls (opened_so schema sound) (first_mirror schema sound) made may in
+    record { log = all.log; entries = all.entries; comes = all.comes; mirrors = all.mirrors; rows_are = all.rows_are }
+
+one_kept : (facts : Facts) (one : LogEntry) → IsKept facts → MayComeNext facts one → IsKept (after_one facts one)
+one_kept facts (Logged entry) k may = call_kept facts entry.moment entry.what may.0 may.1 k
+one_kept facts (BegunAt now begun) k may = given_begins_keep facts now begun may.0 may.1 k
+
+log_kept : (facts : Facts) (log : List LogEntry) → IsKept facts → AllCome facts log → IsKept (after_log facts log)
+log_kept facts [] k all = k
+log_kept facts (one ∷ log) k all = log_kept (after_one facts one) log (one_kept facts one k all.0) all.1
+
+pub logs_agree : LogsAgree
+logs_agree opening log length sound all = agrees (after_log (start opening) log) (log_kept (start opening) log (opened_kept opening length sound) all)
 
 agrees_at : (facts : Facts) (store : Store) (rows : Rows) → IsKept facts → Mirrors facts store → facts.rows ≡ rows → Agrees store rows
 agrees_at facts store rows k m is number version there =
@@ -133,7 +160,7 @@ agrees_at facts store rows k m is number version there =
 pub runs_agree : RunsAgree
 runs_agree schema calls sound made may =
     let all = all_end (start (opening_of schema)) (opened schema) calls (opened_so schema sound) (first_mirror schema sound) made may in
-    agrees_at all.facts (after_calls (opened schema) calls) (rows_by map.empty calls) all.kept all.mirrors all.rows_are
+    agrees_at (after_log (start (opening_of schema)) all.log) (after_calls (opened schema) calls) (rows_by map.empty calls) all.kept all.mirrors all.rows_are
 
 newest_of : (facts : Facts) (store : Store) → IsKept facts → Mirrors facts store → HasNewest store
 newest_of facts store k m = record {
@@ -151,4 +178,4 @@ newest_of facts store k m = record {
 pub runs_stay_open : RunsStayOpen
 runs_stay_open schema calls sound made may =
     let all = all_end (start (opening_of schema)) (opened schema) calls (opened_so schema sound) (first_mirror schema sound) made may in
-    newest_of all.facts (after_calls (opened schema) calls) all.kept all.mirrors
+    newest_of (after_log (start (opening_of schema)) all.log) (after_calls (opened schema) calls) all.kept all.mirrors

@@ -1,4 +1,4 @@
--- Cited by the contracts of lemma_given_begins_keep.
+-- Cited by the contracts of lemma_given_begins_keep, and by the definitions of Log.
 -- A reorganisation whose bounds are given: for a store that is too large for a walk over it.
 use Rattle.std.specs.Prelude.{◌≡◌, ℕ, ◌≤◌, [], ◌∷◌, ◌++◌, length, Some, None}
 use Rattle.std.specs.List.{AllByRecursion}
@@ -21,8 +21,16 @@ pub record AreGiven (b : Progress) : Type 0 where
   pub fresh : AllByRecursion (λ (s : Span). s.cursor ≡ s.low) b.pieces
 
 -- what the element wants, begun where every version that a lease may still use has it in that state; of the pairs nothing is asked
+pub record MayBeginAt (facts : Facts) (now : ℕ) (b : Progress) : Type 0 where
+  pub there : element_at facts.newest b.element.number ≡ Some b.element
+  pub wants : wanted_work b.element ≡ Some b.kind
+  pub settled : state_of (used_before facts now) b.element.number ≡ b.element.state
+  pub new : progress_of facts.progress b.element.number ≡ None
+  pub given : AreGiven b
+
+-- one more reorganisation, and all else as it was
+abbrev pub begun_at : Facts → ℕ → Progress → Facts
+begun_at facts now b = record facts { moment = now; progress = facts.progress ++ b ∷ [] }
+
 abbrev pub GivenBeginsKeep : Type 0
-GivenBeginsKeep =
-    (facts : Facts) (now : ℕ) (b : Progress) → facts.moment ≤ now → element_at facts.newest b.element.number ≡ Some b.element → wanted_work b.element ≡ Some b.kind
-    → state_of (used_before facts now) b.element.number ≡ b.element.state → progress_of facts.progress b.element.number ≡ None → AreGiven b
-    → IsKept facts → IsKept (record facts { moment = now; progress = facts.progress ++ b ∷ [] })
+GivenBeginsKeep = (facts : Facts) (now : ℕ) (b : Progress) → facts.moment ≤ now → MayBeginAt facts now b → IsKept facts → IsKept (begun_at facts now b)

@@ -16,6 +16,7 @@ use Rattle.replay.specs.Kept.{IsKept}
 use Rattle.replay.specs.Replay.{Opening, Facts, start, after, replay}
 use Rattle.drafts.specs.Store.{OfVersion, version_key, Store, IsThere, MayApply, applied, opened}
 use Rattle.drafts.specs.Calls.{Call, Transact, Close, Begin, Divide, Piece, Publish, mark_reads, txn_draft, draft_of, IsDrafted}
+use Rattle.drafts.specs.Log.{LogEntry, Logged, BegunAt, after_one, after_log, MayComeNext, AllCome}
 use Rattle.drafts.specs.Mirror.{Mirrors}
 
 -- ---- a run
@@ -56,7 +57,7 @@ pub record HasEntry (facts : Facts) (store : Store) (call : Call) : Type 0 where
   pub mirrors : Mirrors (after facts entry) (applied (draft_of call) store)
   pub rows : (after facts entry).rows ≡ rows_after facts.rows call
 
--- what the log has entries for: all but begins with given bounds
+-- what `replay` has entries for: all but begins with given bounds
 abbrev pub IsLogged : Call → Type 0
 IsLogged (Transact txn mark) = Unit {0}
 IsLogged (Close newest) = Unit {0}
@@ -72,12 +73,35 @@ AreLogged (call ∷ calls) = IsLogged call × AreLogged calls
 abbrev pub DraftsKeep : Type 0
 DraftsKeep = (facts : Facts) (store : Store) (call : Call) → IsKept facts → Mirrors facts store → IsDrafted call → IsLogged call → MayApply (draft_of call) store → HasEntry facts store call
 
--- facts that keep all, and that the store mirrors again
+abbrev pub IsLoggedOne : LogEntry → Type 0
+IsLoggedOne (Logged entry) = Unit {0}
+IsLoggedOne (BegunAt now begun) = ⊥
+
+-- the entry that a draft is: a begin with given bounds is that begin, and any other draft an entry of `replay`
+abbrev pub IsEntryOf : Call → LogEntry → Type 0
+IsEntryOf (Divide d) (BegunAt now begun) = begun ≡ d.progress
+IsEntryOf (Divide d) (Logged entry) = ⊥
+IsEntryOf (Transact txn mark) one = IsLoggedOne one
+IsEntryOf (Close newest) one = IsLoggedOne one
+IsEntryOf (Begin b) one = IsLoggedOne one
+IsEntryOf (Piece w) one = IsLoggedOne one
+IsEntryOf (Publish p) one = IsLoggedOne one
+
+-- one for each draft, in their order
+abbrev pub AreEntriesOf : List Call → List LogEntry → Type 0
+AreEntriesOf [] [] = Unit {0}
+AreEntriesOf [] (one ∷ log) = ⊥
+AreEntriesOf (call ∷ calls) [] = ⊥
+AreEntriesOf (call ∷ calls) (one ∷ log) = IsEntryOf call one × AreEntriesOf calls log
+
+-- one more entry, with which the store mirrors the log again and keeps all
 pub record HasNext (facts : Facts) (store : Store) (call : Call) : Type 0 where
-  pub next : Facts
-  pub kept : IsKept next
-  pub mirrors : Mirrors next (applied (draft_of call) store)
-  pub rows : next.rows ≡ rows_after facts.rows call
+  pub one : LogEntry
+  pub entry_of : IsEntryOf call one
+  pub comes : MayComeNext facts one
+  pub kept : IsKept (after_one facts one)
+  pub mirrors : Mirrors (after_one facts one) (applied (draft_of call) store)
+  pub rows : (after_one facts one).rows ≡ rows_after facts.rows call
 
 abbrev pub AllKeep : Type 0
 AllKeep = (facts : Facts) (store : Store) (call : Call) → IsKept facts → Mirrors facts store → IsDrafted call → MayApply (draft_of call) store → HasNext facts store call
@@ -88,8 +112,16 @@ AllKeep = (facts : Facts) (store : Store) (call : Call) → IsKept facts → Mir
 abbrev pub opening_of : Version → Opening
 opening_of schema = record { length = 1; schema = schema }
 
--- a log that the theorem on logs speaks of
-pub record HasLog (schema : Version) (store : Store) (rows : Rows) : Type 0 where
+-- a log that the theorem on logs speaks of, with an entry for each draft
+pub record HasLog (schema : Version) (store : Store) (rows : Rows) (calls : List Call) : Type 0 where
+  pub log : List LogEntry
+  pub entries : AreEntriesOf calls log
+  pub comes : AllCome (start (opening_of schema)) log
+  pub mirrors : Mirrors (after_log (start (opening_of schema)) log) store
+  pub rows_are : (after_log (start (opening_of schema)) log).rows ≡ rows
+
+-- a log of `replay`
+pub record HasReplay (schema : Version) (store : Store) (rows : Rows) : Type 0 where
   pub log : List Entry
   pub follows : AllFollow (start (opening_of schema)) log
   pub mirrors : Mirrors (replay (opening_of schema) log) store
@@ -113,7 +145,11 @@ FreshTxnsApply =
     → MayApply (txn_draft txn mark) store
 
 abbrev pub RunsHaveLogs : Type 0
-RunsHaveLogs = (schema : Version) (calls : List Call) → IsSoundVersion schema → AreDrafted calls → AreLogged calls → AreApplied (opened schema) calls → HasLog schema (after_calls (opened schema) calls) (rows_by map.empty calls)
+RunsHaveLogs = (schema : Version) (calls : List Call) → IsSoundVersion schema → AreDrafted calls → AreApplied (opened schema) calls → HasLog schema (after_calls (opened schema) calls) (rows_by map.empty calls) calls
+
+-- without begins at given keys the log is one of `replay`
+abbrev pub RunsReplay : Type 0
+RunsReplay = (schema : Version) (calls : List Call) → IsSoundVersion schema → AreDrafted calls → AreLogged calls → AreApplied (opened schema) calls → HasReplay schema (after_calls (opened schema) calls) (rows_by map.empty calls)
 
 abbrev pub RunsAgree : Type 0
 RunsAgree = (schema : Version) (calls : List Call) → IsSoundVersion schema → AreDrafted calls → AreApplied (opened schema) calls → Agrees (after_calls (opened schema) calls) (rows_by map.empty calls)

@@ -1,6 +1,7 @@
 //! What comes of drafts: each is a call without a body, so that a contract names it.
-ghost use Rattle.drafts.specs.Laws.{DraftsKeep, AllKeep, RunsHaveLogs, RunsAgree, RunsStayOpen, MarksAreOnce, FreshTxnsApply};
+ghost use Rattle.drafts.specs.Laws.{DraftsKeep, AllKeep, RunsHaveLogs, RunsReplay, RunsAgree, RunsStayOpen, MarksAreOnce, FreshTxnsApply};
 ghost use Rattle.drafts.specs.Given.{GivenBeginsKeep};
+ghost use Rattle.drafts.specs.Log.{LogsAgree};
 
 /// A draft that a store applies, whatever reads it was made from, is one more entry of the log that
 /// the store mirrors. One with given bounds, for which there is no entry, keeps all the same.
@@ -20,10 +21,14 @@ pub fn runs_agree()
     ensures stay_open { RunsStayOpen }
 {}
 
-/// If no begin has given bounds, for which a log has no entry, the store mirrors a log of which the
-/// theorem on logs speaks, and which nobody keeps.
+/// The log that a store mirrors, and which nobody keeps: it has an entry for each draft, one after
+/// another, which are those of `replay` and, for a begin with given bounds, of which `replay` has
+/// none, that begin. The theorem on logs is true of each such log. Without begins at given bounds
+/// it is a log of `replay`.
 pub fn runs_have_logs()
-    ensures { RunsHaveLogs }
+    ensures logs { RunsHaveLogs }
+    ensures agree { LogsAgree }
+    ensures replay { RunsReplay }
 {}
 
 /// The pieces of a reorganisation may begin at any keys that rows may have, present or not: a begin

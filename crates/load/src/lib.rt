@@ -14,6 +14,7 @@ mod paced_gate;
 mod report;
 mod samples;
 mod settle;
+mod sides;
 mod table;
 
 pub use load_run::{run_load, run_load_shown};

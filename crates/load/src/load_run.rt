@@ -4,7 +4,7 @@ ghost use Rattle.command_line.specs.LoadSize.{IsLoadSize};
 ghost use Rattle.server.specs.Receipts.{AreTheLog};
 ghost use Rattle.server.specs.State.{entries_before, entries_kept};
 
-use crate::add_index::{Added, add_index};
+use crate::add_index::add_index;
 use crate::bar::Bar;
 use crate::fault::LoadFault;
 use crate::meter::Meter;
@@ -13,14 +13,15 @@ use crate::pace::{Pace, now};
 use crate::paced_gate::PacedGate;
 use crate::report::Report;
 use crate::samples::{write_line, write_samples};
-use crate::settle::{gather, settle_served, worse};
+use crate::settle::worse;
+use crate::sides::{Done, Sides, join_handles, split_handles};
 use crate::table::{inserts, open_world};
 use command_line::LoadSize;
 use server::locked_store::{
     Blanks, Handle, ReceiptFault, Shared, SharedLedger, lemma_receipts_are_the_log, reconcile,
 };
 use server::world::{Receipt, World};
-use server::{Request, ServeFault, Served, serve};
+use server::{Request, serve};
 use std::alloc::{AllocError, Global};
 use std::io::Write;
 use std::marker::Brand;
@@ -30,83 +31,6 @@ use std::time::{Clock, Instant};
 
 /// How often a request is tried.
 const TRIES: u32 = 1_000;
-
-// What became of both sides, and when each had ended.
-#[derive(Drop)]
-struct Sides<L: SharedLedger> {
-    served: Result<Served<L>, (ServeFault, Vec<Handle<L>>)>,
-    added: Added<L>,
-    inserted: Option<Instant>,
-    filled: Option<Instant>,
-}
-
-// What came back of both sides: all handles, all receipts, whether all went well, and when the sides
-// had ended.
-#[derive(Drop)]
-struct Done<L: SharedLedger> {
-    handles: Vec<Handle<L>>,
-    receipts: Vec<Receipt>,
-    outcome: Result<(), LoadFault>,
-    inserted: Option<Instant>,
-    filled: Option<Instant>,
-}
-
-// The first handles for the servers, then one for the steps of the schema, and the last ones for
-// the workers.
-fn split_handles<L: SharedLedger>(
-    alloc: Global,
-    handles: &mut Vec<Handle<L>>,
-    workers: u32,
-) -> Result<(Handle<L>, Vec<Handle<L>>), LoadFault> {
-    let mut fill_handles = Vec::new(alloc);
-    for _ in 0..workers {
-        if let Some(handle) = handles.pop() {
-            fill_handles.push(handle)?;
-        }
-    }
-    match handles.pop() {
-        Some(me) => Ok((me, fill_handles)),
-        None => Err(LoadFault::Refused),
-    }
-}
-
-// All handles in one list.
-fn all_handles<L: SharedLedger>(
-    servers: Vec<Handle<L>>,
-    me: Handle<L>,
-    fill_handles: Vec<Handle<L>>,
-) -> Result<Vec<Handle<L>>, LoadFault> {
-    let (mut handles, mut fill_handles) = (servers, fill_handles);
-    handles.push(me)?;
-    handles.append(&mut fill_handles)?;
-    Ok(handles)
-}
-
-// Both sides put together.
-fn join_handles<L: SharedLedger>(sides: Sides<L>) -> Result<Done<L>, LoadFault> {
-    let Sides {
-        served,
-        added,
-        inserted,
-        filled,
-    } = sides;
-    let Added {
-        me,
-        fill_handles,
-        mut receipts,
-        pieces,
-        outcome,
-    } = added;
-    let (servers, settled) = settle_served(served, &mut receipts);
-    let gathered = gather(pieces, &mut receipts);
-    Ok(Done {
-        handles: all_handles(servers, me, fill_handles)?,
-        receipts,
-        outcome: worse(worse(settled, gathered), outcome),
-        inserted,
-        filled,
-    })
-}
 
 // The lines of JSON, if they are asked for.
 fn sample_load<R: Clock + Wait, W: Write>(

@@ -2,7 +2,7 @@
 //! refused before it with `WentBack` if the log is shorter than the handle's front. The front then
 //! stays; else it is the length of the log after the call, also if the world refuses.
 ghost use Rattle.std.specs.Prelude.{◌≡◌, IfOk};
-ghost use Rattle.locked_store.specs.Answers.{Answers, AnswersBack, Empties, Finds, reported, to_fault, no_place, grant_place, commit_place, publish_place, receipt_place, piece_place};
+ghost use Rattle.locked_store.specs.Answers.{Answers, AnswersBack, Finds, reported, to_fault, no_place, grant_place, commit_place, publish_place, receipt_place, piece_place};
 ghost use Rattle.rollout.specs.BeginReorg.{BeginStep};
 ghost use Rattle.rollout.specs.WorkOff.{NextStep};
 ghost use Rattle.rollout.specs.Due.{IsDue};
@@ -12,7 +12,7 @@ ghost use Rattle.rollout.specs.Publish.{PublishStep};
 ghost use Rattle.rollout.specs.Query.{QueryStep};
 ghost use Rattle.rollout.specs.Snapshot.{SnapshotStep};
 ghost use Rattle.checkpoint.specs.Checkpoint.{checkpoint_of};
-ghost use Rattle.rollout.specs.State.{entries_before, entries_kept, entry_count, facts_of, recent};
+ghost use Rattle.rollout.specs.State.{entry_count, facts_of, recent};
 
 use crate::fault::{SharedFault, WentBack};
 use crate::handle::Handle;
@@ -23,8 +23,8 @@ use lease::Lease;
 use reorganise::{PieceView, PreparedPiece, Work};
 use rollout::Act;
 use rollout::world::{
-    BeginFault, CheckReport, Checkpoint, CommitFault, Committed, Entry, Grant, GrantFault,
-    PieceDone, PieceFault, PublishFault, QueryRefusal, ReadFault, Receipt, Snapshot, SnapshotFault,
+    BeginFault, CheckReport, Checkpoint, CommitFault, Committed, Grant, GrantFault, PieceDone,
+    PieceFault, PublishFault, QueryRefusal, ReadFault, Receipt, Snapshot, SnapshotFault,
 };
 use row_map::{ReadSet, ReadView, Row};
 use row_query::Query;
@@ -78,7 +78,7 @@ impl<L: SharedLedger> Shared<L> {
     ) -> Result<Grant, SharedFault<GrantFault>>
         ensures { Answers L.start me.old result me.new (λ c r d. LeaseStep c moment r d) grant_place }
     {
-        let mut locked = self.locked.lock(rt);
+        let mut locked = self.enter(rt);
         locked.check_front(me)?;
         through(locked.lease(alloc, me, moment))
     }
@@ -98,7 +98,7 @@ impl<L: SharedLedger> Shared<L> {
     ) -> Result<Option<ArcValue<Schema>>, SharedFault<AllocError>>
         ensures { Answers L.start me.old result me.new (λ c r d. IfOk r (λ s. s ≡ recent (facts_of c) version) × (d ≡ c)) no_place }
     {
-        let locked = self.locked.lock(rt);
+        let locked = self.enter(rt);
         locked.check_front(me)?;
         through(locked.schema(me, version))
     }
@@ -117,7 +117,7 @@ impl<L: SharedLedger> Shared<L> {
     ) -> Result<ReadView, SharedFault<AllocError>>
         ensures { Answers L.start me.old result me.new (λ c r d. IfOk r (λ view. IsReadView c keys.now view) × (d ≡ c)) no_place }
     {
-        let locked = self.locked.lock(rt);
+        let locked = self.enter(rt);
         locked.check_front(me)?;
         through(locked.read(alloc, me, keys))
     }
@@ -137,7 +137,7 @@ impl<L: SharedLedger> Shared<L> {
     ) -> Result<Committed, (SharedFault<CommitFault>, Prepared)>
         ensures { AnswersBack L.start me.old prepared result me.new (λ c r d. CommitStep c moment prepared r d) commit_place }
     {
-        let mut locked = self.locked.lock(rt);
+        let mut locked = self.enter(rt);
         if let Err(WentBack { seen }) = locked.check_front(me) {
             return Err((SharedFault::WentBack { seen }, prepared));
         }
@@ -163,7 +163,7 @@ impl<L: SharedLedger> Shared<L> {
     ) -> Result<List<Row>, SharedFault<QueryRefusal>>
         ensures { Answers L.start me.old result me.new (λ c r d. QueryStep c moment lease.now query.now r × (d ≡ c)) no_place }
     {
-        let locked = self.locked.lock(rt);
+        let locked = self.enter(rt);
         locked.check_front(me)?;
         through(locked.query(alloc, me, moment, lease, query))
     }
@@ -183,7 +183,7 @@ impl<L: SharedLedger> Shared<L> {
     ) -> Result<Snapshot, SharedFault<SnapshotFault>>
         ensures { Answers L.start me.old result me.new (λ c r d. SnapshotStep c moment lease.now r × (d ≡ c)) no_place }
     {
-        let locked = self.locked.lock(rt);
+        let locked = self.enter(rt);
         locked.check_front(me)?;
         through(locked.snapshot(me, moment, lease))
     }
@@ -203,7 +203,7 @@ impl<L: SharedLedger> Shared<L> {
     ) -> Result<(u64, Receipt), SharedFault<PublishFault>>
         ensures { Answers L.start me.old result me.new (λ c r d. PublishStep c moment step.now r d) publish_place }
     {
-        let mut locked = self.locked.lock(rt);
+        let mut locked = self.enter(rt);
         locked.check_front(me)?;
         through(locked.publish(alloc, me, moment, step))
     }
@@ -224,7 +224,7 @@ impl<L: SharedLedger> Shared<L> {
     ) -> Result<Receipt, SharedFault<BeginFault>>
         ensures { Answers L.start me.old result me.new (λ c r d. BeginStep c moment element pieces r d) receipt_place }
     {
-        let mut locked = self.locked.lock(rt);
+        let mut locked = self.enter(rt);
         locked.check_front(me)?;
         through(locked.begin_reorg(alloc, me, moment, element, pieces))
     }
@@ -243,7 +243,7 @@ impl<L: SharedLedger> Shared<L> {
     ) -> Result<Act, SharedFault<AllocError>>
         ensures { Answers L.start me.old result me.new (λ c r d. IfOk r (λ act. IsDue (facts_of c) (effective_moment c moment) act) × (d ≡ c)) no_place }
     {
-        let locked = self.locked.lock(rt);
+        let locked = self.enter(rt);
         locked.check_front(me)?;
         through(locked.due(alloc, me, moment))
     }
@@ -261,40 +261,9 @@ impl<L: SharedLedger> Shared<L> {
     ) -> Result<Checkpoint, SharedFault<AllocError>>
         ensures { Answers L.start me.old result me.new (λ c r d. IfOk r (λ cp. cp ≡ checkpoint_of (entry_count c) (facts_of c)) × (d ≡ c)) no_place }
     {
-        let locked = self.locked.lock(rt);
+        let locked = self.enter(rt);
         locked.check_front(me)?;
         through(locked.checkpoint(me))
-    }
-
-    /// Hands out the entries that are in memory, with how many there were before them, as
-    /// `World::take_log` does; they are freed outside of the lock. The handle counts them, and knows
-    /// from then on that the log begins after them; at `close` it begins where all takes together have
-    /// led it, so no entry is lost, and none is handed out twice. Refused with `WentBack` alone, if the
-    /// log is shorter than the handle's front.
-    #[tactic(auto, using(crate::proofs::Through::takes_out))]
-    pub fn take_log(
-        &self,
-        rt: &impl Wait,
-        me: &mut Handle<L>,
-    ) -> Result<(u64, Vec<Entry>), WentBack>
-        ensures { Empties L.start me.old result me.new (λ c x. (x.0 ≡ entries_before c) × (x.1.items ≡ entries_kept c)) }
-    {
-        let mut locked = self.locked.lock(rt);
-        locked.check_front(me)?;
-        Ok(locked.take_log(me))
-    }
-
-    /// Gives the memory of all entries back, as `World::cut` does: they are taken in one critical
-    /// section and freed outside of it. The handle counts them, as `take_log` says. Refused with
-    /// `WentBack` alone, if the log is shorter than the handle's front.
-    #[tactic(auto, using(crate::proofs::Through::only_taken))]
-    pub fn cut(&self, rt: &impl Wait, me: &mut Handle<L>) -> Result<(), WentBack>
-        ensures { Empties L.start me.old result me.new (λ c x. x ≡ tt) }
-    {
-        match self.take_log(rt, me) {
-            Ok(_taken) => Ok(()),
-            Err(back) => Err(back),
-        }
     }
 
     /// How the begun reorganisation of an element stands, as `World::progress` tells it. Refused
@@ -308,7 +277,7 @@ impl<L: SharedLedger> Shared<L> {
     ) -> Result<Option<(Work, usize, bool)>, WentBack>
         ensures { Finds L.start me.old result me.new (λ c x. x ≡ standing_at (facts_of c) element) }
     {
-        let locked = self.locked.lock(rt);
+        let locked = self.enter(rt);
         locked.check_front(me)?;
         Ok(locked.progress(me, element))
     }
@@ -325,7 +294,7 @@ impl<L: SharedLedger> Shared<L> {
     ) -> Result<Option<(Work, bool)>, WentBack>
         ensures { Finds L.start me.old result me.new (λ c x. x ≡ piece_standing_at (facts_of c) element piece) }
     {
-        let locked = self.locked.lock(rt);
+        let locked = self.enter(rt);
         locked.check_front(me)?;
         Ok(locked.piece_progress(me, element, piece))
     }
@@ -346,7 +315,7 @@ impl<L: SharedLedger> Shared<L> {
     ) -> Result<PieceView, SharedFault<ReadFault>>
         ensures { Answers L.start me.old result me.new (λ c r d. ReadStep c element piece limit r × (d ≡ c)) no_place }
     {
-        let locked = self.locked.lock(rt);
+        let locked = self.enter(rt);
         locked.check_front(me)?;
         through(locked.read_piece(alloc, me, element, piece, limit))
     }
@@ -366,7 +335,7 @@ impl<L: SharedLedger> Shared<L> {
     ) -> Result<Option<PieceView>, SharedFault<ReadFault>>
         ensures { Answers L.start me.old result me.new (λ c r d. NextStep c element limit r × (d ≡ c)) no_place }
     {
-        let locked = self.locked.lock(rt);
+        let locked = self.enter(rt);
         locked.check_front(me)?;
         through(locked.next_view(alloc, me, element, limit))
     }
@@ -386,7 +355,7 @@ impl<L: SharedLedger> Shared<L> {
     ) -> Result<PieceDone, (SharedFault<PieceFault>, PreparedPiece)>
         ensures { AnswersBack L.start me.old prepared result me.new (λ c r d. PieceStep c moment prepared r d) piece_place }
     {
-        let mut locked = self.locked.lock(rt);
+        let mut locked = self.enter(rt);
         if let Err(WentBack { seen }) = locked.check_front(me) {
             return Err((SharedFault::WentBack { seen }, prepared));
         }
@@ -406,7 +375,7 @@ impl<L: SharedLedger> Shared<L> {
     ) -> Result<CheckReport, SharedFault<AllocError>>
         ensures { Answers L.start me.old result me.new (λ c r d. IfOk r (λ report. IsCheck c report) × (d ≡ c)) no_place }
     {
-        let locked = self.locked.lock(rt);
+        let locked = self.enter(rt);
         locked.check_front(me)?;
         through(locked.check(alloc, me))
     }

@@ -3,6 +3,7 @@
 
 mod calls;
 mod counted;
+mod cuts;
 mod fault;
 mod handle;
 mod locked;

@@ -14,10 +14,15 @@ use crate::shared_ledger::{Blanks, SharedLedger};
 use high_water::HighWater;
 use rollout::world::World;
 use std::alloc::Global;
-use std::sync::Mutex;
+use std::hint::spin_loop;
+use std::sync::{Mutex, MutexGuard, Wait};
 
 /// The greatest number of handles.
 const MAX_HANDLES: u64 = 64;
+
+/// How often a thread asks for the lock before it sleeps, some 0.1 milliseconds. It only affects
+/// speed.
+const TRIES: u32 = 1000;
 
 /// A world that threads share by one lock. Each call is one critical section, and in it one call of
 /// the world.
@@ -27,6 +32,18 @@ pub struct Shared<L: SharedLedger> {
 }
 
 impl<L: SharedLedger> Shared<L> {
+    // Takes the lock. The kit's lock is handed to a thread that sleeps, which wakes slowly while all
+    // others wait, and most calls are shorter than that: so a thread asks for a while before it sleeps.
+    pub(crate) fn enter(&self, rt: &impl Wait) -> MutexGuard<'_, Locked<L>> {
+        for _ in 0..TRIES {
+            if let Some(guard) = self.locked.try_lock() {
+                return guard;
+            }
+            spin_loop();
+        }
+        self.locked.lock(rt)
+    }
+
     /// Shares a world among `count` handles, numbered from 0.
     ///
     /// Refused in this order, and then the world comes back: `BadCount` if the number is not from 1
