@@ -1,9 +1,9 @@
 """Kept verdicts on wrong bodies: must-fail/verdicts.tsv, and the checksum that tells whether a row still holds.
 
 A verdict rests on the crate's own files, on the edit, on which of the crates that both name are listed for it, on what the crates below
-promise, and on the logic. What a crate promises is its definitions (specs/), its signatures with their contracts, and those of its lemma files
-that a crate above cites; comments, layout and the bodies of its functions are no part of it, since a check of a crate above does not read them,
-nor is the list of crates on which it stands.
+promise, and on the logic. What a crate promises is its definitions (specs/), its public signatures with their contracts, and those of its lemma
+files that a crate above cites; comments, layout, the bodies of its functions and its private functions are no part of it, since a check of a crate
+above does not read them (they are not in the interface of a built library), nor is the list of crates on which it stands.
 """
 import hashlib
 import os
@@ -16,6 +16,15 @@ COLUMNS = ("edit", "checksum", "goals")
 RUST = re.compile(r"""//[^\n]*|/\*.*?\*/|b?"(?:\\.|[^"\\])*"|b?'(?:\\(?:u\{[^}]*\}|x..|.)|[^'\\\n])'""", re.S)
 ANTT = re.compile(r'"(?:\\.|[^"\\])*"|--[^\n]*')
 CLAUSE = re.compile(r"\b(requires|ensures|ghost)\b[^{};]*$")
+WORDS = r'(?:(?:const|unsafe)\s+|extern\s+"[^"]*"\s+)*$'
+PUBLIC = re.compile(rf"\bpub\s+{WORDS}")
+# what stands before a function that is not public
+BEFORE = re.compile(rf"(?:#\[[^\[\]]*\]\s*)*(?:pub\s*\([^()]*\)\s*)?{WORDS}")
+OF_TRAIT = re.compile(r"\btrait\b|\bimpl\b.*\bfor\b", re.S)
+# an import and a constant that are not public, and a module
+USE = re.compile(r"(?<!pub )(?<!\) )\b((?:ghost )?use )([^;{]*)(?:\{([^;]*)\})?;")
+CONST = re.compile(r"(?<!pub )\bconst (\w+): [^;{]*;")
+MOD = re.compile(r"(?<!pub )\bmod \w+;")
 
 
 def plain(text, tokens, comments):
@@ -40,28 +49,76 @@ def closing(text, hidden, start):
     return len(text)
 
 
+def heads(text, hidden):
+    """For the start of each function the words before the brace of the block that it stands in."""
+    found, open_blocks, since = {}, [], 0
+    for token in re.finditer(r"[{};]|\bfn\s+\w", text):
+        at = token.start()
+        if at in hidden:
+            continue
+        if token[0][0] == "f":
+            found[at] = open_blocks[-1] if open_blocks else ""
+            continue
+        if token[0] == "{":
+            open_blocks.append(text[since:at])
+        elif token[0] == "}" and open_blocks:
+            open_blocks.pop()
+        since = at + 1
+    return found
+
+
+def signature_from(text, hidden, at):
+    """A signature with its contract from its name on, without a body, and where the function ends."""
+    kept = []
+    while at < len(text):
+        stop = next((it for it in range(at, len(text)) if text[it] in "{;" and it not in hidden), len(text))
+        kept.append(text[at:stop])
+        if text[stop : stop + 1] == "{" and CLAUSE.search(text[at:stop]):
+            end = closing(text, hidden, stop)
+            kept.append(text[stop:end])
+            at = end
+            continue
+        return kept, closing(text, hidden, stop) if text[stop : stop + 1] == "{" else stop + 1
+    return kept, at
+
+
 def signatures(text):
-    """A Rattle file without comments and bodies of functions: each signature with its contract, and all other items as they are."""
+    """What a Rattle file shows the crates above, or nothing: no comment, no body, and of what is private only what the rest names."""
     text = plain(text, RUST, ("//", "/*"))
     hidden = {at for found in RUST.finditer(text) for at in range(*found.span())}
-    kept, at = [], 0
+    blocks, kept, at = heads(text, hidden), [], 0
     for found in re.finditer(r"\bfn\s+\w+", text):
         if found.start() < at or found.start() in hidden:
             continue
-        kept.append(text[at : found.end()])
-        at = found.end()
-        while at < len(text):
-            stop = next((it for it in range(at, len(text)) if text[it] in "{;" and it not in hidden), len(text))
-            kept.append(text[at:stop])
-            if text[stop : stop + 1] == "{" and CLAUSE.search(text[at:stop]):
-                end = closing(text, hidden, stop)
-                kept.append(text[stop:end])
-                at = end
-                continue
-            at = closing(text, hidden, stop) if text[stop : stop + 1] == "{" else stop + 1
-            break
+        before = text[at : found.start()]
+        signature, end = signature_from(text, hidden, found.end())
+        if PUBLIC.search(before) or OF_TRAIT.search(blocks[found.start()]):
+            kept += [before, found[0], *signature]
+        else:
+            kept.append(BEFORE.sub("", before, count=1))
+        at = end
     kept.append(text[at:])
-    return " ".join("".join(kept).split())
+    return named_alone(" ".join("".join(kept).split()))
+
+
+def named_alone(text):
+    """The text without its modules, and without the private constants and imports that nothing else in it names."""
+    text = MOD.sub("", text)
+    text = CONST.sub(lambda found: found[0] if len(re.findall(rf"\b{found[1]}\b", text)) > 1 else "", text)
+    rest = USE.sub("", text)
+    words = set(re.findall(r"\w+", rest))
+
+    def is_named(name):
+        local = name.split(" as ")[-1].strip().rpartition("::")[2].rpartition(".")[2]
+        return local in words or local == "self" or any(part and part in rest for part in local.split("◌") if not re.fullmatch(r"\w*", part))
+
+    def imports(found):
+        if found[3] is None:
+            return found[0] if is_named(found[2]) else ""
+        names = [name.strip() for name in found[3].split(",") if name.strip() and is_named(name)]
+        return f"{found[1]}{found[2]}{{{', '.join(names)}}};" if names else ""
+
+    return " ".join(USE.sub(imports, text).split())
 
 
 def read(path):
@@ -83,8 +140,8 @@ class Checksums:
                 place = os.path.relpath(path, folder)
                 if place.startswith("specs/"):
                     found.append((place, antt_text(read(path))))
-                elif place.endswith(".rt"):
-                    found.append((place, signatures(read(path))))
+                elif place.endswith(".rt") and (shown := signatures(read(path))):
+                    found.append((place, shown))
             self.promises[name] = found
         return self.promises[name]
 

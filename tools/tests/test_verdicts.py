@@ -10,7 +10,38 @@ from checks import Crates
 from verdicts import Checksums, read_rows, sample, signatures, write_rows
 
 LOW = '''//! Halves.
-ghost use Rattle.low.specs.Half.{half};
+ghost use Rattle.low.specs.Half.{half, whole};
+
+use crate::doubled::Doubled;
+
+mod doubled;
+
+const PARTS: u64 = 2;
+
+// Twice a number.
+#[tactic(auto)]
+fn twice(n: u64) -> u64
+    requires { n < 100 }
+    ensures { result ≡ whole n }
+{
+    n * PARTS
+}
+
+pub trait Halved {
+    fn halved(&self) -> u64;
+}
+
+impl Halved for Doubled {
+    fn halved(&self) -> u64 {
+        self.half()
+    }
+}
+
+impl Doubled {
+    pub(crate) fn half(&self) -> u64 {
+        self.n
+    }
+}
 
 /// Half of a number.
 pub fn half(n: u64) -> u64
@@ -63,12 +94,17 @@ class MadeCheckout(unittest.TestCase):
             ("a contract below", "crates/low/src/lib.rt", "n < 100", "n < 99"),
             ("a result below", "crates/low/src/lib.rt", "result ≡ half n", "result ≤ half n"),
             ("a constant below", "crates/low/src/lib.rt", "MOST: u64 = 100", "MOST: u64 = 99"),
+            ("a trait's call below", "crates/low/src/lib.rt", "    fn halved(&self) -> u64;", "    fn halved(&self) -> u32;"),
+            ("what a trait's call is below", "crates/low/src/lib.rt", "    fn halved(&self) -> u64 {", "    fn halved(&mut self) -> u64 {"),
+            ("a type below", "crates/low/src/lib.rt", "use crate::doubled::Doubled;", "use crate::halves::Doubled;"),
+            ("where a definition below comes from", "crates/low/src/lib.rt", "specs.Half.{half, whole}", "specs.Halves.{half, whole}"),
             ("a definition below", "crates/low/specs/Half.antt", "n / 2", "n / 3"),
             ("a cited lemma below", "crates/low/proofs/Cited.antt", "= 1", "= 2"),
             ("a crate that it names", "crates.txt", "high: low", "high:"),
             ("a crate below more", "crates.txt", "high: low", "more:\nhigh: low more"),
         ]:
             with self.subTest(what):
+                self.assertIn(old, FILES[path])
                 self.write(path, FILES[path].replace(old, new))
                 self.assertNotEqual(self.checksum(), before)
                 self.write(path, FILES[path])
@@ -83,20 +119,31 @@ class MadeCheckout(unittest.TestCase):
             ("a doc comment below", "crates/low/src/lib.rt", "/// Half of a number.", "/// A number's half."),
             ("a body below", "crates/low/src/lib.rt", "n / 2 + ", "n / 2 + 0 + "),
             ("layout below", "crates/low/src/lib.rt", "    requires small", "  requires small"),
+            ("a private contract below", "crates/low/src/lib.rt", "requires { n < 100 }", "requires { n < 99 }"),
+            ("a private function's tactic below", "crates/low/src/lib.rt", "#[tactic(auto)]\n", ""),
+            ("a private constant below", "crates/low/src/lib.rt", "PARTS: u64 = 2", "PARTS: u64 = 1 + 1"),
+            ("a private method below", "crates/low/src/lib.rt", "pub(crate) fn half(&self)", "fn half(&mut self)"),
+            ("an import below that nothing public names", "crates/low/src/lib.rt", "{half, whole}", "{half, whole, quarter}"),
+            ("a module below", "crates/low/src/lib.rt", "mod doubled;", "mod doubled;\nmod more;"),
+            ("a private file below", "crates/low/src/more.rt", "", "use crate::doubled::Doubled;\n\nfn more(n: u64) -> u64 {\n    n\n}\n"),
             ("a remark in a definition below", "crates/low/specs/Half.antt", "-- the half", "-- half of it"),
             ("a lemma below that nothing cites", "crates/low/proofs/Own.antt", "= 1", "= 2"),
             ("a library of the kit that nothing names", "crates.txt", "high: low", "high: low thiserror"),
         ]:
             with self.subTest(what):
-                self.write(path, FILES[path].replace(old, new))
+                was = FILES.get(path, "")
+                self.assertIn(old, was)
+                self.write(path, was.replace(old, new))
                 self.assertEqual(self.checksum(), before)
-                self.write(path, FILES[path])
+                self.write(path, was)
 
-    def test_signatures_keep_all_but_bodies(self):
+    def test_signatures_keep_what_is_public(self):
         said = signatures(LOW)
         self.assertIn("pub fn half(n: u64) -> u64 requires small { n < 100 } ensures { result ≡ half n }", said)
         self.assertTrue(said.endswith("pub const MOST: u64 = 100;"))
-        self.assertNotIn("open", said)
+        for word in ("open", "twice", "PARTS", "whole", "mod doubled"):
+            self.assertNotIn(word, said)
+        self.assertEqual(said.count("fn halved(&self) -> u64"), 2)
 
 
 class ChosenEdits(unittest.TestCase):

@@ -43,7 +43,7 @@ use Rattle.replay.proofs.Agree.{at_number}
 use Rattle.replay.proofs.Begun.{get_passed}
 use Rattle.replay.proofs.Different.{begin_different}
 use Rattle.replay.specs.Kept.{IsInPiece, IsReached, IsInPieces, AreInPieces}
-use Rattle.drafts.specs.Given.{AreGiven, MayBeginAt, begun_at, GivenBeginsKeep}
+use Rattle.drafts.specs.Given.{AreGiven, GivenBeginsKeep}
 use Rattle.replay.proofs.Time.{at, kept_later}
 
 some_one : {A : Type 0} {v w : A} → Some v ≡ (let o : Option A = Some w in o) → v ≡ w

@@ -4,6 +4,7 @@ pub mod Given
 pub mod Calls
 pub mod Mirror
 pub mod Laws
+pub mod Log
 pub mod Made
 pub mod Begin
 pub mod Divide

@@ -1,6 +1,6 @@
 -- Cited by the definitions of Laws.
 -- The log that a store mirrors, in no memory: what `replay` has entries for, and begins in pieces at given keys, for which it has none.
-use Rattle.std.specs.Prelude.{◌≡◌, ℕ, ◌≤◌, List, [], ◌∷◌}
+use Rattle.std.specs.Prelude.{ℕ, ◌≤◌, List, [], ◌∷◌}
 use Rattle.lease.specs.Timeline.{IsLength}
 use Rattle.schema_version.specs.Sound.{IsSoundVersion}
 use Rattle.reorganise.specs.declared.work.Progress.{Progress}
