@@ -15,6 +15,7 @@ use Rattle.replay.proofs.Agree.{counts_still}
 use Rattle.drafts.specs.Calls.{Call, Transact, Close, Begin, Divide, Piece, Publish, txn_draft, draft_of, IsDrafted, nothing}
 use Rattle.drafts.specs.Coded.{IsFit, AreFit, ByteStore, AreAppliedIn, MayApplyIn, after_in, applied_in, opened_in}
 use Rattle.drafts.specs.Laws.{AreDrafted, rows_by, opening_of}
+use Rattle.drafts.specs.Log.{after_one}
 use Rattle.drafts.specs.Mirror.{Mirrors, open_at}
 use Rattle.drafts.specs.Store.{Store, MayApply, IsThere, opened, applied, version_key}
 use Rattle.drafts.proofs.Opens.{read_of, usable}
@@ -93,7 +94,7 @@ all_same facts store one (call ∷ calls) k m codes pairs fit made allowed =
     let codes_new : Encodes (sides new).control (applied draft store).control
     = subst (λ (s : ByteStore). Encodes s.control (applied draft store).control) (sym same.written_so) (all_written (sides one).control store.control draft.writes codes fit.1 (writes_suit call)) in
     let pairs_new : (sides new).pairs ≡ (applied draft store).pairs = ap (λ (s : ByteStore). s.pairs) same.written_so ∙ ap (laid draft.batch) pairs in
-    let rest = all_same next.next (applied draft store) new calls next.kept next.mirrors codes_new pairs_new fit.2 made.1 allowed.1 in
+    let rest = all_same (after_one facts next.one) (applied draft store) new calls next.kept next.mirrors codes_new pairs_new fit.2 made.1 allowed.1 in
     record {
       applied_so = (may, subst (λ (s : ByteStore). AreAppliedIn key_code record_code s calls) same.written_so rest.applied_so);
       same = rest.same ∙ ap (λ (s : ByteStore). after_in key_code record_code s calls) same.written_so;

@@ -8,6 +8,7 @@ use Rattle.replay.specs.Replay.{Facts, start}
 use Rattle.drafts.specs.declared.newest.Newest.{Newest}
 use Rattle.drafts.specs.Calls.{Call, Transact, Close, Begin, Divide, Piece, Publish, draft_of, IsDrafted}
 use Rattle.drafts.specs.Laws.{after_calls, opening_of}
+use Rattle.drafts.specs.Log.{after_one, after_log}
 use Rattle.drafts.specs.Mirror.{Mirrors}
 use Rattle.drafts.specs.Store.{Store, MayApply, applied, opened}
 use Rattle.drafts.proofs.Runs.{all_keep, all_end, opened_so, first_mirror}
@@ -58,8 +59,8 @@ all_turns keys facts store steps (turn ∷ turns) now k m course has =
     let one = course.0 in
     let next = all_keep facts store turn.call k m one.drafted one.applies in
     let more = steps_after steps turn.call in
-    let lead = turn_leads keys facts next.next store turn.found (first_found turns now) steps turn.call k m one.has one.drafted one.applies one.does next.kept next.mirrors (first_has keys after more turns now course.1 has) in
-    let rest = all_turns keys next.next after more turns now next.kept next.mirrors course.1 has in
+    let lead = turn_leads keys facts (after_one facts next.one) store turn.found (first_found turns now) steps turn.call k m one.has one.drafted one.applies one.does next.kept next.mirrors (first_has keys after more turns now course.1 has) in
+    let rest = all_turns keys (after_one facts next.one) after more turns now next.kept next.mirrors course.1 has in
     record {
       facts = rest.facts;
       kept = rest.kept;
@@ -74,10 +75,11 @@ pub courses_complete : CoursesComplete
 courses_complete schema before keys steps turns found now sound made may has planned course now_has =
     let store = after_calls (opened schema) before in
     let all = all_end (start (opening_of schema)) (opened schema) before (opened_so schema sound) (first_mirror schema sound) made may in
+    let facts = after_log (start (opening_of schema)) all.log in
     let first = first_has keys store steps turns now course now_has in
-    let same = same_newest all.facts store found (first_found turns now) all.kept all.mirrors has first in
-    let equal = same_left keys all.facts store found (first_found turns now) all.kept all.mirrors has first steps in
-    let end = all_turns keys all.facts store steps turns now all.kept all.mirrors course now_has in
+    let same = same_newest facts store found (first_found turns now) all.kept all.mirrors has first in
+    let equal = same_left keys facts store found (first_found turns now) all.kept all.mirrors has first steps in
+    let end = all_turns keys facts store steps turns now all.kept all.mirrors course now_has in
     let still = end.leads.planned (subst (λ (n : Newest). ArePlanned n.schema steps) same planned) in
     let target = end.leads.target ∙ ap (λ (n : Newest). after_steps n.schema steps) (sym same) in
     record {

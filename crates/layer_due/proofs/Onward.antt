@@ -22,6 +22,7 @@ use Rattle.replay.proofs.Begun.{found}
 use Rattle.drafts.specs.declared.record.Reorg.{Reorg}
 use Rattle.drafts.specs.declared.record.Record.TheVariants.{Reorg as OfReorg, Cursor as OfCursor}
 use Rattle.drafts.specs.Calls.{HasWork}
+use Rattle.drafts.specs.Log.{after_log}
 use Rattle.drafts.specs.Mirror.{Mirrors, reorg_of, piece_of}
 use Rattle.drafts.specs.Publish.{found_in, ReadyAt}
 use Rattle.drafts.specs.Laws.{after_calls, opening_of}
@@ -169,4 +170,4 @@ module _ (facts : Facts) (store : Store) (records : Records) (k : IsKept facts) 
 pub dues_go_on : DuesGoOn
 dues_go_on schema calls records steps fault sound made may has allowed stuck =
     let all = all_end (start (opening_of schema)) (opened schema) calls (opened_so schema sound) (first_mirror schema sound) made may in
-    goes_on all.facts (after_calls (opened schema) calls) records all.kept all.mirrors has steps fault allowed stuck
+    goes_on (after_log (start (opening_of schema)) all.log) (after_calls (opened schema) calls) records all.kept all.mirrors has steps fault allowed stuck
