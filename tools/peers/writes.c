@@ -1,5 +1,5 @@
 /* writes.c: single-row writes into a table with one index, by the library or by SQLite in memory, each a transaction of its own:
-   writes library|sqlite rising|scattered ROWS. The library's log is cut after each 1,000.
+   writes library|sqlite rising|scattered ROWS. The library's log is cut after each ten.
    gcc -O2 -I include -I tools/embedded -o /tmp/writes tools/peers/writes.c out/libcagzhomul.a -lsqlite3 && /tmp/writes library rising 100000 */
 #define _POSIX_C_SOURCE 199309L
 #include "cagzhomul.h"
@@ -10,7 +10,7 @@
 #include <stdlib.h>
 #include <time.h>
 
-enum { BETWEEN_CUTS = 1000 };
+enum { BETWEEN_CUTS = 10 };
 
 static double now(void) {
     struct timespec at;
