@@ -14,7 +14,7 @@ use std::marker::Model;
 use std::sync::Arc;
 
 /// The most pages of a chunk, before it is cut in two. It only affects speed.
-pub(crate) const CHUNK_LIMIT: usize = 256;
+pub(crate) const CHUNK_LIMIT: usize = 1024;
 
 /// Pages that several maps may share.
 #[derive(Drop)]
@@ -157,11 +157,23 @@ impl Chunk {
 pub(crate) fn copied(alloc: Global, pages: &[Page]) -> Result<Vec<Page>, AllocError>
     ensures { IfOk result (λ copy. copy.items ≡ pages.now) }
 {
-    let mut copy = Vec::with_capacity(alloc, pages.len())?;
+    let mut copy = Vec::with_capacity(alloc, count_seen(pages))?;
     for page in pages {
         copy.push(page.clone()?)?;
     }
     Ok(copy)
+}
+
+/// How many of these pages have a pair: all. It is counted, so that what lies in no cache comes from
+/// memory side by side, before each gets an owner more, one after the other. It only affects speed.
+fn count_seen(pages: &[Page]) -> usize {
+    let mut count = 0usize;
+    for page in pages {
+        if page.pairs().len() > 0 {
+            count = count.saturating_add(1);
+        }
+    }
+    count
 }
 
 impl Clone for Chunk {

@@ -78,7 +78,7 @@ fn count_fitting(pairs: &FlatPairs, at: usize) -> usize
     requires { at < length pairs.now.pairs }
     ensures some { 0 < result }
     ensures in_range { at + result ≤ length pairs.now.pairs }
-    ensures fits { result ≤ 64 }
+    ensures fits { result ≤ 128 }
 {
     let left = pairs.len() - at;
     let most = if left < PAGE_LIMIT { left } else { PAGE_LIMIT };

@@ -130,7 +130,7 @@ fn is_ready(pairs: &mut FlatPairs, writes: &[(Bytes, Option<Bytes>)]) -> bool
     requires { IsSorted pairs.old.pairs }
     ensures kept { pairs.new.pairs ≡ pairs.old.pairs }
     ensures some { result ≡ true → 0 < length (changed_all pairs.old.pairs writes.now) }
-    ensures few { result ≡ true → length pairs.old.pairs + length writes.now ≤ 64 }
+    ensures few { result ≡ true → length pairs.old.pairs + length writes.now ≤ 128 }
     ensures room { result ≡ true → HasRoom pairs.new (wanted writes.now) (length writes.now) }
 {
     let count = writes.len();

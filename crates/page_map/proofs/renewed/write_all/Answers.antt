@@ -2,7 +2,7 @@ use Rattle.std.proofs.Common.{◌≡◌, ◌∙◌, ◌+◌, drop, ap, sym, subs
 use Rattle.std.proofs.lemmas.List.{at_drop_more}
 use Rattle.byte_map.specs.Sorted.{IsSorted, changed, changed_all}
 use Rattle.byte_map.proofs.Entries.{sorted_changed}
-use Rattle.page_map.proofs.rewrite.write_all.Goals as goal
+use Rattle.page_map.proofs.renewed.write_all.Goals as goal
 
 pub loop-key-preserved : goal.loop-key-preserved
 loop-key-preserved c =

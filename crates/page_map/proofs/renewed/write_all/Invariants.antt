@@ -1,6 +1,6 @@
 use Rattle.std.proofs.Common.{◌≡◌, drop}
 use Rattle.byte_map.specs.Sorted.{IsSorted, changed_all}
-use Rattle.page_map.proofs.rewrite.write_all.Given as goal
+use Rattle.page_map.proofs.renewed.write_all.Given as goal
 
 abbrev pub invariant-loop-key : goal.invariant-loop-key
 invariant-loop-key l = record {

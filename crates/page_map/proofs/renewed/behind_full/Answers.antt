@@ -5,7 +5,7 @@ use Rattle.page_map.proofs.Cuts.{sorted_one}
 use Rattle.page_map.proofs.InPlace.{one_page}
 use Rattle.page_map.proofs.Placing.{first_left}
 use Rattle.page_map.proofs.Appends.{behind}
-use Rattle.page_map.proofs.rewrite.behind_full.Goals as goal
+use Rattle.page_map.proofs.renewed.behind_full.Goals as goal
 
 pub first_from-requires-clause-sorted : goal.first_from-requires-clause-sorted
 first_from-requires-clause-sorted c = subst IsSorted (sym (c.pairs-pairs.ensures.all ∙ c.index-pages-at.is)) (sorted_one c.args.pages.now c.args.at c.index-pages-at.result c.requires.sorted (omega (arith, c.if-at-pages.false)))
