@@ -134,11 +134,18 @@ fn bare(
     })
 }
 
-/// Transactions a second of so many servers.
-fn measure(path: &Path, servers: u64, time: Duration, program: Program) -> Result<f64, Error> {
+/// Transactions a second of so many servers. The numbers of each round are others: a mark that was
+/// drawn before would be refused.
+fn measure(
+    path: &Path,
+    (servers, round): (u64, usize),
+    time: Duration,
+    program: Program,
+) -> Result<f64, Error> {
     let barrier = Barrier::new(servers as usize);
     let work = |server: u64| {
-        let mut dice = Dice(0x9e37_79b9_7f4a_7c15 ^ (server + 1));
+        let mut dice =
+            Dice(0x9e37_79b9_7f4a_7c15 ^ ((round as u64 + 1) << 40 | servers << 20 | (server + 1)));
         let store = SqliteStore::with(path, "cagzhomul", Duration::from_secs(60))?;
         program(store, &mut dice, &barrier, time)
     };
@@ -174,9 +181,9 @@ fn report(path: &Path, time: Duration) -> Result<(), Error> {
     println!("|---|---|---|---|");
     for servers in SERVERS {
         let mut rates = [Vec::new(), Vec::new()];
-        for _ in 0..ROUNDS {
+        for round in 0..ROUNDS {
             for (rates, program) in rates.iter_mut().zip([bare as Program, by_layer]) {
-                rates.push(measure(path, servers, time, program)?);
+                rates.push(measure(path, (servers, round), time, program)?);
             }
         }
         rates.iter_mut().for_each(|it| it.sort_by(f64::total_cmp));
