@@ -1,7 +1,7 @@
 //! The table of a load, its rows, and the steps of its index.
 
 use crate::fault::LoadFault;
-use collections::List;
+use collections::{ArcValue, List};
 use keycode::{Text, Value};
 use row_map::ColumnType;
 use row_write::{RowOp, RowOps};
@@ -69,7 +69,7 @@ pub(crate) fn inserts(alloc: Global, rows: u32) -> Result<Vec<Request>, AllocErr
     for row in 0..rows {
         requests.push(Request {
             moment: 0,
-            ops: insert(alloc, row)?,
+            ops: ArcValue::new(alloc, insert(alloc, row)?)?,
         })?;
     }
     Ok(requests)

@@ -1,7 +1,7 @@
 //! The table people (id int key, town text, age int), its rows, and the step that begins three
 //! changes.
 
-use collections::List;
+use collections::{ArcValue, List};
 use keycode::{Text, Value};
 use lease::Lease;
 use row_map::{ColumnType, ReadView};
@@ -128,7 +128,7 @@ pub(crate) fn inserts(alloc: Global, from: u32, count: u32) -> Result<Vec<Reques
     for row in 0..count {
         requests.push(Request {
             moment: 0,
-            ops: insert(alloc, from.wrapping_add(row), None)?,
+            ops: ArcValue::new(alloc, insert(alloc, from.wrapping_add(row), None)?)?,
         })?;
     }
     Ok(requests)

@@ -48,11 +48,11 @@ fn held_or_new<P: Port>(
     }
 }
 
-// The request's operations once more, of which the log becomes an owner.
-fn ops_of(alloc: Global, request: &Request) -> Result<ArcValue<RowOps>, AllocError>
+// The request's operations, with one owner more: the log.
+fn ops_of(request: &Request) -> Result<ArcValue<RowOps>, AllocError>
     ensures { IfOk result (λ ops. ops ≡ request.now.ops) }
 {
-    ArcValue::new(alloc, request.ops.clone()?)
+    request.ops.clone()
 }
 
 // What is reported of a request that is not prepared.
@@ -85,7 +85,7 @@ fn prepared_by<P: Port>(
     ensures counted { P.count port.new + length (P.kept_receipts port.old) ≡ P.count port.old + length (P.kept_receipts port.new) + receipts_by result }
     ensures kept_receipts { P.kept_receipts port.new ≡ P.kept_receipts port.old }
 {
-    let Ok(keys) = reads_of(alloc, schema.get(), request.ops.as_slice()) else {
+    let Ok(keys) = reads_of(alloc, schema.get(), request.as_slice()) else {
         return Err(Outcome::Memory);
     };
     let view = match port.read(alloc, &keys) {
@@ -96,7 +96,7 @@ fn prepared_by<P: Port>(
     let Ok(schema) = schema.clone() else {
         return Err(Outcome::Memory);
     };
-    let Ok(ops) = ops_of(alloc, request) else {
+    let Ok(ops) = ops_of(request) else {
         return Err(Outcome::Memory);
     };
     match prepare_shared(alloc, schema, lease, ops, view) {

@@ -1,6 +1,9 @@
 //! What servers are asked, and what becomes of it.
+ghost use Rattle.std.specs.Prelude.{◌≡◌};
+
+use collections::ArcValue;
 use locked_store::world::{CommitFault, Receipt};
-use row_write::{PrepareFault, RowFault, RowOps};
+use row_write::{PrepareFault, RowFault, RowOp, RowOps};
 
 /// A transaction that a server is to commit.
 #[derive(Drop)]
@@ -8,8 +11,17 @@ pub struct Request {
     /// The moment of its commit, and of a lease that is taken for it; the greater of it and the moment
     /// of the last entry counts.
     pub moment: u64,
-    /// Its operations, at most 64.
-    pub ops: RowOps,
+    /// Its operations, at most 64. The log becomes an owner of them, too, and copies none.
+    pub ops: ArcValue<RowOps>,
+}
+
+impl Request {
+    /// Its operations, in order.
+    pub(crate) fn as_slice(&self) -> &[RowOp]
+        ensures { result.now ≡ self.now.ops }
+    {
+        self.ops.get().as_slice()
+    }
 }
 
 /// What became of a request.

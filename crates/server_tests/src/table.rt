@@ -1,6 +1,6 @@
 //! The worked table, a request on it, and a world that has it.
 
-use collections::List;
+use collections::{ArcValue, List};
 use keycode::{Text, Value};
 use row_map::ColumnType;
 use row_write::RowOp;
@@ -43,7 +43,7 @@ pub(crate) fn insert(alloc: Global, id: i64) -> Result<Request, AllocError> {
         key: List::new(vec![in alloc; Value::Int(id)]?),
         cells: List::new(vec![in alloc; (1, Value::Int(7))]?),
     };
-    let ops = List::new(vec![in alloc; insert]?);
+    let ops = ArcValue::new(alloc, List::new(vec![in alloc; insert]?))?;
     Ok(Request { moment: 0, ops })
 }
 
@@ -54,6 +54,6 @@ pub(crate) fn update(alloc: Global, id: i64, value: i64) -> Result<Request, Allo
         key: List::new(vec![in alloc; Value::Int(id)]?),
         cells: List::new(vec![in alloc; (1, Value::Int(value))]?),
     };
-    let ops = List::new(vec![in alloc; update]?);
+    let ops = ArcValue::new(alloc, List::new(vec![in alloc; update]?))?;
     Ok(Request { moment: 30, ops })
 }

@@ -2,7 +2,7 @@
 ghost use Rattle.std.specs.Prelude.{◌≤◌};
 
 use crate::table::{COLUMN, TABLE};
-use collections::List;
+use collections::{ArcValue, List};
 use keycode::Value;
 use row_write::{RowOp, RowOps};
 use server::Request;
@@ -45,7 +45,7 @@ fn request_of(alloc: Global, verb: Verb, number: u64, rows: u32) -> Result<Reque
     };
     let row = number.wrapping_mul(step) % u64::from(rows);
     let value = row.wrapping_add(number / u64::from(rows)) % 7;
-    let ops = write(alloc, verb, row as u32, value as u32)?;
+    let ops = ArcValue::new(alloc, write(alloc, verb, row as u32, value as u32)?)?;
     Ok(Request { moment, ops })
 }
 

@@ -3,7 +3,7 @@
 
 use crate::fixtures;
 use crate::fixtures::{FIRST, enter, index, prepared_in, update};
-use collections::List;
+use collections::{ArcValue, List};
 use keycode::Value;
 use row_map::ColumnType;
 use row_write::{RowOp, RowOps};
@@ -19,6 +19,7 @@ pub(crate) fn request(alloc: Global, id: i64, is_there: bool) -> Result<Request,
     } else {
         fixtures::insert(alloc, id, id)?
     };
+    let ops = ArcValue::new(alloc, ops)?;
     Ok(Request { moment: 10, ops })
 }
 
