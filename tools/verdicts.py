@@ -1,9 +1,10 @@
 """Kept verdicts on wrong bodies: must-fail/verdicts.tsv, and the checksum that tells whether a row still holds.
 
 A verdict rests on the crate's own files, on the edit, on which of the crates that both name are listed for it, on what the crates below
-promise, and on the logic. What a crate promises is its definitions (specs/), its public signatures with their contracts, and those of its lemma
-files that a crate above cites; comments, layout, the bodies of its functions and its private functions are no part of it, since a check of a crate
-above does not read them (they are not in the interface of a built library), nor is the list of crates on which it stands.
+promise, and on the logic. What a crate promises is its public signatures with their contracts, those of its lemma files that a crate above cites,
+and of its definitions (specs/) those that all this names, by way of others, too. Comments, layout, the bodies of its functions and its private
+functions are no part of it, since a check of a crate above does not read them (they are not in the interface of a built library); nor is what is
+always so of a private type, since no crate above has one in its hands, nor the list of crates on which it stands.
 """
 import hashlib
 import os
@@ -25,6 +26,15 @@ OF_TRAIT = re.compile(r"\btrait\b|\bimpl\b.*\bfor\b", re.S)
 USE = re.compile(r"(?<!pub )(?<!\) )\b((?:ghost )?use )([^;{]*)(?:\{([^;]*)\})?;")
 CONST = re.compile(r"(?<!pub )\bconst (\w+): [^;{]*;")
 MOD = re.compile(r"(?<!pub )\bmod \w+;")
+# a type that is not public, and what is always so of a type
+PRIVATE_TYPE = re.compile(r"(?:(?<!pub )(?<!\) )|\bpub\s*\([^()]*\)\s*)\b(?:struct|enum)\s+(\w+)")
+MODEL = re.compile(r"\bimpl\b[^{};]*\bModel\s+for\s+(\w+)[^{};]*\{")
+INVARIANT = re.compile(r"\bghost\s+invariant\s*=\s*\{")
+# what a text names of another file: a module, with names in it or alone
+IMPORT = re.compile(r"\bRattle\.(\w+(?:\.\w+)*)(?:\.\{([^}]*)\})?")
+# the first line of a definition, and the names that one gives
+FIRST = re.compile(r"(?:abbrev|unfoldable|record|data|pub|infix[lr]?|use|module|mutual)\b")
+GIVEN = re.compile(r"^\s*(?:abbrev\s+|unfoldable\s+)*(?:pub\s+)?(?:record\s+|data\s+)?([^\s:{(]+)(?=[^=\n]*:)", re.M)
 
 
 def plain(text, tokens, comments):
@@ -82,9 +92,39 @@ def signature_from(text, hidden, at):
     return kept, at
 
 
+def without_private_invariants(text):
+    """The text without what is always so of its private types."""
+    private, kept, at = {it[1] for it in PRIVATE_TYPE.finditer(text)}, [], 0
+    for found in MODEL.finditer(text):
+        end = closing(text, set(), found.end() - 1)
+        law = INVARIANT.search(text, found.end(), end)
+        if found[1] in private and law:
+            kept.append(text[at : law.start()])
+            at = closing(text, set(), law.end() - 1)
+    return "".join(kept) + text[at:]
+
+
+def definitions(text):
+    """The definitions of an antt file, each with the names that it gives; a name with other signs than a word's is always met."""
+    blocks = []
+    for line in text.split("\n"):
+        if FIRST.match(line) or not blocks:
+            blocks.append([])
+        blocks[-1].append(line)
+    for block in blocks:
+        words = "\n".join(block)
+        if not words.startswith("pub mod "):
+            yield {None} if words.startswith(("infix", "use ", "pub use ", "module")) else names_given(words), words
+
+
+def names_given(block):
+    """The names that a definition gives, None among them if one is no word."""
+    return {it if re.fullmatch(r"\w+", it) else None for it in GIVEN.findall(block)} or {None}
+
+
 def signatures(text):
     """What a Rattle file shows the crates above, or nothing: no comment, no body, and of what is private only what the rest names."""
-    text = plain(text, RUST, ("//", "/*"))
+    text = without_private_invariants(plain(text, RUST, ("//", "/*")))
     hidden = {at for found in RUST.finditer(text) for at in range(*found.span())}
     blocks, kept, at = heads(text, hidden), [], 0
     for found in re.finditer(r"\bfn\s+\w+", text):
@@ -126,23 +166,72 @@ def read(path):
         return file.read()
 
 
+def words_in(texts):
+    """The words in texts."""
+    return set().union(*(re.findall(r"\w+", it) for it in texts))
+
+
+def imports_in(text):
+    """What a text names of other files: pairs of a module and a name in it, or None for whatever is in it."""
+    for module, names in IMPORT.findall(text):
+        # the variants of a type are in a module below that of the type
+        module, variants, _ = module.partition(".TheVariants")
+        if variants:
+            yield module, None
+        elif names:
+            yield from ((module, it.split(" as ")[0].strip()) for it in names.split(","))
+        else:
+            yield from ((module, None), module.rpartition(".")[::2])
+
+
+class Definition:
+    """A definition of a crate: its module, the names that it gives, its text, the words in that and what it names of other files."""
+
+    def __init__(self, module, names, text):
+        self.module, self.names, self.text, self.words, self.imports = module, names, text, words_in([text]), {*imports_in(text)}
+
+    def is_met(self, imports, words):
+        """Whether one of these imports is of it, or, if a name of its module is met, one of the words of that module; or it has no word for a name."""
+        if self.module not in words:
+            return False
+        return None in self.names or (self.module, None) in imports or any((self.module, it) in imports or it in words[self.module] for it in self.names)
+
+
+def met(defined, texts):
+    """Those of the definitions that these texts name, by way of others, too; and the rest."""
+    found, rest, imports, words = [], defined, {it for text in texts for it in imports_in(text)}, {}
+    while True:
+        for module, _ in imports:
+            words.setdefault(module, set())
+        parted = [], []
+        for it in rest:
+            parted[0 if it.is_met(imports, words) else 1].append(it)
+        if not parted[0]:
+            return sorted(found, key=lambda it: (it.module, it.text)), rest
+        found, rest = found + parted[0], parted[1]
+        for it in parted[0]:
+            words[it.module] |= it.words
+            imports |= it.imports
+
+
 class Checksums:
     """Checksums of the edits of a checkout. What several of them rest on is read once."""
 
     def __init__(self, crates, logic):
-        self.crates, self.logic, self.promises, self.own, self.shared = crates, logic, {}, {}, {}
+        self.crates, self.logic, self.promises, self.own, self.words, self.shared = crates, logic, {}, {}, {}, {}
 
     def promised(self, name):
-        """What a crate promises those above it, but for its lemmas."""
+        """What a crate promises those above it, but for its lemmas: what its files show, and its definitions."""
         if name not in self.promises:
-            folder, found = self.crates.folder(name), []
+            folder, shown, defined = self.crates.folder(name), [], []
             for path in files_of(folder):
                 place = os.path.relpath(path, folder)
                 if place.startswith("specs/"):
-                    found.append((place, antt_text(read(path))))
-                elif place.endswith(".rt") and (shown := signatures(read(path))):
-                    found.append((place, shown))
-            self.promises[name] = found
+                    module = ".".join([name, *place.removesuffix(".antt").split("/")])
+                    defined += [Definition(module, *it) for it in definitions(antt_text(read(path)))]
+                elif place.endswith(".rt") and (text := signatures(read(path))):
+                    shown.append((f"{name}/{place}", text))
+            self.promises[name] = shown, defined
         return self.promises[name]
 
     def cited(self, name):
@@ -164,19 +253,32 @@ class Checksums:
             self.own[name] = [(os.path.relpath(path, folder), read(path)) for path in files_of(folder)]
         return self.own[name]
 
+    def words_of(self, name):
+        """The words in a crate's own files."""
+        if name not in self.words:
+            self.words[name] = words_in(text for _, text in self.own_files(name))
+        return self.words[name]
+
     def named(self, name, text):
         """The crates that are listed for a crate, and that its files or this text name."""
-        words = set(re.findall(r"\w+", text)).union(*(re.findall(r"\w+", it) for _, it in self.own_files(name)))
+        words = self.words_of(name) | words_in([text])
         return sorted(it for it in self.crates.deps[name] if it in words)
+
+    def rests(self, name):
+        """A checksum of what all edits of a crate rest on, and the definitions below that nothing in it names."""
+        if name not in self.shared:
+            below = sorted(self.crates.below(name))
+            parts = [*self.own_files(name), *(it for crate in below for it in self.promised(crate)[0]), *self.cited(name)]
+            found, others = met([it for crate in below for it in self.promised(crate)[1]], [it[-1] for it in parts])
+            rests = self.logic, name, below, parts, [(it.module, it.text) for it in found]
+            self.shared[name] = hashlib.sha256(repr(rests).encode()).hexdigest(), others
+        return self.shared[name]
 
     def of(self, name, text):
         """The checksum of all that the verdict on an edit of the crate rests on."""
-        if name not in self.shared:
-            below = sorted((it, self.promised(it)) for it in self.crates.below(name))
-            rests = (self.logic, name, self.own_files(name), self.cited(name), below)
-            self.shared[name] = hashlib.sha256(repr(rests).encode()).hexdigest()
-        named = " ".join(self.named(name, text))
-        return hashlib.sha256(f"{self.shared[name]}\n{named}\n{text}".encode()).hexdigest()[:32]
+        shared, others = self.rests(name)
+        more = [(it.module, it.text) for it in met(others, [text])[0]]
+        return hashlib.sha256(repr((shared, self.named(name, text), more, text)).encode()).hexdigest()[:32]
 
 
 def read_rows(path):

@@ -53,12 +53,32 @@ pub fn half(n: u64) -> u64
     n / 2 + u64::from(open == b'}')
 }
 
+pub struct Whole {
+    n: u64,
+}
+
+impl Model for Whole {
+    ghost invariant = { λ w. w.n ≤ 100 };
+}
+
+pub(crate) struct Halves {
+    n: u64,
+}
+
+impl Model for Halves {
+    ghost use Rattle.low.specs.Half.{other};
+
+    ghost view = { λ h. h.n };
+
+    ghost invariant = { λ h. record { is : h.n ≡ other } };
+}
+
 pub const MOST: u64 = 100;
 '''
 FILES = {
     "crates.txt": "low:\nhigh: low\n",
     "crates/low/src/lib.rt": LOW,
-    "crates/low/specs/Half.antt": "-- the half\nabbrev pub half : ℕ → ℕ\nhalf n = n / 2\n",
+    "crates/low/specs/Half.antt": "-- the half\nabbrev pub half : ℕ → ℕ\nhalf n = n / parts\n\nabbrev pub parts : ℕ\nparts = 2\n\nabbrev pub other : ℕ\nother = 7\n",
     "crates/low/proofs/Cited.antt": "pub small : ℕ\nsmall = 1\n",
     "crates/low/proofs/Own.antt": "pub other : ℕ\nother = 1\n",
     "crates/high/src/lib.rt": "pub fn quarter(n: u64) -> u64\n    ensures { result ≤ n }\n{\n    half(half(n))\n}\n",
@@ -98,7 +118,10 @@ class MadeCheckout(unittest.TestCase):
             ("what a trait's call is below", "crates/low/src/lib.rt", "    fn halved(&self) -> u64 {", "    fn halved(&mut self) -> u64 {"),
             ("a type below", "crates/low/src/lib.rt", "use crate::doubled::Doubled;", "use crate::halves::Doubled;"),
             ("where a definition below comes from", "crates/low/src/lib.rt", "specs.Half.{half, whole}", "specs.Halves.{half, whole}"),
-            ("a definition below", "crates/low/specs/Half.antt", "n / 2", "n / 3"),
+            ("a definition below", "crates/low/specs/Half.antt", "n / parts", "n / parts + 1"),
+            ("a definition below that another names", "crates/low/specs/Half.antt", "parts = 2", "parts = 3"),
+            ("what is always so of a type below", "crates/low/src/lib.rt", "w.n ≤ 100", "w.n < 100"),
+            ("what a private type below is", "crates/low/src/lib.rt", "λ h. h.n }", "λ h. h.n + 1 }"),
             ("a cited lemma below", "crates/low/proofs/Cited.antt", "= 1", "= 2"),
             ("a crate that it names", "crates.txt", "high: low", "high:"),
             ("a crate below more", "crates.txt", "high: low", "more:\nhigh: low more"),
@@ -126,6 +149,9 @@ class MadeCheckout(unittest.TestCase):
             ("an import below that nothing public names", "crates/low/src/lib.rt", "{half, whole}", "{half, whole, quarter}"),
             ("a module below", "crates/low/src/lib.rt", "mod doubled;", "mod doubled;\nmod more;"),
             ("a private file below", "crates/low/src/more.rt", "", "use crate::doubled::Doubled;\n\nfn more(n: u64) -> u64 {\n    n\n}\n"),
+            ("what is always so of a private type below", "crates/low/src/lib.rt", "h.n ≡ other", "h.n ≤ other"),
+            ("a definition below that nothing names", "crates/low/specs/Half.antt", "other = 7", "other = 8"),
+            ("a new definition below", "crates/low/specs/Half.antt", "parts = 2", "parts = 2\n\nabbrev pub more : ℕ\nmore = half 3"),
             ("a remark in a definition below", "crates/low/specs/Half.antt", "-- the half", "-- half of it"),
             ("a lemma below that nothing cites", "crates/low/proofs/Own.antt", "= 1", "= 2"),
             ("a library of the kit that nothing names", "crates.txt", "high: low", "high: low thiserror"),
@@ -141,7 +167,7 @@ class MadeCheckout(unittest.TestCase):
         said = signatures(LOW)
         self.assertIn("pub fn half(n: u64) -> u64 requires small { n < 100 } ensures { result ≡ half n }", said)
         self.assertTrue(said.endswith("pub const MOST: u64 = 100;"))
-        for word in ("open", "twice", "PARTS", "whole", "mod doubled"):
+        for word in ("open", "twice", "PARTS", "whole", "other", "mod doubled"):
             self.assertNotIn(word, said)
         self.assertEqual(said.count("fn halved(&self) -> u64"), 2)
 
