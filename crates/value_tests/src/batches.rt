@@ -338,19 +338,19 @@ fn runs(
 /// Whether a large batch on many pairs, which a snapshot shares, leaves what it has to.
 fn runs_large(alloc: Global, seed: u64) -> Result<bool, AllocError> {
     let mut run = Run::new(alloc, seed, 0);
-    let is_begun = run.batch(alloc, 100_000, 20)?;
+    let is_begun = run.batch(alloc, 150_000, 20)?;
     run.keep(alloc)?;
-    Ok(is_begun && run.batch(alloc, 100_000, 20)? && run.finish(alloc)?)
+    Ok(is_begun && run.batch(alloc, 150_000, 20)? && run.finish(alloc)?)
 }
 
 /// How many changes there are at first, how many rounds follow, how many bytes all keys share
-/// (beyond 24 a page is found by whole keys alone), and how many seeds are tried. 20,000 changes
-/// take more than one chunk.
+/// (beyond 24 a page is found by whole keys alone), and how many seeds are tried. 150,000 changes
+/// make more than one chunk.
 const RUNS: &[(usize, usize, usize, u64)] = &[
     (0, 12, 0, 6),
     (400, 12, 30, 6),
-    (20_000, 4, 0, 1),
-    (20_000, 4, 30, 1),
+    (150_000, 4, 0, 1),
+    (150_000, 4, 30, 1),
 ];
 
 #[test]
@@ -366,6 +366,6 @@ fn random_batches_leave_what_a_list_says(rt: HostRuntime) {
 }
 
 #[test]
-fn a_batch_of_100_000_scattered_changes_is_made(rt: HostRuntime) {
+fn a_batch_of_150_000_scattered_changes_is_made(rt: HostRuntime) {
     assert!(rt; runs_large(rt.alloc(), 7) == Ok(true));
 }
