@@ -1,5 +1,5 @@
 -- One more operation of a run, and runs on rows that agree.
-use Rattle.std.proofs.Common.{◌≡◌, ◌<◌, ◌+◌, ◌++◌, ℕ, Bool, true, false, cond, List, [], ◌∷◌, length, get_or, drop, Option, Some, None, option_map, Result, Ok, Err, inl, inr, refl, sym, ap, ap₂, subst, ◌∙◌, IsTrue}
+use Rattle.std.proofs.Common.{◌≡◌, ◌<◌, ◌≤◌, arith, ◌+◌, ◌++◌, ℕ, Bool, true, false, cond, List, [], ◌∷◌, length, get_or, drop, Option, Some, None, option_map, Result, Ok, Err, inl, inr, refl, sym, ap, ap₂, subst, ◌∙◌, IsTrue}
 use Rattle.std.proofs.lemmas.List.{at_drop_more, append-nil}
 use Rattle.std.specs.List.{AllByRecursion}
 use Rattle.std.specs.Ordering.{nat_cmp, eq_by_cmp}
@@ -50,6 +50,13 @@ batch_more v rows then ops i op b b_then total lt is (made, done, rows_is, noted
     ∙ sym (ap (λ r. noted b (write_on v rows r (λ new. writes_of v new (drop (i + 1) ops)))) done)
     ∙ ap (λ (o : RowOp). noted b (writes_of v rows (o ∷ drop (i + 1) ops))) is
     ∙ sym (ap (noted b) (at_drop_more (writes_of v rows) ops i op lt)) ∙ so_far
+
+-- ---- the only operation
+
+pub only_one : (ops : List RowOp) (op : RowOp) → 1 ≤ length ops → length ops ≤ 1 → op ≡ get_or ops 0 op → op ∷ [] ≡ ops
+only_one [] op some few at = absurd (omega arith)
+only_one (o ∷ []) op some few at = ap (λ x. x ∷ []) at
+only_one (o ∷ p ∷ ops) op some few at = absurd (omega arith)
 
 -- ---- rows that agree
 

@@ -88,7 +88,12 @@ fn new_row(
     Ok(Row { key, cells })
 }
 
-fn inserted_row(alloc: Global, key: &Values, named: &[(u32, Value)]) -> Result<Row, AllocError>
+/// The row that an insert leaves.
+pub(crate) fn inserted_row(
+    alloc: Global,
+    key: &Values,
+    named: &[(u32, Value)],
+) -> Result<Row, AllocError>
     ensures key { IfOk result (λ row. row.key ≡ key.now) }
     ensures cells { IfOk result (λ row. cells_of row ≡ with_cells_of map.empty named.now) }
 {

@@ -5,6 +5,7 @@
 mod check;
 mod edit;
 mod fault;
+mod insert;
 mod lemmas;
 mod op;
 mod parts;

@@ -1,5 +1,5 @@
 //! Preparing a transaction from what was read.
-ghost use Rattle.std.specs.Prelude.{◌≡◌, ◌≤◌, length, IfOk, IfErr, OnOk};
+ghost use Rattle.std.specs.Prelude.{◌≡◌, ◌≤◌, ◌∷◌, [], length, IfOk, IfErr, IfSome, OnOk};
 ghost use Rattle.std.specs.List.{AllByRecursion};
 ghost use Rattle.collections.specs.Refusal.{IsFirst, IsRefusal, IsClear};
 ghost use Rattle.row_map.specs.Rows.{Rows};
@@ -14,8 +14,8 @@ use crate::fault::PrepareFault;
 use crate::lemmas::lemma_served;
 use crate::op::{RowOp, RowOps, RowOutcome};
 use crate::prepared::Prepared;
-use crate::read::encoded_rows;
-use crate::run::run;
+use crate::read::{encoded_row, encoded_rows};
+use crate::run::{run, run_one};
 use collections::ArcValue;
 use lease::Lease;
 use row_map::{Batch, Expect, ReadView};
@@ -40,6 +40,26 @@ fn check_ops(schema: &Schema, ops: &[RowOp]) -> Result<(), PrepareFault>
     Ok(())
 }
 
+/// What the only operation comes to, as `work_out` has it. None if the view has other keys than its
+/// row's, or in another order.
+fn work_out_one(
+    alloc: Global,
+    schema: &Schema,
+    view: &ReadView,
+    op: &RowOp,
+) -> Result<Option<(RowOutcome, Batch)>, PrepareFault>
+    requires { IsSound schema.now op.now }
+    ensures some_rows { IfOk result (λ found. IfSome found (λ done. (rows : Rows) × Encodes schema.now (op.now ∷ []) view.now rows)) }
+    ensures prepared { IfOk result (λ found. IfSome found (λ done. IsPrepared schema.now (op.now ∷ []) view.now done.0 done.1)) }
+    ensures missed { IfErr result (IsMissed ((rows : Rows) → ¬ (Encodes schema.now (op.now ∷ []) view.now rows))) }
+{
+    lemma_served(schema);
+    let Some((row, exists)) = encoded_row(alloc, schema, view, op)? else {
+        return Ok(None);
+    };
+    Ok(Some(run_one(alloc, schema, &row, op, exists)?))
+}
+
 /// What the operations come to, and what they write, on any rows that the view encodes.
 fn work_out(
     alloc: Global,
@@ -53,6 +73,12 @@ fn work_out(
     ensures missed { IfErr result (IsMissed ((rows : Rows) → ¬ (Encodes schema.now ops.now view.now rows))) }
 {
     lemma_served(schema);
+    // Most transactions have one operation, and a view with its keys in their order.
+    if let [op] = ops {
+        if let Some(done) = work_out_one(alloc, schema, view, op)? {
+            return Ok(done);
+        }
+    }
     let rows = encoded_rows(alloc, schema, view, ops)?;
     Ok(run(alloc, schema, rows, ops)?)
 }

@@ -8,7 +8,7 @@ ghost use Rattle.row_map.specs.Writes.{written};
 ghost use Rattle.row_write.specs.Plain.{row_of};
 ghost use Rattle.row_write.specs.Prepare.{IsEncodedRow, Encodes};
 ghost use Rattle.row_write.specs.Made.{IsSound};
-ghost use Rattle.row_write.specs.inner.View.{IsMissed, IsVisible, cells_there, keys_of, HaveSameKeys};
+ghost use Rattle.row_write.specs.inner.View.{IsMissed, IsVisible, cells_there, keys_of, HaveSameKeys, IsExistsKey};
 
 use crate::edit::copy_key;
 use crate::fault::PrepareFault;
@@ -136,28 +136,29 @@ fn one_row(
     Ok(rows)
 }
 
-/// The row that the view encodes for one operation. None of a view with other keys, or in another
-/// order.
-fn encoded_row(
+/// The row that the view encodes for one operation, and the key of its `exists` pair. None of a view
+/// with other keys, or in another order.
+pub(crate) fn encoded_row(
     alloc: Global,
     schema: &Schema,
     view: &ReadView,
     op: &RowOp,
-) -> Result<Option<WorkRows>, PrepareFault>
+) -> Result<Option<(WorkRows, Bytes)>, PrepareFault>
     requires { IsSound schema.now op.now }
-    ensures found { IfOk result (λ found. IfSome found (λ rows. Encodes schema.now (op.now ∷ []) view.now rows)) }
+    ensures found { IfOk result (λ found. IfSome found (λ row. Encodes schema.now (op.now ∷ []) view.now row.0)) }
+    ensures exists { IfOk result (λ found. IfSome found (λ row. IsExistsKey op.now row.1)) }
     ensures missed { IfErr result (IsMissed ((rows : Rows) → ¬ (Encodes schema.now (op.now ∷ []) view.now rows))) }
 {
     lemma_served(schema);
     let columns = columns_of(alloc, schema, op.table())?;
-    let Some((there, cells)) = row_in_order(alloc, view, op, columns.as_slice())? else {
+    let Some((there, cells, exists)) = row_in_order(alloc, view, op, columns.as_slice())? else {
         return Ok(None);
     };
-    Ok(Some(one_row(alloc, op, there, cells)?))
+    Ok(Some((one_row(alloc, op, there, cells)?, exists)))
 }
 
-/// Rows that the view encodes for any number of operations.
-fn all_encoded_rows(
+/// Rows that the view encodes.
+pub(crate) fn encoded_rows(
     alloc: Global,
     schema: &Schema,
     view: &ReadView,
@@ -171,24 +172,4 @@ fn all_encoded_rows(
         return Err(PrepareFault::ViewMismatch);
     }
     read_rows(alloc, schema, view, ops)
-}
-
-/// Rows that the view encodes.
-pub(crate) fn encoded_rows(
-    alloc: Global,
-    schema: &Schema,
-    view: &ReadView,
-    ops: &[RowOp],
-) -> Result<WorkRows, PrepareFault>
-    requires { AllByRecursion (IsSound schema.now) ops.now }
-    ensures found { IfOk result (λ rows. Encodes schema.now ops.now view.now rows) }
-    ensures missed { IfErr result (IsMissed ((rows : Rows) → ¬ (Encodes schema.now ops.now view.now rows))) }
-{
-    // Most transactions have one operation, and a view with its keys in their order.
-    if let [op] = ops {
-        if let Some(rows) = encoded_row(alloc, schema, view, op)? {
-            return Ok(rows);
-        }
-    }
-    all_encoded_rows(alloc, schema, view, ops)
 }

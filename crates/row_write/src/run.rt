@@ -1,19 +1,23 @@
 //! The operations of a transaction, one after another on working rows.
-ghost use Rattle.std.specs.Prelude.{◌≡◌, ◌∷◌, [], IfOk, IfSome, OnOk, option_map};
+ghost use Rattle.std.specs.Prelude.{◌≡◌, ◌∷◌, [], true, Ok, IfOk, IfSome, OnOk, option_map};
 ghost use Rattle.std.specs.FinMap as map;
 ghost use Rattle.row_map.specs.Writes.{written, noted};
 ghost use Rattle.element_state.specs.Operations.{cells_of};
 ghost use Rattle.element_state.specs.Schemas.{version_writes};
 ghost use Rattle.element_state.specs.Versions.{the_kinds, schema_of};
-ghost use Rattle.row_write.specs.Plain.{key_of, row_of, outcome};
+ghost use Rattle.row_write.specs.Plain.{key_of, row_of, change_of, outcome};
+ghost use Rattle.row_write.specs.inner.Insert.{insert_at};
 ghost use Rattle.row_write.specs.Prepare.{txn_writes};
 ghost use Rattle.row_write.specs.inner.Run.{change_at, IsNext, IsStep};
+ghost use Rattle.row_write.specs.inner.View.{IsExistsKey};
 
 use crate::edit::{copy_key, next_row};
 use crate::fault::RowFault;
+use crate::insert::write_insert;
 use crate::op::{RowOp, RowOutcome};
 use crate::work_rows::WorkRows;
 use crate::write::write_change;
+use byte_map::Bytes;
 use collections::List;
 use row_map::{Batch, Row};
 use schema_version::Schema;
@@ -41,7 +45,9 @@ fn change_op(
     rows: &WorkRows,
     batch: &mut Batch,
     op: &RowOp,
+    exists: Option<Bytes>,
 ) -> Result<Result<Option<Row>, RowFault>, AllocError>
+    requires { IfSome exists (IsExistsKey op.now) }
     ensures next { IfOk result (λ next. IsNext (map.get rows.now (row_of op.now)) op.now next) }
     ensures batch { IfOk result (λ next. IfOk next (λ new. batch.new ≡ noted batch.old (version_writes the_kinds (schema_of schema.now) (change_at (row_of op.now) (map.get rows.now (row_of op.now)) (option_map cells_of new))))) }
 {
@@ -50,7 +56,7 @@ fn change_op(
         Err(why) => return Ok(Err(why)),
         Ok(new) => new,
     };
-    write_change(alloc, schema, op, old, new.as_ref(), batch)?;
+    write_change(alloc, schema, op, exists, old, new.as_ref(), batch)?;
     Ok(Ok(new))
 }
 
@@ -64,7 +70,7 @@ fn run_op(
 ) -> Result<Result<(), RowFault>, AllocError>
     ensures { IfOk result (λ done. IsStep schema.now rows.old op.now done rows.new batch.old batch.new) }
 {
-    let new = match change_op(alloc, schema, rows, batch, op)? {
+    let new = match change_op(alloc, schema, rows, batch, op, None)? {
         Err(why) => return Ok(Err(why)),
         Ok(new) => new,
     };
@@ -72,25 +78,42 @@ fn run_op(
     Ok(Ok(()))
 }
 
-/// Runs the only operation. Its row needs no keeping.
-fn run_one(
+/// Whether the operation is an insert of a row that is not there.
+fn is_new(rows: &WorkRows, op: &RowOp) -> bool
+    ensures { result ≡ true → change_of (map.get rows.now (row_of op.now)) op.now ≡ Ok (insert_at (row_of op.now) op.now) }
+{
+    match op {
+        RowOp::Insert { table, key, .. } => rows.find(*table, key.as_slice()).is_none(),
+        RowOp::Update { .. } | RowOp::Delete { .. } => false,
+    }
+}
+
+/// Runs the only operation, as `run` does. Its row needs no keeping, and the key of its `exists`
+/// pair was made before.
+pub(crate) fn run_one(
     alloc: Global,
     schema: &Schema,
     rows: &WorkRows,
     op: &RowOp,
+    exists: Bytes,
 ) -> Result<(RowOutcome, Batch), AllocError>
+    requires { IsExistsKey op.now exists }
     ensures reported { IfOk result (λ done. done.0 ≡ outcome rows.now (op.now ∷ [])) }
     ensures batch { IfOk result (λ done. done.1 ≡ noted map.empty (txn_writes schema.now rows.now (op.now ∷ []))) }
 {
     let mut batch = Batch::new(alloc);
-    match change_op(alloc, schema, rows, &mut batch, op)? {
+    if is_new(rows, op) {
+        write_insert(alloc, schema, op, exists, &mut batch)?;
+        return Ok((RowOutcome::Done, batch));
+    }
+    match change_op(alloc, schema, rows, &mut batch, op, Some(exists))? {
         Err(why) => Ok((RowOutcome::Refused { op: 0, why }, Batch::new(alloc))),
         Ok(_new) => Ok((RowOutcome::Done, batch)),
     }
 }
 
-/// Runs any number of operations.
-fn run_all(
+/// Runs the operations up to the first that is refused. With one, nothing is written.
+pub(crate) fn run(
     alloc: Global,
     schema: &Schema,
     rows: WorkRows,
@@ -109,21 +132,4 @@ fn run_all(
         place += 1;
     }
     Ok((RowOutcome::Done, batch))
-}
-
-/// Runs the operations up to the first that is refused. With one, nothing is written.
-pub(crate) fn run(
-    alloc: Global,
-    schema: &Schema,
-    rows: WorkRows,
-    ops: &[RowOp],
-) -> Result<(RowOutcome, Batch), AllocError>
-    ensures reported { IfOk result (λ done. done.0 ≡ outcome rows ops.now) }
-    ensures batch { IfOk result (λ done. done.1 ≡ noted map.empty (txn_writes schema.now rows ops.now)) }
-{
-    // Most transactions have one operation.
-    if let [op] = ops {
-        return run_one(alloc, schema, &rows, op);
-    }
-    run_all(alloc, schema, rows, ops)
 }

@@ -7,7 +7,7 @@ ghost use Rattle.row_map.specs.Cell.{IsTypedEncoding};
 ghost use Rattle.row_write.specs.declared.op.RowOp.{RowOp};
 ghost use Rattle.row_write.specs.Plain.{table_of, key_of};
 ghost use Rattle.row_write.specs.inner.Enter.{column_keys, row_keys};
-ghost use Rattle.row_write.specs.inner.View.{IsMissed, IsCell, IsThere, with_prefix, AreCells, visible_at, IsVisible, keys_of, AreHeld};
+ghost use Rattle.row_write.specs.inner.View.{IsMissed, IsCell, IsThere, with_prefix, AreCells, visible_at, IsVisible, IsExistsKey, keys_of, AreHeld};
 
 use crate::fault::PrepareFault;
 use crate::op::RowOp;
@@ -184,22 +184,27 @@ fn are_column_keys(
     true
 }
 
-/// Whether these entries have just the keys of the operation's row, in their order.
-fn are_row_keys(
+/// The key of the `exists` pair of the operation's row, if these entries have just the keys of that
+/// row, in their order.
+fn row_key_in(
     alloc: Global,
     first: &(Bytes, Option<Bytes>),
     rest: &[(Bytes, Option<Bytes>)],
     op: &RowOp,
     columns: &[(u32, ColumnType)],
-) -> Result<bool, AllocError>
-    ensures long { IfOk result (λ same. IsTrue same → length rest.now ≡ length columns.now) }
-    ensures keys { IfOk result (λ same. IsTrue same → first.now.0 ∷ keys_of rest.now ≡ row_keys op.now columns.now) }
+) -> Result<Option<Bytes>, AllocError>
+    ensures long { IfOk result (λ found. IfSome found (λ exists. length rest.now ≡ length columns.now)) }
+    ensures keys { IfOk result (λ found. IfSome found (λ exists. first.now.0 ∷ keys_of rest.now ≡ row_keys op.now columns.now)) }
+    ensures exists { IfOk result (λ found. IfSome found (λ exists. IsExistsKey op.now exists)) }
 {
     let exists = exists_key(alloc, op.table(), op.key().as_slice())?;
     if first.0 != exists {
-        return Ok(false);
+        return Ok(None);
     }
-    Ok(are_column_keys(rest, exists.as_slice(), columns))
+    if !are_column_keys(rest, exists.as_slice(), columns) {
+        return Ok(None);
+    }
+    Ok(Some(exists))
 }
 
 /// Whether the row is there, from the entry of its `exists` pair.
@@ -243,25 +248,27 @@ fn cells_in(
     Ok(List::new(cells))
 }
 
-/// What `read_row` gives, without a look-up, if the view's keys are those of the operation's row in
-/// their order. None of a view with other keys or in another order.
+/// What `read_row` gives, without a look-up, and the key of the row's `exists` pair, if the view's
+/// keys are those of the operation's row in their order. None of a view with other keys or in another
+/// order.
 pub(crate) fn row_in_order(
     alloc: Global,
     view: &ReadView,
     op: &RowOp,
     columns: &[(u32, ColumnType)],
-) -> Result<Option<(bool, List<(u32, Value)>)>, PrepareFault>
+) -> Result<Option<(bool, List<(u32, Value)>, Bytes)>, PrepareFault>
     ensures keys { IfOk result (λ found. IfSome found (λ row. keys_of (map.entries view.now) ≡ row_keys op.now columns.now)) }
     ensures found { IfOk result (λ found. IfSome found (λ row. IsVisible view.now op.now columns.now row.0 row.1)) }
+    ensures exists { IfOk result (λ found. IfSome found (λ row. IsExistsKey op.now row.2)) }
     ensures missed { IfErr result (IsMissed ((there : _) (cells : _) → ¬ (IsVisible view.now op.now columns.now there cells))) }
 {
     let [first, rest @ ..] = view.entries() else {
         return Ok(None);
     };
-    if !are_row_keys(alloc, first, rest, op, columns)? {
+    let Some(exists) = row_key_in(alloc, first, rest, op, columns)? else {
         return Ok(None);
-    }
+    };
     let there = presence_in(first)?;
     let cells = cells_in(alloc, there, rest, columns)?;
-    Ok(Some((there, cells)))
+    Ok(Some((there, cells, exists)))
 }

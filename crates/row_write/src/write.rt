@@ -1,5 +1,5 @@
 //! What a change of one row writes.
-ghost use Rattle.std.specs.Prelude.{◌≡◌, ◌∷◌, Some, OnOk, IfSome, option_map};
+ghost use Rattle.std.specs.Prelude.{◌≡◌, ◌∷◌, Some, IfOk, OnOk, IfSome, option_map};
 ghost use Rattle.row_map.specs.Keys.{index_code};
 ghost use Rattle.row_map.specs.Writes.{noted};
 ghost use Rattle.schema_version.specs.Version.{live};
@@ -12,35 +12,49 @@ ghost use Rattle.element_state.specs.Versions.{the_kinds, schema_of};
 ghost use Rattle.row_write.specs.Plain.{key_of, row_of};
 ghost use Rattle.row_write.specs.inner.Insert.{IsOnlyIndexed, put_writes};
 ghost use Rattle.row_write.specs.inner.Run.{change_at, element_writes, live_writes};
+ghost use Rattle.row_write.specs.inner.View.{IsExistsKey};
 
 use crate::lemmas::lemma_served;
 use crate::op::RowOp;
 use crate::public_columns::own_elements;
 use byte_map::Bytes;
 use element_state::{AnyElement, Element, cell};
-use keycode::Value;
+use keycode::{Value, Values};
 use row_map::{Batch, Row, exists_key, index_key};
 use schema_version::{ElementDef, ElementState, Kind, Schema};
 use std::alloc::{AllocError, Global};
 use std::slice::from_ref;
 
+/// The key of the row's `exists` pair, unless it was made before.
+fn exists_key_of(alloc: Global, op: &RowOp, made: Option<Bytes>) -> Result<Bytes, AllocError>
+    requires { IfSome made (IsExistsKey op.now) }
+    ensures { IfOk result (IsExistsKey op.now) }
+{
+    match made {
+        Some(key) => Ok(key),
+        None => exists_key(alloc, op.table(), op.key().as_slice()),
+    }
+}
+
 /// Writes the row's `exists` pair.
 fn write_exists(
     alloc: Global,
     op: &RowOp,
+    exists: Option<Bytes>,
     old: Option<&Row>,
     new: Option<&Row>,
     batch: &mut Batch,
 ) -> Result<(), AllocError>
+    requires { IfSome exists (IsExistsKey op.now) }
     ensures { OnOk result (batch.new ≡ noted batch.old (exists_by (row_of op.now) (option_map (λ r. cells_of r.now) old.entry) (option_map (λ r. cells_of r.now) new.entry))) }
 {
     match (old, new) {
         (None, Some(_)) => {
-            let key = exists_key(alloc, op.table(), op.key().as_slice())?;
+            let key = exists_key_of(alloc, op, exists)?;
             batch.put(key, Bytes::new(Vec::new(alloc))?)
         }
         (Some(_), None) => {
-            let key = exists_key(alloc, op.table(), op.key().as_slice())?;
+            let key = exists_key_of(alloc, op, exists)?;
             batch.remove(key)
         }
         _ => Ok(()),
@@ -60,32 +74,28 @@ fn only_indexed<'a>(kind: &Kind, row: &'a Row) -> Option<&'a Value>
     cell(row, *column)
 }
 
-/// Writes the pair of a new row for an index over one column, in which the row has this value.
-fn put_indexed(
+/// Writes the pair of a new row of this key for an index over one column, in which the row has this
+/// value.
+pub(crate) fn put_indexed(
     alloc: Global,
     definition: &ElementDef,
     value: &Value,
-    row: &Row,
+    key: &Values,
     batch: &mut Batch,
 ) -> Result<(), AllocError>
-    ensures { OnOk result (batch.new ≡ noted batch.old (put_writes definition.now.state (index_code definition.now.number (value.now ∷ row.now.key)))) }
+    ensures { OnOk result (batch.new ≡ noted batch.old (put_writes definition.now.state (index_code definition.now.number (value.now ∷ key.now)))) }
 {
     match definition.state {
         ElementState::Absent | ElementState::DeleteOnly => Ok(()),
         ElementState::WriteOnly | ElementState::Public => {
-            let key = index_key(
-                alloc,
-                definition.number,
-                from_ref(value),
-                row.key.as_slice(),
-            )?;
+            let key = index_key(alloc, definition.number, from_ref(value), key.as_slice())?;
             batch.put(key, Bytes::new(Vec::new(alloc))?)
         }
     }
 }
 
 /// Writes what an element asks for at the insert of a row, as if it were one of its table.
-fn write_inserted(
+pub(crate) fn write_inserted(
     alloc: Global,
     schema: &Schema,
     definition: &ElementDef,
@@ -96,7 +106,7 @@ fn write_inserted(
 {
     // Most indexes have one column, and make no list of what stands for missing values.
     if let Some(value) = only_indexed(&definition.kind, row) {
-        return put_indexed(alloc, definition, value, row, batch);
+        return put_indexed(alloc, definition, value, &row.key, batch);
     }
     let element = AnyElement::of(alloc, schema, definition)?;
     element.on_insert(alloc, definition.state, row, batch)
@@ -169,21 +179,24 @@ fn write_elements(
     Ok(())
 }
 
-/// Writes what the operation's change asks for in the states of the schema.
+/// Writes what the operation's change asks for in the states of the schema. `exists` is the key of
+/// the row's `exists` pair, if it was made before.
 pub(crate) fn write_change(
     alloc: Global,
     schema: &Schema,
     op: &RowOp,
+    exists: Option<Bytes>,
     old: Option<&Row>,
     new: Option<&Row>,
     batch: &mut Batch,
 ) -> Result<(), AllocError>
+    requires exists { IfSome exists (IsExistsKey op.now) }
     requires old { IfSome old (λ r. r.now.key ≡ key_of op.now) }
     requires new { IfSome new (λ r. r.now.key ≡ key_of op.now) }
     ensures { OnOk result (batch.new ≡ noted batch.old (version_writes the_kinds (schema_of schema.now) (change_at (row_of op.now) (option_map (λ r. cells_of r.now) old.entry) (option_map (λ r. cells_of r.now) new.entry)))) }
 {
     lemma_served(schema);
-    write_exists(alloc, op, old, new, batch)?;
+    write_exists(alloc, op, exists, old, new, batch)?;
     let own = own_elements(schema, op.table());
     write_elements(alloc, schema, own, op, old, new, batch)
 }

@@ -59,6 +59,10 @@ cells_there false cells = None
 abbrev pub HaveSameKeys : KeySet → View → Type 0
 HaveSameKeys reads view = (key : Bytes) → (map.get reads key ≡ Some tt) ↔ ((value : Option Bytes) × (map.get view key ≡ Some value))
 
+-- the key of the `exists` pair of the operation's row
+abbrev pub IsExistsKey : RowOp → Bytes → Type 0
+IsExistsKey op key = key ≡ row_code (table_of op) (key_of op) 0
+
 -- the keys of entries, in their order
 abbrev pub keys_of : {X : Type 0} → List (Bytes × X) → List Bytes
 keys_of entries = each (λ entry. entry.0) entries

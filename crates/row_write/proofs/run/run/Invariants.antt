@@ -3,7 +3,7 @@ use Rattle.std.specs.FinMap.{empty}
 use Rattle.row_map.specs.Writes.{noted}
 use Rattle.row_write.specs.Plain.{applied}
 use Rattle.row_write.specs.Prepare.{writes_of}
-use Rattle.row_write.proofs.run.run_all.Given as goal
+use Rattle.row_write.proofs.run.run.Given as goal
 
 abbrev pub invariant-loop-op : goal.invariant-loop-op
 invariant-loop-op l = record {

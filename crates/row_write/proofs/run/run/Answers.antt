@@ -1,6 +1,6 @@
 use Rattle.std.proofs.Common.{ap, ◌+◌}
 use Rattle.row_write.proofs.Ran.{reported_more, batch_more}
-use Rattle.row_write.proofs.run.run_all.Goals as goal
+use Rattle.row_write.proofs.run.run.Goals as goal
 
 pub loop-op-preserved : goal.loop-op-preserved
 loop-op-preserved c =

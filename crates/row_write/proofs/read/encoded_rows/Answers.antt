@@ -2,7 +2,7 @@ use Rattle.std.proofs.Common.{◌≡◌, inr, refl, sym, ◌∙◌, true, false}
 use Rattle.std.proofs.lemmas.Result.{IfOk-weaker, IfErr-weaker}
 use Rattle.row_write.proofs.Viewed.{missed_map}
 use Rattle.row_write.proofs.Keys.{encoded_with, same_keys}
-use Rattle.row_write.proofs.read.all_encoded_rows.Goals as goal
+use Rattle.row_write.proofs.read.encoded_rows.Goals as goal
 
 pub returns-then-not-has_keys-clause-missed : goal.returns-then-not-has_keys-clause-missed
 returns-then-not-has_keys-clause-missed c =
