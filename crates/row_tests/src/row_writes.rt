@@ -135,7 +135,7 @@ const A_ROW: Points<'static> = &[(ROW_1, Some(EMPTY)), (A_1, Some(FIVE))];
 const NO_ROWS: Points<'static> = &[(ROW_1, None), (A_1, None), (ROW_2, None), (A_2, None)];
 
 /// Operations, what is read, and what is written.
-static ACCEPTED: [(&str, &[Op], Points, Points); 5] = [
+static ACCEPTED: [(&str, &[Op], Points, Points); 7] = [
     (
         "an insert",
         &[(Insert, 1, Int(1), &[(1, Int(5))])],
@@ -145,6 +145,18 @@ static ACCEPTED: [(&str, &[Op], Points, Points); 5] = [
             (A_1, Some(FIVE)),
             (I_5_1, Some(EMPTY)),
         ],
+    ),
+    (
+        "an insert of Null",
+        &[(Insert, 1, Int(1), &[(1, Null)])],
+        NO_ROW,
+        &[(ROW_1, Some(EMPTY)), (I_NULL_1, Some(EMPTY))],
+    ),
+    (
+        "an insert without a value",
+        &[(Insert, 1, Int(1), &[])],
+        NO_ROW,
+        &[(ROW_1, Some(EMPTY)), (I_NULL_1, Some(EMPTY))],
     ),
     (
         "an update",
