@@ -1,19 +1,25 @@
 -- In a store that agrees with a version, a pair of a scan range is an item's exactly when its value
 -- is empty.
-use Rattle.std.proofs.Common.{◌≡◌, ℕ, zero, suc, ◌+◌, ◌<◌, ◌^◌, ◌==◌, Bool, true, false, eqb, List, [], ◌∷◌, length, Option, Some, None, Ok, refl, sym, ap, subst, ◌∙◌, arith, eq-eqb}
+use Rattle.std.proofs.Common.{◌≡◌, ◌≢◌, ℕ, zero, suc, ◌+◌, ◌<◌, ◌≤◌, ◌^◌, ◌==◌, Bool, true, false, cond, if◌then◌else◌, eqb, List, [], ◌∷◌, ◌++◌, length, Option, Some, None, Ok, refl, sym, ap, subst, ◌∙◌, arith, eq-eqb}
+use Rattle.std.specs.List.{AllByRecursion}
 use Rattle.std.specs.FinMap as map
 use Rattle.std.specs.Option.{option_map}
+use Rattle.std.specs.declared.cmp.Ordering.TheVariants.{Less}
+use Rattle.byte_map.proofs.Order.{bytes_cmp_total, bytes_cmp-IsAntisymmetric}
 use Rattle.keycode.specs.declared.value.Value.{Value}
 use Rattle.keycode.specs.Code.{code}
+use Rattle.keycode.specs.Order.{bytes_cmp}
 use Rattle.keycode.proofs.Fields.{code_some}
 use Rattle.row_map.specs.declared.key.KeyOf.{KeyOf}
 use Rattle.row_map.specs.declared.key.KeyOf.TheVariants.{Exists, Column, Index as IndexKey}
 use Rattle.row_map.specs.Keys.{key_code, row_code, index_code, IsKey}
-use Rattle.row_map.specs.Rows.{Bytes, RowKey, Rows, Pairs}
-use Rattle.row_map.specs.Ranges.{table_prefix, index_prefix}
-use Rattle.row_map.specs.Walk.{is_empty}
+use Rattle.row_map.specs.Rows.{Bytes, RowKey, Cells, Rows, Pairs}
+use Rattle.row_map.specs.Ranges.{is_within, table_prefix, index_prefix}
+use Rattle.row_map.specs.Walk.{is_empty, empty_key, empties, key_range}
 use Rattle.row_map.proofs.KeyLaws.{key_again}
+use Rattle.row_map.proofs.Entries.{each_found}
 use Rattle.row_map.proofs.Ranges.{row_number, index_number, row_no_index, index_no_row, row_not_index}
+use Rattle.row_map.proofs.KeyRanges.{find_key_range, key_range_sorted}
 use Rattle.schema_version.specs.declared.element.ElementDef.{ElementDef}
 use Rattle.schema_version.specs.declared.element.ElementState.{ElementState}
 use Rattle.schema_version.specs.declared.element.ElementState.TheVariants.{Absent, DeleteOnly, WriteOnly, Public}
@@ -23,8 +29,10 @@ use Rattle.schema_version.specs.declared.element.Work.{Work}
 use Rattle.schema_version.specs.declared.element.Work.TheVariants.{Fill, Clear}
 use Rattle.schema_version.specs.Version.{Version, element_at}
 use Rattle.element_state.specs.lemmas.Clears.{between_test}
+use Rattle.element_state.specs.Column.{column_pair}
 use Rattle.element_state.specs.Consistent.{IsConsistent, DemandOf}
-use Rattle.element_state.specs.Elements.{HasForm, Demand, IsFromScratch, owner, owner_read, element_of}
+use Rattle.element_state.specs.Elements.{Meaning, HasForm, Subset, Demand, IsFromScratch, owner, owner_read, element_of}
+use Rattle.element_state.specs.Index.{index_pair}
 use Rattle.element_state.specs.Items.{HasRange, Between}
 use Rattle.element_state.specs.Kinds.{kind_meaning, kind_numbered}
 use Rattle.element_state.specs.Sources.{Source, IndexOn, OptionalIn, RequiredIn, source_in}
@@ -32,8 +40,9 @@ use Rattle.element_state.specs.Tables.{within, some_in}
 use Rattle.reorganise.specs.declared.scan_range.ScanRange.{ScanRange}
 use Rattle.reorganise.specs.declared.scan_range.ScanRange.TheVariants.{Rows as RowsOf, Entries}
 use Rattle.reorganise.specs.Laws.{ItemsEmpty}
-use Rattle.reorganise.specs.ScanRanges.{scan_range_of, cleared, start, end, is_item, is_item_read}
+use Rattle.reorganise.specs.ScanRanges.{scan_range_of, cleared, start, end, prefix, prefix_end, is_item, is_item_read, item_key, item_keys, items, ItemsAreEmpty}
 use Rattle.reorganise.proofs.Bounds.{end_is}
+use Rattle.reorganise.proofs.Items.{Pair}
 
 same_some : {A : Type 0} (v w : A) → Some v ≡ Some w → v ≡ w
 same_some v w e = cc

@@ -1,7 +1,6 @@
 pub mod Items
 pub mod Order
 pub mod Shares
-mod EmptyKeys
 pub mod KeyRanges
 pub mod Bounds
 pub mod SameKeys

@@ -90,19 +90,19 @@ at_rising low high (key ∷ keys) zero (suc j) h r = low_at key high keys j r.1
 at_rising low high (key ∷ keys) (suc i) zero h r = absurd (omega arith)
 at_rising low high (key ∷ keys) (suc i) (suc j) h r = at_rising key high keys i j (omega arith) r.1
 
-pub place_rising : (k n p : ℕ) → 0 < p → (k * n) / p ≤ ((k + 1) * n) / p
+place_rising : (k n p : ℕ) → 0 < p → (k * n) / p ≤ ((k + 1) * n) / p
 place_rising k n p some =
     let at_most : (k * n) / p * p ≤ k * n = div-mul-le_self (k * n) p in
     let more : (k + 1) * n ≡ k * n + n = grind arith in
     le-div ((k * n) / p) ((k + 1) * n) p some (omega (arith, at_most, more))
 
-pub not_zero : (k : ℕ) → ((k + 1) == 0) ≡ false
+not_zero : (k : ℕ) → ((k + 1) == 0) ≡ false
 not_zero k = grind (arith, nat_tests)
 
-pub bound_at : (scan_range : ScanRange) (keys : List Bytes) (pieces k : ℕ) → (k == 0) ≡ false → bound scan_range keys pieces k ≡ at_or keys (end scan_range) ((k * length keys) / pieces)
+bound_at : (scan_range : ScanRange) (keys : List Bytes) (pieces k : ℕ) → (k == 0) ≡ false → bound scan_range keys pieces k ≡ at_or keys (end scan_range) ((k * length keys) / pieces)
 bound_at scan_range keys pieces k e = ap (λ b. if b then start scan_range else at_or keys (end scan_range) ((k * length keys) / pieces)) e
 
-pub suc_not_zero : (k : ℕ) → (suc k == 0) ≡ false
+suc_not_zero : (k : ℕ) → (suc k == 0) ≡ false
 suc_not_zero k = grind (arith, nat_tests)
 
 bound_rising : (scan_range : ScanRange) (keys : List Bytes) (pieces k : ℕ) → 0 < pieces → AreRising (start scan_range) (end scan_range) keys → le (bound scan_range keys pieces k) (bound scan_range keys pieces (k + 1)) ≡ true
@@ -137,15 +137,15 @@ abbrev pub AllFrom : List ℕ → Bytes → Bytes → List Pair → Type 0
 AllFrom a high low [] = Unit {0}
 AllFrom a high low (e ∷ es) = (is_within a high e.0 ≡ true → le low e.0 ≡ true) × AllFrom a high low es
 
-pub first_of : (a b : Bool) → T (a && b) → T a
+first_of : (a b : Bool) → T (a && b) → T a
 first_of true b p = tt
 first_of false b p = absurd p
 
-pub second_of : (a b : Bool) → T (a && b) → T b
+second_of : (a b : Bool) → T (a && b) → T b
 second_of true b p = p
 second_of false b p = absurd p
 
-pub is_true : (b : Bool) → T b → b ≡ true
+is_true : (b : Bool) → T b → b ≡ true
 is_true true p = refl
 is_true false p = absurd p
 

@@ -1,5 +1,5 @@
 //! Where the pieces of a reorganisation begin and end.
-ghost use Rattle.std.specs.Prelude.{◌≡◌, ◌<◌, ◌≤◌, ◌*◌, ◌/◌, ℕ, IfOk, length, slice_get, unwrap_or};
+ghost use Rattle.std.specs.Prelude.{◌≡◌, ◌≤◌, IfOk, length};
 ghost use Rattle.reorganise.specs.ScanRanges.{ItemsAreEmpty, scan_range_of as scan_range_for, start as front_of, end as back_of};
 ghost use Rattle.reorganise.specs.Pieces.{bound as bound_of, spans as spans_of, begun, are_ended};
 ghost use Rattle.reorganise.specs.Partition.{AreJoined, IsPartition};
@@ -29,38 +29,31 @@ pub(crate) fn share_bytes(bytes: &Bytes) -> Result<Bytes, AllocError>
     bytes.clone()
 }
 
-/// How many items there are before piece `k`.
-fn count_before(count: usize, pieces: u32, k: u32) -> usize
-    requires some { 1 ≤ pieces }
-    requires within { k ≤ pieces }
-    ensures { result ≡ (k * count) / pieces }
-{
-    let place = u128::from(k) * (count as u128) / u128::from(pieces);
-    place as usize
-}
-
-/// The key of the item with `n` before it, or the end of the range. It is looked for from the key
-/// `low` on, before which there are `passed`.
-fn item_or_end<I: ItemKeys>(
+/// Where piece `k` begins, and the one before it ends.
+fn bound<I: ItemKeys>(
     alloc: Global,
     scan_range: ScanRange,
     items: &I,
-    low: &[u8],
-    passed: usize,
-    n: usize,
+    count: usize,
+    pieces: u32,
+    k: u32,
 ) -> Result<Bytes, AllocError>
-    requires from { I.from items.now low.now passed }
-    requires ahead { passed ≤ n }
-    ensures { IfOk result (λ bytes. bytes ≡ unwrap_or (slice_get (I.keys items.now) n) (back_of scan_range)) }
+    requires some { 1 ≤ pieces }
+    requires within { k ≤ pieces }
+    requires counted { count ≡ length (I.keys items.now) }
+    ensures { IfOk result (λ bytes. bytes ≡ bound_of scan_range (I.keys items.now) pieces k) }
 {
-    match items.nth_from(low, passed, n) {
+    if k == 0 {
+        return start(alloc, scan_range);
+    }
+    let place = u128::from(k) * (count as u128) / u128::from(pieces);
+    match items.nth(place as usize) {
         Some(key) => copy_bytes(alloc, key),
         None => end(alloc, scan_range),
     }
 }
 
-/// All pieces, each with its cursor at its lower bound. Each bound is found once, from the one before
-/// it on.
+/// All pieces, each with its cursor at its lower bound. Each bound is found once.
 fn spans<I: ItemKeys>(
     alloc: Global,
     scan_range: ScanRange,
@@ -69,21 +62,17 @@ fn spans<I: ItemKeys>(
 ) -> Result<List<Span>, AllocError>
     requires some { 1 ≤ pieces }
     requires bounded { pieces ≤ 64 }
-    requires from { (k : ℕ) → k < pieces → I.from items.now (bound_of scan_range (I.keys items.now) pieces k) ((k * length (I.keys items.now)) / pieces) }
     ensures { IfOk result (λ list. list ≡ spans_of scan_range (I.keys items.now) pieces pieces) }
 {
     let count = items.count();
     let mut list = Vec::new(alloc);
-    let mut low = start(alloc, scan_range)?;
-    let mut passed = 0;
+    let mut low = bound(alloc, scan_range, items, count, pieces, 0)?;
     for k in 0..pieces {
-        let place = count_before(count, pieces, k + 1);
-        let high = item_or_end(alloc, scan_range, items, low.as_slice(), passed, place)?;
+        let high = bound(alloc, scan_range, items, count, pieces, k + 1)?;
         let next = share_bytes(&high)?;
         let cursor = share_bytes(&low)?;
         list.push(Span { low, high, cursor })?;
         low = next;
-        passed = place;
     }
     Ok(List::new(list))
 }
@@ -128,8 +117,7 @@ impl Progress {
     }
 
     /// Begins a fill or a clear as `begin` does, without a walk: the items are the pairs of the
-    /// range whose value is empty, and the view finds each that begins a piece by its number, from
-    /// where the piece before begins.
+    /// range whose value is empty, and the view finds each that begins a piece by its number.
     ///
     /// - `element`: what is filled or cleared. Its state is not looked at.
     /// - `kind`: whether it is filled or cleared.

@@ -1,5 +1,5 @@
 //! The items of a scan range, by which the pieces are fixed: how many, and each by its number.
-ghost use Rattle.std.specs.Prelude.{◌≡◌, ◌≤◌, ℕ, List, IfOk, drop, length, option_map, slice_get};
+ghost use Rattle.std.specs.Prelude.{◌≡◌, List, IfOk, length, option_map, slice_get};
 ghost use Rattle.row_map.specs.Rows.{Bytes as KeyBytes};
 ghost use Rattle.row_map.specs.Walk.{empties, key_range};
 ghost use Rattle.reorganise.specs.ScanRanges.{items};
@@ -15,18 +15,12 @@ pub(crate) trait ItemKeys {
     /// The keys, in order.
     ghost keys: { Self → List KeyBytes };
 
-    /// The keys behind so many are those from this one on.
-    ghost from: { Self → KeyBytes → ℕ → Type 0 };
-
     /// How many there are.
     fn count(&self) -> usize
         ensures { result ≡ length (keys self.now) };
 
-    /// The key with `n` before it, if there is one. It is looked for from the key `low` on, before
-    /// which there are `passed`.
-    fn nth_from(&self, low: &[u8], passed: usize, n: usize) -> Option<&[u8]>
-        requires from { from self.now low.now passed }
-        requires ahead { passed ≤ n }
+    /// The key with so many before it, if there is one.
+    fn nth(&self, n: usize) -> Option<&[u8]>
         ensures { option_map (λ k. k.now) result ≡ slice_get (keys self.now) n };
 }
 
@@ -34,13 +28,11 @@ pub(crate) trait ItemKeys {
 impl ItemKeys for Vec<Bytes> {
     ghost keys = { λ v. v.items };
 
-    ghost from = { λ v low passed. Unit {0} };
-
     fn count(&self) -> usize {
         self.len()
     }
 
-    fn nth_from(&self, _low: &[u8], _passed: usize, n: usize) -> Option<&[u8]> {
+    fn nth(&self, n: usize) -> Option<&[u8]> {
         match self.get(n) {
             None => None,
             Some(key) => Some(key.as_slice()),
@@ -61,15 +53,14 @@ pub(crate) struct EmptyKeys<'a, V> {
 impl<V: RankedView> ItemKeys for EmptyKeys<'_, V> {
     ghost keys = { λ e. empties (key_range (V.pairs e.view.now) e.low e.high) };
 
-    ghost from = { λ e low passed. empties (key_range (V.pairs e.view.now) low e.high) ≡ drop passed (empties (key_range (V.pairs e.view.now) e.low e.high)) };
-
     fn count(&self) -> usize {
         self.view
             .count_empty(self.low.as_slice(), self.high.as_slice())
     }
 
-    fn nth_from(&self, low: &[u8], passed: usize, n: usize) -> Option<&[u8]> {
-        self.view.nth_empty(low, self.high.as_slice(), n - passed)
+    fn nth(&self, n: usize) -> Option<&[u8]> {
+        self.view
+            .nth_empty(self.low.as_slice(), self.high.as_slice(), n)
     }
 }
 

@@ -1,10 +1,10 @@
-use Rattle.std.proofs.Common.{List, sym, ap, subst}
+use Rattle.std.proofs.Common.{List, ◌≡◌, sym, ap, subst}
 use Rattle.reorganise.specs.declared.work.Progress.{Progress}
 use Rattle.reorganise.specs.declared.work.Span.{Span}
-use Rattle.reorganise.specs.ScanRanges.{scan_range_of, start, end}
+use Rattle.reorganise.specs.ScanRanges.{scan_range_of, start, end, items}
+use Rattle.reorganise.specs.Pieces.{spans}
 use Rattle.reorganise.specs.Partition.{AreJoined}
 use Rattle.reorganise.proofs.EmptyValues.{spans_counted}
-use Rattle.reorganise.proofs.EmptyKeys.{keys_from}
 use Rattle.reorganise.proofs.Shares.{begun_joined, partition}
 use Rattle.reorganise.proofs.work.Progress.begin_ranked.Goals as goal
 
@@ -24,6 +24,3 @@ pub returns-clause-partition : goal.returns-clause-partition
 returns-clause-partition g c =
     let scan_range = scan_range_of c.args.element c.args.kind in
     partition (start scan_range) (end scan_range) c.in_ok-pieces.pieces (returns-clause-joined g c)
-
-pub spans-requires-clause-from : goal.spans-requires-clause-from
-spans-requires-clause-from g c = λ k below. keys_from c.scan_range_of-scan_range.result (g.V.PairView.pairs c.args.view.now) c.args.pieces c.in_ok-low.low c.in_ok-high.high c.in_ok-low.ensures c.in_ok-high.ensures k
