@@ -5,6 +5,7 @@ from __future__ import annotations
 
 import contextlib
 import io
+import itertools
 import os
 import random
 import re
@@ -14,9 +15,10 @@ from typing import Callable, List, Sequence, Tuple, Type
 
 import cagzhomul
 import cagzhomul_layer
-from cagzhomul import Abandon, AddColumn, AddIndex, DropColumn, Query, Row
+from cagzhomul import Abandon, AddColumn, AddIndex, DropColumn, Key, Query, Row
+from cagzhomul._codes import _key
 from cagzhomul._library import _BYTES, _NUMBER, _SIZE, _SMALL, _library
-from cagzhomul_layer import Draft, Refused, Unknown, Unreachable, calls, layer
+from cagzhomul_layer import Draft, Refused, Unknown, Unreachable, calls, layer, txns
 from cagzhomul_layer.memory import MemoryStore
 from layer_cases import TABLES, TOWNS, Base, Scripted, opened
 
@@ -131,6 +133,20 @@ class Transactions(Base):
         with self.assertRaises(cagzhomul.NotPublic):
             stale.update("people", 1, rank=8)
         self.sound(db)
+
+    def test_keys_that_are_read(self) -> None:
+        db, store = opened(5)
+        rows: List[Tuple[int, str, Key]] = [
+            (0, "people", 7), (1, "people", -1), (2, "people", 7), (1, "tags", "a\0b"), (0, "tags", ""), (1, "nobody", 1), (1, "people", (1, "x"))]
+        ops = [txns._Op(kind, table, _key(key), {}) for kind, table, key in rows]
+        counts: List[int] = []
+        for change in ("add column rank int default 7 on people", "drop column town on people", "drop column n on tags"):
+            for _ in itertools.chain(["before"], db.change(change)):
+                version = layer.Layer(store)._server.version()
+                given = calls.points_of(calls.asked("reads", version.record, txns._ops_code(ops, version.names)).code)
+                self.assertEqual(txns._keys_of(ops, version.names), list(given))
+                counts += [len(given)] if counts[-1:] != [len(given)] else []
+        self.assertEqual(counts, [13, 16, 13, 11])  # three rows of people with two, three and two columns, two of tags with one and none
 
 
 class LostAnswers(Base):

@@ -51,7 +51,7 @@ class _Op(NamedTuple):
     cells: Mapping[str, Value]
 
 
-_kind_and_table, _column = struct.Struct(">BI").pack, struct.Struct(">I").pack
+_kind_and_table, _small = struct.Struct(">BI").pack, struct.Struct(">I").pack
 
 
 def _ops_code(ops: Sequence[_Op], names: _Names) -> bytes:
@@ -62,8 +62,22 @@ def _ops_code(ops: Sequence[_Op], names: _Names) -> bytes:
         if kind != 2:
             parts.append(number_code(len(cells)))
             for name, value in cells.items():
-                parts += _column(names.number(table, name)), _value(value)
+                parts += _small(names.number(table, name)), _value(value)
     return b"".join(parts)
+
+
+def _keys_of(ops: Sequence[_Op], names: _Names) -> List[bytes]:
+    """The keys that operations read, by rising key: for each row that it is there, and its public columns. They are what the library's
+    `reads` gives, without a call; a view with other keys would be refused."""
+    keys: Dict[bytes, None] = {}
+    for _, table, key, _ in ops:
+        number = names.tables.get(table)
+        if number is not None:
+            row = b"R" + _small(number) + key[8:]  # without how many values the key has
+            keys[row + b"\0\0\0\0"] = None
+            for column in names.public[table]:
+                keys[row + _small(column)] = None
+    return sorted(keys)
 
 
 def error_of(refusal: Refusal, names: _Names, unknown: Optional[str], wrong: Callable[[], cagzhomul.WrongType]) -> cagzhomul.CagzhomulError:
@@ -273,10 +287,14 @@ class Txn:
 
     def _draft(self, version: Version) -> Optional[Draft]:
         """Its draft, from what it got and what it reads for the rest; None if a draft of it is applied."""
-        code = _ops_code(self._all_ops(), version.names)
-        keys = calls.points_of(asked("reads", version.record, code).code)
+        ops = self._all_ops()
+        code, keys = _ops_code(ops, version.names), _keys_of(ops, version.names)
         wanted = [key for key in keys if key not in self._view] + [mark_key(self.mark)] * self._is_unsure
-        found = self._server.store.read(wanted).values if wanted else {}
+        try:
+            found = self._server.store.read(wanted).values if wanted else {}
+        except StoreError:
+            asked("reads", version.record, code)  # a text that is too long is refused before all
+            raise
         if found.pop(mark_key(self.mark), None) is not None:
             return None
         view = {key: self._view[key] if key in self._view else found[key] for key in keys}

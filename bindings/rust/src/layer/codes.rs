@@ -5,6 +5,7 @@ use crate::layer::draft::{ComparedRange, Draft};
 use crate::layer::store::{bad_answer, Pair, StoreError, Values};
 use crate::rows::Reader;
 use crate::schema::part;
+use crate::value::Key;
 
 /// Where the kinds of control records begin, then the pairs of rows and indexes, and the end of all.
 pub(super) const VERSIONS: &[u8] = b"\0";
@@ -40,6 +41,16 @@ pub(super) fn cursor_key(element: u32, piece: u32) -> Vec<u8> {
 /// The key of a mark.
 pub(super) fn mark_key(mark: &[u8]) -> Vec<u8> {
     [MARKS, mark].concat()
+}
+
+/// The key of a row's pair: that of a column, or with 0 that the row is there.
+pub(super) fn pair_key(table: u32, key: &Key, column: u32) -> Vec<u8> {
+    let mut code = Code::default();
+    code.byte(b'R');
+    code.small_number(table);
+    key.0.iter().for_each(|value| code.value(value));
+    code.small_number(column);
+    code.0
 }
 
 /// The number in the key of a version or of a reorganisation.
@@ -251,6 +262,20 @@ mod tests {
             b"\x02\0\0\0\0\0\0\0\x02\0\0\0\0\0\0\0\x03"
         );
         assert_eq!(mark_key(b"m"), b"\x03m");
+        // keys of docs/FORMAT.md, and of the words in it
+        let texts = Key::from(("a\0", true));
+        assert_eq!(
+            [0, 1].map(|it| pair_key(1, &Key::from(1), it)),
+            [0, 1].map(|it| [
+                b"R\0\0\0\x01\x02\x80\0\0\0\0\0\0\x01\0\0\0",
+                &[it as u8][..]
+            ]
+            .concat())
+        );
+        assert_eq!(
+            pair_key(1, &texts, 2),
+            b"R\0\0\0\x01\x03a\0\xff\0\x01\x04\x01\0\0\0\x02"
+        );
         assert_eq!(number_of(&version_key(7)), Ok(7));
         for key in [
             &b""[..],

@@ -37,6 +37,7 @@ mod draft;
 mod ffi;
 mod memory;
 mod operator;
+mod ops;
 mod queries;
 mod records;
 mod server;

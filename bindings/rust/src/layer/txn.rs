@@ -7,32 +7,17 @@ use crate::layer::chance::{self, Mark};
 use crate::layer::codes::{draft_of, keys_of, mark_key, pairs_code, points_code, VERSIONS};
 use crate::layer::draft::Draft;
 use crate::layer::ffi::{self, Fault, Refusal};
+use crate::layer::ops::{self, Got, Op};
 use crate::layer::server::{unknown, Server, Version, PAUSE};
 use crate::layer::store::{read, Store, StoreError, Values};
 use crate::names::Names;
 use crate::operations::{self, Kind, Operations};
 use crate::query::Query;
 use crate::rows::{rows_of, Row};
-use crate::value::{Cells, Key, Value};
+use crate::value::{Cells, Key};
 use std::fmt;
 use std::sync::Arc;
 use std::time::Instant;
-
-/// An operation. Columns are by name, as their numbers are of a version.
-#[derive(Debug)]
-struct Op {
-    kind: Kind,
-    table: String,
-    key: Key,
-    cells: Vec<(String, Value)>,
-}
-
-/// A row that was got, as it was then.
-struct Got {
-    table: String,
-    key: Key,
-    row: Option<Row>,
-}
 
 /// Operations of which all are committed or none, at most 64, by [`Layer::txn`].
 ///
@@ -55,6 +40,7 @@ struct Got {
 /// # Ok::<(), Error>(())
 /// ```
 ///
+/// [`Value::Null`]: crate::Value::Null
 /// [`Layer::txn`]: crate::layer::Layer::txn
 #[must_use = "a transaction does nothing until it is committed"]
 pub struct Txn<'a, S> {
@@ -210,21 +196,9 @@ impl<'a, S: Store> Txn<'a, S> {
         self
     }
 
-    /// The code of its operations in a version, and of some that change nothing on the rows that it got
-    /// and does not write.
+    /// The code of its operations in a version.
     fn operations(&self, names: &Names) -> Vec<u8> {
-        let mut operations = Operations::new();
-        for op in &self.ops {
-            operations.push(op.kind, names.table(&op.table), &op.key);
-            if op.kind != Kind::Delete {
-                operations.push_cells(&op.cells, |column| names.element(&op.table, column));
-            }
-        }
-        for got in &self.got {
-            let row = operations::row(names.table(&got.table), &got.key);
-            operations.pin(&row, got.row.is_some());
-        }
-        operations.finish().as_bytes().to_vec()
+        ops::code_of(&self.ops, &self.got, names)
     }
 
     /// Commits it, and gives its mark. If rows have changed meanwhile it is made again, by itself if it
@@ -317,7 +291,7 @@ impl<'a, S: Store> Txn<'a, S> {
     /// Its draft, from what it got and what it reads for the rest; `None` if a draft of it is applied.
     fn draft(&self, version: &Version) -> Result<Option<Draft>, Fault> {
         let code = self.operations(&version.names);
-        let keys = keys_of(&ffi::reads(&version.record, &code)?.code)?;
+        let keys = ops::keys_of(&self.ops, &self.got, &version.names);
         let (mark, is_new) = (mark_key(&self.mark), |key: &&Vec<u8>| {
             !self.view.contains_key(*key)
         });
@@ -327,7 +301,13 @@ impl<'a, S: Store> Txn<'a, S> {
         }
         let mut found = match points.is_empty() {
             true => Values::new(),
-            false => read(&self.server.store, &points, &[])?.values,
+            false => match read(&self.server.store, &points, &[]) {
+                Ok(found) => found.values,
+                Err(error) => {
+                    ffi::reads(&version.record, &code)?; // a text that is too long is refused before all
+                    return Err(error.into());
+                }
+            },
         };
         if found.remove(&mark).flatten().is_some() {
             return Ok(None);

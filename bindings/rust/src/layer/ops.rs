@@ -1,0 +1,58 @@
+//! The operations of a transaction: their code, and the keys that they read.
+
+use crate::layer::codes::pair_key;
+use crate::names::Names;
+use crate::operations::{self, Kind, Operations};
+use crate::rows::Row;
+use crate::value::{Key, Value};
+
+/// An operation. Columns are by name, as their numbers are of a version.
+#[derive(Debug)]
+pub(super) struct Op {
+    pub(super) kind: Kind,
+    pub(super) table: String,
+    pub(super) key: Key,
+    pub(super) cells: Vec<(String, Value)>,
+}
+
+/// A row that was got, as it was then.
+pub(super) struct Got {
+    pub(super) table: String,
+    pub(super) key: Key,
+    pub(super) row: Option<Row>,
+}
+
+/// The code of operations in a version, and of some that change nothing on the rows that were got and
+/// that they do not write.
+pub(super) fn code_of(ops: &[Op], got: &[Got], names: &Names) -> Vec<u8> {
+    let mut operations = Operations::new();
+    for op in ops {
+        operations.push(op.kind, names.table(&op.table), &op.key);
+        if op.kind != Kind::Delete {
+            operations.push_cells(&op.cells, |column| names.element(&op.table, column));
+        }
+    }
+    for got in got {
+        let row = operations::row(names.table(&got.table), &got.key);
+        operations.pin(&row, got.row.is_some());
+    }
+    operations.finish().as_bytes().to_vec()
+}
+
+/// The keys that they read, by rising key: for each row that it is there, and its public columns. They
+/// are what the library's `reads` gives, without a call; a view with other keys would be refused.
+pub(super) fn keys_of(ops: &[Op], got: &[Got], names: &Names) -> Vec<Vec<u8>> {
+    let written = ops.iter().map(|it| (&it.table, &it.key));
+    let rows = written.chain(got.iter().map(|it| (&it.table, &it.key)));
+    let mut keys = Vec::new();
+    for (table, key) in rows {
+        let number = names.table(table);
+        if number != 0 {
+            let columns = std::iter::once(0).chain(names.public(table));
+            keys.extend(columns.map(|column| pair_key(number, key, column)));
+        }
+    }
+    keys.sort_unstable();
+    keys.dedup();
+    keys
+}
