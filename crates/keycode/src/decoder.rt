@@ -1,14 +1,15 @@
 //! From bytes back to values.
-ghost use Rattle.std.specs.Prelude.{◌≡◌, ℕ, List, [], drop, length, ◌<◌, IfOk, Ok};
+ghost use Rattle.std.specs.Prelude.{◌≡◌, ℕ, List, [], drop, length, ◌<◌, ◌≤◌, IfOk, Ok};
 ghost use Rattle.keycode.specs.declared.value.Value.{Value};
 ghost use Rattle.keycode.specs.Valid.{IsPrefix};
 ghost use Rattle.keycode.specs.Read.{Gives, unflipped, int_at, bool_at, content_at, after_zero, with_byte, text_of, value_at, values_at};
 
 use crate::fault::KeyFault;
+use crate::run::count_run;
 use crate::text::Text;
 use crate::value::Value;
 use crate::values::Values;
-use std::alloc::Global;
+use std::alloc::{AllocError, Global};
 
 /// The most bytes of a text that is read, where an escaped 0 counts once.
 pub const TEXT_LIMIT: usize = 1024;
@@ -75,13 +76,30 @@ fn end_text(content: Vec<u8>, rest: &[u8]) -> Result<(Text, &[u8]), KeyFault>
     }
 }
 
+/// What a text begins with, up to its first 0 or its end, as most texts end there, and the bytes after
+/// it; nothing of one that is too long.
+fn first_run(alloc: Global, bytes: &[u8]) -> Result<(Vec<u8>, &[u8]), AllocError>
+    ensures same { IfOk result (λ x. content_at x.0.items x.1.now ≡ content_at [] bytes.now) }
+    ensures shorter { IfOk result (λ x. length x.1.now ≤ length bytes.now) }
+{
+    let count = count_run(bytes);
+    if count > TEXT_LIMIT {
+        return Ok((Vec::new(alloc), bytes));
+    }
+    let (run, rest) = bytes.split_at(count);
+    let mut content = Vec::with_capacity(alloc, count)?;
+    content.extend_from_slice(run)?;
+    Ok((content, rest))
+}
+
 /// The text after its first byte, up to its end, and the bytes after it.
 #[tactic(auto, unfolding(crate::specs::Read::content_at))]
 fn read_text(alloc: Global, bytes: &[u8]) -> Result<(Text, &[u8]), KeyFault>
     ensures { Gives (λ x. (x.0, x.1.now)) result (content_at [] bytes.now) }
 {
-    let mut content = Vec::new(alloc);
-    let mut rest = bytes;
+    let (run, after) = first_run(alloc, bytes)?;
+    let mut content = run;
+    let mut rest = after;
     loop {
         match rest {
             [] => return Err(KeyFault::Short),

@@ -3,6 +3,7 @@ ghost use Rattle.std.specs.Prelude.{◌≡◌, ◌++◌, OnOk, IfOk};
 ghost use Rattle.keycode.specs.declared.value.Value.TheVariants.{Int};
 ghost use Rattle.keycode.specs.Code.{flipped, escaped, text_code, code, codes_of};
 
+use crate::run::count_run;
 use crate::value::Value;
 use std::alloc::{AllocError, Global};
 
@@ -26,19 +27,30 @@ pub fn encode_int(n: i64) -> [u8; 9]
     [2, b[0], b[1], b[2], b[3], b[4], b[5], b[6], b[7]]
 }
 
-/// Adds the bytes of a text, each 0 followed by 255, and then 0 and 1.
-fn push_text(out: &mut Vec<u8>, text: &[u8]) -> Result<(), AllocError>
-    ensures { OnOk result (out.new.items ≡ out.old.items ++ text_code text.now) }
+/// Adds the bytes of a text, each 0 followed by 255.
+fn push_escaped(out: &mut Vec<u8>, text: &[u8]) -> Result<(), AllocError>
+    ensures { OnOk result (out.new.items ≡ out.old.items ++ escaped text.now) }
 {
+    // Most texts have no 0.
+    if count_run(text) == text.len() {
+        out.extend_from_slice(text)?;
+        return Ok(());
+    }
     for b in text {
         out.push(*b)?;
         if *b == 0 {
             out.push(0xff)?;
         }
     }
-    out.push(0)?;
-    out.push(1)?;
     Ok(())
+}
+
+/// Adds the bytes of a text, each 0 followed by 255, and then 0 and 1.
+fn push_text(out: &mut Vec<u8>, text: &[u8]) -> Result<(), AllocError>
+    ensures { OnOk result (out.new.items ≡ out.old.items ++ text_code text.now) }
+{
+    push_escaped(out, text)?;
+    out.extend_from_slice(&[0, 1])
 }
 
 /// Adds the encoding of `value` to `out`: a byte for its kind, and then its content. Refused only
@@ -50,6 +62,7 @@ pub fn push_value(out: &mut Vec<u8>, value: &Value) -> Result<(), AllocError>
         Value::Null => out.push(1)?,
         Value::Int(n) => out.extend_from_slice(&encode_int(*n))?,
         Value::Text(text) => {
+            out.reserve(text.as_bytes().len().saturating_add(3))?;
             out.push(3)?;
             push_text(out, text.as_bytes())?;
         }
