@@ -1,5 +1,6 @@
 -- Two maps with the same keys, by tests of their entries, and a view with the keys of one row.
-use Rattle.std.proofs.Common.{◌≡◌, ◌↔◌, ◌&&◌, ℕ, Bool, true, false, cond, List, [], ◌∷◌, Option, Some, None, is_some, inl, inr, refl, sym, ap, subst, ◌∙◌, IsTrue, arith, Contains}
+use Rattle.std.proofs.Common.{◌≡◌, ◌<◌, ◌+◌, ◌++◌, ◌↔◌, ◌&&◌, length, get_or, drop, append_assoc, ℕ, Bool, true, false, cond, List, [], ◌∷◌, Option, Some, None, is_some, inl, inr, refl, sym, ap, subst, ◌∙◌, IsTrue, arith, Contains}
+use Rattle.std.proofs.lemmas.List.{at_drop_more}
 use Rattle.std.specs.List.{list_all, AllByRecursion}
 use Rattle.std.specs.Ordering.{eq_by_cmp}
 use Rattle.std.specs.Cmp.{Equal-is}
@@ -22,7 +23,7 @@ use Rattle.row_write.specs.Plain.{table_of, row_of}
 use Rattle.row_write.specs.Made.{IsSound}
 use Rattle.row_write.specs.inner.IndexedColumns.{IsServed}
 use Rattle.row_write.specs.inner.Enter.{KeySet, row_keys, op_keys}
-use Rattle.row_write.specs.inner.View.{HaveSameKeys, keys_of, IsVisible, cells_there}
+use Rattle.row_write.specs.inner.View.{HaveSameKeys, keys_of, IsVisible, IsExistsKey, exists_keys, cells_there}
 use Rattle.row_write.proofs.Entered.{InTable, op_keys_are, op_key_has, op_key_from}
 use Rattle.row_write.proofs.Encoded.{encoded_once}
 use Rattle.row_write.proofs.Decides.{both_true, and_true}
@@ -132,3 +133,15 @@ module _ (v : Version) (served : IsServed v) (op : RowOp) (sound : IsSound v op)
     keys = reads_one;
     encoded = (encoded_once v served view op before rows there cells visible made, tt);
   }
+
+-- one more operation's key
+pub one_more_key : (keys : List Bytes) (ops : List RowOp) (i : ℕ) (op : RowOp) (key : Bytes) (then : List Bytes) → i < length ops → op ≡ get_or ops i op → IsExistsKey op key → then ≡ keys ++ key ∷ []
+    → keys ++ exists_keys (drop i ops) ≡ exists_keys ops → then ++ exists_keys (drop (i + 1) ops) ≡ exists_keys ops
+one_more_key keys ops i op key then lt is made pushed so_far =
+    let rest = exists_keys (drop (i + 1) ops) in
+    ap (λ (l : List Bytes). l ++ rest) pushed
+    ∙ append_assoc keys (key ∷ []) rest
+    ∙ ap (λ (k : Bytes). keys ++ k ∷ rest) made
+    ∙ ap (λ (o : RowOp). keys ++ exists_keys (o ∷ drop (i + 1) ops)) is
+    ∙ ap (λ (l : List Bytes). keys ++ l) (sym (at_drop_more exists_keys ops i op lt))
+    ∙ so_far

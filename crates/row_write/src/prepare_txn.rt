@@ -79,8 +79,8 @@ fn work_out(
             return Ok(done);
         }
     }
-    let rows = encoded_rows(alloc, schema, view, ops)?;
-    Ok(run(alloc, schema, rows, ops)?)
+    let (rows, keys) = encoded_rows(alloc, schema, view, ops)?;
+    Ok(run(alloc, schema, rows, ops, keys.as_slice())?)
 }
 
 /// The outcome and the batch of a transaction, or its first fault.

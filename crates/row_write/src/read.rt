@@ -8,7 +8,7 @@ ghost use Rattle.row_map.specs.Writes.{written};
 ghost use Rattle.row_write.specs.Plain.{row_of};
 ghost use Rattle.row_write.specs.Prepare.{IsEncodedRow, Encodes};
 ghost use Rattle.row_write.specs.Made.{IsSound};
-ghost use Rattle.row_write.specs.inner.View.{IsMissed, IsVisible, cells_there, keys_of, HaveSameKeys, IsExistsKey};
+ghost use Rattle.row_write.specs.inner.View.{IsMissed, IsVisible, cells_there, keys_of, HaveSameKeys, IsExistsKey, exists_keys};
 
 use crate::edit::copy_key;
 use crate::fault::PrepareFault;
@@ -38,38 +38,43 @@ fn put_row(
     rows.put(op.table(), Row { key, cells }, there)
 }
 
-/// Reads the row of an operation.
+/// Reads the row of an operation, and gives the key of its `exists` pair.
 fn read_op(
     alloc: Global,
     view: &ReadView,
     rows: &mut WorkRows,
     op: &RowOp,
     columns: &[(u32, ColumnType)],
-) -> Result<(), PrepareFault>
+) -> Result<Bytes, PrepareFault>
+    ensures exists { IfOk result (IsExistsKey op.now) }
     ensures found { OnOk result ((there : Bool) × (cells : _) × IsVisible view.now op.now columns.now there cells × (rows.new ≡ written rows.old (row_of op.now) (cells_there there cells))) }
     ensures missed { IfErr result (IsMissed ((there : Bool) (cells : _) → ¬ (IsVisible view.now op.now columns.now there cells))) }
 {
-    let (there, cells) = read_row(alloc, view, op, columns)?;
-    Ok(put_row(rows, op, there, cells)?)
+    let (there, cells, exists) = read_row(alloc, view, op, columns)?;
+    put_row(rows, op, there, cells)?;
+    Ok(exists)
 }
 
-/// Rows that the view encodes for these operations.
+/// Rows that the view encodes for these operations, and for each the key of its row's `exists` pair.
 fn read_rows(
     alloc: Global,
     schema: &Schema,
     view: &ReadView,
     ops: &[RowOp],
-) -> Result<WorkRows, PrepareFault>
-    ensures found { IfOk result (λ rows. AllByRecursion (IsEncodedRow schema.now view.now rows) ops.now) }
+) -> Result<(WorkRows, Vec<Bytes>), PrepareFault>
+    ensures found { IfOk result (λ read. AllByRecursion (IsEncodedRow schema.now view.now read.0) ops.now) }
+    ensures exists { IfOk result (λ read. read.1.items ≡ exists_keys ops.now) }
     ensures missed { IfErr result (IsMissed ((rows : Rows) → ¬ (AllByRecursion (IsEncodedRow schema.now view.now rows) ops.now))) }
 {
     lemma_served(schema);
     let mut rows = WorkRows::new(alloc);
+    let mut keys = Vec::new(alloc);
     for op in ops {
         let columns = columns_of(alloc, schema, op.table())?;
-        read_op(alloc, view, &mut rows, op, columns.as_slice())?;
+        let exists = read_op(alloc, view, &mut rows, op, columns.as_slice())?;
+        keys.push(exists)?;
     }
-    Ok(rows)
+    Ok((rows, keys))
 }
 
 /// Whether the keys are all in the map.
@@ -157,14 +162,15 @@ pub(crate) fn encoded_row(
     Ok(Some((one_row(alloc, op, there, cells)?, exists)))
 }
 
-/// Rows that the view encodes.
+/// Rows that the view encodes, and for each operation the key of its row's `exists` pair.
 pub(crate) fn encoded_rows(
     alloc: Global,
     schema: &Schema,
     view: &ReadView,
     ops: &[RowOp],
-) -> Result<WorkRows, PrepareFault>
-    ensures found { IfOk result (λ rows. Encodes schema.now ops.now view.now rows) }
+) -> Result<(WorkRows, Vec<Bytes>), PrepareFault>
+    ensures found { IfOk result (λ read. Encodes schema.now ops.now view.now read.0) }
+    ensures exists { IfOk result (λ read. read.1.items ≡ exists_keys ops.now) }
     ensures missed { IfErr result (IsMissed ((rows : Rows) → ¬ (Encodes schema.now ops.now view.now rows))) }
 {
     let reads = reads_of(alloc, schema, ops)?;

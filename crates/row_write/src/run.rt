@@ -9,7 +9,7 @@ ghost use Rattle.row_write.specs.Plain.{key_of, row_of, change_of, outcome};
 ghost use Rattle.row_write.specs.inner.Insert.{insert_at};
 ghost use Rattle.row_write.specs.Prepare.{txn_writes};
 ghost use Rattle.row_write.specs.inner.Run.{change_at, IsNext, IsStep};
-ghost use Rattle.row_write.specs.inner.View.{IsExistsKey};
+ghost use Rattle.row_write.specs.inner.View.{IsExistsKey, exists_keys};
 
 use crate::edit::{copy_key, next_row};
 use crate::fault::RowFault;
@@ -39,15 +39,17 @@ fn keep(alloc: Global, rows: &mut WorkRows, op: &RowOp, new: Option<Row>) -> Res
 }
 
 /// Makes one operation's change and notes its writes. Gives the row that it leaves.
+///
+/// - `exists`: the key of the `exists` pair of the operation's row.
 fn change_op(
     alloc: Global,
     schema: &Schema,
     rows: &WorkRows,
     batch: &mut Batch,
     op: &RowOp,
-    exists: Option<Bytes>,
+    exists: &Bytes,
 ) -> Result<Result<Option<Row>, RowFault>, AllocError>
-    requires { IfSome exists (IsExistsKey op.now) }
+    requires { IsExistsKey op.now exists.now }
     ensures next { IfOk result (λ next. IsNext (map.get rows.now (row_of op.now)) op.now next) }
     ensures batch { IfOk result (λ next. IfOk next (λ new. batch.new ≡ noted batch.old (version_writes the_kinds (schema_of schema.now) (change_at (row_of op.now) (map.get rows.now (row_of op.now)) (option_map cells_of new))))) }
 {
@@ -67,10 +69,12 @@ fn run_op(
     rows: &mut WorkRows,
     batch: &mut Batch,
     op: &RowOp,
+    exists: &Bytes,
 ) -> Result<Result<(), RowFault>, AllocError>
+    requires { IsExistsKey op.now exists.now }
     ensures { IfOk result (λ done. IsStep schema.now rows.old op.now done rows.new batch.old batch.new) }
 {
-    let new = match change_op(alloc, schema, rows, batch, op, None)? {
+    let new = match change_op(alloc, schema, rows, batch, op, exists)? {
         Err(why) => return Ok(Err(why)),
         Ok(new) => new,
     };
@@ -106,19 +110,23 @@ pub(crate) fn run_one(
         write_insert(alloc, schema, op, exists, &mut batch)?;
         return Ok((RowOutcome::Done, batch));
     }
-    match change_op(alloc, schema, rows, &mut batch, op, Some(exists))? {
+    match change_op(alloc, schema, rows, &mut batch, op, &exists)? {
         Err(why) => Ok((RowOutcome::Refused { op: 0, why }, Batch::new(alloc))),
         Ok(_new) => Ok((RowOutcome::Done, batch)),
     }
 }
 
 /// Runs the operations up to the first that is refused. With one, nothing is written.
+///
+/// - `keys`: for each operation the key of its row's `exists` pair.
 pub(crate) fn run(
     alloc: Global,
     schema: &Schema,
     rows: WorkRows,
     ops: &[RowOp],
+    keys: &[Bytes],
 ) -> Result<(RowOutcome, Batch), AllocError>
+    requires { keys.now ≡ exists_keys ops.now }
     ensures reported { IfOk result (λ done. done.0 ≡ outcome rows ops.now) }
     ensures batch { IfOk result (λ done. done.1 ≡ noted map.empty (txn_writes schema.now rows ops.now)) }
 {
@@ -126,7 +134,7 @@ pub(crate) fn run(
     let mut batch = Batch::new(alloc);
     let mut place = 0;
     for op in ops {
-        if let Err(why) = run_op(alloc, schema, &mut rows, &mut batch, op)? {
+        if let Err(why) = run_op(alloc, schema, &mut rows, &mut batch, op, &keys[place])? {
             return Ok((RowOutcome::Refused { op: place, why }, Batch::new(alloc)));
         }
         place += 1;

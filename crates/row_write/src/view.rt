@@ -70,12 +70,15 @@ fn visible_presence(visible: Option<&Option<Bytes>>) -> Result<bool, PrepareFaul
     }
 }
 
-fn read_presence(alloc: Global, view: &ReadView, op: &RowOp) -> Result<bool, PrepareFault>
-    ensures found { IfOk result (λ there. IsThere (visible_at view.now op.now 0) there) }
+/// Whether the operation's row is there, and the key of its `exists` pair.
+fn read_presence(alloc: Global, view: &ReadView, op: &RowOp) -> Result<(bool, Bytes), PrepareFault>
+    ensures found { IfOk result (λ row. IsThere (visible_at view.now op.now 0) row.0) }
+    ensures exists { IfOk result (λ row. IsExistsKey op.now row.1) }
     ensures missed { IfErr result (IsMissed ((there : _) → ¬ (IsThere (visible_at view.now op.now 0) there))) }
 {
-    let key = exists_key(alloc, op.table(), op.key().as_slice())?;
-    visible_presence(view.get(key.as_slice()))
+    let exists = exists_key(alloc, op.table(), op.key().as_slice())?;
+    let there = visible_presence(view.get(exists.as_slice()))?;
+    Ok((there, exists))
 }
 
 fn read_cell(
@@ -124,19 +127,20 @@ fn read_cells(
     Ok(List::new(cells))
 }
 
-/// Whether the operation's row is there, and its cells of these columns.
+/// Whether the operation's row is there, its cells of these columns, and the key of its `exists` pair.
 pub(crate) fn read_row(
     alloc: Global,
     view: &ReadView,
     op: &RowOp,
     columns: &[(u32, ColumnType)],
-) -> Result<(bool, List<(u32, Value)>), PrepareFault>
+) -> Result<(bool, List<(u32, Value)>, Bytes), PrepareFault>
     ensures found { IfOk result (λ row. IsVisible view.now op.now columns.now row.0 row.1) }
+    ensures exists { IfOk result (λ row. IsExistsKey op.now row.2) }
     ensures missed { IfErr result (IsMissed ((there : _) (cells : _) → ¬ (IsVisible view.now op.now columns.now there cells))) }
 {
-    let there = read_presence(alloc, view, op)?;
+    let (there, exists) = read_presence(alloc, view, op)?;
     let cells = read_cells(alloc, view, op, there, columns)?;
-    Ok((there, cells))
+    Ok((there, cells, exists))
 }
 
 /// Whether a key is the `exists` key of a row with this number in the place of its last four bytes.

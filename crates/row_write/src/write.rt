@@ -20,43 +20,26 @@ use crate::public_columns::own_elements;
 use byte_map::Bytes;
 use element_state::{AnyElement, Element, cell};
 use keycode::{Value, Values};
-use row_map::{Batch, Row, exists_key, index_key};
+use row_map::{Batch, Row, index_key};
 use schema_version::{ElementDef, ElementState, Kind, Schema};
 use std::alloc::{AllocError, Global};
 use std::slice::from_ref;
-
-/// The key of the row's `exists` pair, unless it was made before.
-fn exists_key_of(alloc: Global, op: &RowOp, made: Option<Bytes>) -> Result<Bytes, AllocError>
-    requires { IfSome made (IsExistsKey op.now) }
-    ensures { IfOk result (IsExistsKey op.now) }
-{
-    match made {
-        Some(key) => Ok(key),
-        None => exists_key(alloc, op.table(), op.key().as_slice()),
-    }
-}
 
 /// Writes the row's `exists` pair.
 fn write_exists(
     alloc: Global,
     op: &RowOp,
-    exists: Option<Bytes>,
+    exists: &Bytes,
     old: Option<&Row>,
     new: Option<&Row>,
     batch: &mut Batch,
 ) -> Result<(), AllocError>
-    requires { IfSome exists (IsExistsKey op.now) }
+    requires { IsExistsKey op.now exists.now }
     ensures { OnOk result (batch.new ≡ noted batch.old (exists_by (row_of op.now) (option_map (λ r. cells_of r.now) old.entry) (option_map (λ r. cells_of r.now) new.entry))) }
 {
     match (old, new) {
-        (None, Some(_)) => {
-            let key = exists_key_of(alloc, op, exists)?;
-            batch.put(key, Bytes::new(Vec::new(alloc))?)
-        }
-        (Some(_), None) => {
-            let key = exists_key_of(alloc, op, exists)?;
-            batch.remove(key)
-        }
+        (None, Some(_)) => batch.put(exists.clone()?, Bytes::new(Vec::new(alloc))?),
+        (Some(_), None) => batch.remove(exists.clone()?),
         _ => Ok(()),
     }
 }
@@ -180,17 +163,17 @@ fn write_elements(
 }
 
 /// Writes what the operation's change asks for in the states of the schema. `exists` is the key of
-/// the row's `exists` pair, if it was made before.
+/// the row's `exists` pair.
 pub(crate) fn write_change(
     alloc: Global,
     schema: &Schema,
     op: &RowOp,
-    exists: Option<Bytes>,
+    exists: &Bytes,
     old: Option<&Row>,
     new: Option<&Row>,
     batch: &mut Batch,
 ) -> Result<(), AllocError>
-    requires exists { IfSome exists (IsExistsKey op.now) }
+    requires exists { IsExistsKey op.now exists.now }
     requires old { IfSome old (λ r. r.now.key ≡ key_of op.now) }
     requires new { IfSome new (λ r. r.now.key ≡ key_of op.now) }
     ensures { OnOk result (batch.new ≡ noted batch.old (version_writes the_kinds (schema_of schema.now) (change_at (row_of op.now) (option_map (λ r. cells_of r.now) old.entry) (option_map (λ r. cells_of r.now) new.entry)))) }

@@ -63,6 +63,10 @@ HaveSameKeys reads view = (key : Bytes) → (map.get reads key ≡ Some tt) ↔ 
 abbrev pub IsExistsKey : RowOp → Bytes → Type 0
 IsExistsKey op key = key ≡ row_code (table_of op) (key_of op) 0
 
+-- the keys of the `exists` pairs of the operations' rows
+abbrev pub exists_keys : List RowOp → List Bytes
+exists_keys ops = each (λ (op : RowOp). row_code (table_of op) (key_of op) 0) ops
+
 -- the keys of entries, in their order
 abbrev pub keys_of : {X : Type 0} → List (Bytes × X) → List Bytes
 keys_of entries = each (λ entry. entry.0) entries

@@ -15,8 +15,8 @@ returns-then-not-has_keys-clause-missed c =
     )
 
 pub returns-clause-found : goal.returns-clause-found
-returns-clause-found c = IfOk-weaker c.read_rows.result _ _ (λ rows all.
-    encoded_with c.args.schema.now c.args.ops.now c.args.view.now c.in_ok-reads.reads c.in_ok-reads.ensures (c.has_keys.ensures.0 c.if-not-has_keys.false) rows all) c.read_rows.ensures.found
+returns-clause-found c = IfOk-weaker c.read_rows.result _ _ (λ read all.
+    encoded_with c.args.schema.now c.args.ops.now c.args.view.now c.in_ok-reads.reads c.in_ok-reads.ensures (c.has_keys.ensures.0 c.if-not-has_keys.false) read.0 all) c.read_rows.ensures.found
 
 pub returns-clause-missed : goal.returns-clause-missed
 returns-clause-missed c = IfErr-weaker c.read_rows.result _ _ (λ e. missed_map e (λ never rows s. never rows s.encoded)) c.read_rows.ensures.missed
