@@ -10,7 +10,7 @@ ghost use Rattle.entry_code.specs.inner.RecordsAt.{reorg_at, range_at, draft_at}
 use crate::encoded::Encoded;
 use crate::fault::CodeFault;
 use crate::parts::{DraftParts, Points, RangeParts, ReorgParts, SchemaParts};
-use crate::whole::{decode, encode};
+use crate::whole::{decode, encode, encode_within};
 use byte_map::Bytes;
 use collections::List;
 use schema_version::{ElementDef, Work};
@@ -147,12 +147,31 @@ pub fn points_of(alloc: Global, bytes: &[u8]) -> Result<Points, CodeFault>
     decode::<Points>(alloc, bytes)
 }
 
+// About how many bytes keys and values take in a code: how far to trust it shows in the speed alone.
+fn room_of(points: &[(Bytes, Option<Bytes>)]) -> usize {
+    let mut total = 0usize;
+    for (key, value) in points {
+        let value = match value {
+            Some(bytes) => bytes.len(),
+            None => 0,
+        };
+        total = total
+            .saturating_add(key.len())
+            .saturating_add(value)
+            .saturating_add(17);
+    }
+    total
+}
+
 /// The code of the parts of a draft. Refused, and bounded, as `schema_parts_bytes`.
 pub fn draft_parts_bytes(alloc: Global, parts: &DraftParts) -> Result<Vec<u8>, AllocError>
     ensures code { IfOk result (λ bytes. bytes.items ≡ draft_parts_code parts.now) }
     ensures known { OnOk result (IsDraft parts.now) }
 {
-    encode(alloc, parts)
+    let compared = room_of(parts.compare.as_slice());
+    let written = room_of(parts.write.as_slice());
+    let room = compared.saturating_add(written).saturating_add(25);
+    encode_within(alloc, parts, room)
 }
 
 /// The parts of a draft whose code these `bytes` are. Refused, and bounded, as `entry_of` is.
