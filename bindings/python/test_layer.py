@@ -12,6 +12,7 @@ import re
 import tempfile
 import unittest
 from typing import Callable, List, Sequence, Tuple, Type
+from unittest import mock
 
 import cagzhomul
 import cagzhomul_layer
@@ -138,7 +139,7 @@ class Transactions(Base):
         db, store = opened(5)
         rows: List[Tuple[int, str, Key]] = [
             (0, "people", 7), (1, "people", -1), (2, "people", 7), (1, "tags", "a\0b"), (0, "tags", ""), (1, "nobody", 1), (1, "people", (1, "x"))]
-        ops = [txns._Op(kind, table, _key(key), {}) for kind, table, key in rows]
+        ops: List[txns._Op] = [(kind, table, _key(key), {}) for kind, table, key in rows]
         counts: List[int] = []
         for change in ("add column rank int default 7 on people", "drop column town on people", "drop column n on tags"):
             for _ in itertools.chain(["before"], db.change(change)):
@@ -147,6 +148,23 @@ class Transactions(Base):
                 self.assertEqual(txns._keys_of(ops, version.names), list(given))
                 counts += [len(given)] if counts[-1:] != [len(given)] else []
         self.assertEqual(counts, [13, 16, 13, 11])  # three rows of people with two, three and two columns, two of tags with one and none
+
+
+    def test_a_draft_whose_comparisons_are_taken(self) -> None:
+        _, store = opened(5)
+        version = layer.Layer(store)._server.version()
+        ops: List[txns._Op] = [(1, "people", _key(2), {"town": "a\0b", "age": None}), (2, "people", _key(1), {})]
+        code, keys = txns._ops_code(ops, version.names), txns._keys_of(ops, version.names)
+        view = store.read(keys).values
+        given = {mark: calls.asked("txn", version.number, version.record, code, calls.points_code(view), mark).code for mark in (b"m", b"")}
+        draft = calls.txn_draft(version.point, code, view, b"m")
+        self.assertEqual(draft, calls.draft_of(given[b"m"]))
+        self.assertEqual(draft.compare, {calls.version_key(version.number): version.record, b"\3m": None, **view})
+        self.assertEqual((len(view), len(draft.write)), (6, 6))  # of two rows that and two columns; the mark, two columns, and three that go
+        with mock.patch.object(calls, "_answer", return_value=(given[b""], 0)):  # it begins otherwise, and so is read
+            self.assertEqual(calls.txn_draft(version.point, code, view, b"m"), calls.draft_of(given[b""]))
+        with mock.patch.object(calls, "_answer", return_value=(given[b"m"][:-1], 0)), self.assertRaises(cagzhomul_layer.BadAnswer):
+            calls.txn_draft(version.point, code, view, b"m")
 
 
 class LostAnswers(Base):

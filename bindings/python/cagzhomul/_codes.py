@@ -3,7 +3,7 @@
 from __future__ import annotations
 
 import struct
-from typing import List, Sequence, Tuple, cast
+from typing import List, Sequence, Tuple
 
 from ._values import _TYPES, Key, Kind, Value
 
@@ -27,14 +27,14 @@ def _type(kind: Kind) -> bytes:
 
 
 def _value(value: Value) -> bytes:
-    if value is None:
-        return b"\1"
+    if isinstance(value, str):
+        return b"\3" + value.encode().replace(b"\0", b"\0\xff") + b"\0\1"
     if isinstance(value, bool):
         return b"\4\1" if value else b"\4\0"
     if isinstance(value, int):
-        return b"\2" + _number(value + 2**63)
-    if isinstance(value, str):
-        return b"\3" + value.encode().replace(b"\0", b"\0\xff") + b"\0\1"
+        return b"\2" + (value + 2**63).to_bytes(8, "big")
+    if value is None:
+        return b"\1"
     raise TypeError(f"{type(value).__name__} is the type of no column")
 
 
@@ -45,7 +45,7 @@ _ONE = _number(1)
 def _key(key: Key) -> bytes:
     if isinstance(key, (tuple, list)):
         return _list([_value(value) for value in key])
-    return _ONE + _value(cast(Value, key))
+    return _ONE + _value(key)  # type: ignore[arg-type]  # which refuses any other sequence
 
 
 def _value_at(code: bytes, at: int) -> Tuple[Value, int]:

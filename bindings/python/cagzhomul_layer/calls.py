@@ -7,7 +7,7 @@ from __future__ import annotations
 
 import ctypes
 import struct
-from typing import Any, Callable, Dict, Iterable, List, Mapping, NamedTuple, Optional, Tuple, TypeVar
+from typing import Any, Callable, Dict, Iterable, List, Mapping, NamedTuple, Optional, Sequence, Tuple, TypeVar
 
 import cagzhomul
 from cagzhomul._codes import _list, _name_at, _number, _number_at
@@ -78,8 +78,12 @@ def asked(name: str, *given: Any) -> Answered:
             length += len(it)
         else:
             words.append(it)
+    return Answered(*_answer(_CALLS[name], words, length))
+
+
+def _answer(call: Any, words: Sequence[Any], length: int) -> Tuple[bytes, int]:
+    """What a function gives for these words, among them so many bytes: its bytes, and the number beside them. Raises Refusal."""
     # what is given is about as long as what comes of it; a call that did not fit is made again
-    call = _CALLS[name]
     while True:
         room = max(_LEAST, (2 * length).bit_length())
         out = _ROOMS[room]()
@@ -88,7 +92,36 @@ def asked(name: str, *given: Any) -> Answered:
             raise Refusal(done.status, done.column, done.number)
         length = done.length
         if length <= 1 << room:
-            return Answered(out[:length], done.number)  # the one copy, of that many bytes
+            return out[:length], done.number  # the one copy, of that many bytes
+
+
+class VersionPoint(NamedTuple):
+    """What transactions compare of their version: its key and its record, with their code."""
+
+    number: int
+    key: bytes
+    record: bytes
+    code: bytes
+
+
+def version_point(number: int, record: bytes) -> VersionPoint:
+    """What transactions compare of the version of this number and record."""
+    key = version_key(number)
+    return VersionPoint(number, key, record, _point_code(key, record))
+
+
+def txn_draft(version: VersionPoint, operations: bytes, view: Mapping[bytes, Optional[bytes]], mark: bytes) -> Draft:
+    """The draft of a transaction under a version, by its operations' code, what it read, and its mark. Raises Refusal."""
+    number, key, record, version_code = version
+    points, mark_point = points_code(view), mark_key(mark)
+    words = number, record, len(record), operations, len(operations), points, len(points), mark, len(mark)
+    code = _answer(_CALLS["txn"], words, len(record) + len(operations) + len(points))[0]
+    # it compares the version's record, that the mark is missing, and the view, by rising key: if its code begins so, that is not read
+    compared = b"".join((b"\1", number_code(len(view) + 2), version_code, _point_code(mark_point, None), points[9:]))
+    if not code.startswith(compared):
+        return draft_of(code)
+    compare = {key: record, mark_point: None, **view}
+    return _read_to_end(code, lambda code, at: _draft_after(compare, code, at), len(compared))
 
 
 def due(before: int, version: bytes, found: Iterable[Pair], steps: Iterable[bytes]) -> Tuple[str, int, int]:
@@ -127,6 +160,11 @@ def check_page(version: bytes, code: bytes, low: bytes, to: bytes) -> cagzhomul.
 # Each transaction writes some: a code is joined once, from a list of all its parts.
 
 number_code = struct.Struct(">Q").pack
+
+
+def _point_code(key: bytes, value: Optional[bytes]) -> bytes:
+    """The code of a key with its value or none."""
+    return number_code(len(key)) + key + (b"\0" if value is None else b"\1" + number_code(len(value)) + value)
 
 
 def points_code(points: Mapping[bytes, Optional[bytes]]) -> bytes:
@@ -196,8 +234,13 @@ def _whole(code: bytes, read: Callable[[bytes, int], Tuple[_Read, int]]) -> _Rea
     """What is read of a whole code, of which `read` says where that ends. BadAnswer if it is of another form, or is cut off, or goes on."""
     if code[:1] != b"\1":
         raise BadAnswer("bytes in another code")
+    return _read_to_end(code, read, 1)
+
+
+def _read_to_end(code: bytes, read: Callable[[bytes, int], Tuple[_Read, int]], at: int) -> _Read:
+    """What is read of a code from there on, of which `read` says where that ends. BadAnswer if that is not its end."""
     try:
-        found, end = read(code, 1)
+        found, end = read(code, at)
     except (struct.error, IndexError) as fault:
         raise BadAnswer("a code that is cut off") from fault
     if end != len(code):
@@ -208,6 +251,11 @@ def _whole(code: bytes, read: Callable[[bytes, int], Tuple[_Read, int]]) -> _Rea
 def _draft_at(code: bytes, at: int) -> Tuple[Draft, int]:
     """The draft that begins there, and where it ends."""
     compare, at = _points_at(code, at)
+    return _draft_after(compare, code, at)
+
+
+def _draft_after(compare: Dict[bytes, Optional[bytes]], code: bytes, at: int) -> Tuple[Draft, int]:
+    """The draft that compares these points, of which the rest begins there, and where it ends."""
     ranges, at = _ranges_at(code, at)
     write, at = _points_at(code, at)
     return Draft(compare, ranges, write), at

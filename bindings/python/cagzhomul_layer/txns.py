@@ -19,7 +19,7 @@ from cagzhomul._rows import _coded_rows
 from cagzhomul._schema import _schema
 
 from . import calls
-from .calls import VERSIONS, Refusal, asked, mark_key, number_code, version_key
+from .calls import VERSIONS, Refusal, VersionPoint, asked, mark_key, number_code, version_key, version_point
 from .changes import versions_of
 from .store import BadAnswer, Draft, Refused, Store, StoreError, Unknown, Unreachable
 
@@ -35,20 +35,17 @@ def pause() -> None:
 
 
 class Version(NamedTuple):
-    """An open version: its number, its record, and the names in it."""
+    """An open version: its number, its record, the names in it, and what transactions compare of it."""
 
     number: int
     record: bytes
     names: _Names
+    point: VersionPoint
 
 
-class _Op(NamedTuple):
-    """An operation: 0 inserts, 1 updates, 2 deletes. Columns are by name, as their numbers are of a version."""
-
-    kind: int
-    table: str
-    key: bytes
-    cells: Mapping[str, Value]
+# an operation, of which there are too many for objects: 0 inserts, 1 updates, 2 deletes; its table, the code of its key, and values by
+# column, by name, as their numbers are of a version
+_Op = Tuple[int, str, bytes, Mapping[str, Value]]
 
 
 _kind_and_table, _small = struct.Struct(">BI").pack, struct.Struct(">I").pack
@@ -56,13 +53,13 @@ _kind_and_table, _small = struct.Struct(">BI").pack, struct.Struct(">I").pack
 
 def _ops_code(ops: Sequence[_Op], names: _Names) -> bytes:
     """The code of operations in a version."""
-    parts = [b"\1", number_code(len(ops))]
+    parts, numbers = [b"\1", number_code(len(ops))], names.numbers
     for kind, table, key, cells in ops:
         parts += _kind_and_table(kind, names.tables.get(table, 0)), key
         if kind != 2:
             parts.append(number_code(len(cells)))
             for name, value in cells.items():
-                parts += _small(names.number(table, name)), _value(value)
+                parts += _small(numbers.get((table, name), 0)), _value(value)
     return b"".join(parts)
 
 
@@ -107,10 +104,10 @@ class Server:
         versions = versions_of(self.store)
         if not versions:
             raise cagzhomul.NotOpened()
-        number = max(versions)
-        if self._newest is not None and (self._newest.number, self._newest.record) == (number, versions[number]):
+        number, record = max(versions.items())
+        if self._newest is not None and (self._newest.number, self._newest.record) == (number, record):
             return False
-        self._newest = Version(number, versions[number], _Names(number, _schema(versions[number]), versions[number]))
+        self._newest = Version(number, record, _Names(number, _schema(record), record), version_point(number, record))
         return True
 
     def version(self) -> Version:
@@ -193,7 +190,7 @@ class Txn:
         columns = names.columns(wanted)
         query = _query(wanted, columns, names)
         try:
-            keys = calls.points_of(asked("reads", version.record, _ops_code([_Op(1, *row, {})], names)).code) if row[0] in names.tables else {}
+            keys = calls.points_of(asked("reads", version.record, _ops_code([(1, *row, {})], names)).code) if row[0] in names.tables else {}
             found = self._server.store.read([version_key(version.number), *keys]).values
             if found.pop(version_key(version.number)) != version.record:
                 return False
@@ -220,8 +217,9 @@ class Txn:
         return self._add(2, table, key, {})
 
     def _add(self, kind: int, table: str, key: Key, cells: Mapping[str, Value]) -> Txn:
-        self._check_stage()
-        self._ops.append(_Op(kind, table, _key(key), cells))
+        if self._has_ended:
+            raise cagzhomul.WrongStage()
+        self._ops.append((kind, table, _key(key), cells))
         return self
 
     def _all_ops(self) -> List[_Op]:
@@ -229,11 +227,11 @@ class Txn:
         is there, and an insertion and a deletion of one that is not."""
         if not self._got:
             return self._ops
-        written = {(it.table, it.key) for it in self._ops}
+        written = {(table, key) for _, table, key, _ in self._ops}
         pins: List[_Op] = []
         for row, found in self._got.items():
             if row not in written:
-                pins += [_Op(0, *row, {}), _Op(2, *row, {})] if found is None else [_Op(1, *row, {})]
+                pins += [(0, *row, {}), (2, *row, {})] if found is None else [(1, *row, {})]
         return self._ops + pins
 
     def commit(self) -> bytes:
@@ -283,22 +281,23 @@ class Txn:
 
     def _unknown(self, names: _Names) -> Optional[str]:
         """The first name of a column in it that its table does not have."""
-        return next((name for it in self._ops for name in it.cells if not names.number(it.table, name)), None)
+        return next((name for _, table, _, cells in self._ops for name in cells if not names.number(table, name)), None)
 
     def _draft(self, version: Version) -> Optional[Draft]:
         """Its draft, from what it got and what it reads for the rest; None if a draft of it is applied."""
         ops = self._all_ops()
-        code, keys = _ops_code(ops, version.names), _keys_of(ops, version.names)
-        wanted = [key for key in keys if key not in self._view] + [mark_key(self.mark)] * self._is_unsure
+        code, wanted = _ops_code(ops, version.names), _keys_of(ops, version.names)
+        if self._view or self._is_unsure:
+            wanted = [key for key in wanted if key not in self._view] + [mark_key(self.mark)] * self._is_unsure
         try:
             found = self._server.store.read(wanted).values if wanted else {}
         except StoreError:
             asked("reads", version.record, code)  # a text that is too long is refused before all
             raise
-        if found.pop(mark_key(self.mark), None) is not None:
+        if self._is_unsure and found.pop(mark_key(self.mark)) is not None:
             return None
-        view = {key: self._view[key] if key in self._view else found[key] for key in keys}
-        return calls.draft_of(asked("txn", version.number, version.record, code, calls.points_code(view), self.mark).code)
+        view = {**found, **self._view} if self._view else found
+        return calls.txn_draft(version.point, code, view, self.mark)
 
     def _is_applied(self, draft: Draft) -> bool:
         """Hands a draft in, the same again while answers are lost; False if it is refused, and reads the version if that is why."""

@@ -18,9 +18,14 @@ pub(crate) struct Code(pub(crate) Vec<u8>);
 impl Code {
     /// The start of a code: its version.
     pub(crate) fn new() -> Code {
-        let mut bytes = Vec::with_capacity(ROOM);
-        bytes.push(VERSION);
-        Code(bytes)
+        Code::with_room(ROOM)
+    }
+
+    /// The same, with room for so many bytes.
+    pub(crate) fn with_room(bytes: usize) -> Code {
+        let mut code = Vec::with_capacity(bytes);
+        code.push(VERSION);
+        Code(code)
     }
 
     pub(crate) fn as_bytes(&self) -> &[u8] {
@@ -70,11 +75,15 @@ impl Code {
 
     /// The bytes of a text, a zero among them followed by 255, and then its end.
     fn text(&mut self, text: &str) {
-        for (at, part) in text.as_bytes().split(|byte| *byte == 0).enumerate() {
-            if at > 0 {
-                self.0.extend_from_slice(&[0, 255]);
-            }
-            self.0.extend_from_slice(part);
+        let text = text.as_bytes();
+        self.0.reserve(text.len() + 2);
+        // most texts have no zero, and a search for one is fast
+        match text.contains(&0) {
+            false => self.0.extend_from_slice(text),
+            true => text.iter().for_each(|byte| match byte {
+                0 => self.0.extend_from_slice(&[0, 255]),
+                _ => self.0.push(*byte),
+            }),
         }
         self.0.extend_from_slice(&[0, 1]);
     }

@@ -1,4 +1,4 @@
-//! The functions of libcagzhomul behind safe calls; those of the layer are in `layer/ffi.rs`.
+//! The functions of libcagzhomul behind safe calls; those of the layer are in `layer/ffi`.
 //!
 //! What `include/cagzhomul.h` asks of a caller holds of every call here:
 //!

@@ -97,12 +97,11 @@ impl Names {
     }
 
     /// The numbers of a table's public columns.
-    pub(crate) fn public(&self, table: &str) -> Vec<u32> {
+    pub(crate) fn public<'a>(&'a self, table: &'a str) -> impl Iterator<Item = u32> + 'a {
         let elements = self.schema.elements.iter();
         elements
-            .filter(|element| element.table == table && element.is_public_column())
+            .filter(move |element| element.table == table && element.is_public_column())
             .map(|element| element.number)
-            .collect()
     }
 
     /// The name of the column or the index of this number.
@@ -235,7 +234,7 @@ mod tests {
     fn only_columns_that_are_public_are() {
         let names = names();
         assert_eq!(
-            ["t", "u", "v"].map(|table| names.public(table)),
+            ["t", "u", "v"].map(|table| names.public(table).collect::<Vec<_>>()),
             [vec![1, 2], vec![], vec![]]
         );
     }

@@ -109,7 +109,7 @@ impl Query {
     pub(crate) fn selected(&self, names: &Names) -> Vec<u32> {
         let number = |column: &String| names.element(&self.table, column);
         match &self.columns {
-            None => names.public(&self.table),
+            None => names.public(&self.table).collect(),
             Some(columns) => columns.iter().map(number).collect(),
         }
     }

@@ -151,7 +151,7 @@ impl<'a, S: Store> Acts<'a, S> {
         let changes = code::changes(&self.left, |table| names.table(table));
         let given = ffi::plan(&records.version.record, changes.as_bytes());
         let refused = |refusal: ffi::Refusal| plan_refusal(Error::of(refusal.status));
-        steps_of(&given.map_err(refused)?.code, names)
+        steps_of(given.map_err(refused)?.code(), names)
     }
 
     /// Does what a plan's next step wants.

@@ -174,9 +174,9 @@ fn needs(
     let mut needs = BTreeSet::new();
     for record in versions.values() {
         let rows = ffi::check_rows(record, pairs, low, to).map_err(refused)?;
-        needs.extend(pairs_of(&rows.code)?);
+        needs.extend(pairs_of(rows.code())?);
         let given = ffi::check_given(record, pairs, low, to).map_err(refused)?;
-        needs.extend(pairs_of(&given.code)?);
+        needs.extend(pairs_of(given.code())?);
     }
     Ok(needs)
 }

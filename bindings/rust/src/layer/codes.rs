@@ -17,6 +17,10 @@ pub(super) const END: &[u8] = b"\xff";
 
 /// The first byte of a code and of a record.
 const VERSION: u8 = 1;
+/// How many bytes a code has before what is in its list: its version, and how much that is.
+const HEAD: usize = 9;
+/// The room that a row's key begins with: that of a number or a short text.
+const ROW_ROOM: usize = 32;
 
 fn with_numbers(kind: &[u8], numbers: &[u64]) -> Vec<u8> {
     let numbers = numbers.iter().flat_map(|number| number.to_be_bytes());
@@ -43,14 +47,16 @@ pub(super) fn mark_key(mark: &[u8]) -> Vec<u8> {
     [MARKS, mark].concat()
 }
 
-/// The key of a row's pair: that of a column, or with 0 that the row is there.
-pub(super) fn pair_key(table: u32, key: &Key, column: u32) -> Vec<u8> {
-    let mut code = Code::default();
-    code.byte(b'R');
-    code.small_number(table);
-    key.0.iter().for_each(|value| code.value(value));
-    code.small_number(column);
-    code.0
+/// The keys of a row's pairs: those of columns, or with 0 that the row is there.
+pub(super) fn pair_keys<C>(table: u32, key: &Key, columns: C) -> impl Iterator<Item = Vec<u8>>
+where
+    C: Iterator<Item = u32>,
+{
+    let mut row = Code(Vec::with_capacity(ROW_ROOM));
+    row.byte(b'R');
+    row.small_number(table);
+    key.0.iter().for_each(|value| row.value(value));
+    columns.map(move |column| [row.as_bytes(), &column.to_be_bytes()].concat())
 }
 
 /// The number in the key of a version or of a reorganisation.
@@ -61,15 +67,26 @@ pub(super) fn number_of(key: &[u8]) -> Result<u64, StoreError> {
         .ok_or(bad_answer("a key of no control record"))
 }
 
+fn push_point(code: &mut Code, key: &[u8], value: Option<&[u8]>) {
+    code.data(key);
+    code.byte(u8::from(value.is_some()));
+    value.iter().for_each(|value| code.data(value));
+}
+
+/// How many bytes a point takes in a code.
+fn room_of(key: &[u8], value: Option<&[u8]>) -> usize {
+    8 + key.len() + 1 + value.map_or(0, |it| 8 + it.len())
+}
+
 /// The code of keys with their values or none.
 pub(super) fn points_code(points: &Values) -> Code {
-    let mut code = Code::new();
-    code.count(points.len());
-    for (key, value) in points {
-        code.data(key);
-        code.byte(u8::from(value.is_some()));
-        value.iter().for_each(|value| code.data(value));
-    }
+    let points = || points.iter().map(|(key, value)| (key, value.as_deref()));
+    let room = points()
+        .map(|(key, value)| room_of(key, value))
+        .sum::<usize>();
+    let mut code = Code::with_room(HEAD + room);
+    code.count(points().count());
+    points().for_each(|(key, value)| push_point(&mut code, key, value));
     code
 }
 
@@ -122,6 +139,11 @@ fn points(reader: &mut Reader<'_>) -> Option<Values> {
 }
 
 fn draft(reader: &mut Reader<'_>) -> Option<Draft> {
+    draft_after(points(reader)?, reader)
+}
+
+/// The draft that compares these points, of which the rest is read.
+fn draft_after(compare: Values, reader: &mut Reader<'_>) -> Option<Draft> {
     let range = |it: &mut Reader<'_>| {
         Some(ComparedRange {
             low: it.data()?.to_vec(),
@@ -130,7 +152,7 @@ fn draft(reader: &mut Reader<'_>) -> Option<Draft> {
         })
     };
     Some(Draft {
-        compare: points(reader)?,
+        compare,
         ranges: reader.list(range)?,
         write: points(reader)?,
     })
@@ -145,14 +167,21 @@ fn bounds(reader: &mut Reader<'_>) -> Option<Vec<Pair>> {
 
 /// Reads a whole code.
 fn whole<T>(code: &[u8], read: impl FnOnce(&mut Reader<'_>) -> Option<T>) -> Result<T, StoreError> {
-    let mut reader = Reader(code);
-    let found = match reader.byte() {
-        Some(VERSION) => read(&mut reader),
+    all_of(code, |reader| match reader.byte() {
+        Some(VERSION) => read(reader),
         _ => None,
-    };
-    found
+    })
+}
+
+/// Reads what is left of a code.
+fn all_of<T>(
+    rest: &[u8],
+    read: impl FnOnce(&mut Reader<'_>) -> Option<T>,
+) -> Result<T, StoreError> {
+    let mut reader = Reader(rest);
+    read(&mut reader)
         .filter(|_| reader.0.is_empty())
-        .ok_or(bad_answer("bytes in another code"))
+        .ok_or_else(|| bad_answer("bytes in another code"))
 }
 
 /// The keys of a code of points.
@@ -168,6 +197,43 @@ pub(super) fn pairs_of(code: &[u8]) -> Result<Vec<Pair>, StoreError> {
 /// The draft of a code.
 pub(super) fn draft_of(code: &[u8]) -> Result<Draft, StoreError> {
     whole(code, draft)
+}
+
+/// What the draft of a transaction compares, as far as the caller knows: the record of its version,
+/// that its mark is missing, and what it read.
+pub(super) struct Compared<'a> {
+    /// The key and the record of its version.
+    pub(super) version: (Vec<u8>, &'a [u8]),
+    /// The key of its mark.
+    pub(super) mark: Vec<u8>,
+    /// What it read, and the code of that.
+    pub(super) read: Values,
+    pub(super) view: Code,
+}
+
+impl Compared<'_> {
+    /// How the code of such a draft begins: control keys are below those of pairs.
+    fn code(&self) -> Code {
+        let ((version, record), points) = (&self.version, &self.view.as_bytes()[HEAD..]);
+        let control = room_of(version, Some(record)) + room_of(&self.mark, None);
+        let mut code = Code::with_room(HEAD + control + points.len());
+        code.count(self.read.len() + 2);
+        push_point(&mut code, version, Some(record));
+        push_point(&mut code, &self.mark, None);
+        code.0.extend_from_slice(points);
+        code
+    }
+
+    /// The draft of this code: if it begins as it should, its comparisons are not read, but taken.
+    pub(super) fn draft_of(self, code: &[u8]) -> Result<Draft, StoreError> {
+        let Some(rest) = code.strip_prefix(self.code().as_bytes()) else {
+            return draft_of(code);
+        };
+        let mut compare = self.read;
+        compare.insert(self.mark, None);
+        compare.insert(self.version.0, Some(self.version.1.to_vec()));
+        all_of(rest, |it| draft_after(compare, it))
+    }
 }
 
 /// The bounds of the pieces of a reorganisation, by its record.
@@ -230,6 +296,37 @@ mod tests {
         assert_eq!(draft_of(&code), Ok(draft));
     }
 
+    /// The draft of version 1 with the record r and of the mark m, which read a and b, and writes b; by
+    /// hand. What begins otherwise is read as it is, and what ends otherwise is none.
+    #[test]
+    fn a_draft_that_begins_as_it_should_is_that_of_its_code() {
+        let (points, _) = codes();
+        let read = Values::from([(b"a".to_vec(), None), (b"b".to_vec(), Some(b"xy".to_vec()))]);
+        let version = [data(&version_key(1)), vec![1], data(b"r")].concat();
+        let mark = [data(b"\x03m"), vec![0]].concat();
+        let count = |number: u64| number.to_be_bytes().to_vec();
+        let write = list(&[[data(b"b"), vec![0]].concat()]);
+        let rest = [&points[8..], &count(0), &write].concat();
+        let code = [vec![1], count(4), version.clone(), mark, rest.clone()].concat();
+        let other = [vec![1], count(3), version, rest].concat();
+        let compared = || Compared {
+            version: (version_key(1), b"r"),
+            mark: mark_key(b"m"),
+            read: read.clone(),
+            view: points_code(&read),
+        };
+        let draft = draft_of(&code).unwrap();
+        assert_eq!((draft.compare.len(), draft.write.len()), (4, 1));
+        assert_eq!(draft.compare[&mark_key(b"m")], None);
+        assert_eq!(compared().draft_of(&code), Ok(draft));
+        assert_eq!(draft_of(&other).unwrap().compare.len(), 3);
+        assert_eq!(compared().draft_of(&other), draft_of(&other));
+        for end in 0..code.len() {
+            assert!(compared().draft_of(&code[..end]).is_err(), "{end}");
+        }
+        assert!(compared().draft_of(&[&code[..], b"\0"].concat()).is_err());
+    }
+
     #[test]
     fn other_bytes_are_no_codes() {
         let (points, pairs) = codes();
@@ -265,7 +362,7 @@ mod tests {
         // keys of docs/FORMAT.md, and of the words in it
         let texts = Key::from(("a\0", true));
         assert_eq!(
-            [0, 1].map(|it| pair_key(1, &Key::from(1), it)),
+            pair_keys(1, &Key::from(1), [0, 1].into_iter()).collect::<Vec<_>>(),
             [0, 1].map(|it| [
                 b"R\0\0\0\x01\x02\x80\0\0\0\0\0\0\x01\0\0\0",
                 &[it as u8][..]
@@ -273,7 +370,7 @@ mod tests {
             .concat())
         );
         assert_eq!(
-            pair_key(1, &texts, 2),
+            pair_keys(1, &texts, [2].into_iter()).next().unwrap(),
             b"R\0\0\0\x01\x03a\0\xff\0\x01\x04\x01\0\0\0\x02"
         );
         assert_eq!(number_of(&version_key(7)), Ok(7));

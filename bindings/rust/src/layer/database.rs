@@ -277,7 +277,7 @@ fn is_opened<S: Store>(store: &S, tables: &[Table]) -> Result<bool, Error> {
         BAD_TABLE => bad_table(opening.as_bytes(), tables),
         _ => refused(refusal),
     });
-    let mut draft: Draft = draft_of(&given?.code)?;
+    let mut draft: Draft = draft_of(given?.code())?;
     draft.ranges = vec![ComparedRange {
         low: Vec::new(),
         high: END.to_vec(),

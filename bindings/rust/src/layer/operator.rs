@@ -101,7 +101,7 @@ impl<'a, S: Store> Operator<'a, S> {
             Due::Close => {
                 let records = self.present()?;
                 let given = ffi::close(records.before(), &records.version.record);
-                draft_of(&given.map_err(refused)?.code)?
+                draft_of(given.map_err(refused)?.code())?
             }
         };
         self.hand_in(&draft)
@@ -129,7 +129,7 @@ impl<'a, S: Store> Operator<'a, S> {
         let keys: Values = keys.into_iter().map(|key| (key, None)).collect();
         let (before, record) = (records.before(), &records.version.record);
         let given = ffi::begin(before, record, element, points_code(&keys).as_bytes());
-        Ok(draft_of(&given.map_err(refused)?.code)?)
+        Ok(draft_of(given.map_err(refused)?.code())?)
     }
 
     /// Works the next pairs of a piece: fewer if the store or others that write there want that, and more
@@ -145,7 +145,7 @@ impl<'a, S: Store> Operator<'a, S> {
         let cursor = records.record(&cursor_key(element, piece))?;
         let pairs = pairs_code(both(&page.pairs));
         let draft = match ffi::piece(reorg, piece, cursor, &page.end, pairs.as_bytes()) {
-            Ok(given) => draft_of(&given.code)?,
+            Ok(given) => draft_of(given.code())?,
             Err(refusal) if refusal.status == BAD_COUNT => {
                 // not all of one row
                 self.least = self.some.saturating_add(1);

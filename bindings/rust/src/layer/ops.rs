@@ -1,6 +1,6 @@
 //! The operations of a transaction: their code, and the keys that they read.
 
-use crate::layer::codes::pair_key;
+use crate::layer::codes::pair_keys;
 use crate::names::Names;
 use crate::operations::{self, Kind, Operations};
 use crate::rows::Row;
@@ -36,7 +36,7 @@ pub(super) fn code_of(ops: &[Op], got: &[Got], names: &Names) -> Vec<u8> {
         let row = operations::row(names.table(&got.table), &got.key);
         operations.pin(&row, got.row.is_some());
     }
-    operations.finish().as_bytes().to_vec()
+    operations.finish().0
 }
 
 /// The keys that they read, by rising key: for each row that it is there, and its public columns. They
@@ -44,12 +44,12 @@ pub(super) fn code_of(ops: &[Op], got: &[Got], names: &Names) -> Vec<u8> {
 pub(super) fn keys_of(ops: &[Op], got: &[Got], names: &Names) -> Vec<Vec<u8>> {
     let written = ops.iter().map(|it| (&it.table, &it.key));
     let rows = written.chain(got.iter().map(|it| (&it.table, &it.key)));
-    let mut keys = Vec::new();
+    let mut keys = Vec::with_capacity(4 * ops.len());
     for (table, key) in rows {
         let number = names.table(table);
         if number != 0 {
             let columns = std::iter::once(0).chain(names.public(table));
-            keys.extend(columns.map(|column| pair_key(number, key, column)));
+            keys.extend(pair_keys(number, key, columns));
         }
     }
     keys.sort_unstable();

@@ -60,7 +60,7 @@ impl<S: Store> Layer<S> {
     fn rows(&self, version: &Version, query: &Query) -> Result<Option<Vec<Row>>, Fault> {
         let (record, code) = (&version.record, query.code(&version.names));
         let first = ffi::ranges(record, code.as_bytes())?;
-        let mut ranges = pairs_of(&first.code)?;
+        let mut ranges = pairs_of(first.code())?;
         let Some(mut pairs) = self.pairs(version, &ranges)? else {
             return Ok(None);
         };
@@ -68,7 +68,7 @@ impl<S: Store> Layer<S> {
             // the index's part is read again with its rows, so that all are of one moment
             let part = pairs_code(&pairs);
             let rows = ffi::row_ranges(record, code.as_bytes(), part.as_bytes())?;
-            ranges.extend(pairs_of(&rows.code)?);
+            ranges.extend(pairs_of(rows.code())?);
             let Some(all) = self.pairs(version, &ranges)? else {
                 return Ok(None);
             };
@@ -79,7 +79,7 @@ impl<S: Store> Layer<S> {
         }
         let rows = ffi::rows(record, code.as_bytes(), pairs_code(&pairs).as_bytes())?;
         let selected = query.selected(&version.names);
-        Ok(Some(rows_of(&rows.code, &selected, &version.names)?))
+        Ok(Some(rows_of(rows.code(), &selected, &version.names)?))
     }
 
     /// All pairs of these ranges, of one moment; `None` if the version was closed by then.

@@ -170,7 +170,7 @@ impl Records {
         let reorgs = self.pairs.iter().filter(|it| it.0.starts_with(REORGS));
         let reorgs = pairs_code(reorgs.collect::<Vec<_>>());
         let given = ffi::publish(self.before(), &self.version.record, step, reorgs.as_bytes());
-        Ok(draft_of(&given.map_err(refused)?.code)?)
+        Ok(draft_of(given.map_err(refused)?.code())?)
     }
 
     /// The moves of up to so many elements that may go on.

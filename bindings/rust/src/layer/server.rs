@@ -111,7 +111,7 @@ impl<S: Store> Server<S> {
         while Instant::now() < end {
             let version = self.version();
             let given = ffi::txn(version.number(), &version.record, NOTHING, NOTHING, mark);
-            let draft = draft_of(&given.map_err(refused)?.code)?;
+            let draft = draft_of(given.map_err(refused)?.code())?;
             match self.store.apply(&draft) {
                 Ok(()) => return Ok(false),
                 Err(StoreError::Refused(key)) => {

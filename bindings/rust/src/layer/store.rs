@@ -134,13 +134,7 @@ impl Answer {
         points: &[Vec<u8>],
         ranges: &[Range],
     ) -> Result<(Values, Vec<Page>), StoreError> {
-        let mut values: Values = points.iter().map(|key| (key.clone(), None)).collect();
-        for (key, value) in self.pairs {
-            match values.get_mut(&key) {
-                Some(place @ None) => *place = Some(value),
-                _ => return Err(bad_answer("a key that was not asked for, or twice")),
-            }
-        }
+        let values = values_of(points, self.pairs)?;
         if self.pages.len() != ranges.len() {
             return Err(bad_answer("another number of pages"));
         }
@@ -148,6 +142,24 @@ impl Answer {
         pages.try_for_each(|(page, range)| page.check(range))?;
         Ok((values, self.pages))
     }
+}
+
+/// Each point with the value that the pairs have for it, or none. Those that come in the order of the
+/// points, as most stores answer, are not looked up.
+fn values_of(points: &[Vec<u8>], pairs: Vec<Pair>) -> Result<Values, StoreError> {
+    let mut pairs = pairs.into_iter().peekable();
+    let with_value = |point: &Vec<u8>| match pairs.next_if(|(key, _)| key == point) {
+        Some((key, value)) => (key, Some(value)),
+        None => (point.clone(), None),
+    };
+    let mut values: Values = points.iter().map(with_value).collect();
+    for (key, value) in pairs {
+        match values.get_mut(&key) {
+            Some(place @ None) => *place = Some(value),
+            _ => return Err(bad_answer("a key that was not asked for, or twice")),
+        }
+    }
+    Ok(values)
 }
 
 /// A store, as the layer needs it: pairs whose keys have up to 2,000 bytes, and are ordered byte by

@@ -4,7 +4,7 @@ use crate::error::Error;
 use crate::faults::wrong_operation;
 use crate::ffi::{BAD_CODE, DUPLICATE, NOT_PUBLIC, NO_ROW, WRONG_TYPE};
 use crate::layer::chance::{self, Mark};
-use crate::layer::codes::{draft_of, keys_of, mark_key, pairs_code, points_code, VERSIONS};
+use crate::layer::codes::{keys_of, mark_key, pairs_code, points_code, Compared, VERSIONS};
 use crate::layer::draft::Draft;
 use crate::layer::ffi::{self, Fault, Refusal};
 use crate::layer::ops::{self, Got, Op};
@@ -136,7 +136,7 @@ impl<'a, S: Store> Txn<'a, S> {
             number => {
                 let mut named = Operations::new();
                 named.push_row(Kind::Update, &operations::row(number, key));
-                keys_of(&ffi::reads(&version.record, named.finish().as_bytes())?.code)?
+                keys_of(&ffi::reads(&version.record, named.finish().as_bytes())?.code())?
             }
         };
         points.push(version.key());
@@ -154,7 +154,7 @@ impl<'a, S: Store> Txn<'a, S> {
             query.as_bytes(),
             pairs_code(pairs).as_bytes(),
         )?;
-        let row = rows_of(&given.code, &selected, names)?.pop();
+        let row = rows_of(given.code(), &selected, names)?.pop();
         Ok(Some((row, values)))
     }
 
@@ -290,34 +290,39 @@ impl<'a, S: Store> Txn<'a, S> {
 
     /// Its draft, from what it got and what it reads for the rest; `None` if a draft of it is applied.
     fn draft(&self, version: &Version) -> Result<Option<Draft>, Fault> {
-        let code = self.operations(&version.names);
-        let keys = ops::keys_of(&self.ops, &self.got, &version.names);
-        let (mark, is_new) = (mark_key(&self.mark), |key: &&Vec<u8>| {
-            !self.view.contains_key(*key)
-        });
-        let mut points: Vec<Vec<u8>> = keys.iter().filter(is_new).cloned().collect();
-        if self.is_unsure {
-            points.push(mark.clone());
-        }
-        let mut found = match points.is_empty() {
-            true => Values::new(),
-            false => match read(&self.server.store, &points, &[]) {
-                Ok(found) => found.values,
-                Err(error) => {
-                    ffi::reads(&version.record, &code)?; // a text that is too long is refused before all
-                    return Err(error.into());
-                }
-            },
+        let (code, mark) = (self.operations(&version.names), mark_key(&self.mark));
+        let mut read = match self.read_rest(&version.names, &mark) {
+            Ok(values) => values,
+            Err(error) => {
+                ffi::reads(&version.record, &code)?; // a text that is too long is refused before all
+                return Err(error.into());
+            }
         };
-        if found.remove(&mark).flatten().is_some() {
+        if read.remove(&mark).flatten().is_some() {
             return Ok(None);
         }
-        let known = keys.iter().filter_map(|key| self.view.get_key_value(key));
-        found.extend(known.map(|(key, value)| (key.clone(), value.clone())));
-        let view = points_code(&found);
-        let (number, record) = (version.number(), &version.record);
-        let given = ffi::txn(number, record, &code, view.as_bytes(), &self.mark)?;
-        Ok(Some(draft_of(&given.code)?))
+        read.extend(self.view.clone());
+        let (record, view) = (&version.record, points_code(&read));
+        let given = ffi::txn(version.number(), record, &code, view.as_bytes(), &self.mark)?;
+        let compared = Compared {
+            version: (version.key(), record),
+            mark,
+            read,
+            view,
+        };
+        Ok(Some(compared.draft_of(given.code())?))
+    }
+
+    /// What the store has at the keys that it has not read yet, and at its mark if a draft of it may be
+    /// applied.
+    fn read_rest(&self, names: &Names, mark: &[u8]) -> Result<Values, StoreError> {
+        let mut points = ops::keys_of(&self.ops, &self.got, names);
+        points.retain(|key| !self.view.contains_key(key));
+        points.extend(self.is_unsure.then(|| mark.to_vec()));
+        match points.is_empty() {
+            true => Ok(Values::new()),
+            false => Ok(read(&self.server.store, &points, &[])?.values),
+        }
     }
 
     /// Hands a draft in, the same again while answers are lost; false if it is refused, and the version

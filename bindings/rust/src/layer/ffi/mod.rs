@@ -2,32 +2,19 @@
 //! is kept. What `ffi.rs` says of slices holds here.
 #![allow(unsafe_code)]
 
+mod exports;
+
 use crate::error::Error;
 use crate::ffi::{Checked, OK};
+use exports::*;
+use std::cell::Cell;
+use std::mem;
+
+pub(super) use exports::{DueAct, Refusal};
 
 /// How many bytes there are at first for what a call gives, besides twice as many as it is given: nearly
 /// all that a call gives fits, and it is not made again.
 const ROOM: usize = 1024;
-
-/// `cagzhomul_layered`.
-#[repr(C)]
-#[derive(Debug, Clone, Copy, PartialEq, Eq)]
-pub(super) struct Refusal {
-    pub(super) status: i32,
-    pub(super) column: u32,
-    pub(super) number: u64,
-    length: usize,
-}
-
-/// What is due, by its number: nothing is 0.
-#[repr(C)]
-#[derive(Debug, Clone, Copy, PartialEq, Eq)]
-pub(super) struct DueAct {
-    status: i32,
-    pub(super) act: u32,
-    pub(super) element: u32,
-    piece: u64,
-}
 
 /// The numbers of acts.
 pub(super) const BEGIN: u32 = 1;
@@ -35,10 +22,37 @@ pub(super) const CLOSE: u32 = 2;
 pub(super) const PUBLISH: u32 = 3;
 pub(super) const WORK: u32 = 4;
 
+/// How many bytes a thread keeps at most for its next call.
+const KEPT: usize = 1 << 16;
+
+thread_local! {
+    /// The bytes that the thread's last call was given for what it gives, since room for a draft is
+    /// large for an allocator. None while they are in use.
+    static ROOM_OF_LAST: Cell<Vec<u8>> = const { Cell::new(Vec::new()) };
+}
+
 /// What a call gave: its bytes, and the number beside them.
 pub(super) struct Given {
-    pub(super) code: Vec<u8>,
+    room: Vec<u8>,
+    length: usize,
     pub(super) number: u64,
+}
+
+impl Given {
+    /// The bytes.
+    pub(super) fn code(&self) -> &[u8] {
+        &self.room[..self.length]
+    }
+}
+
+impl Drop for Given {
+    fn drop(&mut self) {
+        let room = mem::take(&mut self.room);
+        if room.len() <= KEPT {
+            // none is kept by a thread that ends
+            let _ = ROOM_OF_LAST.try_with(|it| it.set(room));
+        }
+    }
 }
 
 /// Why nothing came of what was asked of the library, or of the store for it.
@@ -60,157 +74,6 @@ impl<E: Into<Error>> From<E> for Fault {
     fn from(error: E) -> Fault {
         Fault::Error(error.into())
     }
-}
-
-unsafe extern "C" {
-    fn cagzhomul_layer_open(
-        opening: *const u8,
-        opening_length: usize,
-        out: *mut u8,
-        out_length: usize,
-    ) -> Refusal;
-    fn cagzhomul_layer_reads(
-        version: *const u8,
-        version_length: usize,
-        operations: *const u8,
-        operations_length: usize,
-        out: *mut u8,
-        out_length: usize,
-    ) -> Refusal;
-    fn cagzhomul_layer_txn(
-        number: u64,
-        version: *const u8,
-        version_length: usize,
-        operations: *const u8,
-        operations_length: usize,
-        view: *const u8,
-        view_length: usize,
-        mark: *const u8,
-        mark_length: usize,
-        out: *mut u8,
-        out_length: usize,
-    ) -> Refusal;
-    fn cagzhomul_layer_ranges(
-        version: *const u8,
-        version_length: usize,
-        query: *const u8,
-        query_length: usize,
-        out: *mut u8,
-        out_length: usize,
-    ) -> Refusal;
-    fn cagzhomul_layer_row_ranges(
-        version: *const u8,
-        version_length: usize,
-        query: *const u8,
-        query_length: usize,
-        pairs: *const u8,
-        pairs_length: usize,
-        out: *mut u8,
-        out_length: usize,
-    ) -> Refusal;
-    fn cagzhomul_layer_rows(
-        version: *const u8,
-        version_length: usize,
-        query: *const u8,
-        query_length: usize,
-        pairs: *const u8,
-        pairs_length: usize,
-        out: *mut u8,
-        out_length: usize,
-    ) -> Refusal;
-    fn cagzhomul_layer_plan(
-        version: *const u8,
-        version_length: usize,
-        changes: *const u8,
-        changes_length: usize,
-        out: *mut u8,
-        out_length: usize,
-    ) -> Refusal;
-    fn cagzhomul_layer_publish(
-        before: u32,
-        version: *const u8,
-        version_length: usize,
-        step: *const u8,
-        step_length: usize,
-        found: *const u8,
-        found_length: usize,
-        out: *mut u8,
-        out_length: usize,
-    ) -> Refusal;
-    fn cagzhomul_layer_close(
-        before: u32,
-        version: *const u8,
-        version_length: usize,
-        out: *mut u8,
-        out_length: usize,
-    ) -> Refusal;
-    fn cagzhomul_layer_begin(
-        before: u32,
-        version: *const u8,
-        version_length: usize,
-        element: u32,
-        keys: *const u8,
-        keys_length: usize,
-        out: *mut u8,
-        out_length: usize,
-    ) -> Refusal;
-    fn cagzhomul_layer_piece(
-        reorg: *const u8,
-        reorg_length: usize,
-        piece: u32,
-        cursor: *const u8,
-        cursor_length: usize,
-        to: *const u8,
-        to_length: usize,
-        pairs: *const u8,
-        pairs_length: usize,
-        out: *mut u8,
-        out_length: usize,
-    ) -> Refusal;
-    fn cagzhomul_layer_due(
-        before: u32,
-        version: *const u8,
-        version_length: usize,
-        found: *const u8,
-        found_length: usize,
-        plan: *const u8,
-        plan_length: usize,
-        published: u64,
-    ) -> DueAct;
-    fn cagzhomul_layer_check_rows(
-        version: *const u8,
-        version_length: usize,
-        pairs: *const u8,
-        pairs_length: usize,
-        low: *const u8,
-        low_length: usize,
-        to: *const u8,
-        to_length: usize,
-        out: *mut u8,
-        out_length: usize,
-    ) -> Refusal;
-    fn cagzhomul_layer_check_given(
-        version: *const u8,
-        version_length: usize,
-        pairs: *const u8,
-        pairs_length: usize,
-        low: *const u8,
-        low_length: usize,
-        to: *const u8,
-        to_length: usize,
-        out: *mut u8,
-        out_length: usize,
-    ) -> Refusal;
-    fn cagzhomul_layer_check_page(
-        version: *const u8,
-        version_length: usize,
-        pairs: *const u8,
-        pairs_length: usize,
-        low: *const u8,
-        low_length: usize,
-        to: *const u8,
-        to_length: usize,
-    ) -> Checked;
 }
 
 /// Makes a call of the library: a function, numbers by their names, bytes in brackets, which go with
@@ -242,18 +105,22 @@ macro_rules! asked {
 /// What a call came to that was given so many bytes, and that writes as much of what it gives as fits. It
 /// is made again if that was not all.
 fn given(length: usize, mut call: impl FnMut(&mut [u8]) -> Refusal) -> Result<Given, Refusal> {
-    let mut code = vec![0; ROOM + 2 * length];
-    let mut done = call(&mut code);
-    if done.length > code.len() {
-        code = vec![0; done.length];
-        done = call(&mut code);
+    let mut room = ROOM_OF_LAST.try_with(Cell::take).unwrap_or_default();
+    if room.len() < ROOM + 2 * length {
+        room = vec![0; ROOM + 2 * length];
     }
+    let mut done = call(&mut room);
+    if done.length > room.len() {
+        room = vec![0; done.length];
+        done = call(&mut room);
+    }
+    let given = Given {
+        room,
+        length: done.length,
+        number: done.number,
+    };
     match done.status {
-        OK => {
-            code.truncate(done.length);
-            let number = done.number;
-            Ok(Given { code, number })
-        }
+        OK => Ok(given),
         _ => Err(done),
     }
 }
@@ -432,7 +299,7 @@ mod tests {
                 }
             });
             match given {
-                Ok(Given { code, number }) => assert_eq!((code, number), (vec![7; length], 3)),
+                Ok(given) => assert_eq!((given.code(), given.number), (&vec![7; length][..], 3)),
                 Err(refusal) => assert_eq!((refusal.status, status), (17, 17)),
             }
             assert_eq!(calls, wanted, "{length}");
