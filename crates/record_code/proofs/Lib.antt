@@ -4,3 +4,4 @@ pub mod RecordReads
 pub mod Noted
 pub mod Suits
 pub mod Runs
+mod Storable

@@ -1,6 +1,6 @@
--- Cited by the contracts of control_bytes, txn_bytes, piece_bytes and open_bytes.
+-- Cited by the contracts of control_bytes, txn_bytes, txn_bytes_under, piece_bytes and open_bytes.
 -- Drafts as bytes.
-use Rattle.std.specs.Prelude.{List, [], ◌∷◌, ◌++◌, Option, Some, None}
+use Rattle.std.specs.Prelude.{◌≡◌, List, [], ◌∷◌, ◌++◌, Option, Some, None, option_map, IfSome, ⊤}
 use Rattle.std.specs.List.{AllByRecursion}
 use mathlib.Core.List.{map as each}
 use Rattle.std.specs.FinMap as map
@@ -52,6 +52,16 @@ AreFitPoints = AllByRecursion (IsFit HasKey HasRecord)
 pub record IsFitDraft (draft : Draft) : Type 0 where
   pub reads : AreFitPoints draft.reads
   pub writes : AreFitPoints draft.writes
+
+-- the point has a record of this code, as types say
+pub record IsUnder (code : Bytes) (point : Key × Option Record) : Type 0 where
+  pub spelled : option_map record_code point.1 ≡ Some code
+  pub known : IfSome point.1 HasRecord
+
+-- the first of these points has one
+abbrev pub IsLedBy : Bytes → List (Key × Option Record) → Type 0
+IsLedBy code [] = ⊤
+IsLedBy code (point ∷ points) = IsUnder code point
 
 -- a draft of these control records
 abbrev pub draft_with : Control → Expect → Batch → Draft

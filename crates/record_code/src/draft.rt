@@ -4,9 +4,12 @@ ghost use Rattle.std.specs.Prelude.{◌≡◌, ◌++◌, option_map, IfOk, OnOk,
 ghost use Rattle.reorganise.specs.Batches.{expect_of, batch_for};
 ghost use Rattle.drafts.specs.Calls.{nothing, txn_draft};
 ghost use Rattle.drafts.specs.Coded.{coded, IsFit};
-ghost use Rattle.record_code.specs.Drafts.{points_of, range_of, ranges_of, parts_of, draft_code, AreFitPoints, IsFitDraft, draft_with};
+ghost use Rattle.drafts.specs.declared.record.Record.TheVariants.{Version as OfVersion};
+ghost use Rattle.entry_code.specs.Records.{draft_parts_code};
+ghost use Rattle.record_code.specs.Drafts.{points_of, range_of, ranges_of, parts_of, draft_code, AreFitPoints, IsFitDraft, draft_with, IsUnder, IsLedBy};
 ghost use Rattle.record_code.specs.Keys.{key_code, HasKey};
-ghost use Rattle.record_code.specs.Records.{record_code, HasRecord};
+ghost use Rattle.keycode.specs.Valid.{IsStorable};
+ghost use Rattle.record_code.specs.Records.{record_code, IsKnown, HasRecord};
 
 use crate::keys::key_bytes;
 use crate::write::record_bytes;
@@ -42,13 +45,63 @@ fn coded_point(alloc: Global, point: &(Key, Option<Record>)) -> Result<Point, Al
     Ok((key, value))
 }
 
-fn coded_points(alloc: Global, points: &[(Key, Option<Record>)]) -> Result<Vec<Point>, AllocError>
+fn push_coded(
+    alloc: Global,
+    out: &mut Vec<Point>,
+    points: &[(Key, Option<Record>)],
+) -> Result<(), AllocError>
+    ensures code { OnOk result (out.new.items ≡ out.old.items ++ points_of points.now) }
+    ensures fit { OnOk result (AreFitPoints points.now) }
+{
+    for point in points {
+        out.push(coded_point(alloc, point)?)?;
+    }
+    Ok(())
+}
+
+/// Control records with their codes, and room for so many points after them.
+fn coded_points(
+    alloc: Global,
+    points: &[(Key, Option<Record>)],
+    more: usize,
+) -> Result<Vec<Point>, AllocError>
     ensures code { IfOk result (λ made. made.items ≡ points_of points.now) }
     ensures fit { OnOk result (AreFitPoints points.now) }
 {
-    let mut out = Vec::new(alloc);
-    for point in points {
-        out.push(coded_point(alloc, point)?)?;
+    let mut out = Vec::with_capacity(alloc, points.len().saturating_add(more))?;
+    push_coded(alloc, &mut out, points)?;
+    Ok(out)
+}
+
+/// A point by the code of its record.
+fn point_under(
+    alloc: Global,
+    point: &(Key, Option<Record>),
+    record: &[u8],
+) -> Result<Point, AllocError>
+    requires { IsUnder record.now point.now }
+    ensures code { IfOk result (λ made. made ≡ coded key_code record_code point.now) }
+    ensures fit { OnOk result (IsFit HasKey HasRecord point.now) }
+{
+    let key = Bytes::new(key_bytes(alloc, &point.0)?)?;
+    Ok((key, Some(Bytes::from_slice(alloc, record)?)))
+}
+
+/// `coded_points`, by the code of the first record.
+fn points_under(
+    alloc: Global,
+    points: &[(Key, Option<Record>)],
+    record: &[u8],
+    more: usize,
+) -> Result<Vec<Point>, AllocError>
+    requires { IsLedBy record.now points.now }
+    ensures code { IfOk result (λ made. made.items ≡ points_of points.now) }
+    ensures fit { OnOk result (AreFitPoints points.now) }
+{
+    let mut out = Vec::with_capacity(alloc, points.len().saturating_add(more))?;
+    if let [first, rest @ ..] = points {
+        out.push(point_under(alloc, first, record)?)?;
+        push_coded(alloc, &mut out, rest)?;
     }
     Ok(out)
 }
@@ -138,8 +191,26 @@ fn compared(alloc: Global, control: &Control, expect: &Expect) -> Result<Vec<Poi
     ensures code { IfOk result (λ made. made.items ≡ points_of control.now.reads ++ map.entries expect.now.points) }
     ensures fit { OnOk result (AreFitPoints control.now.reads) }
 {
-    let mut out = coded_points(alloc, control.reads.as_slice())?;
-    push_points(&mut out, expect.points.entries())?;
+    let points = expect.points.entries();
+    let mut out = coded_points(alloc, control.reads.as_slice(), points.len())?;
+    push_points(&mut out, points)?;
+    Ok(out)
+}
+
+/// The same, by the code of the first record.
+fn compared_under(
+    alloc: Global,
+    control: &Control,
+    expect: &Expect,
+    record: &[u8],
+) -> Result<Vec<Point>, AllocError>
+    requires { IsLedBy record.now control.now.reads }
+    ensures code { IfOk result (λ made. made.items ≡ points_of control.now.reads ++ map.entries expect.now.points) }
+    ensures fit { OnOk result (AreFitPoints control.now.reads) }
+{
+    let points = expect.points.entries();
+    let mut out = points_under(alloc, control.reads.as_slice(), record, points.len())?;
+    push_points(&mut out, points)?;
     Ok(out)
 }
 
@@ -147,10 +218,27 @@ fn written(alloc: Global, control: &Control, batch: &Batch) -> Result<Vec<Point>
     ensures code { IfOk result (λ made. made.items ≡ points_of control.now.writes ++ map.entries batch.now) }
     ensures fit { OnOk result (AreFitPoints control.now.writes) }
 {
-    let mut out = coded_points(alloc, control.writes.as_slice())?;
     let writes = last_writes(alloc, batch)?;
+    let mut out = coded_points(alloc, control.writes.as_slice(), writes.len())?;
     push_points(&mut out, writes.entries())?;
     Ok(out)
+}
+
+/// The code of a draft of these parts.
+fn parts_bytes(
+    alloc: Global,
+    compare: Vec<Point>,
+    ranges: Vec<RangeParts>,
+    write: Vec<Point>,
+) -> Result<Vec<u8>, AllocError>
+    ensures { IfOk result (λ bytes. bytes.items ≡ draft_parts_code (record { compare = compare.items; ranges = ranges.items; write = write.items })) }
+{
+    let parts = DraftParts {
+        compare: List::new(compare),
+        ranges: List::new(ranges),
+        write: List::new(write),
+    };
+    draft_parts_bytes(alloc, &parts)
 }
 
 /// The code of the draft of control records, pairs that are compared and pairs that are written.
@@ -166,12 +254,7 @@ fn bytes_of(
     let compare = compared(alloc, control, expect)?;
     let ranges = ranges_from(alloc, &expect.key_range)?;
     let write = written(alloc, control, batch)?;
-    let parts = DraftParts {
-        compare: List::new(compare),
-        ranges: List::new(ranges),
-        write: List::new(write),
-    };
-    draft_parts_bytes(alloc, &parts)
+    parts_bytes(alloc, compare, ranges, write)
 }
 
 /// The code of a draft that compares and writes control records alone: a step, a close or a begin.
@@ -199,6 +282,25 @@ pub fn txn_bytes(alloc: Global, txn: &TxnDraft) -> Result<Vec<u8>, AllocError>
 {
     let control = txn.control(alloc)?;
     bytes_of(alloc, &control, txn.expect(), txn.batch())
+}
+
+/// The code of the draft of a transaction, as `txn_bytes` gives it, by the record of its version, which
+/// is then not made anew.
+///
+/// - `record`: the value of which `record_of` gave that version.
+///
+/// Refused, and bounded, as `control_bytes`.
+pub fn txn_bytes_under(alloc: Global, txn: &TxnDraft, record: &[u8]) -> Result<Vec<u8>, AllocError>
+    requires known { IsKnown IsStorable (OfVersion txn.now.txn.schema) }
+    requires spelled { record.now ≡ record_code (OfVersion txn.now.txn.schema) }
+    ensures code { IfOk result (λ bytes. bytes.items ≡ draft_code (txn_draft txn.now.txn txn.now.mark)) }
+    ensures fit { OnOk result (IsFitDraft (txn_draft txn.now.txn txn.now.mark)) }
+{
+    let control = txn.control(alloc)?;
+    let compare = compared_under(alloc, &control, txn.expect(), record)?;
+    let ranges = ranges_from(alloc, &txn.expect().key_range)?;
+    let write = written(alloc, &control, txn.batch())?;
+    parts_bytes(alloc, compare, ranges, write)
 }
 
 /// The code of the draft of a prepared piece: the range that it read, what it writes, and its control

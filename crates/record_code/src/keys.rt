@@ -14,7 +14,8 @@ fn with_numbers(alloc: Global, kind: u8, numbers: &[u64]) -> Result<Vec<u8>, All
     ensures code { IfOk result (λ bytes. bytes.items ≡ kind ∷ flat_map number_code numbers.now) }
     ensures known { OnOk result (AllByRecursion IsNumber numbers.now) }
 {
-    let mut out = Vec::new(alloc);
+    // a kind, and two numbers at most
+    let mut out = Vec::with_capacity(alloc, 17)?;
     out.push(kind)?;
     for number in numbers {
         out.extend_from_slice(&number.to_be_bytes())?;
@@ -26,7 +27,7 @@ fn with_numbers(alloc: Global, kind: u8, numbers: &[u64]) -> Result<Vec<u8>, All
 fn with_name(alloc: Global, name: &[u8]) -> Result<Vec<u8>, AllocError>
     ensures { IfOk result (λ bytes. bytes.items ≡ 3 ∷ name.now) }
 {
-    let mut out = Vec::new(alloc);
+    let mut out = Vec::with_capacity(alloc, name.len().saturating_add(1))?;
     out.push(3)?;
     out.extend_from_slice(name)?;
     Ok(out)

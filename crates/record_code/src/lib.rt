@@ -11,7 +11,7 @@ mod open;
 mod read;
 mod write;
 
-pub use draft::{control_bytes, piece_bytes, txn_bytes};
+pub use draft::{control_bytes, piece_bytes, txn_bytes, txn_bytes_under};
 pub use fault::{NoKey, RecordFault};
 pub use keys::{key_bytes, key_of};
 pub use kind::RecordKind;
