@@ -144,8 +144,8 @@ class Transactions(Base):
         for change in ("add column rank int default 7 on people", "drop column town on people", "drop column n on tags"):
             for _ in itertools.chain(["before"], db.change(change)):
                 version = layer.Layer(store)._server.version()
-                given = calls.points_of(calls.asked("reads", version.record, txns._ops_code(ops, version.names)).code)
-                self.assertEqual(txns._keys_of(ops, version.names), list(given))
+                given = calls.points_of(calls.asked("reads", version.record, txns._ops_code(ops, version.tables)).code)
+                self.assertEqual(txns._keys_of(ops, version.tables), list(given))
                 counts += [len(given)] if counts[-1:] != [len(given)] else []
         self.assertEqual(counts, [13, 16, 13, 11])  # three rows of people with two, three and two columns, two of tags with one and none
 
@@ -154,7 +154,7 @@ class Transactions(Base):
         _, store = opened(5)
         version = layer.Layer(store)._server.version()
         ops: List[txns._Op] = [(1, "people", _key(2), {"town": "a\0b", "age": None}), (2, "people", _key(1), {})]
-        code, keys = txns._ops_code(ops, version.names), txns._keys_of(ops, version.names)
+        code, keys = txns._ops_code(ops, version.tables), txns._keys_of(ops, version.tables)
         view = store.read(keys).values
         given = {mark: calls.asked("txn", version.number, version.record, code, calls.points_code(view), mark).code for mark in (b"m", b"")}
         draft = calls.txn_draft(version.point, code, view, b"m")

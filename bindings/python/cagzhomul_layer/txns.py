@@ -6,7 +6,7 @@ import os
 import random
 import struct
 import time
-from typing import Callable, Dict, List, Mapping, NamedTuple, Optional, Sequence, Tuple
+from typing import Callable, Dict, List, Mapping, NamedTuple, Optional, Sequence, Set, Tuple
 
 import cagzhomul
 from cagzhomul import Conflict, Key, Query, Row, Value
@@ -34,13 +34,22 @@ def pause() -> None:
     time.sleep(random.random() * _PAUSE)
 
 
+class _Table(NamedTuple):
+    """Codes that transactions need of a table: of its number, of what ends the keys of a row's pairs, and of its columns by name."""
+
+    number: bytes
+    pairs: List[bytes]
+    columns: Dict[str, bytes]
+
+
 class Version(NamedTuple):
-    """An open version: its number, its record, the names in it, and what transactions compare of it."""
+    """An open version: its number, its record, the names in it, and what transactions need of it."""
 
     number: int
     record: bytes
     names: _Names
     point: VersionPoint
+    tables: Dict[str, _Table]
 
 
 # an operation, of which there are too many for objects: 0 inserts, 1 updates, 2 deletes; its table, the code of its key, and values by
@@ -48,32 +57,44 @@ class Version(NamedTuple):
 _Op = Tuple[int, str, bytes, Mapping[str, Value]]
 
 
-_kind_and_table, _small = struct.Struct(">BI").pack, struct.Struct(">I").pack
+_KINDS = b"\0", b"\1", b"\2"
+_small = struct.Struct(">I").pack
+_NO_NUMBER = _small(0)
+_NO_TABLE = _Table(_NO_NUMBER, [], {})
 
 
-def _ops_code(ops: Sequence[_Op], names: _Names) -> bytes:
-    """The code of operations in a version."""
-    parts, numbers = [b"\1", number_code(len(ops))], names.numbers
+def _table_of(name: str, names: _Names) -> _Table:
+    pairs = [_NO_NUMBER, *map(_small, names.public[name])]  # that the row is there, and its public columns
+    return _Table(_small(names.tables[name]), pairs, {column: _small(number) for (table, column), number in names.numbers.items() if table == name})
+
+
+def _version(number: int, record: bytes) -> Version:
+    """The version of this number and record."""
+    names = _Names(number, _schema(record), record)
+    return Version(number, record, names, version_point(number, record), {name: _table_of(name, names) for name in names.tables})
+
+
+def _ops_code(ops: Sequence[_Op], tables: Mapping[str, _Table]) -> bytes:
+    """The code of operations in a version with these tables."""
+    parts = [b"\1", number_code(len(ops))]
     for kind, table, key, cells in ops:
-        parts += _kind_and_table(kind, names.tables.get(table, 0)), key
+        number, _, columns = tables.get(table, _NO_TABLE)
+        parts += _KINDS[kind], number, key
         if kind != 2:
             parts.append(number_code(len(cells)))
             for name, value in cells.items():
-                parts += _small(numbers.get((table, name), 0)), _value(value)
+                parts += columns.get(name, _NO_NUMBER), _value(value)
     return b"".join(parts)
 
 
-def _keys_of(ops: Sequence[_Op], names: _Names) -> List[bytes]:
+def _keys_of(ops: Sequence[_Op], tables: Mapping[str, _Table]) -> List[bytes]:
     """The keys that operations read, by rising key: for each row that it is there, and its public columns. They are what the library's
     `reads` gives, without a call; a view with other keys would be refused."""
-    keys: Dict[bytes, None] = {}
+    keys: Set[bytes] = set()
     for _, table, key, _ in ops:
-        number = names.tables.get(table)
-        if number is not None:
-            row = b"R" + _small(number) + key[8:]  # without how many values the key has
-            keys[row + b"\0\0\0\0"] = None
-            for column in names.public[table]:
-                keys[row + _small(column)] = None
+        number, pairs, _ = tables.get(table, _NO_TABLE)
+        row = b"R" + number + key[8:]  # without how many values the key has
+        keys.update([row + it for it in pairs])
     return sorted(keys)
 
 
@@ -107,7 +128,7 @@ class Server:
         number, record = max(versions.items())
         if self._newest is not None and (self._newest.number, self._newest.record) == (number, record):
             return False
-        self._newest = Version(number, record, _Names(number, _schema(record), record), version_point(number, record))
+        self._newest = _version(number, record)
         return True
 
     def version(self) -> Version:
@@ -190,7 +211,7 @@ class Txn:
         columns = names.columns(wanted)
         query = _query(wanted, columns, names)
         try:
-            keys = calls.points_of(asked("reads", version.record, _ops_code([(1, *row, {})], names)).code) if row[0] in names.tables else {}
+            keys = calls.points_of(asked("reads", version.record, _ops_code([(1, *row, {})], version.tables)).code) if row[0] in names.tables else {}
             found = self._server.store.read([version_key(version.number), *keys]).values
             if found.pop(version_key(version.number)) != version.record:
                 return False
@@ -272,7 +293,7 @@ class Txn:
             if refusal.status not in (calls.DUPLICATE, calls.NO_ROW) and self._version is None and self._server.refresh():
                 return False
             names = version.names
-            raise error_of(refusal, names, self._unknown(names), lambda: names.wrong_operation(_ops_code(self._ops, names))) from None
+            raise error_of(refusal, names, self._unknown(names), lambda: names.wrong_operation(_ops_code(self._ops, version.tables))) from None
         if draft is None or self._is_applied(draft):
             return True
         if self._got:
@@ -286,7 +307,7 @@ class Txn:
     def _draft(self, version: Version) -> Optional[Draft]:
         """Its draft, from what it got and what it reads for the rest; None if a draft of it is applied."""
         ops = self._all_ops()
-        code, wanted = _ops_code(ops, version.names), _keys_of(ops, version.names)
+        code, wanted = _ops_code(ops, version.tables), _keys_of(ops, version.tables)
         if self._view or self._is_unsure:
             wanted = [key for key in wanted if key not in self._view] + [mark_key(self.mark)] * self._is_unsure
         try:

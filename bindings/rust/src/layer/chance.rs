@@ -12,17 +12,23 @@ pub type Mark = [u8; 16];
 /// How many numbers were drawn.
 static DRAWN: AtomicU64 = AtomicU64::new(0);
 
-/// A number by chance. The system gives each thread keys by chance, by which what no other call
-/// hashes is hashed.
-pub(super) fn number() -> u64 {
+/// A number by chance, in the process of this number. The system gives each thread keys by chance, by
+/// which what no other call hashes is hashed.
+fn number_in(process: u32) -> u64 {
     let drawn = DRAWN.fetch_add(1, Ordering::Relaxed);
-    RandomState::new().hash_one((process::id(), drawn))
+    RandomState::new().hash_one((process, drawn))
+}
+
+/// A number by chance.
+pub(super) fn number() -> u64 {
+    number_in(process::id())
 }
 
 /// A name that no other transaction has.
 pub(super) fn mark() -> Mark {
-    let number = (u128::from(number()) << 64) | u128::from(number());
-    number.to_be_bytes()
+    let process = process::id(); // asked for once, since it is a call of the system
+    let [high, low] = [(); 2].map(|()| u128::from(number_in(process)));
+    ((high << 64) | low).to_be_bytes()
 }
 
 /// Sleeps for up to so long, so that those who met do not meet again.

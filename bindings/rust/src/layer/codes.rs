@@ -67,26 +67,21 @@ pub(super) fn number_of(key: &[u8]) -> Result<u64, StoreError> {
         .ok_or(bad_answer("a key of no control record"))
 }
 
-fn push_point(code: &mut Code, key: &[u8], value: Option<&[u8]>) {
-    code.data(key);
-    code.byte(u8::from(value.is_some()));
-    value.iter().for_each(|value| code.data(value));
-}
-
 /// How many bytes a point takes in a code.
-fn room_of(key: &[u8], value: Option<&[u8]>) -> usize {
-    8 + key.len() + 1 + value.map_or(0, |it| 8 + it.len())
+fn room_of(key: &[u8], value: &Option<Vec<u8>>) -> usize {
+    8 + key.len() + 1 + value.as_ref().map_or(0, |it| 8 + it.len())
 }
 
 /// The code of keys with their values or none.
 pub(super) fn points_code(points: &Values) -> Code {
-    let points = || points.iter().map(|(key, value)| (key, value.as_deref()));
-    let room = points()
-        .map(|(key, value)| room_of(key, value))
-        .sum::<usize>();
-    let mut code = Code::with_room(HEAD + room);
-    code.count(points().count());
-    points().for_each(|(key, value)| push_point(&mut code, key, value));
+    let room = points.iter().map(|(key, value)| room_of(key, value));
+    let mut code = Code::with_room(HEAD + room.sum::<usize>());
+    code.count(points.len());
+    for (key, value) in points {
+        code.data(key);
+        code.byte(u8::from(value.is_some()));
+        value.iter().for_each(|value| code.data(value));
+    }
     code
 }
 
@@ -212,21 +207,21 @@ pub(super) struct Compared<'a> {
 }
 
 impl Compared<'_> {
-    /// How the code of such a draft begins: control keys are below those of pairs.
-    fn code(&self) -> Code {
-        let ((version, record), points) = (&self.version, &self.view.as_bytes()[HEAD..]);
-        let control = room_of(version, Some(record)) + room_of(&self.mark, None);
-        let mut code = Code::with_room(HEAD + control + points.len());
-        code.count(self.read.len() + 2);
-        push_point(&mut code, version, Some(record));
-        push_point(&mut code, &self.mark, None);
-        code.0.extend_from_slice(points);
-        code
+    /// What comes after its comparisons in this code, if it has these and no others, by rising key:
+    /// control keys are below those of pairs.
+    fn after<'c>(&self, code: &'c [u8]) -> Option<&'c [u8]> {
+        let (mut reader, (version, record)) = (Reader(code), &self.version);
+        let has_control = reader.byte()? == VERSION
+            && reader.number()? == self.read.len() as u64 + 2
+            && (reader.data()?, reader.byte()?, reader.data()?) == (version, 1, record)
+            && (reader.data()?, reader.byte()?) == (&self.mark, 0);
+        let rest = reader.0.strip_prefix(&self.view.as_bytes()[HEAD..]);
+        rest.filter(|_| has_control)
     }
 
     /// The draft of this code: if it begins as it should, its comparisons are not read, but taken.
     pub(super) fn draft_of(self, code: &[u8]) -> Result<Draft, StoreError> {
-        let Some(rest) = code.strip_prefix(self.code().as_bytes()) else {
+        let Some(rest) = self.after(code) else {
             return draft_of(code);
         };
         let mut compare = self.read;
