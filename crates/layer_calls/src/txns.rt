@@ -2,7 +2,7 @@
 ghost use Rattle.std.specs.Prelude.{◌≡◌, IfOk, OnOk};
 ghost use Rattle.drafts.specs.Calls.{txn_draft, IsTxn};
 ghost use Rattle.record_code.specs.Drafts.{draft_code};
-ghost use Rattle.layer_calls.specs.Given.{With, Replies, GivesVersion, GivesOps, GivesView};
+ghost use Rattle.layer_calls.specs.Given.{With, Replies, IsVersion, version_code, GivesVersion, GivesOps, GivesView};
 ghost use Rattle.std.specs.FinMap as map;
 ghost use Rattle.layer_calls.specs.Txns.{missing, prepare_refusal as prepare_refusal_of, row_refusal as row_refusal_of, Wants, mark_of as mark_named, Drafts};
 
@@ -14,7 +14,7 @@ use drafts::{Drafted, TxnDraft, draft_txn};
 use entry_code::points_bytes;
 use handles::typed_calls::prepare_outcome;
 use handles::typed_calls::status::{DUPLICATE, NO_ROW};
-use record_code::txn_bytes;
+use record_code::txn_bytes_under;
 use row_map::{ReadSet, ReadView};
 use row_write::{PrepareFault, RowFault, RowOp, RowOps, reads_of};
 use schema_version::Schema;
@@ -89,29 +89,34 @@ fn mark_of(alloc: Global, name: &[u8]) -> Result<Option<Bytes>, AllocError>
     }
 }
 
-// The code of a draft.
-fn draft_reply(alloc: Global, draft: &TxnDraft) -> Result<LayerReply, AllocError>
+// The code of a draft, by the record of its version.
+fn draft_reply(alloc: Global, draft: &TxnDraft, version: &[u8]) -> Result<LayerReply, AllocError>
+    requires known { IsVersion draft.now.txn.schema }
+    requires spelled { version.now ≡ version_code draft.now.txn.schema }
     ensures made { OnOk result (IsTxn draft.now.txn) }
     ensures code { IfOk result (λ reply. Replies (draft_code (txn_draft draft.now.txn draft.now.mark)) reply) }
 {
     draft.lemma_drafted();
-    Ok(LayerReply::of(txn_bytes(alloc, draft)?))
+    Ok(LayerReply::of(txn_bytes_under(alloc, draft, version)?))
 }
 
-// What the operations come to on what was read.
+// What the operations come to on what was read, under a version with its record.
 fn draft_for(
     alloc: Global,
     number: u64,
     schema: ArcValue<Schema>,
+    version: &[u8],
     ops: RowOps,
     view: ReadView,
     mark: &[u8],
 ) -> Result<LayerReply, LayerOutcome>
+    requires known { IsVersion schema }
+    requires spelled { version.now ≡ version_code schema }
     ensures { Drafts number mark.now schema ops view result }
 {
     let mark = mark_of(alloc, mark)?;
     match draft_txn(alloc, number, schema, ops, mark, view) {
-        Ok(Drafted::Draft(draft)) => Ok(draft_reply(alloc, &draft)?),
+        Ok(Drafted::Draft(draft)) => Ok(draft_reply(alloc, &draft, version)?),
         Ok(Drafted::Refused { op, why }) => Err(row_refusal(op, why)),
         Err((fault, _)) => Err(prepare_refusal(fault)),
     }
@@ -145,5 +150,5 @@ pub fn txn(
     let schema = given::version(alloc, version)?;
     let ops = given::ops(alloc, operations)?;
     let view = given::view(alloc, view)?;
-    draft_for(alloc, number, schema, ops, view, mark)
+    draft_for(alloc, number, schema, version, ops, view, mark)
 }
