@@ -1,7 +1,7 @@
 //! Transactions a second over an SQLite file, each of three updates among 10,000 rows of one column: by
 //! `Layer`, and by a bare program that reads the same six keys and hands in a draft of the same eight
 //! comparisons and four writes. Servers are threads, each with a connection of its own; the two programs
-//! take turns, three times.
+//! take turns, and the share is the middle one of the turns', since a machine's speed changes.
 //!
 //!     cargo run --release --features sqlite --example layer_speed -- [SECONDS] [FOLDER]
 
@@ -16,7 +16,7 @@ use std::thread;
 use std::time::{Duration, Instant};
 
 const ROWS: u64 = 10_000;
-const ROUNDS: usize = 3;
+const ROUNDS: usize = 21;
 const SERVERS: [u64; 3] = [1, 4, 16];
 
 /// Numbers by chance, other ones for each server.
@@ -175,6 +175,11 @@ fn fill(path: &Path) -> Result<(), Error> {
     Ok(())
 }
 
+fn best_and_median(mut rates: Vec<f64>) -> (f64, f64) {
+    rates.sort_by(f64::total_cmp);
+    (rates[ROUNDS - 1], rates[ROUNDS / 2])
+}
+
 fn report(path: &Path, time: Duration) -> Result<(), Error> {
     fill(path)?;
     println!("| Servers | Bare, best / median a second | By the layer, best / median | Share |");
@@ -186,22 +191,20 @@ fn report(path: &Path, time: Duration) -> Result<(), Error> {
                 rates.push(measure(path, (servers, round), time, program)?);
             }
         }
-        rates.iter_mut().for_each(|it| it.sort_by(f64::total_cmp));
-        let [bare, layer] = rates.map(|it| (it[ROUNDS - 1], it[ROUNDS / 2]));
+        let [bare, layer] = &rates;
+        let shares = layer.iter().zip(bare).map(|(layer, bare)| layer / bare);
+        let (_, share) = best_and_median(shares.collect());
+        let [bare, layer] = rates.map(best_and_median);
         println!(
-            "| {servers} | {:.0} / {:.0} | {:.0} / {:.0} | {:.2} |",
-            bare.0,
-            bare.1,
-            layer.0,
-            layer.1,
-            layer.1 / bare.1
+            "| {servers} | {:.0} / {:.0} | {:.0} / {:.0} | {share:.2} |",
+            bare.0, bare.1, layer.0, layer.1,
         );
     }
     Ok(())
 }
 
 fn main() -> Result<(), Box<dyn std::error::Error>> {
-    let seconds = env::args().nth(1).map_or(Ok(2.0), |it| it.parse())?;
+    let seconds = env::args().nth(1).map_or(Ok(0.3), |it| it.parse())?;
     let folder = env::args().nth(2).map_or(env::temp_dir(), PathBuf::from);
     let folder = folder.join(format!("cagzhomul-speed-{}", std::process::id()));
     fs::create_dir_all(&folder)?;
