@@ -315,7 +315,7 @@ class Txn:
         except StoreError:
             asked("reads", version.record, code)  # a text that is too long is refused before all
             raise
-        if self._is_unsure and found.pop(mark_key(self.mark)) is not None:
+        if self._is_unsure and found.pop(mark_key(self.mark), None) is not None:
             return None
         view = {**found, **self._view} if self._view else found
         return calls.txn_draft(version.point, code, view, self.mark)
