@@ -1,9 +1,15 @@
 //! Drafts by hand: table t with the key `id` and the column `a`, element 1.
+ghost use Rattle.std.specs.Prelude.{◌≡◌, IfSome};
+ghost use Rattle.keycode.specs.Valid.{IsStorable};
+ghost use Rattle.record_code.specs.Records.{IsKnown, record_code};
+
 use byte_map::{Bytes, KeyMap};
 use collections::{ArcValue, List};
 use drafts::{Drafted, Newest, Record, Reorg, TxnDraft, draft_close, draft_piece, draft_txn};
 use keycode::{Text, Value};
-use record_code::{RecordKind, control_bytes, open_bytes, piece_bytes, record_of, txn_bytes};
+use record_code::{
+    RecordKind, control_bytes, open_bytes, piece_bytes, record_of, txn_bytes, txn_bytes_under,
+};
 use reorganise::{PreparedPiece, Progress, Span, prepare_piece};
 use row_map::{ColumnType, ReadView};
 use row_write::{RowOp, RowOps};
@@ -136,7 +142,9 @@ fn view(alloc: Global) -> Result<ReadView, AllocError> {
 }
 
 /// Its deletion under version 1, with the mark m.
-fn drafted(alloc: Global, schema: ArcValue<Schema>) -> Option<TxnDraft> {
+fn drafted(alloc: Global, schema: ArcValue<Schema>) -> Option<TxnDraft>
+    ensures { IfSome result (λ draft. draft.txn.schema ≡ schema) }
+{
     let ops = deletion(alloc).ok()?;
     let view = view(alloc).ok()?;
     let mark = Some(Bytes::from_slice(alloc, b"m").ok()?);
@@ -149,6 +157,25 @@ fn drafted(alloc: Global, schema: ArcValue<Schema>) -> Option<TxnDraft> {
 fn transacted(alloc: Global) -> Option<Vec<u8>> {
     let txn = drafted(alloc, version(alloc)?)?;
     txn_bytes(alloc, &txn).ok()
+}
+
+/// The same, by the value of which this record was read.
+fn transacted_under(alloc: Global, value: &[u8], record: &Record) -> Option<Vec<u8>>
+    requires known { IsKnown IsStorable record.now }
+    requires spelled { value.now ≡ record_code record.now }
+{
+    let Record::Version(schema) = record else {
+        return None;
+    };
+    let txn = drafted(alloc, schema.clone().ok()?)?;
+    txn_bytes_under(alloc, &txn, value).ok()
+}
+
+fn transacted_as_read(alloc: Global) -> Option<Vec<u8>> {
+    match record_of(alloc, RecordKind::Version, VERSION) {
+        Ok(record) => transacted_under(alloc, VERSION, &record),
+        Err(_) => None,
+    }
 }
 
 /// Version 1 is there, the mark is not, and the row is as it was read; the mark is put, and the row's
@@ -259,6 +286,7 @@ enum What {
     Open,
     Close,
     Txn,
+    TxnAsRead,
     Piece,
 }
 
@@ -267,6 +295,7 @@ fn made(alloc: Global, what: What) -> Option<Vec<u8>> {
         What::Open => opened(alloc),
         What::Close => closed(alloc),
         What::Txn => transacted(alloc),
+        What::TxnAsRead => transacted_as_read(alloc),
         What::Piece => moved(alloc),
     }
 }
@@ -287,6 +316,7 @@ const DRAFTS: &[(What, &[u8])] = &[
     (What::Open, OPEN),
     (What::Close, CLOSE),
     (What::Txn, TXN),
+    (What::TxnAsRead, TXN),
     (What::Piece, PIECE),
 ];
 
