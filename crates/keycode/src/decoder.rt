@@ -9,7 +9,7 @@ use crate::run::count_run;
 use crate::text::Text;
 use crate::value::Value;
 use crate::values::Values;
-use std::alloc::{AllocError, Global};
+use std::alloc::Global;
 
 /// The most bytes of a text that is read, where an escaped 0 counts once.
 pub const TEXT_LIMIT: usize = 1024;
@@ -78,7 +78,7 @@ fn end_text(content: Vec<u8>, rest: &[u8]) -> Result<(Text, &[u8]), KeyFault>
 
 /// What a text begins with, up to its first 0 or its end, as most texts end there, and the bytes after
 /// it; nothing of one that is too long.
-fn first_run(alloc: Global, bytes: &[u8]) -> Result<(Vec<u8>, &[u8]), AllocError>
+fn first_run(alloc: Global, bytes: &[u8]) -> Result<(Vec<u8>, &[u8]), std::alloc::AllocError>
     ensures same { IfOk result (λ x. content_at x.0.items x.1.now ≡ content_at [] bytes.now) }
     ensures shorter { IfOk result (λ x. length x.1.now ≤ length bytes.now) }
 {
