@@ -38,11 +38,14 @@ def _value(value: Value) -> bytes:
     raise TypeError(f"{type(value).__name__} is the type of no column")
 
 
-# how a list of one thing begins
+# how a list of one thing begins, and a key of one number
 _ONE = _number(1)
+_ONE_INT = _ONE + b"\2"
 
 
 def _key(key: Key) -> bytes:
+    if type(key) is int:  # as most are
+        return _ONE_INT + (key + 2**63).to_bytes(8, "big")
     if isinstance(key, (tuple, list)):
         return _list([_value(value) for value in key])
     return _ONE + _value(key)  # type: ignore[arg-type]  # which refuses any other sequence

@@ -6,7 +6,7 @@ import os
 import random
 import struct
 import time
-from typing import Callable, Dict, List, Mapping, NamedTuple, Optional, Sequence, Set, Tuple
+from typing import Callable, Dict, List, Mapping, NamedTuple, Optional, Sequence, Tuple
 
 import cagzhomul
 from cagzhomul import Conflict, Key, Query, Row, Value
@@ -34,12 +34,15 @@ def pause() -> None:
     time.sleep(random.random() * _PAUSE)
 
 
-class _Table(NamedTuple):
-    """Codes that transactions need of a table: of its number, of what ends the keys of a row's pairs, and of its columns by name."""
+class _Table:
+    """Codes that transactions need of a table: of how an operation of each kind begins, of what begins and ends the keys of a row's pairs,
+    and of its columns by name."""
 
-    number: bytes
-    pairs: List[bytes]
-    columns: Dict[str, bytes]
+    __slots__ = "begins", "row", "pairs", "columns"
+
+    def __init__(self, number: bytes, pairs: List[bytes], columns: Dict[str, bytes]) -> None:
+        self.begins, self.row = [kind + number for kind in (b"\0", b"\1", b"\2")], b"R" + number
+        self.pairs, self.columns = pairs, columns
 
 
 class Version(NamedTuple):
@@ -57,7 +60,6 @@ class Version(NamedTuple):
 _Op = Tuple[int, str, bytes, Mapping[str, Value]]
 
 
-_KINDS = b"\0", b"\1", b"\2"
 _small = struct.Struct(">I").pack
 _NO_NUMBER = _small(0)
 _NO_TABLE = _Table(_NO_NUMBER, [], {})
@@ -77,25 +79,26 @@ def _version(number: int, record: bytes) -> Version:
 def _ops_code(ops: Sequence[_Op], tables: Mapping[str, _Table]) -> bytes:
     """The code of operations in a version with these tables."""
     parts = [b"\1", number_code(len(ops))]
-    for kind, table, key, cells in ops:
-        number, _, columns = tables.get(table, _NO_TABLE)
-        parts += _KINDS[kind], number, key
-        if kind != 2:
-            parts.append(number_code(len(cells)))
-            for name, value in cells.items():
-                parts += columns.get(name, _NO_NUMBER), _value(value)
+    for kind, name, key, cells in ops:
+        table = tables.get(name, _NO_TABLE)
+        if kind == 2:
+            parts += table.begins[2], key
+            continue
+        parts += table.begins[kind], key, number_code(len(cells))
+        columns = table.columns
+        for column, value in cells.items():
+            parts += columns.get(column, _NO_NUMBER), _value(value)
     return b"".join(parts)
 
 
 def _keys_of(ops: Sequence[_Op], tables: Mapping[str, _Table]) -> List[bytes]:
     """The keys that operations read, by rising key: for each row that it is there, and its public columns. They are what the library's
     `reads` gives, without a call; a view with other keys would be refused."""
-    keys: Set[bytes] = set()
-    for _, table, key, _ in ops:
-        number, pairs, _ = tables.get(table, _NO_TABLE)
-        row = b"R" + number + key[8:]  # without how many values the key has
-        keys.update([row + it for it in pairs])
-    return sorted(keys)
+    rows: Dict[bytes, List[bytes]] = {}
+    for _, name, key, _ in ops:
+        table = tables.get(name, _NO_TABLE)
+        rows[table.row + key[8:]] = table.pairs  # without how many values the key has
+    return sorted([row + it for row, pairs in rows.items() for it in pairs])
 
 
 def error_of(refusal: Refusal, names: _Names, unknown: Optional[str], wrong: Callable[[], cagzhomul.WrongType]) -> cagzhomul.CagzhomulError:
@@ -170,16 +173,18 @@ class Txn:
 
     It is serializable in all rows that it gets or writes. `mark` is its name in the store, under which it is applied at most once."""
 
+    # the version under which rows were got
+    _version: Optional[Version] = None
+    # whether a draft of it may be applied yet, or is
+    _is_unsure = False
+    _has_ended = False
+
     def __init__(self, server: Server) -> None:
         self._server = server
         self._ops: List[_Op] = []
-        # the version under which rows were got, these rows by table and key, and what was read for them
-        self._version: Optional[Version] = None
+        # rows that were got by table and key, and what was read for them
         self._got: Dict[Tuple[str, bytes], Optional[Row]] = {}
         self._view: Dict[bytes, Optional[bytes]] = {}
-        # whether a draft of it may be applied yet, or is
-        self._is_unsure = False
-        self._has_ended = False
         self.mark = os.urandom(16)
 
     def _check_stage(self) -> None:
