@@ -3,6 +3,7 @@ include/cagzhomul_layer.h."""
 
 from __future__ import annotations
 
+import concurrent.futures
 import contextlib
 import io
 import itertools
@@ -11,7 +12,7 @@ import random
 import re
 import tempfile
 import unittest
-from typing import Callable, List, Sequence, Tuple, Type
+from typing import Any, Callable, Iterable, List, Sequence, Tuple, Type
 from unittest import mock
 
 import cagzhomul
@@ -19,9 +20,21 @@ import cagzhomul_layer
 from cagzhomul import Abandon, AddColumn, AddIndex, DropColumn, Key, Query, Row
 from cagzhomul._codes import _key
 from cagzhomul._library import _BYTES, _NUMBER, _SIZE, _SMALL, _library
-from cagzhomul_layer import Draft, Refused, Unknown, Unreachable, calls, layer, txns
+from cagzhomul_layer import Draft, Found, Range, Refused, Store, Unknown, Unreachable, calls, layer, txns
 from cagzhomul_layer.memory import MemoryStore
 from layer_cases import TABLES, TOWNS, Base, Scripted, opened
+
+
+class Backwards:
+    """A store that gives its points in falling order."""
+
+    def __init__(self, store: Store) -> None:
+        self._store = store
+        self.apply, self.close = store.apply, store.close
+
+    def read(self, points: Iterable[bytes], ranges: Sequence[Range] = ()) -> Found:
+        found = self._store.read(points, ranges)
+        return Found(dict(sorted(found.values.items(), reverse=True)), found.ranges)
 
 
 class Transactions(Base):
@@ -149,6 +162,31 @@ class Transactions(Base):
                 counts += [len(given)] if counts[-1:] != [len(given)] else []
         self.assertEqual(counts, [13, 16, 13, 11])  # three rows of people with two, three and two columns, two of tags with one and none
 
+    def test_a_store_that_gives_points_in_another_order(self) -> None:
+        _, store = opened(5)
+        db = layer.Layer(Backwards(store))
+        db.update("people", 1, age=40)
+        with db.txn() as txn:
+            age = (txn.get("people", 1) or {})["age"]
+            txn.insert("people", 8, age=age).delete("people", 2).insert("tags", "a", n=1).update("tags", "a", n=2)
+        self.assertEqual([(it["id"], it["age"]) for it in db.query(Query("people"))], [(0, 0), (1, 40), (3, 3), (4, 4), (8, 40)])
+        self.assertEqual(db.query(Query("tags")), [{"name": "a", "n": 2}])
+        with self.assertRaises(cagzhomul.NoRow):
+            db.delete("people", 2)
+        self.sound(db)
+
+    def test_servers_on_threads(self) -> None:
+        """Each has its own rows: a call takes none of another's answer."""
+        _, store = opened(4)
+
+        def updates(key: int) -> None:
+            db = layer.Layer(store)
+            for it in range(50):
+                db.update("people", key, town=f"{key} " * (it + 1))
+
+        with concurrent.futures.ThreadPoolExecutor(4) as pool:
+            list(pool.map(updates, range(4)))
+        self.assertEqual([it["town"] for it in layer.Layer(store).query(Query("people"))], [f"{key} " * 50 for key in range(4)])
 
     def test_a_draft_whose_comparisons_are_taken(self) -> None:
         _, store = opened(5)
@@ -306,6 +344,7 @@ class Codes(unittest.TestCase):
         self.assertEqual(calls.draft_of(code), Draft(values, [(b"c", b"d", [(b"c", b"")])], values))
         self.assertEqual((calls.points_of(b"\1" + points), calls.pairs_of(b"\1" + pairs)), (values, [(b"c", b"")]))
         self.assertEqual((calls.points_code(values), calls.pairs_code([(b"c", b"")])), (b"\1" + points, b"\1" + pairs))
+        self.assertEqual(calls.points_code({b"b": b"xy", b"a": None}), b"\1" + points)
         reads: List[Tuple[Callable[[bytes], object], bytes]] = [
             (calls.draft_of, code), (calls.points_of, b"\1" + points), (calls.pairs_of, b"\1" + pairs)
         ]
@@ -313,6 +352,36 @@ class Codes(unittest.TestCase):
             for bad in (*(whole[:end] for end in range(len(whole))), whole + b"\0", b"\2" + whole[1:]):
                 with self.assertRaises(cagzhomul_layer.BadAnswer):
                     read(bad)
+
+    def test_lengths_of_points(self) -> None:
+        sizes = 0, 1, 255, 256, 257, 2000, 70_000
+        for key, value in itertools.product(sizes, sizes):
+            code = b"\1" + (1).to_bytes(8, "big") + key.to_bytes(8, "big") + bytes(key) + b"\1" + value.to_bytes(8, "big") + bytes(value)
+            self.assertEqual(calls.points_code({bytes(key): bytes(value)}), code)
+
+    def test_room_for_answers(self) -> None:
+        """A call is made again if its answer does not fit, and takes no room of one that has not ended."""
+        sizes: List[int] = []
+
+        def call(text: bytes, then: Callable[[], object], out: Any, size: int) -> calls._Layered:
+            sizes.append(size)
+            out[: min(size, len(text))] = text[:size]
+            then()
+            return calls._Layered(0, 0, 7, len(text))
+
+        def answer(text: bytes, given: int = 0, then: Callable[[], object] = lambda: None) -> Tuple[bytes, int]:
+            return calls._answer(call, (text, then), given)
+
+        inner: List[Tuple[bytes, int]] = []
+        for _ in range(2):
+            self.assertEqual(answer(b"outer", 0, lambda: inner.append(answer(b"other"))), (b"outer", 7))
+        self.assertEqual(inner, 2 * [(b"other", 7)])
+        for count in (0, 1 << 14, (1 << 14) + 1, 1 << 20):
+            sizes.clear()
+            self.assertEqual(answer(count * b"x"), (count * b"x", 7))
+            self.assertEqual(len(sizes), 1 if count <= 1 << 14 else 2)
+            self.assertEqual(answer(count * b"x", count), (count * b"x", 7))
+            self.assertEqual(len(sizes), 2 if count <= 1 << 14 else 3)  # by what is given it fits at once
 
 
 class Page(unittest.TestCase):

@@ -30,9 +30,10 @@ _PARAMETERS: Dict[str, List[Any]] = {
 }
 # the functions of the library by name, found once
 _CALLS: Dict[str, Any] = {}
-# arrays of bytes by the logarithm of their length, of which the least is for most answers
+# arrays of bytes by the logarithm of their length, of which one is for most answers; these are kept, here if no call has them
 _ROOMS: List[Any] = [ctypes.c_char * (1 << it) for it in range(40)]
-_LEAST = 12
+_USUAL = 14
+_FREE: List[Any] = []
 _Read = TypeVar("_Read")
 # what cagzhomul_layer_due says is due, by its number
 ACTS = "nothing", "begin", "close", "publish", "work"
@@ -85,14 +86,27 @@ def _answer(call: Any, words: Sequence[Any], length: int) -> Tuple[bytes, int]:
     """What a function gives for these words, among them so many bytes: its bytes, and the number beside them. Raises Refusal."""
     # what is given is about as long as what comes of it; a call that did not fit is made again
     while True:
-        room = max(_LEAST, (2 * length).bit_length())
-        out = _ROOMS[room]()
-        done = call(*words, out, 1 << room)
+        out = _room(2 * length)
+        size = len(out)
+        done = call(*words, out, size)
         if done.status != OK:
             raise Refusal(done.status, done.column, done.number)
         length = done.length
-        if length <= 1 << room:
-            return out[:length], done.number  # the one copy, of that many bytes
+        if length <= size:
+            code = out[:length]  # the one copy, of that many bytes
+            if size == 1 << _USUAL:
+                _FREE.append(out)
+            return code, done.number
+
+
+def _room(size: int) -> Any:
+    """An array of so many bytes or more, which no other call has meanwhile."""
+    if size > 1 << _USUAL:
+        return _ROOMS[size.bit_length()]()
+    try:
+        return _FREE.pop()
+    except IndexError:
+        return _ROOMS[_USUAL]()
 
 
 class VersionPoint(NamedTuple):
@@ -113,15 +127,15 @@ def version_point(number: int, record: bytes) -> VersionPoint:
 def txn_draft(version: VersionPoint, operations: bytes, view: Mapping[bytes, Optional[bytes]], mark: bytes) -> Draft:
     """The draft of a transaction under a version, by its operations' code, what it read, and its mark. Raises Refusal."""
     number, key, record, version_code = version
-    points, mark_point = points_code(view), mark_key(mark)
+    listed, mark_point = _listed_points(view), mark_key(mark)
+    points = b"".join((b"\1", number_code(len(view)), listed))
     words = number, record, len(record), operations, len(operations), points, len(points), mark, len(mark)
     code = _answer(_CALLS["txn"], words, len(record) + len(operations) + len(points))[0]
     # it compares the version's record, that the mark is missing, and the view, by rising key: if its code begins so, that is not read
-    compared = b"".join((b"\1", number_code(len(view) + 2), version_code, _point_code(mark_point, None), points[9:]))
-    if not code.startswith(compared):
+    first = b"".join((b"\1", number_code(len(view) + 2), version_code, number_code(len(mark_point)), mark_point, b"\0"))
+    if not (code.startswith(first) and code.startswith(listed, len(first))):
         return draft_of(code)
-    compare = {key: record, mark_point: None, **view}
-    return _read_to_end(code, lambda code, at: _draft_after(compare, code, at), len(compared))
+    return Draft({key: record, mark_point: None, **view}, *_read_to_end(code, _rest_at, len(first) + len(listed)))
 
 
 def due(before: int, version: bytes, found: Iterable[Pair], steps: Iterable[bytes]) -> Tuple[str, int, int]:
@@ -160,6 +174,8 @@ def check_page(version: bytes, code: bytes, low: bytes, to: bytes) -> cagzhomul.
 # Each transaction writes some: a code is joined once, from a list of all its parts.
 
 number_code = struct.Struct(">Q").pack
+# those of small numbers
+_FEW = [number_code(it) for it in range(256)]
 
 
 def _point_code(key: bytes, value: Optional[bytes]) -> bytes:
@@ -169,9 +185,21 @@ def _point_code(key: bytes, value: Optional[bytes]) -> bytes:
 
 def points_code(points: Mapping[bytes, Optional[bytes]]) -> bytes:
     """The code of keys with their values or none, by rising key."""
-    parts, number = [b"\1", number_code(len(points))], number_code
-    for key, value in sorted(points.items()):
-        parts += (number(len(key)), key, b"\0") if value is None else (number(len(key)), key, b"\1", number(len(value)), value)
+    return b"\1" + number_code(len(points)) + _listed_points(points)
+
+
+def _listed_points(points: Mapping[bytes, Optional[bytes]]) -> bytes:
+    """The codes of keys with their values or none, by rising key, one after the other."""
+    parts: List[bytes] = []
+    number, few = number_code, _FEW
+    for key in sorted(points):
+        size, value = len(key), points[key]
+        begin = few[size] if size < 256 else number(size)
+        if value is None:
+            parts += begin, key, b"\0"
+        else:
+            size = len(value)
+            parts += begin, key, b"\1", few[size] if size < 256 else number(size), value
     return b"".join(parts)
 
 
@@ -251,14 +279,15 @@ def _read_to_end(code: bytes, read: Callable[[bytes, int], Tuple[_Read, int]], a
 def _draft_at(code: bytes, at: int) -> Tuple[Draft, int]:
     """The draft that begins there, and where it ends."""
     compare, at = _points_at(code, at)
-    return _draft_after(compare, code, at)
+    rest, at = _rest_at(code, at)
+    return Draft(compare, *rest), at
 
 
-def _draft_after(compare: Dict[bytes, Optional[bytes]], code: bytes, at: int) -> Tuple[Draft, int]:
-    """The draft that compares these points, of which the rest begins there, and where it ends."""
-    ranges, at = _ranges_at(code, at)
+def _rest_at(code: bytes, at: int) -> Tuple[Tuple[List[Tuple[bytes, bytes, List[Pair]]], Dict[bytes, Optional[bytes]]], int]:
+    """The ranges that a draft compares, and what it writes, which begin there, and where they end."""
+    ranges, at = _ranges_at(code, at) if _number_at(code, at)[0] else ([], at + 8)
     write, at = _points_at(code, at)
-    return Draft(compare, ranges, write), at
+    return (ranges, write), at
 
 
 def points_of(code: bytes) -> Dict[bytes, Optional[bytes]]:
