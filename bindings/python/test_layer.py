@@ -12,7 +12,7 @@ import random
 import re
 import tempfile
 import unittest
-from typing import Any, Callable, Iterable, List, Sequence, Tuple, Type
+from typing import Any, Callable, Iterable, List, Mapping, Optional, Sequence, Tuple, Type
 from unittest import mock
 
 import cagzhomul
@@ -194,13 +194,20 @@ class Transactions(Base):
         ops: List[txns._Op] = [(1, "people", _key(2), {"town": "a\0b", "age": None}), (2, "people", _key(1), {})]
         code, keys = txns._ops_code(ops, version.tables), txns._keys_of(ops, version.tables)
         view = store.read(keys).values
-        given = {mark: calls.asked("txn", version.number, version.record, code, calls.points_code(view), mark).code for mark in (b"m", b"")}
+        given = {mark: calls.asked("txn", version.number, version.record, code, calls.points_code(view), mark).code for mark in (b"m", b"", b"n")}
         draft = calls.txn_draft(version.point, code, view, b"m")
         self.assertEqual(draft, calls.draft_of(given[b"m"]))
         self.assertEqual(draft.compare, {calls.version_key(version.number): version.record, b"\3m": None, **view})
         self.assertEqual((len(view), len(draft.write)), (6, 6))  # of two rows that and two columns; the mark, two columns, and three that go
-        with mock.patch.object(calls, "_answer", return_value=(given[b""], 0)):  # it begins otherwise, and so is read
-            self.assertEqual(calls.txn_draft(version.point, code, view, b"m"), calls.draft_of(given[b""]))
+        other = {key: value and value.replace(b"Rom", b"Ulm") for key, value in view.items()}
+        self.assertNotEqual(other, view)
+        cases: List[Tuple[bytes, Mapping[bytes, Optional[bytes]]]] = [(given[b""], view), (given[b"n"], {b"\3n": None, **view})]
+        cases.append((calls.asked("txn", version.number, version.record, code, calls.points_code(other), b"m").code, {b"\3m": None, **other}))
+        for answer, compared in cases:  # it begins otherwise, and so is read
+            with mock.patch.object(calls, "_answer", return_value=(answer, 0)):
+                read = calls.txn_draft(version.point, code, view, b"m")
+            self.assertEqual(read, calls.draft_of(answer))
+            self.assertEqual(read.compare, {calls.version_key(version.number): version.record, **compared})
         with mock.patch.object(calls, "_answer", return_value=(given[b"m"][:-1], 0)), self.assertRaises(cagzhomul_layer.BadAnswer):
             calls.txn_draft(version.point, code, view, b"m")
 
