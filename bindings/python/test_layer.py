@@ -12,7 +12,7 @@ import random
 import re
 import tempfile
 import unittest
-from typing import Any, Callable, Iterable, List, Mapping, Optional, Sequence, Tuple, Type
+from typing import Callable, Iterable, List, Mapping, Optional, Sequence, Tuple, Type
 from unittest import mock
 
 import cagzhomul
@@ -338,57 +338,6 @@ class Queries(Base):
         between.before_read = write
         self.assertEqual(len(reader.query(Query("people", equal={"town": "Bonn"}))), 10)
         self.assertEqual(left, [0])
-
-
-class Codes(unittest.TestCase):
-    def test_codes_that_are_none(self) -> None:
-        """Bytes that are cut off, or go on, are refused."""
-        number: Callable[[int], bytes] = lambda it: it.to_bytes(8, "big")
-        points = number(2) + number(1) + b"a" + b"\0" + number(1) + b"b" + b"\1" + number(2) + b"xy"
-        pairs = number(1) + number(1) + b"c" + number(0)
-        code = b"\1" + points + number(1) + number(1) + b"c" + number(1) + b"d" + pairs + points
-        values = {b"a": None, b"b": b"xy"}
-        self.assertEqual(calls.draft_of(code), Draft(values, [(b"c", b"d", [(b"c", b"")])], values))
-        self.assertEqual((calls.points_of(b"\1" + points), calls.pairs_of(b"\1" + pairs)), (values, [(b"c", b"")]))
-        self.assertEqual((calls.points_code(values), calls.pairs_code([(b"c", b"")])), (b"\1" + points, b"\1" + pairs))
-        self.assertEqual(calls.points_code({b"b": b"xy", b"a": None}), b"\1" + points)
-        reads: List[Tuple[Callable[[bytes], object], bytes]] = [
-            (calls.draft_of, code), (calls.points_of, b"\1" + points), (calls.pairs_of, b"\1" + pairs)
-        ]
-        for read, whole in reads:
-            for bad in (*(whole[:end] for end in range(len(whole))), whole + b"\0", b"\2" + whole[1:]):
-                with self.assertRaises(cagzhomul_layer.BadAnswer):
-                    read(bad)
-
-    def test_lengths_of_points(self) -> None:
-        sizes = 0, 1, 255, 256, 257, 2000, 70_000
-        for key, value in itertools.product(sizes, sizes):
-            code = b"\1" + (1).to_bytes(8, "big") + key.to_bytes(8, "big") + bytes(key) + b"\1" + value.to_bytes(8, "big") + bytes(value)
-            self.assertEqual(calls.points_code({bytes(key): bytes(value)}), code)
-
-    def test_room_for_answers(self) -> None:
-        """A call is made again if its answer does not fit, and takes no room of one that has not ended."""
-        sizes: List[int] = []
-
-        def call(text: bytes, then: Callable[[], object], out: Any, size: int) -> calls._Layered:
-            sizes.append(size)
-            out[: min(size, len(text))] = text[:size]
-            then()
-            return calls._Layered(0, 0, 7, len(text))
-
-        def answer(text: bytes, given: int = 0, then: Callable[[], object] = lambda: None) -> Tuple[bytes, int]:
-            return calls._answer(call, (text, then), given)
-
-        inner: List[Tuple[bytes, int]] = []
-        for _ in range(2):
-            self.assertEqual(answer(b"outer", 0, lambda: inner.append(answer(b"other"))), (b"outer", 7))
-        self.assertEqual(inner, 2 * [(b"other", 7)])
-        for count in (0, 1 << 14, (1 << 14) + 1, 1 << 20):
-            sizes.clear()
-            self.assertEqual(answer(count * b"x"), (count * b"x", 7))
-            self.assertEqual(len(sizes), 1 if count <= 1 << 14 else 2)
-            self.assertEqual(answer(count * b"x", count), (count * b"x", 7))
-            self.assertEqual(len(sizes), 2 if count <= 1 << 14 else 3)  # by what is given it fits at once
 
 
 class Page(unittest.TestCase):
