@@ -1,13 +1,16 @@
 -- Two maps with the same keys, by tests of their entries, and a view with the keys of one row.
-use Rattle.std.proofs.Common.{◌≡◌, ◌<◌, ◌+◌, ◌++◌, ◌↔◌, ◌&&◌, length, get_or, drop, append_assoc, ℕ, Bool, true, false, cond, List, [], ◌∷◌, Option, Some, None, is_some, inl, inr, refl, sym, ap, subst, ◌∙◌, IsTrue, arith, Contains}
-use Rattle.std.proofs.lemmas.List.{at_drop_more}
+use Rattle.std.proofs.Common.{◌≡◌, ◌<◌, ◌+◌, ◌++◌, ◌↔◌, ◌&&◌, length, get_or, drop, append_assoc, ℕ, zero, suc, option_map, Bool, true, false, cond, List, [], ◌∷◌, Option, Some, None, is_some, inl, inr, refl, sym, ap, subst, ◌∙◌, IsTrue, arith, Contains}
+use Rattle.std.proofs.lemmas.List.{at_drop_more, length-map}
+use Rattle.std.proofs.lemmas.List.Elements.{Contains-get_or}
 use Rattle.std.specs.List.{list_all, AllByRecursion}
 use Rattle.std.specs.Ordering.{eq_by_cmp}
 use Rattle.std.specs.Cmp.{Equal-is}
 use Rattle.std.specs.FinMap.{FinMap, get, find, entries, get-entries}
 use Rattle.keycode.specs.declared.value.Value.{Value}
+use Rattle.keycode.specs.Code.{code}
 use Rattle.keycode.specs.Order.{bytes_cmp}
 use Rattle.keycode.proofs.Orders.{bytes_cmp_total, bytes_cmp-IsAntisymmetric}
+use Rattle.row_map.specs.declared.shape.ColumnType.{ColumnType}
 use Rattle.row_map.specs.Rows.{Bytes, Rows}
 use Rattle.row_map.specs.Expect.{View}
 use Rattle.row_map.proofs.Entries.{each_entry}
@@ -23,6 +26,7 @@ use Rattle.row_write.specs.Plain.{table_of, row_of}
 use Rattle.row_write.specs.Made.{IsSound}
 use Rattle.row_write.specs.inner.IndexedColumns.{IsServed}
 use Rattle.row_write.specs.inner.Enter.{KeySet, row_keys, op_keys}
+use Rattle.row_write.specs.inner.Places.{AreMarked, AreReads}
 use Rattle.row_write.specs.inner.View.{HaveSameKeys, keys_of, IsVisible, IsExistsKey, exists_keys, cells_there}
 use Rattle.row_write.proofs.Entered.{InTable, op_keys_are, op_key_has, op_key_from}
 use Rattle.row_write.proofs.Encoded.{encoded_once}
@@ -145,3 +149,59 @@ one_more_key keys ops i op key then lt is made pushed so_far =
     ∙ ap (λ (o : RowOp). keys ++ exists_keys (o ∷ drop (i + 1) ops)) is
     ∙ ap (λ (l : List Bytes). keys ++ l) (sym (at_drop_more exists_keys ops i op lt))
     ∙ so_far
+
+-- ---- the keys of several rows
+
+has_each : {X : Type 0} (P : X → Type 0) (xs : List X) (x : X) → AllByRecursion P xs → Contains xs x → P x
+has_each P [] x all (k, below, is) = absurd (omega (arith, below))
+has_each P (y ∷ xs) x all there = elim (here_or_later y x xs there) [
+  | inl same ↦ subst P same all.0
+  | inr more ↦ has_each P xs x all.1 more
+]
+
+-- rows that a view encodes have their keys in it
+pub encoded_reads : (v : Version) (ops : List RowOp) (view : View) (rows : Rows) → AllByRecursion (IsEncodedRow v view rows) ops → (key : Bytes) → IsRead v ops key → (value : Option Bytes) × (get view key ≡ Some value)
+encoded_reads v ops view rows all key (op, there, table, row) =
+    let s = has_each (IsEncodedRow v view rows) ops op all there in
+    elim row [
+      | inl exists ↦ elim (get rows (row_of op)) as (λ o. get rows (row_of op) ≡ o → (value : Option Bytes) × (get view key ≡ Some value)) [
+        | None ↦ λ e. (None, ap (get view) exists ∙ s.absent e)
+        | Some cells ↦ λ e. (Some [], ap (get view) exists ∙ s.present cells e)
+      ] refl
+      | inr (number, type, column, is) ↦ elim (get rows (row_of op)) as (λ o. get rows (row_of op) ≡ o → (value : Option Bytes) × (get view key ≡ Some value)) [
+        | None ↦ λ e. (None, ap (get view) is ∙ s.no_columns number type column e)
+        | Some cells ↦ λ e. (let c = s.columns number type cells column e in (option_map code c.own, ap (get view) is ∙ c.held))
+      ] refl
+    ]
+
+marked_at : (marks : List Bool) (i : ℕ) → list_all (λ (m : Bool). m) marks ≡ true → i < length marks → get_or marks i false ≡ true
+marked_at [] i all below = absurd (omega (arith, below))
+marked_at (m ∷ marks) zero all below = (both_true m (list_all (λ (m : Bool). m) marks) all).0
+marked_at (m ∷ marks) (suc i) all below = marked_at marks i (both_true m (list_all (λ (m : Bool). m) marks) all).1 (omega (arith, below))
+
+place_of : (keys : List Bytes) (key : Bytes) → Contains keys key → (i : ℕ) × (i < length keys) × (get_or keys i [] ≡ key)
+place_of [] key (k, below, is) = absurd (omega (arith, below))
+place_of (k ∷ keys) key there = elim (here_or_later k key keys there) [
+  | inl same ↦ (0, omega arith, same)
+  | inr more ↦ (let r = place_of keys key more in (suc r.0, omega (arith, r.1), r.2))
+]
+
+-- a view of which each entry is marked has only keys that are read
+pub marked_reads : (v : Version) (ops : List RowOp) (view : View) (marks : List Bool) → length marks ≡ length (entries view) → AreReads v ops view marks → list_all (λ (m : Bool). m) marks ≡ true
+    → (key : Bytes) (value : Option Bytes) → get view key ≡ Some value → IsRead v ops key
+marked_reads v ops view marks long reads all key value at =
+    let r = place_of (keys_of (entries view)) key (there_key (entries view) key value (sym (get-entries view key) ∙ at)) in
+    subst (IsRead v ops) r.2 (reads r.0 (marked_at marks r.0 all (omega (arith, r.1, long, length-map (entries view) (λ (e : Bytes × Option Bytes). e.0)))))
+
+-- marks at the keys of one more operation's row are at keys that are read
+pub more_reads : (v : Version) (served : IsServed v) (ops : List RowOp) (view : View) (before then : List Bool) (i : ℕ) (op : RowOp) (columns : List (ℕ × ColumnType)) → AllByRecursion (IsSound v) ops → i < length ops → op ≡ get_or ops i op
+    → columns ≡ column_types v (table_of op) → AreMarked (keys_of (entries view)) (row_keys op columns) before then → AreReads v ops view before → AreReads v ops view then
+more_reads v served ops view before then i op columns sound lt is types marks reads k marked = elim (marks k marked) [
+  | inl old ↦ reads k old
+  | inr own ↦
+      let there : Contains ops op = subst (Contains ops) (sym is) (Contains-get_or ops i op lt) in
+      let s = has_each (IsSound v) ops op sound there in
+      let keys : row_keys op columns ≡ op_keys v op = ap (row_keys op) types ∙ sym (op_keys_are v served op s.table s.known) in
+      let from = op_key_from v served op (get_or (keys_of (entries view)) k []) (subst (λ (ks : List Bytes). Contains ks (get_or (keys_of (entries view)) k [])) keys own) in
+      (op, there, from.0, from.1)
+]

@@ -6,3 +6,4 @@ pub mod WorkRows
 pub mod RowCode
 pub mod Run
 pub mod Insert
+pub mod Places

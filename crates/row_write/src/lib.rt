@@ -9,6 +9,7 @@ mod insert;
 mod lemmas;
 mod op;
 mod parts;
+mod places;
 mod prepare_txn;
 mod prepared;
 mod public_columns;

@@ -7,7 +7,7 @@ use Rattle.row_write.specs.Prepare.{IsEncodedRow}
 use Rattle.row_write.specs.inner.View.{IsVisible}
 use Rattle.row_write.proofs.Viewed.{missed_map}
 use Rattle.row_write.proofs.Encoded.{encoded_is_visible, encoded_more, all_at}
-use Rattle.row_write.proofs.Keys.{one_more_key}
+use Rattle.row_write.proofs.Keys.{more_reads, one_more_key}
 use Rattle.row_write.proofs.read.read_rows.Goals as goal
 
 pub returns-in_err-exists-clause-missed : goal.returns-in_err-exists-clause-missed
@@ -25,5 +25,6 @@ loop-op-preserved c =
     let visible = subst (λ (columns : List (ℕ × ColumnType)). IsVisible c.args.view.now c.op-item.result columns f.0 f.1) (c.as_slice.ensures.value ∙ c.in_ok-columns.ensures ∙ ap (column_types c.args.schema.now) c.table.ensures) f.2 in
     record {
       encoded = encoded_more c.args.schema.now c.lemma_served.ensures c.args.view.now c.args.ops.now c.loop-op.op-index c.op-item.result c.loop-op.rows c.read_op.new.rows f.0 f.1 c.loop-op-test.true c.op-item.is visible f.3 c.loop-op.invariant.encoded;
+      marked = λ reads. more_reads c.args.schema.now c.lemma_served.ensures c.args.ops.now c.args.view.now c.loop-op.marks c.read_op.new.marks c.loop-op.op-index c.op-item.result c.as_slice.result.now c.requires.sound c.loop-op-test.true c.op-item.is (c.as_slice.ensures.value ∙ c.in_ok-columns.ensures ∙ ap (column_types c.args.schema.now) c.table.ensures) c.in_ok-exists.ensures.marked (c.loop-op.invariant.marked reads);
       keys = one_more_key c.loop-op.keys.items c.args.ops.now c.loop-op.op-index c.op-item.result c.in_ok-exists.exists c.push.new.self.items c.loop-op-test.true c.op-item.is c.in_ok-exists.ensures.exists c.in_ok-push.ensures.items c.loop-op.invariant.keys;
     }

@@ -2,7 +2,7 @@ use Rattle.std.proofs.Common.{◌≡◌, ◌∙◌, ◌-◌, sym, ap, refl, leng
 use borrow.Author.Tests.{eqb-true}
 use Rattle.byte_map.proofs.Order.{told_same}
 use Rattle.row_write.proofs.InOrder.{four_same, with_number}
-use Rattle.row_write.proofs.view.is_column_key.Goals as goal
+use Rattle.row_write.proofs.places.is_column_key.Goals as goal
 
 pub returns : goal.returns
 returns c = λ yes table primary is.
