@@ -1,7 +1,7 @@
 //! What the preparation of transactions gives.
 use crate::fixtures::{
-    A_1, A_2, EMPTY, FIVE, I_5_1, I_6_1, I_NULL_1, Plain, Points, ROW_1, ROW_2, SIX, are_writes,
-    bytes, declared, mark,
+    A_1, A_2, EMPTY, FIVE, I_5_1, I_6_1, I_6_2, I_NULL_1, Plain, Points, ROW_1, ROW_2, SIX,
+    are_writes, bytes, declared, mark,
 };
 use crate::operations::{ONE, Op, TWO, Verb, operations};
 use Plain::{Bool, Int, Null};
@@ -127,15 +127,22 @@ fn outcome(
     }
 }
 
-/// Row 1 is not there, or it has a 5 in `a`, or row 2 is not there either.
+/// Row 1 is not there, or it has a 5 in `a`, or row 2 is not there either, or row 1 alone is.
 const NO_ROW: Points<'static> = &[(ROW_1, None), (A_1, None)];
 
 const A_ROW: Points<'static> = &[(ROW_1, Some(EMPTY)), (A_1, Some(FIVE))];
 
 const NO_ROWS: Points<'static> = &[(ROW_1, None), (A_1, None), (ROW_2, None), (A_2, None)];
 
+const ONE_OF_TWO: Points<'static> = &[
+    (ROW_1, Some(EMPTY)),
+    (A_1, Some(FIVE)),
+    (ROW_2, None),
+    (A_2, None),
+];
+
 /// Operations, what is read, and what is written.
-static ACCEPTED: [(&str, &[Op], Points, Points); 7] = [
+static ACCEPTED: [(&str, &[Op], Points, Points); 8] = [
     (
         "an insert",
         &[(Insert, 1, Int(1), &[(1, Int(5))])],
@@ -191,6 +198,22 @@ static ACCEPTED: [(&str, &[Op], Points, Points); 7] = [
             (I_6_1, Some(EMPTY)),
         ],
     ),
+    (
+        "two rows, the later first",
+        &[
+            (Insert, 1, Int(2), &[(1, Int(6))]),
+            (Update, 1, Int(1), &[(1, Int(6))]),
+        ],
+        ONE_OF_TWO,
+        &[
+            (ROW_2, Some(EMPTY)),
+            (A_2, Some(SIX)),
+            (I_6_2, Some(EMPTY)),
+            (A_1, Some(SIX)),
+            (I_5_1, None),
+            (I_6_1, Some(EMPTY)),
+        ],
+    ),
 ];
 
 #[test]
@@ -210,7 +233,7 @@ static TOLD: [(
     &[Op],
     Points,
     Result<Option<RowOutcome>, PrepareFault>,
-); 19] = [
+); 21] = [
     ("nothing", &[], &[], Ok(Some(Done))),
     (
         "twice",
@@ -305,6 +328,18 @@ static TOLD: [(
         "a key that is not read",
         &[(Delete, 1, Int(1), &[])],
         &[(ROW_1, None), (A_1, None), (ROW_2, None)],
+        Err(ViewMismatch),
+    ),
+    (
+        "a key that none of several reads",
+        &[ONE, (Update, 1, Int(1), &[])],
+        NO_ROWS,
+        Err(ViewMismatch),
+    ),
+    (
+        "a row of several that is not seen",
+        &[ONE, TWO],
+        NO_ROW,
         Err(ViewMismatch),
     ),
     (
