@@ -1,4 +1,4 @@
--- Cited by private functions alone: is_row_at, row_at, mark and find_row.
+-- Cited by private functions alone: is_row_at, row_at, mark, find_row and 3 more.
 -- Where the pairs of a row are in a view.
 use Rattle.std.specs.Prelude.{◌≡◌, ◌+◌, ◌≤◌, ℕ, Bool, true, false, List, [], Option, length, take, drop, get_or, Contains, ◌⊎◌}
 use Rattle.std.specs.FinMap as map
