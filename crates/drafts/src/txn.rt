@@ -13,7 +13,7 @@ use byte_map::Bytes;
 use collections::{ArcValue, List};
 use lease::Lease;
 use row_map::{Batch, Expect, ReadView};
-use row_write::{PrepareFault, Prepared, RowFault, RowOp, RowOps, RowOutcome, prepare};
+use row_write::{PrepareFault, Prepared, RowFault, RowOp, RowOps, RowOutcome, prepare_shared};
 use schema_version::Schema;
 use std::alloc::{AllocError, Global};
 use std::marker::Model;
@@ -153,7 +153,7 @@ impl TxnDraft {
 /// earlier calls.
 ///
 /// - `number`, `schema`: a version as the store had its record, however long ago.
-/// - `ops`: at most 64 operations.
+/// - `ops`: at most 64 operations, which the draft then shares; none is copied.
 /// - `mark`: a name that no other transaction has, if the draft may be handed in twice, as after an
 ///   answer that was lost: the store applies it once at most. `None` for no mark.
 /// - `view`: the keys that `reads_of` gives for the operations, each with its value or none, as they
@@ -166,10 +166,10 @@ pub fn draft_txn(
     alloc: Global,
     number: u64,
     schema: ArcValue<Schema>,
-    ops: RowOps,
+    ops: ArcValue<RowOps>,
     mark: Option<Bytes>,
     view: ReadView,
-) -> Result<Drafted, (PrepareFault, RowOps)>
+) -> Result<Drafted, (PrepareFault, ArcValue<RowOps>)>
     ensures drafted { IfOk result (λ d. IsDraftedFor number schema ops mark view d) }
     ensures clear { OnOk result (IsClear (Condition schema ops view)) }
     ensures refused { IfErr result (λ e. IsRefusal rank (Condition schema ops view) OutOfMemory e.0) }
@@ -181,7 +181,7 @@ pub fn draft_txn(
         granted: 0,
         until: 0,
     };
-    let prepared = prepare(alloc, schema, lease, ops, view)?;
+    let prepared = prepare_shared(alloc, schema, lease, ops, view)?;
     prepared.lemma_made();
     match prepared.outcome() {
         RowOutcome::Done => Ok(Drafted::Draft(TxnDraft { prepared, mark })),

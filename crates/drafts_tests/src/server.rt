@@ -72,8 +72,8 @@ fn drafted(
     let Some(schema) = schema_of(servers, number)? else {
         return Ok(None);
     };
-    let ops = insert(alloc, id)?;
-    let keys = reads_of(alloc, schema.get(), ops.as_slice())?;
+    let ops = ArcValue::new(alloc, insert(alloc, id)?)?;
+    let keys = reads_of(alloc, schema.get(), ops.get().as_slice())?;
     let view = servers.store.view(alloc, &keys)?;
     match draft_txn(alloc, number, schema, ops, name_of(alloc, mark)?, view) {
         Ok(Drafted::Draft(draft)) => Ok(Some(draft)),

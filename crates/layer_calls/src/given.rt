@@ -113,6 +113,17 @@ pub fn ops(alloc: Global, bytes: &[u8]) -> Result<RowOps, LayerOutcome>
     }
 }
 
+/// The operations whose code this is, for several owners.
+pub(crate) fn shared_ops(alloc: Global, bytes: &[u8]) -> Result<ArcValue<RowOps>, LayerOutcome>
+    ensures { GivesOps bytes.now result }
+{
+    match ops_of(alloc, bytes) {
+        Ok(given) => Ok(ArcValue::new(alloc, given)?),
+        Err(CodeFault::Memory) => Err(LayerOutcome::of(OUT_OF_MEMORY)),
+        Err(_) => Err(LayerOutcome::of(BAD_CODE)),
+    }
+}
+
 /// The query whose code this is.
 pub fn query(alloc: Global, bytes: &[u8]) -> Result<Query, LayerOutcome>
     ensures { GivesQuery bytes.now result }

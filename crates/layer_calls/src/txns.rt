@@ -106,7 +106,7 @@ fn draft_for(
     number: u64,
     schema: ArcValue<Schema>,
     version: &[u8],
-    ops: RowOps,
+    ops: ArcValue<RowOps>,
     view: ReadView,
     mark: &[u8],
 ) -> Result<LayerReply, LayerOutcome>
@@ -148,7 +148,7 @@ pub fn txn(
     ensures { With GivesVersion (λ v a. With GivesOps (λ o b. With GivesView (Drafts number mark.now v o) view.now b) operations.now a) version.now result }
 {
     let schema = given::version(alloc, version)?;
-    let ops = given::ops(alloc, operations)?;
+    let ops = given::shared_ops(alloc, operations)?;
     let view = given::view(alloc, view)?;
     draft_for(alloc, number, schema, version, ops, view, mark)
 }

@@ -145,7 +145,7 @@ fn view(alloc: Global) -> Result<ReadView, AllocError> {
 fn drafted(alloc: Global, schema: ArcValue<Schema>) -> Option<TxnDraft>
     ensures { IfSome result (λ draft. draft.txn.schema ≡ schema) }
 {
-    let ops = deletion(alloc).ok()?;
+    let ops = ArcValue::new(alloc, deletion(alloc).ok()?).ok()?;
     let view = view(alloc).ok()?;
     let mark = Some(Bytes::from_slice(alloc, b"m").ok()?);
     match draft_txn(alloc, 1, schema, ops, mark, view) {
