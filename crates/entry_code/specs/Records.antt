@@ -1,7 +1,9 @@
--- Cited by the contracts of schema_parts_bytes, reorg_parts_bytes, points_bytes, draft_parts_bytes, their readers and one_code.
+-- Cited by the contracts of schema_parts_bytes, reorg_parts_bytes, points_bytes, draft_parts_bytes, their readers, borrowed_draft_bytes and one_code.
 -- The one code in bytes of control records and drafts, and what types say of them.
-use Rattle.std.specs.Prelude.{ℕ, List, ◌++◌, Option}
+use Rattle.std.specs.Prelude.{ℕ, List, [], ◌∷◌, ◌++◌, Option, Some, None}
+use Rattle.std.specs.FinMap as map
 use Rattle.keycode.specs.declared.value.Value.{Value}
+use Rattle.row_map.specs.declared.expect.KeyRange.{KeyRange}
 use Rattle.entry_code.specs.declared.parts.SchemaParts.{SchemaParts}
 use Rattle.entry_code.specs.declared.parts.ReorgParts.{ReorgParts}
 use Rattle.entry_code.specs.declared.parts.RangeParts.{RangeParts}
@@ -13,6 +15,16 @@ use Rattle.entry_code.specs.Parts.{element_code, work_code, schema_code, IsEleme
 -- keys, each with its value or none
 abbrev pub Points : Type 0
 Points = List (List ℕ × Option (List ℕ))
+
+-- ---- what a draft expects of a range
+
+abbrev pub range_of : KeyRange → RangeParts
+range_of part = record { low = part.low; high = part.high; pairs = map.entries part.pairs }
+
+-- the range, if there is one
+abbrev pub ranges_of : Option KeyRange → List RangeParts
+ranges_of None = []
+ranges_of (Some part) = range_of part ∷ []
 
 -- ---- the codes, without the version
 

@@ -2,6 +2,7 @@
 //! one code, and what is read of bytes has these bytes as its code.
 #![tactic(auto)]
 
+mod borrowed;
 mod calls;
 mod changes;
 mod checkpoints;
@@ -22,6 +23,7 @@ mod texts;
 mod values;
 mod whole;
 
+pub use borrowed::borrowed_draft_bytes;
 pub use calls::{
     changes_bytes, changes_of, entry_bytes, entry_of, opening_bytes, opening_of, ops_bytes, ops_of,
     plan_bytes, plan_of, query_bytes, query_of, rows_bytes, rows_of, step_bytes, step_of,

@@ -1,4 +1,5 @@
 //! The codes of pairs and lists.
+ghost use Rattle.std.specs.List.{AllByRecursion, flat_map};
 ghost use Rattle.std.specs.Prelude.{◌≡◌, ◌++◌, OnOk, []};
 ghost use Rattle.collections.specs.Answers.{GivesOr};
 ghost use Rattle.entry_code.specs.declared.fault.CodeFault.TheVariants.{Memory};
@@ -30,6 +31,17 @@ impl<A: Encoded + Drop, B: Encoded + Drop> Encoded for (A, B) {
     }
 }
 
+/// Adds the codes of these items to `out`, one after the other. Refused as `Encoded::push` is.
+pub(crate) fn push_each<T: Encoded>(out: &mut Vec<u8>, items: &[T]) -> Result<(), AllocError>
+    ensures code { OnOk result (out.new.items ≡ out.old.items ++ flat_map T.code items.now) }
+    ensures known { OnOk result (AllByRecursion T.known items.now) }
+{
+    for item in items {
+        item.push(out)?;
+    }
+    Ok(())
+}
+
 /// Adds the code of a list of these items to `out`. Refused as `Encoded::push` is.
 #[tactic(auto, unfolding(crate::specs::Code::list_code))]
 pub(crate) fn push_items<T: Encoded>(out: &mut Vec<u8>, items: &[T]) -> Result<(), AllocError>
@@ -37,10 +49,20 @@ pub(crate) fn push_items<T: Encoded>(out: &mut Vec<u8>, items: &[T]) -> Result<(
     ensures known { OnOk result (IsList T.known items.now) }
 {
     (items.len() as u64).push(out)?;
-    for item in items {
-        item.push(out)?;
+    push_each(out, items)
+}
+
+/// The room that a list begins with, in items, if it has as many. It shows in the speed alone.
+const ROOM: u64 = 8;
+
+/// The room for a list that is said to have so many items: the number may be wrong, and is trusted
+/// for a few.
+fn room_for(count: u64) -> usize {
+    if count < ROOM {
+        count as usize
+    } else {
+        ROOM as usize
     }
-    Ok(())
 }
 
 /// So many items, one after the other, and the bytes after them. The vector grows as items are
@@ -52,7 +74,7 @@ fn read_items<T: Encoded + Drop>(
 ) -> Result<(Vec<T>, &[u8]), CodeFault>
     ensures { GivesOr Memory (λ x. (x.0.items, x.1.now)) result (items_at T.at [] count bytes.now) }
 {
-    let mut items = Vec::new(alloc);
+    let mut items = Vec::with_capacity(alloc, room_for(count))?;
     let mut rest = bytes;
     for _ in 0..count {
         let (item, after) = T::read(alloc, rest)?;

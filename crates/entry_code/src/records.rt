@@ -7,6 +7,7 @@ ghost use Rattle.entry_code.specs.Read.{IsRead, IsAccepted};
 ghost use Rattle.entry_code.specs.Records.{reorg_code, range_code, draft_code, schema_parts_code, reorg_parts_code, points_code, draft_parts_code, IsReorgParts, IsRange, ArePoints, IsDraft};
 ghost use Rattle.entry_code.specs.inner.RecordsAt.{reorg_at, range_at, draft_at};
 
+use crate::borrowed::room_of;
 use crate::encoded::Encoded;
 use crate::fault::CodeFault;
 use crate::parts::{DraftParts, Points, RangeParts, ReorgParts, SchemaParts};
@@ -145,22 +146,6 @@ pub fn points_of(alloc: Global, bytes: &[u8]) -> Result<Points, CodeFault>
     ensures accepted { IsAccepted ArePoints points_code bytes.now result }
 {
     decode::<Points>(alloc, bytes)
-}
-
-// About how many bytes keys and values take in a code: how far to trust it shows in the speed alone.
-fn room_of(points: &[(Bytes, Option<Bytes>)]) -> usize {
-    let mut total = 0usize;
-    for (key, value) in points {
-        let value = match value {
-            Some(bytes) => bytes.len(),
-            None => 0,
-        };
-        total = total
-            .saturating_add(key.len())
-            .saturating_add(value)
-            .saturating_add(17);
-    }
-    total
 }
 
 /// The code of the parts of a draft. Refused, and bounded, as `schema_parts_bytes`.

@@ -7,7 +7,7 @@ use Rattle.entry_code.proofs.lists.read_items.Goals as goal
 pub returns-in_err-item : goal.returns-in_err-item
 returns-in_err-item g c =
     let at = g.T.Encoded.at in
-    let p = err_from_is_err_and c.from_residual.result c.from_residual.ensures.1 in
+    let p = err_from_is_err_and c.from_residual-in_err-item.result c.from_residual-in_err-item.ensures.1 in
     let e = c.in_err-item.field-0.0 in
     rw (p.1, p.2) (ends at e c.loop.items.items c.args.count c.loop.counter c.loop.rest.now (items_at at [] c.args.count c.args.bytes.now) c.loop-test.true c.in_err-item.ensures c.loop.invariant)
 
