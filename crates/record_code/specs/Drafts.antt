@@ -7,11 +7,10 @@ use Rattle.std.specs.FinMap as map
 use Rattle.row_map.specs.Rows.{Bytes}
 use Rattle.row_map.specs.Writes.{Batch}
 use Rattle.row_map.specs.declared.expect.Expect.{Expect}
-use Rattle.row_map.specs.declared.expect.KeyRange.{KeyRange}
 use Rattle.schema_version.specs.Version.{Version}
-use Rattle.entry_code.specs.declared.parts.RangeParts.{RangeParts}
 use Rattle.entry_code.specs.declared.parts.DraftParts.{DraftParts}
 use Rattle.entry_code.specs.Records.{draft_parts_code}
+pub use Rattle.entry_code.specs.Records.{ranges_of}
 use Rattle.drafts.specs.Calls.{nothing}
 use Rattle.drafts.specs.Coded.{coded, IsFit}
 use Rattle.drafts.specs.declared.record.Record.{Record}
@@ -24,14 +23,6 @@ use Rattle.record_code.specs.Records.{record_code, HasRecord}
 -- control records as pairs of a store, each present or missing
 abbrev pub points_of : List (Key × Option Record) → List (Bytes × Option Bytes)
 points_of = each (coded key_code record_code)
-
-abbrev pub range_of : KeyRange → RangeParts
-range_of part = record { low = part.low; high = part.high; pairs = map.entries part.pairs }
-
--- the range, if there is one
-abbrev pub ranges_of : Option KeyRange → List RangeParts
-ranges_of None = []
-ranges_of (Some part) = range_of part ∷ []
 
 -- all that is compared and written, control records before the pairs of rows and indexes, which come by rising key
 abbrev pub parts_of : Draft → DraftParts

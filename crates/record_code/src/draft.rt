@@ -6,7 +6,7 @@ ghost use Rattle.drafts.specs.Calls.{nothing, txn_draft};
 ghost use Rattle.drafts.specs.Coded.{coded, IsFit};
 ghost use Rattle.drafts.specs.declared.record.Record.TheVariants.{Version as OfVersion};
 ghost use Rattle.entry_code.specs.Records.{draft_parts_code};
-ghost use Rattle.record_code.specs.Drafts.{points_of, range_of, ranges_of, parts_of, draft_code, AreFitPoints, IsFitDraft, draft_with, IsUnder, IsLedBy};
+ghost use Rattle.record_code.specs.Drafts.{points_of, ranges_of, parts_of, draft_code, AreFitPoints, IsFitDraft, draft_with, IsUnder, IsLedBy};
 ghost use Rattle.record_code.specs.Keys.{key_code, HasKey};
 ghost use Rattle.keycode.specs.Valid.{IsStorable};
 ghost use Rattle.record_code.specs.Records.{record_code, IsKnown, HasRecord};
@@ -14,11 +14,10 @@ ghost use Rattle.record_code.specs.Records.{record_code, IsKnown, HasRecord};
 use crate::keys::key_bytes;
 use crate::write::record_bytes;
 use byte_map::{Bytes, KeyMap};
-use collections::List;
 use drafts::{Control, Key, Record, TxnDraft};
-use entry_code::{DraftParts, RangeParts, draft_parts_bytes};
+use entry_code::borrowed_draft_bytes;
 use reorganise::PreparedPiece;
-use row_map::{Batch, Expect, KeyRange};
+use row_map::{Batch, Expect};
 use std::alloc::{AllocError, Global};
 
 /// A key with its value or none.
@@ -59,16 +58,12 @@ fn push_coded(
     Ok(())
 }
 
-/// Control records with their codes, and room for so many points after them.
-fn coded_points(
-    alloc: Global,
-    points: &[(Key, Option<Record>)],
-    more: usize,
-) -> Result<Vec<Point>, AllocError>
+/// Control records with their codes.
+fn coded_points(alloc: Global, points: &[(Key, Option<Record>)]) -> Result<Vec<Point>, AllocError>
     ensures code { IfOk result (λ made. made.items ≡ points_of points.now) }
     ensures fit { OnOk result (AreFitPoints points.now) }
 {
-    let mut out = Vec::with_capacity(alloc, points.len().saturating_add(more))?;
+    let mut out = Vec::with_capacity(alloc, points.len())?;
     push_coded(alloc, &mut out, points)?;
     Ok(out)
 }
@@ -92,18 +87,26 @@ fn points_under(
     alloc: Global,
     points: &[(Key, Option<Record>)],
     record: &[u8],
-    more: usize,
 ) -> Result<Vec<Point>, AllocError>
     requires { IsLedBy record.now points.now }
     ensures code { IfOk result (λ made. made.items ≡ points_of points.now) }
     ensures fit { OnOk result (AreFitPoints points.now) }
 {
-    let mut out = Vec::with_capacity(alloc, points.len().saturating_add(more))?;
+    let mut out = Vec::with_capacity(alloc, points.len())?;
     if let [first, rest @ ..] = points {
         out.push(point_under(alloc, first, record)?)?;
         push_coded(alloc, &mut out, rest)?;
     }
     Ok(out)
+}
+
+/// What control records compare, by the code of the first record.
+fn reads_under(alloc: Global, control: &Control, record: &[u8]) -> Result<Vec<Point>, AllocError>
+    requires { IsLedBy record.now control.now.reads }
+    ensures code { IfOk result (λ made. made.items ≡ points_of control.now.reads) }
+    ensures fit { OnOk result (AreFitPoints control.now.reads) }
+{
+    points_under(alloc, control.reads.as_slice(), record)
 }
 
 // ---- pairs of rows and indexes
@@ -124,15 +127,6 @@ fn copy_point(point: &Point) -> Result<Point, AllocError>
     Ok((key, copy_of(&point.1)?))
 }
 
-fn push_points(out: &mut Vec<Point>, points: &[Point]) -> Result<(), AllocError>
-    ensures { OnOk result (out.new.items ≡ out.old.items ++ points.now) }
-{
-    for point in points {
-        out.push(copy_point(point)?)?;
-    }
-    Ok(())
-}
-
 /// Each key that a batch writes, with what it writes last, by rising key.
 fn last_writes(alloc: Global, batch: &Batch) -> Result<KeyMap<Option<Bytes>>, AllocError>
     ensures { IfOk result (λ writes. writes ≡ batch.now) }
@@ -145,100 +139,23 @@ fn last_writes(alloc: Global, batch: &Batch) -> Result<KeyMap<Option<Bytes>>, Al
     Ok(out)
 }
 
-fn copy_pair(pair: &(Bytes, Bytes)) -> Result<(Bytes, Bytes), AllocError>
-    ensures { IfOk result (λ copy. copy ≡ pair.now) }
-{
-    let key = pair.0.clone()?;
-    Ok((key, pair.1.clone()?))
-}
-
-fn copy_pairs(alloc: Global, pairs: &[(Bytes, Bytes)]) -> Result<Vec<(Bytes, Bytes)>, AllocError>
-    ensures { IfOk result (λ copy. copy.items ≡ pairs.now) }
-{
-    let mut out = Vec::new(alloc);
-    for pair in pairs {
-        out.push(copy_pair(pair)?)?;
-    }
-    Ok(out)
-}
-
-fn range_from(alloc: Global, part: &KeyRange) -> Result<RangeParts, AllocError>
-    ensures { IfOk result (λ made. made ≡ range_of part.now) }
-{
-    let pairs = copy_pairs(alloc, part.pairs.entries())?;
-    let low = part.low.clone()?;
-    let high = part.high.clone()?;
-    Ok(RangeParts {
-        low,
-        high,
-        pairs: List::new(pairs),
-    })
-}
-
-fn ranges_from(alloc: Global, part: &Option<KeyRange>) -> Result<Vec<RangeParts>, AllocError>
-    ensures { IfOk result (λ made. made.items ≡ ranges_of part.now) }
-{
-    let mut out = Vec::new(alloc);
-    if let Some(part) = part {
-        out.push(range_from(alloc, part)?)?;
-    }
-    Ok(out)
-}
-
 // ---- the whole
 
-fn compared(alloc: Global, control: &Control, expect: &Expect) -> Result<Vec<Point>, AllocError>
-    ensures code { IfOk result (λ made. made.items ≡ points_of control.now.reads ++ map.entries expect.now.points) }
-    ensures fit { OnOk result (AreFitPoints control.now.reads) }
-{
-    let points = expect.points.entries();
-    let mut out = coded_points(alloc, control.reads.as_slice(), points.len())?;
-    push_points(&mut out, points)?;
-    Ok(out)
-}
-
-/// The same, by the code of the first record.
-fn compared_under(
+/// The code of a draft of control records as points, pairs that are compared and pairs that are
+/// written.
+fn code_with(
     alloc: Global,
-    control: &Control,
+    reads: &[Point],
     expect: &Expect,
-    record: &[u8],
-) -> Result<Vec<Point>, AllocError>
-    requires { IsLedBy record.now control.now.reads }
-    ensures code { IfOk result (λ made. made.items ≡ points_of control.now.reads ++ map.entries expect.now.points) }
-    ensures fit { OnOk result (AreFitPoints control.now.reads) }
-{
-    let points = expect.points.entries();
-    let mut out = points_under(alloc, control.reads.as_slice(), record, points.len())?;
-    push_points(&mut out, points)?;
-    Ok(out)
-}
-
-fn written(alloc: Global, control: &Control, batch: &Batch) -> Result<Vec<Point>, AllocError>
-    ensures code { IfOk result (λ made. made.items ≡ points_of control.now.writes ++ map.entries batch.now) }
-    ensures fit { OnOk result (AreFitPoints control.now.writes) }
-{
-    let writes = last_writes(alloc, batch)?;
-    let mut out = coded_points(alloc, control.writes.as_slice(), writes.len())?;
-    push_points(&mut out, writes.entries())?;
-    Ok(out)
-}
-
-/// The code of a draft of these parts.
-fn parts_bytes(
-    alloc: Global,
-    compare: Vec<Point>,
-    ranges: Vec<RangeParts>,
-    write: Vec<Point>,
+    writes: &[Point],
+    batch: &Batch,
 ) -> Result<Vec<u8>, AllocError>
-    ensures { IfOk result (λ bytes. bytes.items ≡ draft_parts_code (record { compare = compare.items; ranges = ranges.items; write = write.items })) }
+    ensures { IfOk result (λ bytes. bytes.items ≡ draft_parts_code (record { compare = reads.now ++ map.entries expect.now.points; ranges = ranges_of expect.now.key_range; write = writes.now ++ map.entries batch.now })) }
 {
-    let parts = DraftParts {
-        compare: List::new(compare),
-        ranges: List::new(ranges),
-        write: List::new(write),
-    };
-    draft_parts_bytes(alloc, &parts)
+    let last = last_writes(alloc, batch)?;
+    let compare = (reads, expect.points.entries());
+    let write = (writes, last.entries());
+    borrowed_draft_bytes(alloc, compare, &expect.key_range, write)
 }
 
 /// The code of the draft of control records, pairs that are compared and pairs that are written.
@@ -251,10 +168,9 @@ fn bytes_of(
     ensures code { IfOk result (λ bytes. bytes.items ≡ draft_code (draft_with control.now expect.now batch.now)) }
     ensures fit { OnOk result (IsFitDraft (draft_with control.now expect.now batch.now)) }
 {
-    let compare = compared(alloc, control, expect)?;
-    let ranges = ranges_from(alloc, &expect.key_range)?;
-    let write = written(alloc, control, batch)?;
-    parts_bytes(alloc, compare, ranges, write)
+    let reads = coded_points(alloc, control.reads.as_slice())?;
+    let writes = coded_points(alloc, control.writes.as_slice())?;
+    code_with(alloc, reads.as_slice(), expect, writes.as_slice(), batch)
 }
 
 /// The code of a draft that compares and writes control records alone: a step, a close or a begin.
@@ -297,10 +213,15 @@ pub fn txn_bytes_under(alloc: Global, txn: &TxnDraft, record: &[u8]) -> Result<V
     ensures fit { OnOk result (IsFitDraft (txn_draft txn.now.txn txn.now.mark)) }
 {
     let control = txn.control(alloc)?;
-    let compare = compared_under(alloc, &control, txn.expect(), record)?;
-    let ranges = ranges_from(alloc, &txn.expect().key_range)?;
-    let write = written(alloc, &control, txn.batch())?;
-    parts_bytes(alloc, compare, ranges, write)
+    let reads = reads_under(alloc, &control, record)?;
+    let writes = coded_points(alloc, control.writes.as_slice())?;
+    code_with(
+        alloc,
+        reads.as_slice(),
+        txn.expect(),
+        writes.as_slice(),
+        txn.batch(),
+    )
 }
 
 /// The code of the draft of a prepared piece: the range that it read, what it writes, and its control

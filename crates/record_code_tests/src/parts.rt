@@ -1,11 +1,13 @@
 //! Control records, points and drafts by hand, as `entry_code` writes them: the version 01, then
 //! numbers by their bytes, the highest first, a byte for each variant, and lists, names and keys after
 //! how many items they have, in eight bytes.
+use byte_map::{Bytes, KeyMap};
 use entry_code::{
-    CodeFault, draft_parts_bytes, draft_parts_of, points_bytes, points_of, reorg_parts_bytes,
-    reorg_parts_of, schema_parts_bytes, schema_parts_of,
+    CodeFault, borrowed_draft_bytes, draft_parts_bytes, draft_parts_of, points_bytes, points_of,
+    reorg_parts_bytes, reorg_parts_of, schema_parts_bytes, schema_parts_of,
 };
-use std::alloc::Global;
+use row_map::KeyRange;
+use std::alloc::{AllocError, Global};
 
 /// What bytes are the code of.
 #[derive(Clone, Copy)]
@@ -96,6 +98,51 @@ const DRAFT: &[u8] = b"\x01\
 \0\0\0\0\0\0\0\x01a\x01\0\0\0\0\0\0\0\0\
 \0\0\0\0\0\0\0\x02b\x01\0";
 
+fn point(
+    alloc: Global,
+    key: &[u8],
+    value: Option<&[u8]>,
+) -> Result<(Bytes, Option<Bytes>), AllocError> {
+    let key = Bytes::from_slice(alloc, key)?;
+    match value {
+        None => Ok((key, None)),
+        Some(value) => Ok((key, Some(Bytes::from_slice(alloc, value)?))),
+    }
+}
+
+/// From b to c only b 01, with x.
+fn range(alloc: Global) -> Result<KeyRange, AllocError> {
+    let mut pairs = KeyMap::new(alloc);
+    pairs.insert(
+        Bytes::from_slice(alloc, b"b\x01")?,
+        Bytes::from_slice(alloc, b"x")?,
+    )?;
+    let low = Bytes::from_slice(alloc, b"b")?;
+    let high = Bytes::from_slice(alloc, b"c")?;
+    Ok(KeyRange { low, high, pairs })
+}
+
+/// The code of `DRAFT`, from points and pairs that are borrowed.
+fn borrowed(alloc: Global) -> Result<Vec<u8>, AllocError> {
+    let absent = [point(alloc, b"a", None)?];
+    let put = [point(alloc, b"a", Some(b""))?];
+    let removed = [point(alloc, b"b\x01", None)?];
+    let range = Some(range(alloc)?);
+    borrowed_draft_bytes(alloc, (&absent, &[]), &range, (&put, &removed))
+}
+
+/// Whether it has these bytes; made once more if memory was short.
+fn is_borrowed_as(alloc: Global, bytes: &[u8]) -> bool {
+    let code = match borrowed(alloc) {
+        Err(_) => borrowed(alloc),
+        code => code,
+    };
+    match code {
+        Ok(code) => code.as_slice() == bytes,
+        Err(_) => false,
+    }
+}
+
 /// Bytes, what they are the code of, and what is reported of them.
 const CODES: &[(What, &[u8], Result<bool, CodeFault>)] = &[
     (Version, VERSION, Ok(true)),
@@ -119,6 +166,12 @@ fn under_refusal_parts_are_read_and_written_so(rt: HostRuntime) {
     for (what, bytes, want) in CODES {
         assert!(rt; asked(rt.alloc(), *what, bytes) == *want, "{bytes:?}");
     }
+}
+
+#[test]
+fn under_refusal_a_borrowed_draft_is_written_so(rt: HostRuntime) {
+    assert!(rt; rt.println("from here on").is_ok());
+    assert!(rt; is_borrowed_as(rt.alloc(), DRAFT));
 }
 
 #[test]
