@@ -168,24 +168,13 @@ pub(crate) fn pairs(alloc: Global, bytes: &[u8]) -> Result<KeyMap<Bytes>, LayerO
     }
 }
 
-// A further owner of a value, if there is one.
-fn value_again(value: &Option<Bytes>) -> Result<Option<Bytes>, AllocError>
-    ensures { IfOk result (λ copy. copy ≡ value.now) }
-{
-    match value {
-        Some(value) => Ok(Some(value.clone()?)),
-        None => Ok(None),
-    }
-}
-
 // The keys with what was read, as a map.
-fn viewed(alloc: Global, points: &[(Bytes, Option<Bytes>)]) -> Result<ReadView, AllocError>
-    ensures { IfOk result (λ view. view ≡ noted map.empty points.now) }
+fn viewed(alloc: Global, points: List<(Bytes, Option<Bytes>)>) -> Result<ReadView, AllocError>
+    ensures { IfOk result (λ view. view ≡ noted map.empty points) }
 {
     let mut view = KeyMap::new(alloc);
-    for point in points {
-        let value = value_again(&point.1)?;
-        view.insert(point.0.clone()?, value)?;
+    for (key, value) in points.into_vec() {
+        view.insert(key, value)?;
     }
     Ok(view)
 }
@@ -239,7 +228,7 @@ pub(crate) fn view(alloc: Global, bytes: &[u8]) -> Result<ReadView, LayerOutcome
     ensures { GivesView bytes.now result }
 {
     match points_of(alloc, bytes) {
-        Ok(points) => Ok(viewed(alloc, points.as_slice())?),
+        Ok(points) => Ok(viewed(alloc, points)?),
         Err(CodeFault::Memory) => Err(LayerOutcome::of(OUT_OF_MEMORY)),
         Err(_) => Err(LayerOutcome::of(BAD_CODE)),
     }

@@ -1,7 +1,7 @@
-use Rattle.std.proofs.Common.{◌≡◌, drop}
+use Rattle.std.proofs.Common.{◌≡◌}
 use Rattle.std.specs.FinMap as map
 use Rattle.byte_map.specs.Writes.{noted}
 use Rattle.layer_calls.proofs.given.viewed.Given as goal
 
-abbrev pub invariant-loop-point : goal.invariant-loop-point
-invariant-loop-point l = noted l.view (drop l.point-index l.points) ≡ noted map.empty l.points
+abbrev pub invariant-loop-key : goal.invariant-loop-key
+invariant-loop-key l = l.view ≡ noted map.empty l.yielded
