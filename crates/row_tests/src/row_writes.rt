@@ -142,7 +142,7 @@ const ONE_OF_TWO: Points<'static> = &[
 ];
 
 /// Operations, what is read, and what is written.
-static ACCEPTED: [(&str, &[Op], Points, Points); 8] = [
+static ACCEPTED: [(&str, &[Op], Points, Points); 12] = [
     (
         "an insert",
         &[(Insert, 1, Int(1), &[(1, Int(5))])],
@@ -178,6 +178,18 @@ static ACCEPTED: [(&str, &[Op], Points, Points); 8] = [
         &[(A_1, None), (I_5_1, None), (I_NULL_1, Some(EMPTY))],
     ),
     (
+        "an update of nothing",
+        &[(Update, 1, Int(1), &[])],
+        A_ROW,
+        &[],
+    ),
+    (
+        "an update by the same value",
+        &[(Update, 1, Int(1), &[(1, Int(5))])],
+        A_ROW,
+        &[],
+    ),
+    (
         "a delete",
         &[(Delete, 1, Int(1), &[])],
         A_ROW,
@@ -195,6 +207,38 @@ static ACCEPTED: [(&str, &[Op], Points, Points); 8] = [
             (I_NULL_1, Some(EMPTY)),
             (A_1, Some(SIX)),
             (I_NULL_1, None),
+            (I_6_1, Some(EMPTY)),
+        ],
+    ),
+    (
+        "two updates of a row",
+        &[
+            (Update, 1, Int(1), &[(1, Int(6))]),
+            (Update, 1, Int(1), &[(1, Null)]),
+        ],
+        A_ROW,
+        &[
+            (A_1, Some(SIX)),
+            (I_5_1, None),
+            (I_6_1, Some(EMPTY)),
+            (A_1, None),
+            (I_6_1, None),
+            (I_NULL_1, Some(EMPTY)),
+        ],
+    ),
+    (
+        "a row that goes and comes again",
+        &[
+            (Delete, 1, Int(1), &[]),
+            (Insert, 1, Int(1), &[(1, Int(6))]),
+        ],
+        A_ROW,
+        &[
+            (ROW_1, None),
+            (A_1, None),
+            (I_5_1, None),
+            (ROW_1, Some(EMPTY)),
+            (A_1, Some(SIX)),
             (I_6_1, Some(EMPTY)),
         ],
     ),

@@ -13,3 +13,5 @@ pub mod Own
 pub mod Ran
 pub mod Prepares
 pub mod Inserts
+pub mod Named
+pub mod Updates

@@ -1,6 +1,6 @@
 -- One more operation of a run, and runs on rows that agree.
 use Rattle.std.proofs.Common.{◌≡◌, ◌<◌, ◌≤◌, arith, ◌+◌, ◌++◌, ℕ, Bool, true, false, cond, List, [], ◌∷◌, length, get_or, drop, Option, Some, None, option_map, Result, Ok, Err, inl, inr, refl, sym, ap, ap₂, subst, ◌∙◌, IsTrue}
-use Rattle.std.proofs.lemmas.List.{at_drop_more, append-nil}
+use Rattle.std.proofs.lemmas.List.{at_drop_more, append-nil, drop-map}
 use Rattle.std.specs.List.{AllByRecursion}
 use Rattle.std.specs.Ordering.{nat_cmp, eq_by_cmp}
 use Rattle.std.specs.Cmp.{nat_cmp_total}
@@ -10,7 +10,8 @@ use Rattle.keycode.specs.declared.value.Value.{Value}
 use Rattle.keycode.specs.Code.{code}
 use Rattle.keycode.specs.Valid.{IsValue}
 use Rattle.keycode.proofs.ByteOrder.{same_encoding}
-use Rattle.row_map.specs.Rows.{Bytes, RowKey, Cells, Rows}
+use Rattle.row_map.specs.Keys.{row_code}
+use Rattle.row_map.specs.Rows.{Bytes, RowKey, Cells, Rows, row_cmp}
 use Rattle.row_map.specs.Expect.{View}
 use Rattle.row_map.specs.Writes.{Writes, Batch, written, noted}
 use Rattle.row_map.proofs.Orders.{row_cmp_total, row_cmp-IsAntisymmetric}
@@ -23,28 +24,96 @@ use Rattle.element_state.specs.Versions.{the_kinds, schema_of}
 use Rattle.row_write.specs.declared.op.RowOp.{RowOp}
 use Rattle.row_write.specs.declared.op.RowOp.TheVariants.{Insert, Update, Delete}
 use Rattle.row_write.specs.declared.op.RowOutcome.{RowOutcome}
+use Rattle.row_write.specs.declared.op.RowOutcome.TheVariants.{Refused}
 use Rattle.row_write.specs.declared.fault.RowFault.{RowFault}
-use Rattle.row_write.specs.Plain.{cell_of, with_cells, table_of, row_of, change_of, change, go_on, applied, reported, outcome}
+use Rattle.row_write.specs.Plain.{cell_of, with_cells, table_of, key_of, row_of, change_of, change, go_on, applied, reported, outcome}
 use Rattle.row_write.specs.Prepare.{IsEncodedRow, Encodes, write_on, writes_of, accepted_writes, txn_writes, IsPrepared}
 use Rattle.row_write.specs.inner.IndexedColumns.{IsServed}
-use Rattle.row_write.specs.inner.Run.{IsStep}
+use Rattle.row_write.specs.inner.Run.{HaveSame, IsStep}
+use Rattle.row_write.specs.inner.View.{exists_keys}
 use Rattle.row_write.proofs.Encoded.{IsEncodedAs, of_row}
 use Rattle.row_write.proofs.Wanted.{VisibleAlike, shown, column_shown, same_writes}
 
+-- ---- rows that are the same for the operations
+
+same_after : (ops : List RowOp) (rows others : Rows) (key : RowKey) (o : Option Cells) → HaveSame ops rows others → HaveSame ops (written rows key o) (written others key o)
+same_after [] rows others key o all = tt
+same_after (op ∷ ops) rows others key o all = (
+  get-written row_cmp_total row_cmp-IsAntisymmetric rows key o (row_of op)
+      ∙ ap (λ x. cond (eq_by_cmp row_cmp (row_of op) key) o x) all.0
+      ∙ sym (get-written row_cmp_total row_cmp-IsAntisymmetric others key o (row_of op)),
+  same_after ops rows others key o all.1,
+)
+
+module _ (v : Version) where
+  abbrev RunAlike : ℕ → List RowOp → Rows → Rows → Type 0
+  RunAlike place ops rows others = (reported (applied place rows ops) ≡ reported (applied place others ops)) × (writes_of v rows ops ≡ writes_of v others ops)
+
+  -- after the same answer of one operation
+  alike_step : (ops : List RowOp) (place : ℕ) (rows others : Rows) (done : Result Change RowFault) → HaveSame ops rows others → ((w r : Rows) → HaveSame ops w r → RunAlike (place + 1) ops w r)
+      → (reported (go_on place rows done (λ new. applied (place + 1) new ops)) ≡ reported (go_on place others done (λ new. applied (place + 1) new ops)))
+      × (write_on v rows done (λ new. writes_of v new ops) ≡ write_on v others done (λ new. writes_of v new ops))
+  alike_step ops place rows others (Err why) all again = (refl, refl)
+  alike_step ops place rows others (Ok made) all again =
+      let rest = again (rows_after rows made) (rows_after others made) (same_after ops rows others made.key made.new all) in
+      (rest.0, ap (λ (ws : Writes). version_writes the_kinds (schema_of v) made ++ ws) rest.1)
+
+  run_alike : (ops : List RowOp) (place : ℕ) (rows others : Rows) → HaveSame ops rows others → RunAlike place ops rows others
+  run_alike [] place rows others all = (refl, refl)
+  run_alike (op ∷ ops) place rows others all =
+      let same : change rows op ≡ change others op = ap (λ (old : Option Cells). change_of old op) all.0 in
+      let step = alike_step ops place rows others (change rows op) all.1 (λ w r h. run_alike ops (place + 1) w r h) in (
+        step.0 ∙ ap (λ (d : Result Change RowFault). reported (go_on place others d (λ new. applied (place + 1) new ops))) same,
+        step.1 ∙ ap (λ (d : Result Change RowFault). write_on v others d (λ new. writes_of v new ops)) same,
+      )
+
 -- ---- one more operation
 
-pub reported_more : (v : Version) (rows then : Rows) (ops : List RowOp) (i place : ℕ) (op : RowOp) (b b_then : Batch) (total : Result Rows (ℕ × RowFault)) → i < length ops → op ≡ get_or ops i op → IsStep v rows op (Ok tt) then b b_then
-    → applied place rows (drop i ops) ≡ total → applied (place + 1) then (drop (i + 1) ops) ≡ total
-reported_more v rows then ops i place op b b_then total lt is (made, done, rows_is, noted_is) so_far =
-    ap (λ (r : Rows). applied (place + 1) r (drop (i + 1) ops)) rows_is
-    ∙ sym (ap (λ r. go_on place rows r (λ new. applied (place + 1) new (drop (i + 1) ops))) done)
-    ∙ ap (λ (o : RowOp). applied place rows (o ∷ drop (i + 1) ops)) is
-    ∙ sym (at_drop_more (applied place rows) ops i op lt) ∙ so_far
+same_itself : (ops : List RowOp) (rows : Rows) → HaveSame ops rows rows
+same_itself [] rows = tt
+same_itself (op ∷ ops) rows = (refl, same_itself ops rows)
 
-pub batch_more : (v : Version) (rows then : Rows) (ops : List RowOp) (i : ℕ) (op : RowOp) (b b_then total : Batch) → i < length ops → op ≡ get_or ops i op → IsStep v rows op (Ok tt) then b b_then
+pub kept_row : (ops : List RowOp) (rows then : Rows) → then ≡ rows → HaveSame ops then rows
+kept_row ops rows then is = subst (λ (r : Rows). HaveSame ops r rows) (sym is) (same_itself ops rows)
+
+-- a row that the operations are not about needs no keeping
+pub unseen : (ops : List RowOp) (rows : Rows) (op : RowOp) (o : Option Cells) → AllByRecursion (λ (other : Bytes). ¬ (other ≡ row_code (table_of op) (key_of op) 0)) (exists_keys ops) → HaveSame ops rows (written rows (row_of op) o)
+unseen [] rows op o none = tt
+unseen (p ∷ ops) rows op o none = (
+  sym (written_apart row_cmp_total row_cmp-IsAntisymmetric rows (row_of op) o (row_of p) (λ (same : row_of p ≡ row_of op). none.0 (ap (λ (k : RowKey). row_code k.0 k.1 0) same))),
+  unseen ops rows op o none.1,
+)
+
+pub reported_more : (v : Version) (rows then : Rows) (ops : List RowOp) (i place : ℕ) (op : RowOp) (b b_then : Batch) (total : RowOutcome) → i < length ops → op ≡ get_or ops i op → IsStep v rows op (drop (i + 1) ops) (Ok tt) then b b_then
+    → reported (applied place rows (drop i ops)) ≡ total → reported (applied (place + 1) then (drop (i + 1) ops)) ≡ total
+reported_more v rows then ops i place op b b_then total lt is (made, done, same, noted_is) so_far =
+    (run_alike v (drop (i + 1) ops) (place + 1) then (rows_after rows made) same).0
+    ∙ sym (ap (λ r. reported (go_on place rows r (λ new. applied (place + 1) new (drop (i + 1) ops)))) done)
+    ∙ ap (λ (o : RowOp). reported (applied place rows (o ∷ drop (i + 1) ops))) is
+    ∙ sym (at_drop_more (λ (os : List RowOp). reported (applied place rows os)) ops i op lt) ∙ so_far
+
+pub refused_here : (rows : Rows) (ops : List RowOp) (i place : ℕ) (op : RowOp) (why : RowFault) (total : RowOutcome) → i < length ops → op ≡ get_or ops i op → change rows op ≡ Err why
+    → reported (applied place rows (drop i ops)) ≡ total → Refused place why ≡ total
+refused_here rows ops i place op why total lt is refused so_far =
+    sym (ap (λ r. reported (go_on place rows r (λ new. applied (place + 1) new (drop (i + 1) ops)))) refused)
+    ∙ ap (λ (o : RowOp). reported (applied place rows (o ∷ drop (i + 1) ops))) is
+    ∙ sym (at_drop_more (λ (os : List RowOp). reported (applied place rows os)) ops i op lt) ∙ so_far
+
+abbrev no_writes : Batch
+no_writes = empty
+
+pub nothing_written : (v : Version) (rows : Rows) (ops : List RowOp) (place : ℕ) (why : RowFault) → Refused place why ≡ outcome rows ops → no_writes ≡ noted no_writes (txn_writes v rows ops)
+nothing_written v rows ops place why is = ap (λ (o : RowOutcome). noted no_writes (accepted_writes o (writes_of v rows ops))) is
+
+-- the keys of the operations after this one
+pub later_keys : (ops : List RowOp) (keys : List Bytes) (i place : ℕ) → place ≡ i → keys ≡ exists_keys ops → drop (place + 1) keys ≡ exists_keys (drop (i + 1) ops)
+later_keys ops keys i place at is =
+    ap (λ n. drop (n + 1) keys) at ∙ ap (drop (i + 1)) is ∙ drop-map (λ (op : RowOp). row_code (table_of op) (key_of op) 0) (i + 1) ops
+
+pub batch_more : (v : Version) (rows then : Rows) (ops : List RowOp) (i : ℕ) (op : RowOp) (b b_then total : Batch) → i < length ops → op ≡ get_or ops i op → IsStep v rows op (drop (i + 1) ops) (Ok tt) then b b_then
     → noted b (writes_of v rows (drop i ops)) ≡ total → noted b_then (writes_of v then (drop (i + 1) ops)) ≡ total
-batch_more v rows then ops i op b b_then total lt is (made, done, rows_is, noted_is) so_far =
-    ap (λ (r : Rows). noted b_then (writes_of v r (drop (i + 1) ops))) rows_is
+batch_more v rows then ops i op b b_then total lt is (made, done, same, noted_is) so_far =
+    ap (noted b_then) (run_alike v (drop (i + 1) ops) 0 then (rows_after rows made) same).1
     ∙ ap (λ (x : Batch). noted x (writes_of v (rows_after rows made) (drop (i + 1) ops))) noted_is
     ∙ sym (noted-append (version_writes the_kinds (schema_of v) made) (writes_of v (rows_after rows made) (drop (i + 1) ops)) b)
     ∙ sym (ap (λ r. noted b (write_on v rows r (λ new. writes_of v new (drop (i + 1) ops)))) done)

@@ -5,5 +5,5 @@ pub mod View
 pub mod WorkRows
 pub mod RowCode
 pub mod Run
-pub mod Insert
+pub mod Changes
 pub mod Places

@@ -6,6 +6,7 @@ ghost use Rattle.row_write.specs.inner.Checks.{first_hidden as first_hidden_of, 
 
 use crate::fault::PrepareFault;
 use crate::op::RowOp;
+use crate::values::names;
 use keycode::{Text, Value};
 use row_map::{ColumnType, fits};
 use schema_version::{ElementDef, Schema, public_column_type};
@@ -59,12 +60,6 @@ fn is_key_for(columns: &[(Text, ColumnType)], key: &[Value]) -> bool
         }
     }
     true
-}
-
-fn names(cells: &[(u32, Value)], number: u32) -> bool
-    ensures { result ≡ list_any (λ c. number == c.0) cells.now }
-{
-    cells.iter().any(|c| number == c.0)
 }
 
 /// Whether no column is named twice.

@@ -1,12 +1,12 @@
 //! The row that an operation leaves.
-ghost use Rattle.std.specs.Prelude.{◌≡◌, ◌++◌, [], IfOk, OnOk, option_map};
+ghost use Rattle.std.specs.Prelude.{◌≡◌, ◌++◌, [], IfOk, IfSome, OnOk, option_map};
 ghost use Rattle.std.specs.FinMap as map;
 ghost use Rattle.element_state.specs.Operations.{cells_of};
-ghost use Rattle.row_write.specs.Plain.{cell_of, with_cells as with_cells_of};
+ghost use Rattle.row_write.specs.Plain.{cell_of, key_of, with_cells as with_cells_of};
+ghost use Rattle.row_write.specs.inner.Changes.{left_of};
 ghost use Rattle.row_write.specs.inner.View.{with_prefix};
-ghost use Rattle.row_write.specs.inner.Run.{cells_in, cells_but, IsNext};
+ghost use Rattle.row_write.specs.inner.Run.{cells_in, cells_but};
 
-use crate::fault::RowFault;
 use crate::op::RowOp;
 use collections::List;
 use keycode::{Value, Values};
@@ -100,7 +100,12 @@ pub(crate) fn inserted_row(
     new_row(key, Vec::with_capacity(alloc, named.len())?, named)
 }
 
-fn updated_row(old: &Row, key: &Values, named: &[(u32, Value)]) -> Result<Row, AllocError>
+/// The row that an update leaves.
+pub(crate) fn updated_row(
+    old: &Row,
+    key: &Values,
+    named: &[(u32, Value)],
+) -> Result<Row, AllocError>
     ensures key { IfOk result (λ row. row.key ≡ key.now) }
     ensures cells { IfOk result (λ row. cells_of row ≡ with_cells_of (cells_of old.now) named.now) }
 {
@@ -108,26 +113,23 @@ fn updated_row(old: &Row, key: &Values, named: &[(u32, Value)]) -> Result<Row, A
     new_row(key, cells.into_vec(), named)
 }
 
-/// The row that an operation leaves, if it leaves one, or why it is refused.
-pub(crate) fn next_row(
+/// The row that an operation leaves of the old one, if it leaves one.
+pub(crate) fn left_row(
     alloc: Global,
     old: Option<&Row>,
     op: &RowOp,
-) -> Result<Result<Option<Row>, RowFault>, AllocError>
-    ensures { IfOk result (λ next. IsNext (option_map (λ r. cells_of r.now) old.entry) op.now next) }
+) -> Result<Option<Row>, AllocError>
+    ensures key { IfOk result (λ new. IfSome new (λ row. row.key ≡ key_of op.now)) }
+    ensures cells { IfOk result (λ new. option_map cells_of new ≡ left_of (option_map (λ r. cells_of r.now) old.entry) op.now) }
 {
     match op {
-        RowOp::Insert { key, cells, .. } => match old {
-            Some(_) => Ok(Err(RowFault::Duplicate)),
-            None => Ok(Ok(Some(inserted_row(alloc, key, cells.as_slice())?))),
-        },
+        RowOp::Insert { key, cells, .. } => {
+            Ok(Some(inserted_row(alloc, key, cells.as_slice())?))
+        }
         RowOp::Update { key, cells, .. } => match old {
-            Some(old) => Ok(Ok(Some(updated_row(old, key, cells.as_slice())?))),
-            None => Ok(Err(RowFault::NoRow)),
+            Some(old) => Ok(Some(updated_row(old, key, cells.as_slice())?)),
+            None => Ok(None),
         },
-        RowOp::Delete { .. } => match old {
-            Some(_) => Ok(Ok(None)),
-            None => Ok(Err(RowFault::NoRow)),
-        },
+        RowOp::Delete { .. } => Ok(None),
     }
 }

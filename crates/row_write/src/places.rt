@@ -1,5 +1,6 @@
 //! Where the pairs of a row are in a view: side by side, as its keys have them in their order.
 ghost use Rattle.std.specs.Prelude.{◌≡◌, ◌+◌, ◌≤◌, ℕ, List, IsTrue, IfOk, IfErr, IfSome, OnOk, length};
+ghost use Rattle.std.specs.Bool.{Decides};
 ghost use Rattle.std.specs.FinMap as map;
 ghost use Rattle.keycode.specs.declared.value.Value.{Value};
 ghost use Rattle.row_map.specs.Keys.{row_code};
@@ -62,8 +63,8 @@ fn are_column_keys(
     true
 }
 
-fn is_same_key(a: &Bytes, b: &Bytes) -> bool
-    ensures { IsTrue result → a.now ≡ b.now }
+pub(crate) fn is_same_key(a: &Bytes, b: &Bytes) -> bool
+    ensures { Decides result (a.now ≡ b.now) }
 {
     a == b
 }

@@ -57,7 +57,7 @@ fn work_out_one(
     let Some((row, exists)) = encoded_row(alloc, schema, view, op)? else {
         return Ok(None);
     };
-    Ok(Some(run_one(alloc, schema, &row, op, exists)?))
+    Ok(Some(run_one(alloc, schema, &row, op, &exists)?))
 }
 
 /// What the operations come to, and what they write, on any rows that the view encodes.

@@ -17,7 +17,7 @@ use crate::edit::copy_key;
 use crate::fault::PrepareFault;
 use crate::lemmas::lemma_served;
 use crate::op::RowOp;
-use crate::places::{find_row, only_row};
+use crate::places::{find_row, is_same_key, only_row};
 use crate::public_columns::columns_of;
 use crate::reads::reads_of;
 use crate::work_rows::WorkRows;
@@ -100,12 +100,6 @@ fn are_both(a: bool, b: bool) -> bool
     ensures { result ≡ (a && b) }
 {
     a && b
-}
-
-fn is_same_key(a: &Bytes, b: &Bytes) -> bool
-    ensures { IsTrue result → a.now ≡ b.now }
-{
-    a == b
 }
 
 /// Whether these have the same keys in the same order.

@@ -1,20 +1,21 @@
 //! The operations of a transaction, one after another on working rows.
-ghost use Rattle.std.specs.Prelude.{◌≡◌, ◌∷◌, [], true, Ok, IfOk, IfSome, OnOk, option_map};
+ghost use Rattle.std.specs.Prelude.{◌≡◌, ◌∷◌, [], false, List, Err, IfOk, OnOk, MatchOption, option_map};
+ghost use Rattle.std.specs.List.{AllByRecursion};
 ghost use Rattle.std.specs.FinMap as map;
+ghost use Rattle.row_map.specs.Rows.{Bytes as ByteString};
 ghost use Rattle.row_map.specs.Writes.{written, noted};
+ghost use Rattle.row_write.specs.declared.op.RowOp.{RowOp as Operation};
 ghost use Rattle.element_state.specs.Operations.{cells_of};
-ghost use Rattle.element_state.specs.Schemas.{version_writes};
-ghost use Rattle.element_state.specs.Versions.{the_kinds, schema_of};
-ghost use Rattle.row_write.specs.Plain.{key_of, row_of, change_of, outcome};
-ghost use Rattle.row_write.specs.inner.Insert.{insert_at};
+ghost use Rattle.row_write.specs.Plain.{row_of, change_of, outcome};
 ghost use Rattle.row_write.specs.Prepare.{txn_writes};
-ghost use Rattle.row_write.specs.inner.Run.{change_at, IsNext, IsStep};
+ghost use Rattle.row_write.specs.inner.Changes.{left_of, IsDone};
+ghost use Rattle.row_write.specs.inner.Run.{IsNoted, IsStep};
 ghost use Rattle.row_write.specs.inner.View.{IsExistsKey, exists_keys};
 
-use crate::edit::{copy_key, next_row};
+use crate::edit::{copy_key, left_row};
 use crate::fault::RowFault;
-use crate::insert::write_insert;
 use crate::op::{RowOp, RowOutcome};
+use crate::places::is_same_key;
 use crate::work_rows::WorkRows;
 use crate::write::write_change;
 use byte_map::Bytes;
@@ -23,12 +24,12 @@ use row_map::{Batch, Row};
 use schema_version::Schema;
 use std::alloc::{AllocError, Global};
 
-/// Keeps the operation's row, or that it is gone.
-fn keep(alloc: Global, rows: &mut WorkRows, op: &RowOp, new: Option<Row>) -> Result<(), AllocError>
-    requires { IfSome new (λ row. row.key ≡ key_of op.now) }
-    ensures { OnOk result (rows.new ≡ written rows.old (row_of op.now) (option_map cells_of new)) }
+/// Keeps the row that the operation leaves, or that there is none.
+fn keep(alloc: Global, rows: &mut WorkRows, op: &RowOp) -> Result<(), AllocError>
+    ensures { OnOk result (rows.new ≡ written rows.old (row_of op.now) (left_of (map.get rows.old (row_of op.now)) op.now)) }
 {
-    match new {
+    let old = rows.find(op.table(), op.key().as_slice());
+    match left_row(alloc, old, op)? {
         Some(row) => rows.put(op.table(), row, true),
         None => {
             let key = copy_key(op.key())?;
@@ -38,31 +39,56 @@ fn keep(alloc: Global, rows: &mut WorkRows, op: &RowOp, new: Option<Row>) -> Res
     }
 }
 
-/// Makes one operation's change and notes its writes. Gives the row that it leaves.
+/// Why the operation is refused on the old row, if it is.
+fn refusal(op: &RowOp, old: Option<&Row>) -> Option<RowFault>
+    ensures { MatchOption result (IsDone (option_map (λ r. cells_of r.now) old.entry) op.now) (λ why. change_of (option_map (λ r. cells_of r.now) old.entry) op.now ≡ Err why) }
+{
+    match (op, old) {
+        (RowOp::Insert { .. }, Some(_)) => Some(RowFault::Duplicate),
+        (RowOp::Update { .. } | RowOp::Delete { .. }, None) => Some(RowFault::NoRow),
+        (RowOp::Insert { .. }, None) | (RowOp::Update { .. } | RowOp::Delete { .. }, Some(_)) =>
+            None,
+    }
+}
+
+/// Notes what an operation writes on the rows as they are, or says why it is refused.
 ///
 /// - `exists`: the key of the `exists` pair of the operation's row.
-fn change_op(
+fn write_op(
     alloc: Global,
     schema: &Schema,
     rows: &WorkRows,
     batch: &mut Batch,
     op: &RowOp,
     exists: &Bytes,
-) -> Result<Result<Option<Row>, RowFault>, AllocError>
+) -> Result<Result<(), RowFault>, AllocError>
     requires { IsExistsKey op.now exists.now }
-    ensures next { IfOk result (λ next. IsNext (map.get rows.now (row_of op.now)) op.now next) }
-    ensures batch { IfOk result (λ next. IfOk next (λ new. batch.new ≡ noted batch.old (version_writes the_kinds (schema_of schema.now) (change_at (row_of op.now) (map.get rows.now (row_of op.now)) (option_map cells_of new))))) }
+    ensures { IfOk result (λ done. IsNoted schema.now (map.get rows.now (row_of op.now)) op.now done batch.old batch.new) }
 {
     let old = rows.find(op.table(), op.key().as_slice());
-    let new = match next_row(alloc, old, op)? {
-        Err(why) => return Ok(Err(why)),
-        Ok(new) => new,
-    };
-    write_change(alloc, schema, op, exists, old, new.as_ref(), batch)?;
-    Ok(Ok(new))
+    if let Some(why) = refusal(op, old) {
+        return Ok(Err(why));
+    }
+    write_change(alloc, schema, op, exists, old, batch)?;
+    Ok(Ok(()))
 }
 
-/// Makes one operation's change, notes its writes and keeps its row.
+/// Whether a key is among these.
+fn is_among(key: &Bytes, keys: &[Bytes]) -> bool
+    ensures { result ≡ false → AllByRecursion (λ (other : ByteString). ¬ (other ≡ key.now)) keys.now }
+{
+    for other in keys {
+        if is_same_key(other, key) {
+            return true;
+        }
+    }
+    false
+}
+
+/// Notes what an operation writes, and keeps its row if a later operation is about it.
+///
+/// - `exists`: the key of the `exists` pair of the operation's row.
+/// - `later`: those of the operations after it.
 fn run_op(
     alloc: Global,
     schema: &Schema,
@@ -70,49 +96,36 @@ fn run_op(
     batch: &mut Batch,
     op: &RowOp,
     exists: &Bytes,
+    later: &[Bytes],
 ) -> Result<Result<(), RowFault>, AllocError>
     requires { IsExistsKey op.now exists.now }
-    ensures { IfOk result (λ done. IsStep schema.now rows.old op.now done rows.new batch.old batch.new) }
+    ensures { IfOk result (λ done. (ops : List Operation) → later.now ≡ exists_keys ops → IsStep schema.now rows.old op.now ops done rows.new batch.old batch.new) }
 {
-    let new = match change_op(alloc, schema, rows, batch, op, exists)? {
-        Err(why) => return Ok(Err(why)),
-        Ok(new) => new,
-    };
-    keep(alloc, rows, op, new)?;
+    if let Err(why) = write_op(alloc, schema, rows, batch, op, exists)? {
+        return Ok(Err(why));
+    }
+    if is_among(exists, later) {
+        keep(alloc, rows, op)?;
+    }
     Ok(Ok(()))
 }
 
-/// Whether the operation is an insert of a row that is not there.
-fn is_new(rows: &WorkRows, op: &RowOp) -> bool
-    ensures { result ≡ true → change_of (map.get rows.now (row_of op.now)) op.now ≡ Ok (insert_at (row_of op.now) op.now) }
-{
-    match op {
-        RowOp::Insert { table, key, .. } => rows.find(*table, key.as_slice()).is_none(),
-        RowOp::Update { .. } | RowOp::Delete { .. } => false,
-    }
-}
-
-/// Runs the only operation, as `run` does. Its row needs no keeping, and the key of its `exists`
-/// pair was made before.
+/// Runs the only operation, as `run` does.
 pub(crate) fn run_one(
     alloc: Global,
     schema: &Schema,
     rows: &WorkRows,
     op: &RowOp,
-    exists: Bytes,
+    exists: &Bytes,
 ) -> Result<(RowOutcome, Batch), AllocError>
-    requires { IsExistsKey op.now exists }
+    requires { IsExistsKey op.now exists.now }
     ensures reported { IfOk result (λ done. done.0 ≡ outcome rows.now (op.now ∷ [])) }
     ensures batch { IfOk result (λ done. done.1 ≡ noted map.empty (txn_writes schema.now rows.now (op.now ∷ []))) }
 {
     let mut batch = Batch::new(alloc);
-    if is_new(rows, op) {
-        write_insert(alloc, schema, op, exists, &mut batch)?;
-        return Ok((RowOutcome::Done, batch));
-    }
-    match change_op(alloc, schema, rows, &mut batch, op, &exists)? {
+    match write_op(alloc, schema, rows, &mut batch, op, exists)? {
         Err(why) => Ok((RowOutcome::Refused { op: 0, why }, Batch::new(alloc))),
-        Ok(_new) => Ok((RowOutcome::Done, batch)),
+        Ok(()) => Ok((RowOutcome::Done, batch)),
     }
 }
 
@@ -134,7 +147,9 @@ pub(crate) fn run(
     let mut batch = Batch::new(alloc);
     let mut place = 0;
     for op in ops {
-        if let Err(why) = run_op(alloc, schema, &mut rows, &mut batch, op, &keys[place])? {
+        let later = keys.split_at(place + 1).1;
+        let key = &keys[place];
+        if let Err(why) = run_op(alloc, schema, &mut rows, &mut batch, op, key, later)? {
             return Ok((RowOutcome::Refused { op: place, why }, Batch::new(alloc)));
         }
         place += 1;

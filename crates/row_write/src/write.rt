@@ -1,29 +1,27 @@
-//! What a change of one row writes.
-ghost use Rattle.std.specs.Prelude.{◌≡◌, ◌∷◌, Some, IfOk, OnOk, IfSome, option_map};
-ghost use Rattle.row_map.specs.Keys.{index_code};
+//! What the change of a row writes.
+ghost use Rattle.std.specs.Prelude.{◌≡◌, IfSome, OnOk, option_map};
 ghost use Rattle.row_map.specs.Writes.{noted};
-ghost use Rattle.schema_version.specs.Version.{live};
 ghost use Rattle.element_state.specs.Exists.{exists_by};
 ghost use Rattle.element_state.specs.Kinds.{kind_meaning};
 ghost use Rattle.element_state.specs.Sources.{source_in};
-ghost use Rattle.element_state.specs.Operations.{cells_of, inserted};
+ghost use Rattle.element_state.specs.Operations.{cells_of};
 ghost use Rattle.element_state.specs.Schemas.{version_writes};
 ghost use Rattle.element_state.specs.Versions.{the_kinds, schema_of};
 ghost use Rattle.row_write.specs.Plain.{key_of, row_of};
-ghost use Rattle.row_write.specs.inner.Insert.{IsOnlyIndexed, put_writes};
-ghost use Rattle.row_write.specs.inner.Run.{change_at, element_writes, live_writes};
+ghost use Rattle.row_write.specs.inner.Changes.{delete_at, done_at, done_by, left_of, IsDone, IsUpdated};
+ghost use Rattle.row_write.specs.inner.Run.{element_writes, live_writes};
 ghost use Rattle.row_write.specs.inner.View.{IsExistsKey};
 
+use crate::insert::insert_own;
 use crate::lemmas::lemma_served;
 use crate::op::RowOp;
 use crate::public_columns::own_elements;
+use crate::update::{shared_row, update_own};
 use byte_map::Bytes;
-use element_state::{AnyElement, Element, cell};
-use keycode::{Value, Values};
-use row_map::{Batch, Row, index_key};
-use schema_version::{ElementDef, ElementState, Kind, Schema};
+use element_state::{AnyElement, Element};
+use row_map::{Batch, Row};
+use schema_version::{ElementDef, Schema};
 use std::alloc::{AllocError, Global};
-use std::slice::from_ref;
 
 /// Writes the row's `exists` pair.
 fn write_exists(
@@ -31,71 +29,38 @@ fn write_exists(
     op: &RowOp,
     exists: &Bytes,
     old: Option<&Row>,
-    new: Option<&Row>,
     batch: &mut Batch,
 ) -> Result<(), AllocError>
-    requires { IsExistsKey op.now exists.now }
-    ensures { OnOk result (batch.new ≡ noted batch.old (exists_by (row_of op.now) (option_map (λ r. cells_of r.now) old.entry) (option_map (λ r. cells_of r.now) new.entry))) }
+    requires exists { IsExistsKey op.now exists.now }
+    requires done { IsDone (option_map (λ r. cells_of r.now) old) op.now }
+    ensures { OnOk result (batch.new ≡ noted batch.old (exists_by (row_of op.now) (option_map (λ r. cells_of r.now) old.entry) (left_of (option_map (λ r. cells_of r.now) old.entry) op.now))) }
 {
-    match (old, new) {
-        (None, Some(_)) => batch.put(exists.clone()?, Bytes::new(Vec::new(alloc))?),
-        (Some(_), None) => batch.remove(exists.clone()?),
-        _ => Ok(()),
+    match (op, old) {
+        (RowOp::Insert { .. }, None) => batch.put(exists.clone()?, Bytes::new(Vec::new(alloc))?),
+        (RowOp::Delete { .. }, Some(_)) => batch.remove(exists.clone()?),
+        (RowOp::Update { .. }, _)
+        | (RowOp::Insert { .. }, Some(_))
+        | (RowOp::Delete { .. }, None) => { Ok(()) }
     }
 }
 
-/// The row's value in the column of an index over one column that it has a value in.
-fn only_indexed<'a>(kind: &Kind, row: &'a Row) -> Option<&'a Value>
-    ensures { IfSome result (λ v. IsOnlyIndexed kind.now (cells_of row.now) v.now) }
-{
-    let Kind::Index(columns) = kind else {
-        return None;
-    };
-    let [column] = columns.as_slice() else {
-        return None;
-    };
-    cell(row, *column)
-}
-
-/// Writes the pair of a new row of this key for an index over one column, in which the row has this
-/// value.
-pub(crate) fn put_indexed(
-    alloc: Global,
-    definition: &ElementDef,
-    value: &Value,
-    key: &Values,
-    batch: &mut Batch,
-) -> Result<(), AllocError>
-    ensures { OnOk result (batch.new ≡ noted batch.old (put_writes definition.now.state (index_code definition.now.number (value.now ∷ key.now)))) }
-{
-    match definition.state {
-        ElementState::Absent | ElementState::DeleteOnly => Ok(()),
-        ElementState::WriteOnly | ElementState::Public => {
-            let key = index_key(alloc, definition.number, from_ref(value), key.as_slice())?;
-            batch.put(key, Bytes::new(Vec::new(alloc))?)
-        }
-    }
-}
-
-/// Writes what an element asks for at the insert of a row, as if it were one of its table.
-pub(crate) fn write_inserted(
+/// Writes what an element asks for at a delete, as if it were one of the row's table.
+fn delete_own(
     alloc: Global,
     schema: &Schema,
     definition: &ElementDef,
-    row: &Row,
+    op: &RowOp,
+    old: &Row,
     batch: &mut Batch,
 ) -> Result<(), AllocError>
-    ensures { OnOk result (batch.new ≡ noted batch.old ((kind_meaning definition.now.number (source_in schema.now definition.now.kind)).writes definition.now.state (inserted definition.now.table row.now))) }
+    requires { old.now.key ≡ key_of op.now }
+    ensures { OnOk result (batch.new ≡ noted batch.old ((kind_meaning definition.now.number (source_in schema.now definition.now.kind)).writes definition.now.state (delete_at (definition.now.table, key_of op.now) (cells_of old.now)))) }
 {
-    // Most indexes have one column, and make no list of what stands for missing values.
-    if let Some(value) = only_indexed(&definition.kind, row) {
-        return put_indexed(alloc, definition, value, &row.key, batch);
-    }
     let element = AnyElement::of(alloc, schema, definition)?;
-    element.on_insert(alloc, definition.state, row, batch)
+    element.on_delete(alloc, definition.state, old, batch)
 }
 
-/// Writes what an element asks for, as if the row were one of its table.
+/// Writes what an element asks for, as if it were one of the row's table.
 fn write_own(
     alloc: Global,
     schema: &Schema,
@@ -106,19 +71,19 @@ fn write_own(
     batch: &mut Batch,
 ) -> Result<(), AllocError>
     requires old { IfSome old (λ r. r.now.key ≡ key_of op.now) }
-    requires new { IfSome new (λ r. r.now.key ≡ key_of op.now) }
-    ensures { OnOk result (batch.new ≡ noted batch.old ((kind_meaning definition.now.number (source_in schema.now definition.now.kind)).writes definition.now.state (change_at (definition.now.table, key_of op.now) (option_map (λ r. cells_of r.now) old.entry) (option_map (λ r. cells_of r.now) new.entry)))) }
+    requires new { IfSome old (λ o. IfSome new (λ n. IsUpdated o.now op.now n.now)) }
+    requires done { IsDone (option_map (λ r. cells_of r.now) old) op.now }
+    ensures { OnOk result (batch.new ≡ noted batch.old ((kind_meaning definition.now.number (source_in schema.now definition.now.kind)).writes definition.now.state (done_at (definition.now.table, key_of op.now) op.now (option_map (λ r. cells_of r.now) old.entry)))) }
 {
-    let Some(old) = old else {
-        return match new {
-            None => Ok(()),
-            Some(new) => write_inserted(alloc, schema, definition, new, batch),
-        };
-    };
-    let element = AnyElement::of(alloc, schema, definition)?;
-    match new {
-        None => element.on_delete(alloc, definition.state, old, batch),
-        Some(new) => element.on_update(alloc, definition.state, old, new, batch),
+    match (op, old) {
+        (RowOp::Insert { .. }, None) => insert_own(alloc, schema, definition, op, batch),
+        (RowOp::Update { .. }, Some(old)) => {
+            update_own(alloc, schema, definition, op, old, new, batch)
+        }
+        (RowOp::Delete { .. }, Some(old)) => delete_own(alloc, schema, definition, op, old, batch),
+        (RowOp::Insert { .. }, Some(_)) | (RowOp::Update { .. } | RowOp::Delete { .. }, None) => {
+            Ok(())
+        }
     }
 }
 
@@ -133,8 +98,9 @@ fn write_element(
     batch: &mut Batch,
 ) -> Result<(), AllocError>
     requires old { IfSome old (λ r. r.now.key ≡ key_of op.now) }
-    requires new { IfSome new (λ r. r.now.key ≡ key_of op.now) }
-    ensures { OnOk result (batch.new ≡ noted batch.old (element_writes schema.now definition.now (change_at (row_of op.now) (option_map (λ r. cells_of r.now) old.entry) (option_map (λ r. cells_of r.now) new.entry)))) }
+    requires new { IfSome old (λ o. IfSome new (λ n. IsUpdated o.now op.now n.now)) }
+    requires done { IsDone (option_map (λ r. cells_of r.now) old) op.now }
+    ensures { OnOk result (batch.new ≡ noted batch.old (element_writes schema.now definition.now (done_by op.now (option_map (λ r. cells_of r.now) old.entry)))) }
 {
     if op.table() == definition.table {
         write_own(alloc, schema, definition, op, old, new, batch)
@@ -153,8 +119,9 @@ fn write_elements(
     batch: &mut Batch,
 ) -> Result<(), AllocError>
     requires old { IfSome old (λ r. r.now.key ≡ key_of op.now) }
-    requires new { IfSome new (λ r. r.now.key ≡ key_of op.now) }
-    ensures { OnOk result (batch.new ≡ noted batch.old (live_writes schema.now definitions.now (change_at (row_of op.now) (option_map (λ r. cells_of r.now) old.entry) (option_map (λ r. cells_of r.now) new.entry)))) }
+    requires new { IfSome old (λ o. IfSome new (λ n. IsUpdated o.now op.now n.now)) }
+    requires done { IsDone (option_map (λ r. cells_of r.now) old) op.now }
+    ensures { OnOk result (batch.new ≡ noted batch.old (live_writes schema.now definitions.now (done_by op.now (option_map (λ r. cells_of r.now) old.entry)))) }
 {
     for definition in definitions {
         write_element(alloc, schema, definition, op, old, new, batch)?;
@@ -162,24 +129,24 @@ fn write_elements(
     Ok(())
 }
 
-/// Writes what the operation's change asks for in the states of the schema. `exists` is the key of
-/// the row's `exists` pair.
+/// Writes what the operation's change of the old row asks for in the states of the schema. `exists` is
+/// the key of its `exists` pair.
 pub(crate) fn write_change(
     alloc: Global,
     schema: &Schema,
     op: &RowOp,
     exists: &Bytes,
     old: Option<&Row>,
-    new: Option<&Row>,
     batch: &mut Batch,
 ) -> Result<(), AllocError>
     requires exists { IsExistsKey op.now exists.now }
     requires old { IfSome old (λ r. r.now.key ≡ key_of op.now) }
-    requires new { IfSome new (λ r. r.now.key ≡ key_of op.now) }
-    ensures { OnOk result (batch.new ≡ noted batch.old (version_writes the_kinds (schema_of schema.now) (change_at (row_of op.now) (option_map (λ r. cells_of r.now) old.entry) (option_map (λ r. cells_of r.now) new.entry)))) }
+    requires done { IsDone (option_map (λ r. cells_of r.now) old) op.now }
+    ensures { OnOk result (batch.new ≡ noted batch.old (version_writes the_kinds (schema_of schema.now) (done_by op.now (option_map (λ r. cells_of r.now) old.entry)))) }
 {
     lemma_served(schema);
-    write_exists(alloc, op, exists, old, new, batch)?;
+    write_exists(alloc, op, exists, old, batch)?;
     let own = own_elements(schema, op.table());
-    write_elements(alloc, schema, own, op, old, new, batch)
+    let new = shared_row(own, op, old)?;
+    write_elements(alloc, schema, own, op, old, new.as_ref(), batch)
 }

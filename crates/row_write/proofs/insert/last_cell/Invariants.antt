@@ -1,6 +1,0 @@
-use Rattle.std.proofs.Common.{◌≡◌, drop, None, option_map}
-use Rattle.row_write.specs.inner.Insert.{last_named}
-use Rattle.row_write.proofs.insert.last_cell.Given as goal
-
-abbrev pub invariant-loop-number : goal.invariant-loop-number
-invariant-loop-number l = last_named l.column (option_map (λ v. v.now) l.found) (drop l.number-index l.cells) ≡ last_named l.column None l.cells
