@@ -15,6 +15,8 @@ mod operations;
 #[cfg(test)]
 mod reorganisations;
 #[cfg(test)]
+mod row_outcomes;
+#[cfg(test)]
 mod row_queries;
 #[cfg(test)]
 mod row_reads;
