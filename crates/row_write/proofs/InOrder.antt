@@ -1,14 +1,10 @@
 -- Entries that have the keys of a row, in their order.
-use Rattle.std.proofs.Common.{◌≡◌, ◌<◌, ◌≤◌, ◌+◌, ◌-◌, ◌==◌, ◌++◌, ◌⊎◌, inl, inr, ℕ, zero, suc, Bool, true, false, not, List, [], ◌∷◌, length, get_or, set, take, drop, Option, Some, None, refl, sym, ap, ap₂, subst, ◌∙◌, arith, ext_get_or, Contains}
-use Rattle.std.proofs.lemmas.List.{take_all, take-append-drop, length-append, take-map, drop-map, get_or-map, get_or-take, get_or-drop}
+use Rattle.std.proofs.Common.{◌≡◌, ◌<◌, ◌≤◌, ◌+◌, ◌==◌, ◌⊎◌, inl, inr, ℕ, zero, suc, Bool, true, false, not, List, [], ◌∷◌, length, get_or, set, take, drop, Option, Some, None, refl, sym, ap, ap₂, subst, ◌∙◌, arith, Contains}
+use Rattle.std.proofs.lemmas.List.{take_all, take-map, drop-map, get_or-map, get_or-take, get_or-drop}
 use Rattle.std.proofs.lemmas.List.Elements.{Contains-get_or}
-use Rattle.std.proofs.Math.Seq.{take-append_seam}
 use Rattle.std.specs.Cmp.Lexicographic.{pointwise, same_text}
-use Rattle.std.specs.Int.{w32, to_be_bytes}
 use Rattle.std.specs.List.{AllByRecursion}
 use Rattle.std.specs.FinMap.{get, entries}
-use Rattle.keycode.specs.declared.value.Value.{Value}
-use Rattle.keycode.specs.Code.{codes_of}
 use Rattle.keycode.specs.Order.{bytes_cmp}
 use Rattle.keycode.proofs.Orders.{bytes_cmp_total, bytes_cmp-IsAntisymmetric}
 use Rattle.row_map.specs.declared.shape.ColumnType.{ColumnType}
@@ -33,34 +29,6 @@ same_bytes a b other reported is = same_text a b (by (pointwise ◌==◌ a b) (s
     by : (x : Bool) → not x ≡ false → true ≡ x
     by true e = refl
     by false e = absurd (let wrong : true ≡ false = e in cc)
-
--- four bytes that are the same one by one
-pub four_same : (a b : Bytes) → length a ≡ 4 → length b ≡ 4 → get_or a 0 0 ≡ get_or b 0 0 → get_or a 1 0 ≡ get_or b 1 0 → get_or a 2 0 ≡ get_or b 2 0 → get_or a 3 0 ≡ get_or b 3 0 → a ≡ b
-four_same a b long too p q r s = ext_get_or 0 a b (long ∙ sym too) each
-  where
-    each : (k : ℕ) → k < length a → get_or a k 0 ≡ get_or b k 0
-    each zero lt = p
-    each (suc zero) lt = q
-    each (suc (suc zero)) lt = r
-    each (suc (suc (suc zero))) lt = s
-    each (suc (suc (suc (suc k)))) lt = absurd (omega (arith, lt, long))
-
--- all of a row's key but the number at its end
-abbrev prefix_of : ℕ → List Value → Bytes
-prefix_of table primary = 82 ∷ to_be_bytes w32 table ++ codes_of primary
-
-row_code_ends : (table : ℕ) (primary : List Value) (number : ℕ) → row_code table primary number ≡ prefix_of table primary ++ to_be_bytes w32 number
-unfolding row_code
-row_code_ends table primary number = refl
-
-pub with_number : (key exists : Bytes) (number table : ℕ) (primary : List Value) (place : ℕ) → place ≡ length key - 4 → 4 ≤ length key → length key ≡ length exists
-    → take place key ≡ take place exists → drop place key ≡ to_be_bytes w32 number → exists ≡ row_code table primary 0 → key ≡ row_code table primary number
-with_number key exists number table primary place at long alike prefix end is =
-    let ends : exists ≡ prefix_of table primary ++ to_be_bytes w32 0 = is ∙ row_code_ends table primary 0 in
-    let all : length exists ≡ length (prefix_of table primary ++ to_be_bytes w32 0) = ap length ends in
-    let place_is : place ≡ length (prefix_of table primary) = omega (arith, at, long, alike, all, length-append (prefix_of table primary) (to_be_bytes w32 0)) in
-    let prefix_is : take place key ≡ prefix_of table primary = prefix ∙ ap (take place) ends ∙ ap (λ n. take n (prefix_of table primary ++ to_be_bytes w32 0)) place_is ∙ take-append_seam (prefix_of table primary) (to_be_bytes w32 0) in
-    sym (take-append-drop place key) ∙ ap₂ (λ (a b : Bytes). a ++ b) prefix_is end ∙ sym (row_code_ends table primary number)
 
 -- ---- what entries hold
 

@@ -9,7 +9,7 @@ ghost use Rattle.element_state.specs.Required.{required_writes};
 ghost use Rattle.element_state.specs.Kinds.{kind_meaning};
 ghost use Rattle.element_state.specs.Sources.{source_in};
 ghost use Rattle.row_write.specs.Plain.{with_cells, key_of, named_of};
-ghost use Rattle.row_write.specs.inner.Changes.{IsOnlyIndexed, insert_at, put_writes};
+ghost use Rattle.row_write.specs.inner.Changes.{IsKeyIn, IsOnlyIndexed, insert_at, put_writes};
 
 use crate::edit::inserted_row;
 use crate::op::RowOp;
@@ -41,14 +41,16 @@ fn insert_cell(
     alloc: Global,
     definition: &ElementDef,
     op: &RowOp,
+    exists: &Bytes,
     batch: &mut Batch,
 ) -> Result<(), AllocError>
+    requires { IsKeyIn definition.now op.now exists.now }
     ensures { OnOk result (batch.new ≡ noted batch.old (column_writes definition.now.number definition.now.state (insert_at (definition.now.table, key_of op.now) op.now))) }
 {
     match definition.state {
         ElementState::Public => match named(op.cells(), definition.number) {
             None => Ok(()),
-            Some(value) => put_cell(alloc, definition, op, value, batch),
+            Some(value) => put_cell(alloc, definition, op, exists, value, batch),
         },
         ElementState::Absent | ElementState::DeleteOnly | ElementState::WriteOnly => Ok(()),
     }
@@ -59,17 +61,19 @@ fn insert_required(
     alloc: Global,
     definition: &ElementDef,
     op: &RowOp,
+    exists: &Bytes,
     fallback: &Value,
     batch: &mut Batch,
 ) -> Result<(), AllocError>
+    requires { IsKeyIn definition.now op.now exists.now }
     ensures { OnOk result (batch.new ≡ noted batch.old (required_writes definition.now.number fallback.now definition.now.state (insert_at (definition.now.table, key_of op.now) op.now))) }
 {
     match definition.state {
         ElementState::Absent | ElementState::DeleteOnly => Ok(()),
-        ElementState::WriteOnly => put_cell(alloc, definition, op, fallback, batch),
+        ElementState::WriteOnly => put_cell(alloc, definition, op, exists, fallback, batch),
         ElementState::Public => {
             let value = named(op.cells(), definition.number).unwrap_or(fallback);
-            put_cell(alloc, definition, op, value, batch)
+            put_cell(alloc, definition, op, exists, value, batch)
         }
     }
 }
@@ -132,14 +136,16 @@ pub(crate) fn insert_own(
     schema: &Schema,
     definition: &ElementDef,
     op: &RowOp,
+    exists: &Bytes,
     batch: &mut Batch,
 ) -> Result<(), AllocError>
+    requires { IsKeyIn definition.now op.now exists.now }
     ensures { OnOk result (batch.new ≡ noted batch.old ((kind_meaning definition.now.number (source_in schema.now definition.now.kind)).writes definition.now.state (insert_at (definition.now.table, key_of op.now) op.now))) }
 {
     match &definition.kind {
-        Kind::Optional(_) => insert_cell(alloc, definition, op, batch),
+        Kind::Optional(_) => insert_cell(alloc, definition, op, exists, batch),
         Kind::Required { fallback, .. } => {
-            insert_required(alloc, definition, op, fallback, batch)
+            insert_required(alloc, definition, op, exists, fallback, batch)
         }
         Kind::Index(_) => insert_index(alloc, schema, definition, op, batch),
     }

@@ -3,6 +3,7 @@
 #![tactic(auto)]
 
 mod check;
+mod delete;
 mod edit;
 mod fault;
 mod insert;

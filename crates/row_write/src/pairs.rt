@@ -1,14 +1,16 @@
 //! The pair of the operation's row in a column.
-ghost use Rattle.std.specs.Prelude.{◌≡◌, Some, IfOk, OnOk, option_map};
+ghost use Rattle.std.specs.Prelude.{◌≡◌, Some, None, IfOk, OnOk, option_map};
 ghost use Rattle.std.specs.FinMap as map;
 ghost use Rattle.keycode.specs.Code.{code};
 ghost use Rattle.element_state.specs.Column.{column_pair, coded};
 ghost use Rattle.row_write.specs.Plain.{key_of};
+ghost use Rattle.row_write.specs.inner.Changes.{IsKeyIn};
 
 use crate::op::RowOp;
 use byte_map::Bytes;
 use keycode::{Value, encode_int, push_value};
-use row_map::{Batch, column_key};
+use row_keys::column_key_of;
+use row_map::Batch;
 use schema_version::ElementDef;
 use std::alloc::{AllocError, Global};
 
@@ -32,41 +34,57 @@ fn encode_value(alloc: Global, value: &Value) -> Result<Bytes, AllocError>
     Bytes::new(out)
 }
 
-/// The key of the pair.
-fn key_in(alloc: Global, definition: &ElementDef, op: &RowOp) -> Result<Bytes, AllocError>
-    ensures { IfOk result (λ key. key ≡ column_pair definition.now.number (definition.now.table, key_of op.now)) }
-{
-    let key = op.key().as_slice();
-    column_key(alloc, definition.table, key, definition.number)
-}
-
 /// Writes the pair of a column in which the row has this value.
+///
+/// - `exists`: the key of the row's `exists` pair.
 pub(crate) fn put_cell(
     alloc: Global,
     definition: &ElementDef,
     op: &RowOp,
+    exists: &Bytes,
     value: &Value,
     batch: &mut Batch,
 ) -> Result<(), AllocError>
+    requires { IsKeyIn definition.now op.now exists.now }
     ensures { OnOk result (batch.new ≡ map.insert batch.old (column_pair definition.now.number (definition.now.table, key_of op.now)) (Some (code value.now))) }
 {
-    let key = key_in(alloc, definition, op)?;
+    let key = column_key_of(alloc, exists, definition.number)?;
     let bytes = encode_value(alloc, value)?;
     batch.put(key, bytes)
 }
 
+/// Takes the pair of a column away.
+///
+/// - `exists`: the key of the row's `exists` pair.
+pub(crate) fn remove_cell(
+    alloc: Global,
+    definition: &ElementDef,
+    op: &RowOp,
+    exists: &Bytes,
+    batch: &mut Batch,
+) -> Result<(), AllocError>
+    requires { IsKeyIn definition.now op.now exists.now }
+    ensures { OnOk result (batch.new ≡ map.insert batch.old (column_pair definition.now.number (definition.now.table, key_of op.now)) None) }
+{
+    batch.remove(column_key_of(alloc, exists, definition.number)?)
+}
+
 /// Writes the pair of a column in which the row has this value, or takes it away if it has none.
+///
+/// - `exists`: the key of the row's `exists` pair.
 pub(crate) fn write_cell(
     alloc: Global,
     definition: &ElementDef,
     op: &RowOp,
+    exists: &Bytes,
     value: Option<&Value>,
     batch: &mut Batch,
 ) -> Result<(), AllocError>
+    requires { IsKeyIn definition.now op.now exists.now }
     ensures { OnOk result (batch.new ≡ map.insert batch.old (column_pair definition.now.number (definition.now.table, key_of op.now)) (coded (option_map (λ v. v.now) value.entry))) }
 {
     match value {
-        Some(value) => put_cell(alloc, definition, op, value, batch),
-        None => batch.remove(key_in(alloc, definition, op)?),
+        Some(value) => put_cell(alloc, definition, op, exists, value, batch),
+        None => remove_cell(alloc, definition, op, exists, batch),
     }
 }

@@ -13,36 +13,15 @@ ghost use Rattle.row_write.specs.inner.View.{IsMissed, IsVisible, IsExistsKey, k
 use crate::fault::PrepareFault;
 use crate::op::RowOp;
 use crate::view::{cells_in, presence_in, read_row};
-use byte_map::{Bytes, sorted, words};
+use byte_map::{Bytes, sorted};
 use collections::List;
 use keycode::Value;
+use row_keys::{is_column_key, is_exists_key};
 use row_map::{ColumnType, ReadView, exists_key};
-use std::alloc::Global;
+use std::alloc::{AllocError, Global};
 
-/// Whether a key is the `exists` key of a row with this number in the place of its last four bytes.
-fn is_column_key(key: &[u8], exists: &[u8], number: u32) -> bool
-    ensures { IsTrue result → (table : ℕ) (primary : List Value) → exists.now ≡ row_code table primary 0 → key.now ≡ row_code table primary number }
-{
-    if key.len() < 4 || key.len() != exists.len() {
-        return false;
-    }
-    let place = key.len() - 4;
-    let (prefix, end) = key.split_at(place);
-    if !words::is_same(prefix, exists.split_at(place).0) {
-        return false;
-    }
-    let encoded = number.to_be_bytes();
-    if end[0] != encoded[0] {
-        return false;
-    }
-    if end[1] != encoded[1] {
-        return false;
-    }
-    if end[2] != encoded[2] {
-        return false;
-    }
-    end[3] == encoded[3]
-}
+/// In a view of up to so many rows each is tried before a key is made. It shows in the speed alone.
+const FEW: usize = 8;
 
 /// Whether these entries have the keys of a row's pairs for these columns, in their order.
 fn are_column_keys(
@@ -69,15 +48,15 @@ pub(crate) fn is_same_key(a: &Bytes, b: &Bytes) -> bool
     a == b
 }
 
-/// Whether the entries from this place on have the keys of a row: that of its `exists` pair, which is
-/// given, and those of its pairs for these columns.
+/// Whether the entries from this place on have the keys of the operation's row: that of its `exists`
+/// pair, and those of its pairs for these columns.
 fn is_row_at(
     entries: &[(Bytes, Option<Bytes>)],
     at: usize,
-    exists: &Bytes,
+    op: &RowOp,
     columns: &[(u32, ColumnType)],
 ) -> bool
-    ensures { IsTrue result → (op : RowOp) → IsExistsKey op exists.now → IsRowAt entries.now op columns.now at }
+    ensures { IsTrue result → IsRowAt entries.now op.now columns.now at }
 {
     if at >= entries.len() {
         return false;
@@ -86,11 +65,11 @@ fn is_row_at(
     if entries.len() - after < columns.len() {
         return false;
     }
-    if !is_same_key(&entries[at].0, exists) {
+    let exists = entries[at].0.as_slice();
+    if !is_exists_key(exists, op.table(), op.key().as_slice()) {
         return false;
     }
-    let own = &entries[after..after + columns.len()];
-    are_column_keys(own, exists.as_slice(), columns)
+    are_column_keys(&entries[after..after + columns.len()], exists, columns)
 }
 
 /// Whether the row is there, and its cells of these columns, from the entries from this place on.
@@ -130,12 +109,11 @@ pub(crate) fn only_row(
     if entries.len() != columns.len() + 1 {
         return Ok(None);
     }
-    let exists = exists_key(alloc, op.table(), op.key().as_slice())?;
-    if !is_row_at(entries, 0, &exists, columns) {
+    if !is_row_at(entries, 0, op, columns) {
         return Ok(None);
     }
     let (there, cells) = row_at(alloc, view, op, columns, 0)?;
-    Ok(Some((there, cells, exists)))
+    Ok(Some((there, cells, entries[0].0.clone()?)))
 }
 
 /// Marks so many entries from a place on.
@@ -148,14 +126,108 @@ fn mark(marks: &mut [bool], at: usize, count: usize)
     }
 }
 
+/// Where the operation's row is, if it is at this place, or in a view of few rows.
+fn near_place(
+    entries: &[(Bytes, Option<Bytes>)],
+    op: &RowOp,
+    columns: &[(u32, ColumnType)],
+    from: usize,
+) -> Option<usize>
+    ensures { IfSome result (λ at. IsRowAt entries.now op.now columns.now at) }
+{
+    if is_row_at(entries, from, op, columns) {
+        return Some(from);
+    }
+    let step = columns.len().saturating_add(1);
+    if entries.len() > step.saturating_mul(FEW) {
+        return None;
+    }
+    let mut at = 0;
+    for _ in 0..FEW {
+        if is_row_at(entries, at, op, columns) {
+            return Some(at);
+        }
+        at = step.saturating_add(at);
+    }
+    None
+}
+
+/// Where the operation's row is, if its entries are side by side. Its key is made only if the row is
+/// not found without it.
+fn row_place(
+    alloc: Global,
+    view: &ReadView,
+    op: &RowOp,
+    columns: &[(u32, ColumnType)],
+    from: usize,
+) -> Result<Option<usize>, AllocError>
+    ensures { IfOk result (λ found. IfSome found (λ at. IsRowAt (map.entries view.now) op.now columns.now at)) }
+{
+    let entries = view.entries();
+    if let Some(at) = near_place(entries, op, columns, from) {
+        return Ok(Some(at));
+    }
+    let exists = exists_key(alloc, op.table(), op.key().as_slice())?;
+    let at = sorted::first_from(entries, exists.as_slice());
+    if is_row_at(entries, at, op, columns) {
+        Ok(Some(at))
+    } else {
+        Ok(None)
+    }
+}
+
+/// The operation's row by a look-up of each key, and the key of its `exists` pair.
+fn looked_up_row(
+    alloc: Global,
+    view: &ReadView,
+    op: &RowOp,
+    columns: &[(u32, ColumnType)],
+) -> Result<(bool, List<(u32, Value)>, Bytes), PrepareFault>
+    ensures found { IfOk result (λ row. IsVisible view.now op.now columns.now row.0 row.1) }
+    ensures exists { IfOk result (λ row. IsExistsKey op.now row.2) }
+    ensures missed { IfErr result (IsMissed ((there : _) (cells : _) → ¬ (IsVisible view.now op.now columns.now there cells))) }
+{
+    let exists = exists_key(alloc, op.table(), op.key().as_slice())?;
+    let (there, cells) = read_row(alloc, view, op, columns, &exists)?;
+    Ok((there, cells, exists))
+}
+
+/// The operation's row, whose entries from this place on are marked, and the key of its `exists` pair.
+/// `next` becomes the place after them.
+fn marked_row(
+    alloc: Global,
+    view: &ReadView,
+    op: &RowOp,
+    columns: &[(u32, ColumnType)],
+    at: usize,
+    marks: &mut [bool],
+    next: &mut usize,
+) -> Result<(bool, List<(u32, Value)>, Bytes), PrepareFault>
+    requires place { IsRowAt (map.entries view.now) op.now columns.now at }
+    requires long { length marks.old ≡ length (map.entries view.now) }
+    ensures found { IfOk result (λ row. IsVisible view.now op.now columns.now row.0 row.1) }
+    ensures exists { IfOk result (λ row. IsExistsKey op.now row.2) }
+    ensures missed { IfErr result (IsMissed ((there : _) (cells : _) → ¬ (IsVisible view.now op.now columns.now there cells))) }
+    ensures marked { OnOk result (AreMarked (keys_of (map.entries view.now)) (row_keys op.now columns.now) marks.old marks.new) }
+{
+    let exists = view.entries()[at].0.clone()?;
+    let (there, cells) = row_at(alloc, view, op, columns, at)?;
+    mark(marks, at, columns.len() + 1);
+    *next = at + columns.len() + 1;
+    Ok((there, cells, exists))
+}
+
 /// Whether the operation's row is there, its cells of these columns, and the key of its `exists` pair.
 /// The row's entries are marked, if they are side by side.
+///
+/// - `next`: where the row may be; then the place after it.
 pub(crate) fn find_row(
     alloc: Global,
     view: &ReadView,
     op: &RowOp,
     columns: &[(u32, ColumnType)],
     marks: &mut [bool],
+    next: &mut usize,
 ) -> Result<(bool, List<(u32, Value)>, Bytes), PrepareFault>
     requires { length marks.old ≡ length (map.entries view.now) }
     ensures found { IfOk result (λ row. IsVisible view.now op.now columns.now row.0 row.1) }
@@ -163,14 +235,8 @@ pub(crate) fn find_row(
     ensures missed { IfErr result (IsMissed ((there : _) (cells : _) → ¬ (IsVisible view.now op.now columns.now there cells))) }
     ensures marked { OnOk result (AreMarked (keys_of (map.entries view.now)) (row_keys op.now columns.now) marks.old marks.new) }
 {
-    let exists = exists_key(alloc, op.table(), op.key().as_slice())?;
-    let entries = view.entries();
-    let at = sorted::first_from(entries, exists.as_slice());
-    if !is_row_at(entries, at, &exists, columns) {
-        let (there, cells) = read_row(alloc, view, op, columns, &exists)?;
-        return Ok((there, cells, exists));
+    match row_place(alloc, view, op, columns, *next)? {
+        Some(at) => marked_row(alloc, view, op, columns, at, marks, next),
+        None => looked_up_row(alloc, view, op, columns),
     }
-    let (there, cells) = row_at(alloc, view, op, columns, at)?;
-    mark(marks, at, columns.len() + 1);
-    Ok((there, cells, exists))
 }

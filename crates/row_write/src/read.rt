@@ -43,6 +43,8 @@ fn put_row(
 
 /// Reads the row of an operation, marks its entries if they are side by side, and gives the key of its
 /// `exists` pair.
+///
+/// - `next`: where the row may be; then the place after it.
 fn read_op(
     alloc: Global,
     view: &ReadView,
@@ -50,6 +52,7 @@ fn read_op(
     op: &RowOp,
     columns: &[(u32, ColumnType)],
     marks: &mut [bool],
+    next: &mut usize,
 ) -> Result<Bytes, PrepareFault>
     requires { length marks.old ≡ length (map.entries view.now) }
     ensures exists { IfOk result (IsExistsKey op.now) }
@@ -57,7 +60,7 @@ fn read_op(
     ensures missed { IfErr result (IsMissed ((there : Bool) (cells : _) → ¬ (IsVisible view.now op.now columns.now there cells))) }
     ensures marked { OnOk result (AreMarked (keys_of (map.entries view.now)) (row_keys op.now columns.now) marks.old marks.new) }
 {
-    let (there, cells, exists) = find_row(alloc, view, op, columns, marks)?;
+    let (there, cells, exists) = find_row(alloc, view, op, columns, marks, next)?;
     put_row(rows, op, there, cells)?;
     Ok(exists)
 }
@@ -81,9 +84,18 @@ fn read_rows(
     lemma_served(schema);
     let mut rows = WorkRows::new(alloc);
     let mut keys = Vec::new(alloc);
+    let mut next = 0;
     for op in ops {
         let columns = columns_of(alloc, schema, op.table())?;
-        let exists = read_op(alloc, view, &mut rows, op, columns.as_slice(), marks)?;
+        let exists = read_op(
+            alloc,
+            view,
+            &mut rows,
+            op,
+            columns.as_slice(),
+            marks,
+            &mut next,
+        )?;
         keys.push(exists)?;
     }
     Ok((rows, keys))

@@ -7,43 +7,52 @@ ghost use Rattle.schema_version.specs.Shape.{public_column as public_column_of, 
 ghost use Rattle.row_write.specs.Plain.{table_of};
 ghost use Rattle.row_write.specs.Reads.{IsRead};
 ghost use Rattle.row_write.specs.inner.Enter.{entered, column_keys, op_keys, entered_all};
+ghost use Rattle.row_write.specs.inner.View.{IsExistsKey};
 
 use crate::lemmas::lemma_served;
 use crate::op::RowOp;
 use crate::public_columns::{own_elements, public_column};
-use byte_map::KeyMap;
-use row_map::{ReadSet, column_key, exists_key};
+use byte_map::{Bytes, KeyMap};
+use row_keys::column_key_of;
+use row_map::{ReadSet, exists_key};
 use schema_version::{ElementDef, Schema};
 use std::alloc::{AllocError, Global};
 
 /// Enters the keys of the row's pairs for the public columns among these elements.
+///
+/// - `exists`: the key of the row's `exists` pair.
 fn enter_among(
     alloc: Global,
     set: &mut ReadSet,
     op: &RowOp,
+    exists: &Bytes,
     elements: &[ElementDef],
 ) -> Result<(), AllocError>
+    requires { IsExistsKey op.now exists.now }
     ensures { OnOk result (set.new ≡ entered set.old (column_keys op.now (filter_map (public_column_of (table_of op.now)) elements.now))) }
 {
     for element in elements {
         if let Some((number, _kind)) = public_column(element, op.table()) {
-            let key = column_key(alloc, op.table(), op.key().as_slice(), number)?;
-            set.insert(key, ())?;
+            set.insert(column_key_of(alloc, exists, number)?, ())?;
         }
     }
     Ok(())
 }
 
 /// Enters the keys of the row's pairs for the public columns of its table.
+///
+/// - `exists`: the key of the row's `exists` pair.
 fn enter_columns(
     alloc: Global,
     set: &mut ReadSet,
     schema: &Schema,
     op: &RowOp,
+    exists: &Bytes,
 ) -> Result<(), AllocError>
+    requires { IsExistsKey op.now exists.now }
     ensures { OnOk result (set.new ≡ entered set.old (column_keys op.now (column_types schema.now (table_of op.now)))) }
 {
-    enter_among(alloc, set, op, own_elements(schema, op.table()))
+    enter_among(alloc, set, op, exists, own_elements(schema, op.table()))
 }
 
 /// Enters the keys of an operation's row.
@@ -58,9 +67,9 @@ fn enter_row(
     if schema.key_of(op.table()).is_none() {
         return Ok(());
     }
-    let key = exists_key(alloc, op.table(), op.key().as_slice())?;
-    set.insert(key, ())?;
-    enter_columns(alloc, set, schema, op)
+    let exists = exists_key(alloc, op.table(), op.key().as_slice())?;
+    set.insert(exists.clone()?, ())?;
+    enter_columns(alloc, set, schema, op, &exists)
 }
 
 fn read_set(alloc: Global, schema: &Schema, ops: &[RowOp]) -> Result<ReadSet, AllocError>

@@ -9,12 +9,13 @@ ghost use Rattle.element_state.specs.Kinds.{kind_meaning};
 ghost use Rattle.element_state.specs.Sources.{source_in};
 ghost use Rattle.element_state.specs.Operations.{cells_of};
 ghost use Rattle.row_write.specs.Plain.{key_of};
-ghost use Rattle.row_write.specs.inner.Changes.{update_at, IsUpdated};
+ghost use Rattle.row_write.specs.inner.Changes.{update_at, IsKeyIn, IsUpdated};
 
 use crate::edit::updated_row;
 use crate::op::RowOp;
 use crate::pairs::{put_cell, write_cell};
 use crate::values::{is_same_cell, names_any, updated};
+use byte_map::Bytes;
 use element_state::{AnyElement, Element, cell};
 use keycode::Value;
 use row_map::{Batch, Row};
@@ -26,9 +27,11 @@ fn update_cell(
     alloc: Global,
     definition: &ElementDef,
     op: &RowOp,
+    exists: &Bytes,
     old: &Row,
     batch: &mut Batch,
 ) -> Result<(), AllocError>
+    requires { IsKeyIn definition.now op.now exists.now }
     ensures { OnOk result (batch.new ≡ noted batch.old (column_writes definition.now.number definition.now.state (update_at (definition.now.table, key_of op.now) (cells_of old.now) op.now))) }
 {
     match definition.state {
@@ -37,7 +40,7 @@ fn update_cell(
             if is_same_cell(cell(old, definition.number), value) {
                 return Ok(());
             }
-            write_cell(alloc, definition, op, value, batch)
+            write_cell(alloc, definition, op, exists, value, batch)
         }
         ElementState::Absent | ElementState::DeleteOnly | ElementState::WriteOnly => Ok(()),
     }
@@ -48,10 +51,12 @@ fn update_required(
     alloc: Global,
     definition: &ElementDef,
     op: &RowOp,
+    exists: &Bytes,
     old: &Row,
     fallback: &Value,
     batch: &mut Batch,
 ) -> Result<(), AllocError>
+    requires { IsKeyIn definition.now op.now exists.now }
     ensures { OnOk result (batch.new ≡ noted batch.old (required_writes definition.now.number fallback.now definition.now.state (update_at (definition.now.table, key_of op.now) (cells_of old.now) op.now))) }
 {
     match definition.state {
@@ -61,7 +66,7 @@ fn update_required(
             if before.cmp(value).is_eq() {
                 return Ok(());
             }
-            put_cell(alloc, definition, op, value, batch)
+            put_cell(alloc, definition, op, exists, value, batch)
         }
         ElementState::Absent | ElementState::DeleteOnly | ElementState::WriteOnly => Ok(()),
     }
@@ -119,18 +124,20 @@ pub(crate) fn update_own(
     schema: &Schema,
     definition: &ElementDef,
     op: &RowOp,
+    exists: &Bytes,
     old: &Row,
     new: Option<&Row>,
     batch: &mut Batch,
 ) -> Result<(), AllocError>
+    requires exists { IsKeyIn definition.now op.now exists.now }
     requires old { old.now.key ≡ key_of op.now }
     requires new { IfSome new (λ r. IsUpdated old.now op.now r.now) }
     ensures { OnOk result (batch.new ≡ noted batch.old ((kind_meaning definition.now.number (source_in schema.now definition.now.kind)).writes definition.now.state (update_at (definition.now.table, key_of op.now) (cells_of old.now) op.now))) }
 {
     match &definition.kind {
-        Kind::Optional(_) => update_cell(alloc, definition, op, old, batch),
+        Kind::Optional(_) => update_cell(alloc, definition, op, exists, old, batch),
         Kind::Required { fallback, .. } => {
-            update_required(alloc, definition, op, old, fallback, batch)
+            update_required(alloc, definition, op, exists, old, fallback, batch)
         }
         Kind::Index(columns) => {
             let columns = columns.as_slice();

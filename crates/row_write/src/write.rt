@@ -8,17 +8,17 @@ ghost use Rattle.element_state.specs.Operations.{cells_of};
 ghost use Rattle.element_state.specs.Schemas.{version_writes};
 ghost use Rattle.element_state.specs.Versions.{the_kinds, schema_of};
 ghost use Rattle.row_write.specs.Plain.{key_of, row_of};
-ghost use Rattle.row_write.specs.inner.Changes.{delete_at, done_at, done_by, left_of, IsDone, IsUpdated};
+ghost use Rattle.row_write.specs.inner.Changes.{done_at, done_by, left_of, IsDone, IsKeyIn, IsUpdated};
 ghost use Rattle.row_write.specs.inner.Run.{element_writes, live_writes};
 ghost use Rattle.row_write.specs.inner.View.{IsExistsKey};
 
+use crate::delete::delete_own;
 use crate::insert::insert_own;
 use crate::lemmas::lemma_served;
 use crate::op::RowOp;
 use crate::public_columns::own_elements;
 use crate::update::{shared_row, update_own};
 use byte_map::Bytes;
-use element_state::{AnyElement, Element};
 use row_map::{Batch, Row};
 use schema_version::{ElementDef, Schema};
 use std::alloc::{AllocError, Global};
@@ -44,43 +44,31 @@ fn write_exists(
     }
 }
 
-/// Writes what an element asks for at a delete, as if it were one of the row's table.
-fn delete_own(
-    alloc: Global,
-    schema: &Schema,
-    definition: &ElementDef,
-    op: &RowOp,
-    old: &Row,
-    batch: &mut Batch,
-) -> Result<(), AllocError>
-    requires { old.now.key ≡ key_of op.now }
-    ensures { OnOk result (batch.new ≡ noted batch.old ((kind_meaning definition.now.number (source_in schema.now definition.now.kind)).writes definition.now.state (delete_at (definition.now.table, key_of op.now) (cells_of old.now)))) }
-{
-    let element = AnyElement::of(alloc, schema, definition)?;
-    element.on_delete(alloc, definition.state, old, batch)
-}
-
 /// Writes what an element asks for, as if it were one of the row's table.
 fn write_own(
     alloc: Global,
     schema: &Schema,
     definition: &ElementDef,
     op: &RowOp,
+    exists: &Bytes,
     old: Option<&Row>,
     new: Option<&Row>,
     batch: &mut Batch,
 ) -> Result<(), AllocError>
+    requires exists { IsKeyIn definition.now op.now exists.now }
     requires old { IfSome old (λ r. r.now.key ≡ key_of op.now) }
     requires new { IfSome old (λ o. IfSome new (λ n. IsUpdated o.now op.now n.now)) }
     requires done { IsDone (option_map (λ r. cells_of r.now) old) op.now }
     ensures { OnOk result (batch.new ≡ noted batch.old ((kind_meaning definition.now.number (source_in schema.now definition.now.kind)).writes definition.now.state (done_at (definition.now.table, key_of op.now) op.now (option_map (λ r. cells_of r.now) old.entry)))) }
 {
     match (op, old) {
-        (RowOp::Insert { .. }, None) => insert_own(alloc, schema, definition, op, batch),
+        (RowOp::Insert { .. }, None) => insert_own(alloc, schema, definition, op, exists, batch),
         (RowOp::Update { .. }, Some(old)) => {
-            update_own(alloc, schema, definition, op, old, new, batch)
+            update_own(alloc, schema, definition, op, exists, old, new, batch)
         }
-        (RowOp::Delete { .. }, Some(old)) => delete_own(alloc, schema, definition, op, old, batch),
+        (RowOp::Delete { .. }, Some(old)) => {
+            delete_own(alloc, schema, definition, op, exists, old, batch)
+        }
         (RowOp::Insert { .. }, Some(_)) | (RowOp::Update { .. } | RowOp::Delete { .. }, None) => {
             Ok(())
         }
@@ -93,17 +81,19 @@ fn write_element(
     schema: &Schema,
     definition: &ElementDef,
     op: &RowOp,
+    exists: &Bytes,
     old: Option<&Row>,
     new: Option<&Row>,
     batch: &mut Batch,
 ) -> Result<(), AllocError>
+    requires exists { IsExistsKey op.now exists.now }
     requires old { IfSome old (λ r. r.now.key ≡ key_of op.now) }
     requires new { IfSome old (λ o. IfSome new (λ n. IsUpdated o.now op.now n.now)) }
     requires done { IsDone (option_map (λ r. cells_of r.now) old) op.now }
     ensures { OnOk result (batch.new ≡ noted batch.old (element_writes schema.now definition.now (done_by op.now (option_map (λ r. cells_of r.now) old.entry)))) }
 {
     if op.table() == definition.table {
-        write_own(alloc, schema, definition, op, old, new, batch)
+        write_own(alloc, schema, definition, op, exists, old, new, batch)
     } else {
         Ok(())
     }
@@ -114,17 +104,19 @@ fn write_elements(
     schema: &Schema,
     definitions: &[ElementDef],
     op: &RowOp,
+    exists: &Bytes,
     old: Option<&Row>,
     new: Option<&Row>,
     batch: &mut Batch,
 ) -> Result<(), AllocError>
+    requires exists { IsExistsKey op.now exists.now }
     requires old { IfSome old (λ r. r.now.key ≡ key_of op.now) }
     requires new { IfSome old (λ o. IfSome new (λ n. IsUpdated o.now op.now n.now)) }
     requires done { IsDone (option_map (λ r. cells_of r.now) old) op.now }
     ensures { OnOk result (batch.new ≡ noted batch.old (live_writes schema.now definitions.now (done_by op.now (option_map (λ r. cells_of r.now) old.entry)))) }
 {
     for definition in definitions {
-        write_element(alloc, schema, definition, op, old, new, batch)?;
+        write_element(alloc, schema, definition, op, exists, old, new, batch)?;
     }
     Ok(())
 }
@@ -148,5 +140,5 @@ pub(crate) fn write_change(
     write_exists(alloc, op, exists, old, batch)?;
     let own = own_elements(schema, op.table());
     let new = shared_row(own, op, old)?;
-    write_elements(alloc, schema, own, op, old, new.as_ref(), batch)
+    write_elements(alloc, schema, own, op, exists, old, new.as_ref(), batch)
 }

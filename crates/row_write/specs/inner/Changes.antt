@@ -1,12 +1,14 @@
--- Cited by private functions alone: only_named, put_indexed, last_cell and 30 more.
+-- Cited by private functions alone: only_named, put_indexed, last_cell and others.
 -- The change that an operation makes of its row.
 use Rattle.std.specs.Prelude.{◌≡◌, ◌==◌, ℕ, Bool, List, [], ◌∷◌, Option, Some, None, Ok, if◌then◌else◌}
 use Rattle.std.specs.List.{list_any}
 use Rattle.std.specs.FinMap as map
 use Rattle.keycode.specs.declared.value.Value.{Value}
 use Rattle.row_map.specs.declared.shape.Row.{Row}
+use Rattle.row_map.specs.Keys.{row_code}
 use Rattle.row_map.specs.Rows.{Bytes, Cells, RowKey}
 use Rattle.row_map.specs.Writes.{Writes}
+use Rattle.schema_version.specs.declared.element.ElementDef.{ElementDef}
 use Rattle.schema_version.specs.declared.element.ElementState.{ElementState}
 use Rattle.schema_version.specs.declared.element.ElementState.TheVariants.{Absent, DeleteOnly, WriteOnly, Public}
 use Rattle.schema_version.specs.declared.element.Kind.{Kind}
@@ -16,6 +18,10 @@ use Rattle.element_state.specs.Operations.{cells_of}
 use Rattle.row_write.specs.declared.op.RowOp.{RowOp}
 use Rattle.row_write.specs.declared.op.RowOp.TheVariants.{Insert, Update, Delete}
 use Rattle.row_write.specs.Plain.{cell_of, with_cells, named_of, key_of, row_of, change_of}
+
+-- the key of the `exists` pair of the operation's row, as if it were one of the element's table
+abbrev pub IsKeyIn : ElementDef → RowOp → Bytes → Type 0
+IsKeyIn element op key = key ≡ row_code element.table (key_of op) 0
 
 -- the kind is an index over one column, in which the row has this value
 pub record IsOnlyIndexed (kind : Kind) (cells : Cells) (value : Value) : Type 0 where
