@@ -11,6 +11,8 @@ mod element_checks;
 #[cfg(test)]
 mod fixtures;
 #[cfg(test)]
+mod keys_of_rows;
+#[cfg(test)]
 mod operations;
 #[cfg(test)]
 mod reorganisations;
