@@ -1,4 +1,4 @@
--- Cited by private functions alone: after, after_byte, after_each and 6 more.
+-- Cited by private functions alone: after, after_byte, after_each and 5 more.
 -- What follows a prefix.
 use Rattle.std.specs.Prelude.{◌≡◌, ◌↔◌, ◌++◌, ℕ, List, Option, Some}
 

@@ -1,4 +1,4 @@
--- Cited by private functions alone: only_named, put_indexed, last_cell and others.
+-- Cited by private functions alone: only_named, put_indexed, last_cell and more.
 -- The change that an operation makes of its row.
 use Rattle.std.specs.Prelude.{◌≡◌, ◌==◌, ℕ, Bool, List, [], ◌∷◌, Option, Some, None, Ok, if◌then◌else◌}
 use Rattle.std.specs.List.{list_any}
