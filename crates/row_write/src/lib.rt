@@ -19,6 +19,7 @@ mod read;
 mod reads;
 mod run;
 mod same;
+mod seek;
 mod update;
 mod values;
 mod view;

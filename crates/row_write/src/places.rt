@@ -12,15 +12,16 @@ ghost use Rattle.row_write.specs.inner.View.{IsMissed, IsVisible, IsExistsKey, k
 
 use crate::fault::PrepareFault;
 use crate::op::RowOp;
+use crate::seek::sought_place;
 use crate::view::{cells_in, presence_in, read_row};
-use byte_map::{Bytes, sorted};
+use byte_map::Bytes;
 use collections::List;
 use keycode::Value;
 use row_keys::{is_column_key, is_exists_key};
 use row_map::{ColumnType, ReadView, exists_key};
-use std::alloc::{AllocError, Global};
+use std::alloc::Global;
 
-/// In a view of up to so many rows each is tried before a key is made. It shows in the speed alone.
+/// In a view of up to so many rows each is tried. It shows in the speed alone.
 const FEW: usize = 8;
 
 /// Whether these entries have the keys of a row's pairs for these columns, in their order.
@@ -152,27 +153,23 @@ fn near_place(
     None
 }
 
-/// Where the operation's row is, if its entries are side by side. Its key is made only if the row is
-/// not found without it.
+/// Where the operation's row is, if its entries are side by side.
 fn row_place(
-    alloc: Global,
-    view: &ReadView,
+    entries: &[(Bytes, Option<Bytes>)],
     op: &RowOp,
     columns: &[(u32, ColumnType)],
     from: usize,
-) -> Result<Option<usize>, AllocError>
-    ensures { IfOk result (λ found. IfSome found (λ at. IsRowAt (map.entries view.now) op.now columns.now at)) }
+) -> Option<usize>
+    ensures { IfSome result (λ at. IsRowAt entries.now op.now columns.now at) }
 {
-    let entries = view.entries();
     if let Some(at) = near_place(entries, op, columns, from) {
-        return Ok(Some(at));
+        return Some(at);
     }
-    let exists = exists_key(alloc, op.table(), op.key().as_slice())?;
-    let at = sorted::first_from(entries, exists.as_slice());
+    let at = sought_place(entries, op.table(), op.key().as_slice());
     if is_row_at(entries, at, op, columns) {
-        Ok(Some(at))
+        Some(at)
     } else {
-        Ok(None)
+        None
     }
 }
 
@@ -235,7 +232,7 @@ pub(crate) fn find_row(
     ensures missed { IfErr result (IsMissed ((there : _) (cells : _) → ¬ (IsVisible view.now op.now columns.now there cells))) }
     ensures marked { OnOk result (AreMarked (keys_of (map.entries view.now)) (row_keys op.now columns.now) marks.old marks.new) }
 {
-    match row_place(alloc, view, op, columns, *next)? {
+    match row_place(view.entries(), op, columns, *next) {
         Some(at) => marked_row(alloc, view, op, columns, at, marks, next),
         None => looked_up_row(alloc, view, op, columns),
     }
