@@ -6,8 +6,10 @@ import itertools
 import unittest
 from typing import Any, Callable, List, Tuple
 
+import cagzhomul
 import cagzhomul_layer
-from cagzhomul_layer import Draft, calls
+from cagzhomul_layer import Draft, Range, calls, layer
+from cagzhomul_layer.memory import MemoryStore
 
 
 class Codes(unittest.TestCase):
@@ -26,7 +28,7 @@ class Codes(unittest.TestCase):
             (calls.draft_of, code), (calls.points_of, b"\1" + points), (calls.pairs_of, b"\1" + pairs)
         ]
         for read, whole in reads:
-            for bad in (*(whole[:end] for end in range(len(whole))), whole + b"\0", b"\2" + whole[1:]):
+            for bad in (*(whole[:end] for end in range(len(whole))), whole + b"\0", b"\2" + whole[1:], whole[:9] + 8 * b"\xff" + whole[17:]):
                 with self.assertRaises(cagzhomul_layer.BadAnswer):
                     read(bad)
 
@@ -35,6 +37,25 @@ class Codes(unittest.TestCase):
         for key, value in itertools.product(sizes, sizes):
             code = b"\1" + (1).to_bytes(8, "big") + key.to_bytes(8, "big") + bytes(key) + b"\1" + value.to_bytes(8, "big") + bytes(value)
             self.assertEqual(calls.points_code({bytes(key): bytes(value)}), code)
+
+    def test_records_that_are_none(self) -> None:
+        """A record that is cut off is refused by name, and so is one with another byte, if it is not a record, too."""
+        store = MemoryStore()
+        db = layer.open(store, {"people": {"id": "int key", "town": "text"}})
+        next(it for it in db.change("add index by_town on people (town)") if it.what == "begin")
+        records = dict(store.read([], [Range(calls.VERSIONS, calls.CURSORS, 10)]).ranges[0].pairs)
+        newest, begun = max(it for it in records if it[:1] == calls.VERSIONS), min(it for it in records if it[:1] == calls.REORGS)
+        for key in (newest, begun):
+            whole = records[key]
+            for bad in itertools.chain((whole[:end] for end in range(len(whole))), (whole[:at] + b"\xff" + whole[at + 1 :] for at in range(len(whole)))):
+                store.apply(Draft({}, (), {key: bad}))
+                try:
+                    layer.Layer(store).status()
+                except (cagzhomul.CagzhomulError, cagzhomul_layer.StoreError):
+                    continue
+                self.assertEqual(len(bad), len(whole), bad)
+            store.apply(Draft({}, (), {key: whole}))
+        self.assertEqual([it.what for it in layer.Layer(store).resume()][-1], "publish")
 
     def test_room_for_answers(self) -> None:
         """A call is made again if its answer does not fit, and takes no room of one that has not ended."""

@@ -11,8 +11,9 @@ from typing import Any, Callable, Dict, Iterable, List, Mapping, NamedTuple, Opt
 
 import cagzhomul
 from cagzhomul._codes import _list, _name_at, _number, _number_at
-from cagzhomul._library import _CODE, _NUMBER, _SIZE, _SMALL, _STATUS, _Checked, _library
-from cagzhomul._schema import _kind_at
+from cagzhomul._errors import _ERRORS
+from cagzhomul._library import _BAD_CODE, _CODE, _NUMBER, _SIZE, _SMALL, _STATUS, _Checked, _library
+from cagzhomul._schema import _kind_at, _schema
 
 from .store import BadAnswer, Draft, Pair
 
@@ -35,6 +36,8 @@ _ROOMS: List[Any] = [ctypes.c_char * (1 << it) for it in range(40)]
 _USUAL = 14
 _FREE: List[Any] = []
 _Read = TypeVar("_Read")
+# the code of no operations, and of no keys
+NOTHING = b"\1" + bytes(8)
 # what cagzhomul_layer_due says is due, by its number
 ACTS = "nothing", "begin", "close", "publish", "work"
 
@@ -52,6 +55,8 @@ def _declared() -> None:
 
 
 _declared()
+# where the function of transactions is, for calls from C
+TXN = ctypes.cast(_CALLS["txn"], ctypes.c_void_p).value
 
 
 class Answered(NamedTuple):
@@ -213,6 +218,9 @@ def pairs_code(pairs: Iterable[Pair]) -> bytes:
 
 # ---- codes that are read
 
+# what Python raises at bytes that are cut off, or of another form
+_NO_CODE = struct.error, IndexError, OverflowError, ValueError
+
 
 def _pairs_at(code: bytes, at: int) -> Tuple[List[Pair], int]:
     """The pairs of a list that begins there, and where it ends."""
@@ -269,7 +277,7 @@ def _read_to_end(code: bytes, read: Callable[[bytes, int], Tuple[_Read, int]], a
     """What is read of a code from there on, of which `read` says where that ends. BadAnswer if that is not its end."""
     try:
         found, end = read(code, at)
-    except (struct.error, IndexError) as fault:
+    except _NO_CODE as fault:
         raise BadAnswer("a code that is cut off") from fault
     if end != len(code):
         raise BadAnswer("a code that is cut off, or goes on")
@@ -306,10 +314,24 @@ def draft_of(code: bytes) -> Draft:
 
 
 def bounds_of(record: bytes) -> List[Tuple[bytes, bytes]]:
-    """The bounds of the pieces of a reorganisation, by its record."""
-    at = _name_at(record, 9)[1]  # after the code's version, the element's number, its table and its name
-    at = _kind_at(record, at)[1] + 3  # and its state, its way and the work
+    """The bounds of the pieces of a reorganisation, by its record. BadAnswer if it is none."""
+    try:
+        at = _name_at(record, 9)[1]  # after the code's version, the element's number, its table and its name
+        at = _kind_at(record, at)[1] + 3  # and its state, its way and the work
+    except _NO_CODE as fault:
+        raise BadAnswer("a reorganisation's record that is none") from fault
     return pairs_of(b"\1" + record[at:])
+
+
+def schema_of(record: bytes) -> cagzhomul.Schema:
+    """What a version's record says. BadAnswer if it is none: the library judges, and then it is read here."""
+    try:
+        asked("reads", record, NOTHING)
+    except Refusal as refusal:
+        if refusal.status == _BAD_CODE:
+            raise BadAnswer("a version's record that is none") from None
+        raise _ERRORS.get(refusal.status, cagzhomul.CagzhomulError)(refusal.status) from None
+    return _schema(record)
 
 
 # ---- keys of control records

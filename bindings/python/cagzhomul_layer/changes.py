@@ -16,7 +16,7 @@ from cagzhomul._codes import _list, _number
 from cagzhomul._errors import _ERRORS, _NUMBERED
 from cagzhomul._library import _BAD_CODE, _OVER_LIMIT
 from cagzhomul._names import _Names
-from cagzhomul._schema import _STATES, _schema
+from cagzhomul._schema import _STATES
 
 from . import calls
 from .calls import CURSORS, MARKS, REORGS, VERSIONS, Refusal, asked, cursor_key, number_of, reorg_key, version_key
@@ -83,7 +83,7 @@ class Records:
             raise cagzhomul.NotOpened()
         self.pairs, self.number, self.is_before_open = pairs, max(versions), len(versions) > 1
         self.version = pairs[version_key(self.number)]
-        self.schema = _schema(self.version)
+        self.schema = calls.schema_of(self.version)
         self.bounds = {number_of(key): calls.bounds_of(record) for key, record in pairs.items() if key[:1] == REORGS}
 
     @staticmethod

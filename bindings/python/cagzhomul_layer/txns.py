@@ -16,15 +16,17 @@ from cagzhomul._library import _OF_A_VALUE
 from cagzhomul._names import _Names
 from cagzhomul._queries import _Asked, _asked, _query
 from cagzhomul._rows import _coded_rows
-from cagzhomul._schema import _schema
 
 from . import calls
-from .calls import VERSIONS, Refusal, VersionPoint, asked, mark_key, number_code, version_key, version_point
+from .calls import NOTHING, VERSIONS, Refusal, VersionPoint, asked, mark_key, number_code, schema_of, version_key, version_point
 from .changes import versions_of
 from .store import BadAnswer, Draft, Refused, Store, StoreError, Unknown, Unreachable
 
-# the code of no operations, and of no keys
-_NOTHING = b"\1" + bytes(8)
+try:
+    from . import _accelerator
+except ImportError:  # it was not built
+    _accelerator = None  # type: ignore[assignment]
+
 # how many seconds at most pass before a draft that was refused is made again
 _PAUSE = 0.005
 
@@ -34,15 +36,18 @@ def pause() -> None:
     time.sleep(random.random() * _PAUSE)
 
 
-class _Table:
+class _Table(NamedTuple):
     """Codes that transactions need of a table: of how an operation of each kind begins, of what begins and ends the keys of a row's pairs,
     and of its columns by name."""
 
-    __slots__ = "begins", "row", "pairs", "columns"
+    begins: List[bytes]
+    row: bytes
+    pairs: List[bytes]
+    columns: Dict[str, bytes]
 
-    def __init__(self, number: bytes, pairs: List[bytes], columns: Dict[str, bytes]) -> None:
-        self.begins, self.row = [kind + number for kind in (b"\0", b"\1", b"\2")], b"R" + number
-        self.pairs, self.columns = pairs, columns
+
+def _table(number: bytes, pairs: List[bytes], columns: Dict[str, bytes]) -> _Table:
+    return _Table([kind + number for kind in (b"\0", b"\1", b"\2")], b"R" + number, pairs, columns)
 
 
 class Version(NamedTuple):
@@ -62,17 +67,17 @@ _Op = Tuple[int, str, bytes, Mapping[str, Value]]
 
 _small = struct.Struct(">I").pack
 _NO_NUMBER = _small(0)
-_NO_TABLE = _Table(_NO_NUMBER, [], {})
+_NO_TABLE = _table(_NO_NUMBER, [], {})
 
 
 def _table_of(name: str, names: _Names) -> _Table:
     pairs = [_NO_NUMBER, *map(_small, names.public[name])]  # that the row is there, and its public columns
-    return _Table(_small(names.tables[name]), pairs, {column: _small(number) for (table, column), number in names.numbers.items() if table == name})
+    return _table(_small(names.tables[name]), pairs, {column: _small(number) for (table, column), number in names.numbers.items() if table == name})
 
 
 def _version(number: int, record: bytes) -> Version:
-    """The version of this number and record."""
-    names = _Names(number, _schema(record), record)
+    """The version of this number and record. Raises BadAnswer."""
+    names = _Names(number, schema_of(record), record)
     return Version(number, record, names, version_point(number, record), {name: _table_of(name, names) for name in names.tables})
 
 
@@ -99,6 +104,21 @@ def _keys_of(ops: Sequence[_Op], tables: Mapping[str, _Table]) -> List[bytes]:
         table = tables.get(name, _NO_TABLE)
         rows[table.row + key[8:]] = table.pairs  # without how many values the key has
     return sorted([row + it for row, pairs in rows.items() for it in pairs])
+
+
+def _wanted(ops: Sequence[_Op], tables: Mapping[str, _Table]) -> List[bytes]:
+    """What `_keys_of` gives."""
+    keys = _accelerator.keys_of(ops, tables) if _accelerator else None
+    return _keys_of(ops, tables) if keys is None else keys
+
+
+def _drafted(version: Version, ops: Sequence[_Op], view: Mapping[bytes, Optional[bytes]], mark: bytes) -> Draft:
+    """The draft of operations on what they read. Raises Refusal."""
+    if _accelerator:
+        parts = _accelerator.draft_of(calls.TXN, version.point, ops, version.tables, view, mark)
+        if parts is not None:
+            return Draft(parts[0], (), parts[1])
+    return calls.txn_draft(version.point, _ops_code(ops, version.tables), view, mark)
 
 
 def error_of(refusal: Refusal, names: _Names, unknown: Optional[str], wrong: Callable[[], cagzhomul.WrongType]) -> cagzhomul.CagzhomulError:
@@ -148,7 +168,7 @@ class Server:
         while time.monotonic() < end:
             version = self.version()
             try:
-                self.store.apply(calls.draft_of(asked("txn", version.number, version.record, _NOTHING, _NOTHING, mark).code))
+                self.store.apply(calls.draft_of(asked("txn", version.number, version.record, NOTHING, NOTHING, mark).code))
                 return False
             except Refused as refused:
                 if refused.key == mark_key(mark):
@@ -312,18 +332,18 @@ class Txn:
     def _draft(self, version: Version) -> Optional[Draft]:
         """Its draft, from what it got and what it reads for the rest; None if a draft of it is applied."""
         ops = self._all_ops()
-        code, wanted = _ops_code(ops, version.tables), _keys_of(ops, version.tables)
+        wanted = _wanted(ops, version.tables)
         if self._view or self._is_unsure:
             wanted = [key for key in wanted if key not in self._view] + [mark_key(self.mark)] * self._is_unsure
         try:
             found = self._server.store.read(wanted).values if wanted else {}
         except StoreError:
-            asked("reads", version.record, code)  # a text that is too long is refused before all
+            asked("reads", version.record, _ops_code(ops, version.tables))  # a text that is too long is refused before all
             raise
         if self._is_unsure and found.pop(mark_key(self.mark), None) is not None:
             return None
         view = {**found, **self._view} if self._view else found
-        return calls.txn_draft(version.point, code, view, self.mark)
+        return _drafted(version, ops, view, self.mark)
 
     def _is_applied(self, draft: Draft) -> bool:
         """Hands a draft in, the same again while answers are lost; False if it is refused, and reads the version if that is why."""
