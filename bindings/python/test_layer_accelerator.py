@@ -5,7 +5,6 @@ include/cagzhomul_layer.h."""
 from __future__ import annotations
 
 import ctypes
-import importlib
 import itertools
 import random
 import shutil
@@ -176,7 +175,7 @@ class Accelerator(unittest.TestCase):
     def test_memory_that_is_refused(self) -> None:
         """Each of Python's allocations in turn: then there is None, and else the draft."""
         try:
-            hooks = importlib.import_module("_testcapi")
+            hooks = __import__("_testcapi")  # of which mypy knows nothing
         except ImportError:
             self.skipTest("Python's own test module is not installed")
         before: List[txns._Op] = [(0, "people", _key(1), {"town": "Ulm"}), (0, "posts", _key(("a\0b", 7)), {"n": 1})]
