@@ -214,14 +214,20 @@ static PyObject *keys_of(PyObject *self, PyObject *const *given, Py_ssize_t coun
 
 /* ---- the draft */
 
+/* Puts a byte string, or that there is none. */
+static bool put_option(code *to, PyObject *value) {
+    if (value == Py_None) return put(to, "\0", 1);
+    if (!PyBytes_CheckExact(value) || !put(to, "\1", 1)) return false;
+    return put_number(to, (uint64_t)PyBytes_GET_SIZE(value)) && put_bytes(to, value);
+}
+
 /* Puts keys with their values or none, which have to be by rising key. */
 static bool put_points(code *to, PyObject *points) {
     PyObject *before = NULL, *key, *value;
     for (Py_ssize_t at = 0; PyDict_Next(points, &at, &key, &value); before = key) {
         if (!PyBytes_CheckExact(key) || (before && order_of(before, key) >= 0)) return false;
         if (!put_number(to, (uint64_t)PyBytes_GET_SIZE(key)) || !put_bytes(to, key)) return false;
-        if (value == Py_None ? !put(to, "\0", 1) : !PyBytes_CheckExact(value) || !put(to, "\1", 1) || !put_number(to, (uint64_t)PyBytes_GET_SIZE(value)) || !put_bytes(to, value))
-            return false;
+        if (!put_option(to, value)) return false;
     }
     return true;
 }
@@ -265,8 +271,12 @@ static bool is_next(reader *of, const void *bytes, size_t length) {
 static bool next_point(reader *of, PyObject *points) {
     PyObject *key = next_bytes(of), *value = NULL;
     const uint8_t *has = key ? next(of, 1) : NULL;
-    if (has && *has) value = next_bytes(of);
-    else if (has) Py_INCREF(value = Py_None);
+    if (has && *has) {
+        value = next_bytes(of);
+    } else if (has) {
+        value = Py_None;
+        Py_INCREF(value);
+    }
     bool is_read = value && PyDict_SetItem(points, key, value) == 0;
     Py_XDECREF(key);
     Py_XDECREF(value);
@@ -340,17 +350,20 @@ static PyObject *draft_of(PyObject *self, PyObject *const *given, Py_ssize_t cou
     (void)self;
     enum { CALL, OF_VERSION, OPERATIONS, TABLES, VIEW, MARK, GIVEN };
     if (count != GIVEN || !PyDict_CheckExact(given[VIEW]) || !PyBytes_CheckExact(given[MARK])) Py_RETURN_NONE;
-    asked with = {.version = items_of(given[OF_VERSION], VERSION), .mark = given[MARK], .view = given[VIEW]};
+    asked with; /* not all of it is set, since that would take as long as much of the rest */
+    with.version = items_of(given[OF_VERSION], VERSION);
+    with.mark = given[MARK];
+    with.view = given[VIEW];
     begin(&with.operations);
     begin(&with.points);
     txn_call call = (txn_call)PyLong_AsVoidPtr(given[CALL]);
-    PyObject *draft = NULL, *mark = PyBytes_FromString("\3");
-    PyBytes_Concat(&mark, with.mark);
-    with.mark_key = mark;
-    if (call && mark && with.version && put_operations(&with.operations, given[OPERATIONS], given[TABLES]) && put(&with.points, "\1", 1) &&
+    PyObject *draft = NULL;
+    with.mark_key = PyBytes_FromString("\3");
+    PyBytes_Concat(&with.mark_key, with.mark);
+    if (call && with.mark_key && with.version && put_operations(&with.operations, given[OPERATIONS], given[TABLES]) && put(&with.points, "\1", 1) &&
         put_number(&with.points, (uint64_t)PyDict_GET_SIZE(with.view)) && put_points(&with.points, with.view))
         draft = called(call, &with);
-    Py_XDECREF(mark);
+    Py_XDECREF(with.mark_key);
     end(&with.operations);
     end(&with.points);
     return or_none(draft);
