@@ -4,12 +4,26 @@ from __future__ import annotations
 
 import itertools
 import unittest
-from typing import Any, Callable, List, Tuple
+from typing import Any, Callable, Dict, List, Tuple
 
 import cagzhomul
 import cagzhomul_layer
 from cagzhomul_layer import Draft, Range, calls, layer
 from cagzhomul_layer.memory import MemoryStore
+
+
+class Short(MemoryStore):
+    """A store of these pairs that takes no more than 50 drafts."""
+
+    def __init__(self, pairs: Dict[bytes, bytes]) -> None:
+        super().__init__()
+        super().apply(Draft({}, (), pairs))
+        self._left = 50
+
+    def apply(self, draft: Draft) -> None:
+        self._left -= 1
+        assert self._left >= 0, "drafts for ever"
+        super().apply(draft)
 
 
 class Codes(unittest.TestCase):
@@ -39,23 +53,28 @@ class Codes(unittest.TestCase):
             self.assertEqual(calls.points_code({bytes(key): bytes(value)}), code)
 
     def test_records_that_are_none(self) -> None:
-        """A record that is cut off is refused by name, and so is one with another byte, if it is not a record, too."""
+        """A record that is cut off is refused by name, and so is one with another byte, if it is not a record, too, or does not fit the others;
+        no operator goes on for ever."""
         store = MemoryStore()
         db = layer.open(store, {"people": {"id": "int key", "town": "text"}})
         next(it for it in db.change("add index by_town on people (town)") if it.what == "begin")
-        records = dict(store.read([], [Range(calls.VERSIONS, calls.CURSORS, 10)]).ranges[0].pairs)
-        newest, begun = max(it for it in records if it[:1] == calls.VERSIONS), min(it for it in records if it[:1] == calls.REORGS)
+        pairs = dict(store.read([], [Range(b"", b"\xff", 100)]).ranges[0].pairs)
+        newest, begun = max(it for it in pairs if it[:1] == calls.VERSIONS), min(it for it in pairs if it[:1] == calls.REORGS)
+        ends: Dict[str, int] = {}
         for key in (newest, begun):
-            whole = records[key]
+            whole = pairs[key]
             for bad in itertools.chain((whole[:end] for end in range(len(whole))), (whole[:at] + b"\xff" + whole[at + 1 :] for at in range(len(whole)))):
-                store.apply(Draft({}, (), {key: bad}))
+                damaged = Short({**pairs, key: bad})
                 try:
-                    layer.Layer(store).status()
-                except (cagzhomul.CagzhomulError, cagzhomul_layer.StoreError):
+                    layer.Layer(damaged).status()
+                    acts = [it.what for it in layer.Layer(damaged).resume()]
+                except (cagzhomul.CagzhomulError, cagzhomul_layer.StoreError) as fault:
+                    ends[str(fault)] = ends.get(str(fault), 0) + 1
                     continue
-                self.assertEqual(len(bad), len(whole), bad)
-            store.apply(Draft({}, (), {key: whole}))
-        self.assertEqual([it.what for it in layer.Layer(store).resume()][-1], "publish")
+                self.assertEqual((len(bad), acts[-1:]), (len(whole), ["publish"]), bad)
+        self.assertGreater(ends["a version's record that is none"], len(pairs[newest]))
+        self.assertGreater(ends["records that do not fit each other"], 0)
+        self.assertEqual([it.what for it in layer.Layer(Short(pairs)).resume()][-1], "publish")
 
     def test_room_for_answers(self) -> None:
         """A call is made again if its answer does not fit, and takes no room of one that has not ended."""

@@ -106,6 +106,13 @@ class Records:
             raise BadAnswer("a piece without a cursor")
         return record[1:]
 
+    def check(self, draft: Draft) -> None:
+        """BadAnswer if a draft compares control records with others than these, of which it was made: they do not fit each other, and no
+        store would apply it."""
+        for key, value in draft.compare.items():
+            if key < MARKS and self.pairs.get(key) != value:
+                raise BadAnswer("records that do not fit each other")
+
     def open_pieces(self, element: int) -> List[int]:
         """The pieces of a begun reorganisation that have not ended."""
         return [piece for piece, (_, high) in enumerate(self.bounds[element]) if self.cursor(element, piece) < high]
@@ -138,7 +145,10 @@ class Records:
             raise BadAnswer(f"records that do not fit each other: {refusal}") from None
         if act == "work":
             # one of the open pieces, so that several programs are not all at the same
-            element, piece = random.choice([(element, piece) for element in self.bounds for piece in self.open_pieces(element)])
+            pieces = [(element, piece) for element in self.bounds for piece in self.open_pieces(element)]
+            if not pieces:
+                raise BadAnswer("no piece is open")
+            element, piece = random.choice(pieces)
         return act, element, piece, codes[0] if act == "publish" else b""
 
 
@@ -171,6 +181,7 @@ class Operator:
     def _is_applied(self, draft: Draft) -> bool:
         """Hands a draft in; if it is not applied, or nobody knows, the records are read anew."""
         records = self._present()
+        records.check(draft)
         self._records = None
         try:
             self._store.apply(draft)

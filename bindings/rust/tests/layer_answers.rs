@@ -3,10 +3,10 @@
 mod layer_shared;
 
 use cagzhomul::layer::{
-    Answer, ComparedRange, Draft, Layer, MemoryStore, Page, Range, Store, StoreError, Values,
+    Act, Answer, ComparedRange, Draft, Layer, MemoryStore, Page, Range, Store, StoreError, Values,
 };
-use cagzhomul::{Error, Query};
-use layer_shared::opened;
+use cagzhomul::{Error, Query, SchemaChange};
+use layer_shared::{end, opened};
 use std::cell::Cell;
 
 /// A store whose answers to reads are spoiled.
@@ -72,6 +72,35 @@ fn bad_answers_are_refused() {
         let refused = matches!(found, Err(Error::Store(StoreError::BadAnswer(_))));
         assert!(refused, "{name}: {found:?}");
     }
+}
+
+/// An operator ends at a reorganisation's record that names another element than its key does, and
+/// makes no drafts for ever.
+#[test]
+fn records_that_do_not_fit_are_refused() {
+    let store = MemoryStore::new();
+    let db = opened(20, &store);
+    let by_town = SchemaChange::add_index("people", "by_town", ["town"]);
+    let mut acts = db.change(&[by_town]).unwrap();
+    let begun = |act: Result<Act, Error>| matches!(act.unwrap(), Act::Begin { .. });
+    assert!(acts.any(begun));
+    let all = Range {
+        low: vec![1],
+        high: vec![2],
+        limit: 10,
+    };
+    let (key, record) = store.read(&[], &[all]).unwrap().pages[0].pairs[0].clone();
+    let mut other = record;
+    other[4] += 1; // the last byte of the element's number
+    let write = [(key, Some(other))].into();
+    let spoil = Draft {
+        write,
+        ..Draft::default()
+    };
+    store.apply(&spoil).unwrap();
+    let ended = end(db.resume());
+    let refused = matches!(ended, Err(Error::Store(StoreError::BadAnswer(_))));
+    assert!(refused, "{ended:?}");
 }
 
 fn bytes(text: &str) -> Vec<u8> {

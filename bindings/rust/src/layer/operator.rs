@@ -77,6 +77,7 @@ impl<'a, S: Store> Operator<'a, S> {
     /// Hands a draft in; if it is not applied, or nobody knows, the records are read anew.
     fn hand_in(&mut self, draft: &Draft) -> Result<Handed, Error> {
         let records = self.present()?;
+        records.check(draft)?;
         self.forget();
         let handed = match self.store.apply(draft) {
             Ok(()) => {

@@ -118,6 +118,16 @@ impl Records {
         Records::of(pairs)
     }
 
+    /// [`StoreError::BadAnswer`] if a draft compares control records with others than these, of which it
+    /// was made: they do not fit each other, and no store would apply it.
+    pub(super) fn check(&self, draft: &Draft) -> Result<(), StoreError> {
+        let mut control = draft.compare.iter().filter(|(key, _)| key[..] < *MARKS);
+        match control.all(|(key, value)| self.pairs.get(key) == value.as_ref()) {
+            true => Ok(()),
+            false => Err(bad_answer("records that do not fit each other")),
+        }
+    }
+
     /// The record of this key.
     pub(super) fn record(&self, key: &[u8]) -> Result<&[u8], StoreError> {
         let record = self.pairs.get(key).ok_or(bad_answer("a record is missing"));
