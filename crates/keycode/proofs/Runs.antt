@@ -1,10 +1,11 @@
 -- Texts up to their first 0.
-use Rattle.std.proofs.Common.{◌≡◌, ◌+◌, ◌≤◌, ◌==◌, ℕ, suc, true, false, List, [], ◌∷◌, ◌++◌, length, take, drop, if◌then◌else◌, Ok, refl, sym, ap, ◌∙◌, arith, nat_lt, Err, append_assoc}
+use Rattle.std.proofs.Common.{◌≡◌, ◌+◌, ◌<◌, ◌≤◌, ◌==◌, ℕ, zero, suc, true, false, List, [], ◌∷◌, ◌++◌, length, take, drop, slice_index, if◌then◌else◌, Ok, refl, sym, ap, ◌∙◌, arith, nat_lt, Err, append_assoc}
 use Rattle.keycode.specs.declared.fault.KeyFault.TheVariants.{TextTooLong}
-use Rattle.std.proofs.lemmas.Bool.{lt-ltb}
+use Rattle.std.proofs.lemmas.Bool.{lt-ltb, false_from_ne_true}
 use Rattle.std.proofs.lemmas.List.{length-append, append-nil}
 use Rattle.keycode.specs.Code.{escaped}
 use Rattle.keycode.specs.Read.{content_at, after_zero, with_byte, ◌>>=◌}
+use Rattle.memchr.specs.Find.{is_byte}
 use Rattle.keycode.specs.inner.Run.{run_of}
 
 pub run_within : (bytes : List ℕ) → run_of bytes ≤ length bytes
@@ -13,6 +14,21 @@ run_within (b ∷ bytes) = elim (b == 0) as (λ z. (if z then 0 else suc (run_of
   | true ↦ omega arith
   | false ↦ omega (arith, run_within bytes)
 ]
+
+-- a run ends at the first 0
+pub run_to : (bytes : List ℕ) (k : ℕ) → k < length bytes → ((j : ℕ) → j < k → ¬ (is_byte 0 (slice_index bytes j) ≡ true)) → is_byte 0 (slice_index bytes k) ≡ true → run_of bytes ≡ k
+run_to [] k h before here = absurd (omega (arith, h))
+run_to (b ∷ bytes) zero h before here = ap (λ z. if z then 0 else suc (run_of bytes)) here
+run_to (b ∷ bytes) (suc k) h before here =
+    ap (λ z. if z then 0 else suc (run_of bytes)) (false_from_ne_true _ (before 0 (omega arith)))
+    ∙ ap suc (run_to bytes k (omega (arith, h)) (λ j l. before (suc j) (omega (arith, l))) here)
+
+-- a run without a 0 is all
+pub run_of_all : (bytes : List ℕ) → ((j : ℕ) → j < length bytes → ¬ (is_byte 0 (slice_index bytes j) ≡ true)) → run_of bytes ≡ length bytes
+run_of_all [] none = refl
+run_of_all (b ∷ bytes) none =
+    ap (λ z. if z then 0 else suc (run_of bytes)) (false_from_ne_true _ (none 0 (omega arith)))
+    ∙ ap suc (run_of_all bytes (λ j l. none (suc j) (omega (arith, l))))
 
 -- a byte that is no 0
 one_more : (before : List ℕ) (c : ℕ) (cs : List ℕ) → (c == 0) ≡ false → nat_lt (length before) 1024 ≡ true → content_at before (c ∷ cs) ≡ content_at (before ++ c ∷ []) cs
