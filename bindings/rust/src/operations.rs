@@ -12,6 +12,9 @@ pub(crate) enum Kind {
     Delete = 2,
 }
 
+/// How many bytes the code has before its operations: its version, and how many they are.
+const HEAD: usize = 9;
+
 /// The code of a row: its table and its key.
 pub(crate) fn row(table: u32, key: &Key) -> Vec<u8> {
     let mut code = Code::default();
@@ -28,7 +31,15 @@ pub(crate) struct Operations {
 
 impl Operations {
     pub(crate) fn new() -> Operations {
-        let mut code = Code::new();
+        Operations::after(Code::new())
+    }
+
+    /// The same, with room for operations of about so many bytes.
+    pub(crate) fn with_room(bytes: usize) -> Operations {
+        Operations::after(Code::with_room(HEAD + bytes))
+    }
+
+    fn after(mut code: Code) -> Operations {
         code.count(0);
         Operations { code, count: 0 }
     }
@@ -52,7 +63,7 @@ impl Operations {
 
     /// Whether an operation is on the row of this code.
     pub(crate) fn names(&self, row: &[u8]) -> bool {
-        let mut rest = Reader(&self.code.0[9..]);
+        let mut rest = Reader(&self.code.0[HEAD..]);
         std::iter::from_fn(|| rest.operation()).any(|named| named == row)
     }
 
@@ -86,7 +97,7 @@ impl Operations {
 
     /// The code of the whole list.
     pub(crate) fn finish(mut self) -> Code {
-        self.code.0[1..9].copy_from_slice(&(self.count as u64).to_be_bytes());
+        self.code.0[1..HEAD].copy_from_slice(&(self.count as u64).to_be_bytes());
         self.code
     }
 }

@@ -22,10 +22,33 @@ pub(super) struct Got {
     pub(super) row: Option<Row>,
 }
 
+/// What the code of an operation, and of a value, has besides texts, in bytes: about that, and seldom more.
+const OP_ROOM: usize = 32;
+const VALUE_ROOM: usize = 16;
+
+/// About how many bytes the code of operations takes.
+fn room_of(ops: &[Op]) -> usize {
+    let cells = |op: &Op| {
+        op.cells
+            .iter()
+            .map(|(_, value)| room_of_value(value))
+            .sum::<usize>()
+    };
+    let key = |op: &Op| op.key.0.iter().map(room_of_value).sum::<usize>();
+    ops.iter().map(|op| OP_ROOM + key(op) + cells(op)).sum()
+}
+
+fn room_of_value(value: &Value) -> usize {
+    match value {
+        Value::Text(text) => VALUE_ROOM + text.len(),
+        _ => VALUE_ROOM,
+    }
+}
+
 /// The code of operations in a version, and of some that change nothing on the rows that were got and
 /// that they do not write.
 pub(super) fn code_of(ops: &[Op], got: &[Got], names: &Names) -> Vec<u8> {
-    let mut operations = Operations::new();
+    let mut operations = Operations::with_room(room_of(ops));
     for op in ops {
         operations.push(op.kind, names.table(&op.table), &op.key);
         if op.kind != Kind::Delete {

@@ -18,7 +18,7 @@ const TABLE: &str = "cagzhomul";
 const PATIENCE: Duration = Duration::from_secs(10);
 /// How long at most a pause is before a draft asks again for the lock of writers, and how long one is
 /// before the file is made ready again.
-const PAUSE: Duration = Duration::from_millis(10);
+const PAUSE: Duration = Duration::from_millis(1);
 const AGAIN: Duration = Duration::from_millis(20);
 /// What SQLite answers for a key, a value or a number of them that is over its limits.
 const TOO_BIG: i32 = 18;
