@@ -1,5 +1,6 @@
 //! Drafts of transactions.
 ghost use Rattle.std.specs.Prelude.{◌≡◌, ◌++◌, IfOk, IfErr, OnOk};
+ghost use Rattle.std.specs.Option.{option_copied};
 ghost use Rattle.collections.specs.Refusal.{IsRefusal, IsClear};
 ghost use Rattle.row_write.specs.Prepare.{rank, Condition};
 ghost use Rattle.row_write.specs.declared.fault.PrepareFault.TheVariants.{Memory as OutOfMemory};
@@ -108,7 +109,7 @@ impl TxnDraft {
         ensures { IfOk result (λ control. IsControlOf (txn_draft self.now.txn self.now.mark) control) }
     {
         let schema = self.prepared.schema().clone()?;
-        let number = self.prepared.lease().version;
+        let number = self.number();
         let mut reads = Vec::new(alloc);
         reads.push((Key::version(number), Some(Record::Version(schema))))?;
         push_mark_read(&mut reads, share_mark(&self.mark)?)?;
@@ -118,6 +119,20 @@ impl TxnDraft {
             reads: List::new(reads),
             writes: List::new(writes),
         })
+    }
+
+    /// The number of the version under which it runs.
+    pub fn number(&self) -> u64
+        ensures { result ≡ self.now.txn.lease.version }
+    {
+        self.prepared.lease().version
+    }
+
+    /// The name of its mark, if it has one.
+    pub fn mark(&self) -> Option<&Bytes>
+        ensures { option_copied result ≡ self.now.mark }
+    {
+        self.mark.as_ref()
     }
 
     /// The pairs that the store compares: just what was read.

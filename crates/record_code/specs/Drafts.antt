@@ -44,16 +44,6 @@ pub record IsFitDraft (draft : Draft) : Type 0 where
   pub reads : AreFitPoints draft.reads
   pub writes : AreFitPoints draft.writes
 
--- the point has a record of this code, as types say
-pub record IsUnder (code : Bytes) (point : Key × Option Record) : Type 0 where
-  pub spelled : option_map record_code point.1 ≡ Some code
-  pub known : IfSome point.1 HasRecord
-
--- the first of these points has one
-abbrev pub IsLedBy : Bytes → List (Key × Option Record) → Type 0
-IsLedBy code [] = ⊤
-IsLedBy code (point ∷ points) = IsUnder code point
-
 -- a draft of these control records
 abbrev pub draft_with : Control → Expect → Batch → Draft
 draft_with control expect batch = record { reads = control.reads; expect = expect; writes = control.writes; batch = batch }

@@ -4,14 +4,15 @@ ghost use Rattle.std.specs.Prelude.{◌≡◌, ◌++◌, option_map, IfOk, OnOk,
 ghost use Rattle.reorganise.specs.Batches.{expect_of, batch_for};
 ghost use Rattle.drafts.specs.Calls.{nothing, txn_draft};
 ghost use Rattle.drafts.specs.Coded.{coded, IsFit};
+ghost use Rattle.drafts.specs.Store.{version_key, mark_key};
 ghost use Rattle.drafts.specs.declared.record.Record.TheVariants.{Version as OfVersion};
 ghost use Rattle.entry_code.specs.Records.{draft_parts_code};
-ghost use Rattle.record_code.specs.Drafts.{points_of, ranges_of, parts_of, draft_code, AreFitPoints, IsFitDraft, draft_with, IsUnder, IsLedBy};
+ghost use Rattle.record_code.specs.Drafts.{points_of, ranges_of, parts_of, draft_code, AreFitPoints, IsFitDraft, draft_with};
 ghost use Rattle.record_code.specs.Keys.{key_code, HasKey};
 ghost use Rattle.keycode.specs.Valid.{IsStorable};
 ghost use Rattle.record_code.specs.Records.{record_code, IsKnown, HasRecord};
 
-use crate::keys::key_bytes;
+use crate::keys::{key_bytes, version_key_bytes, with_name};
 use crate::write::record_bytes;
 use byte_map::{Bytes, KeyMap};
 use drafts::{Control, Key, Record, TxnDraft};
@@ -68,45 +69,19 @@ fn coded_points(alloc: Global, points: &[(Key, Option<Record>)]) -> Result<Vec<P
     Ok(out)
 }
 
-/// A point by the code of its record.
-fn point_under(
-    alloc: Global,
-    point: &(Key, Option<Record>),
-    record: &[u8],
-) -> Result<Point, AllocError>
-    requires { IsUnder record.now point.now }
-    ensures code { IfOk result (λ made. made ≡ coded key_code record_code point.now) }
-    ensures fit { OnOk result (IsFit HasKey HasRecord point.now) }
+/// What compares that a version is open, by the code of its record.
+fn version_point(alloc: Global, number: u64, record: &[u8]) -> Result<Point, AllocError>
+    ensures { IfOk result (λ made. made ≡ (key_code (version_key number), Some record.now)) }
 {
-    let key = Bytes::new(key_bytes(alloc, &point.0)?)?;
+    let key = Bytes::from_slice(alloc, &version_key_bytes(number))?;
     Ok((key, Some(Bytes::from_slice(alloc, record)?)))
 }
 
-/// `coded_points`, by the code of the first record.
-fn points_under(
-    alloc: Global,
-    points: &[(Key, Option<Record>)],
-    record: &[u8],
-) -> Result<Vec<Point>, AllocError>
-    requires { IsLedBy record.now points.now }
-    ensures code { IfOk result (λ made. made.items ≡ points_of points.now) }
-    ensures fit { OnOk result (AreFitPoints points.now) }
+/// The key of a mark.
+fn mark_key_of(alloc: Global, name: &Bytes) -> Result<Bytes, AllocError>
+    ensures { IfOk result (λ key. key ≡ key_code (mark_key name.now)) }
 {
-    let mut out = Vec::with_capacity(alloc, points.len())?;
-    if let [first, rest @ ..] = points {
-        out.push(point_under(alloc, first, record)?)?;
-        push_coded(alloc, &mut out, rest)?;
-    }
-    Ok(out)
-}
-
-/// What control records compare, by the code of the first record.
-fn reads_under(alloc: Global, control: &Control, record: &[u8]) -> Result<Vec<Point>, AllocError>
-    requires { IsLedBy record.now control.now.reads }
-    ensures code { IfOk result (λ made. made.items ≡ points_of control.now.reads) }
-    ensures fit { OnOk result (AreFitPoints control.now.reads) }
-{
-    points_under(alloc, control.reads.as_slice(), record)
+    Bytes::new(with_name(alloc, name.as_slice())?)
 }
 
 // ---- pairs of rows and indexes
@@ -212,16 +187,17 @@ pub fn txn_bytes_under(alloc: Global, txn: &TxnDraft, record: &[u8]) -> Result<V
     ensures code { IfOk result (λ bytes. bytes.items ≡ draft_code (txn_draft txn.now.txn txn.now.mark)) }
     ensures fit { OnOk result (IsFitDraft (txn_draft txn.now.txn txn.now.mark)) }
 {
-    let control = txn.control(alloc)?;
-    let reads = reads_under(alloc, &control, record)?;
-    let writes = coded_points(alloc, control.writes.as_slice())?;
-    code_with(
-        alloc,
-        reads.as_slice(),
-        txn.expect(),
-        writes.as_slice(),
-        txn.batch(),
-    )
+    let version = version_point(alloc, txn.number(), record)?;
+    match txn.mark() {
+        None => code_with(alloc, &[version], txn.expect(), &[], txn.batch()),
+        Some(name) => {
+            let key = mark_key_of(alloc, name)?;
+            let put = Bytes::from_slice(alloc, &[1])?;
+            let reads = [version, (key.clone()?, None)];
+            let writes = [(key, Some(put))];
+            code_with(alloc, &reads, txn.expect(), &writes, txn.batch())
+        }
+    }
 }
 
 /// The code of the draft of a prepared piece: the range that it read, what it writes, and its control

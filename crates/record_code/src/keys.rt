@@ -1,6 +1,7 @@
 //! Keys of control records as bytes, and back.
 ghost use Rattle.std.specs.List.{AllByRecursion, flat_map};
 ghost use Rattle.std.specs.Prelude.{◌≡◌, ◌≢◌, ℕ, ◌<◌, ◌^◌, ◌∷◌, IfOk, OnOk, MatchOption};
+ghost use Rattle.drafts.specs.Store.{version_key};
 ghost use Rattle.record_code.specs.Keys.{number_code, key_code, IsNumber, HasKey, IsKeyRead};
 
 use crate::fault::NoKey;
@@ -23,8 +24,17 @@ fn with_numbers(alloc: Global, kind: u8, numbers: &[u64]) -> Result<Vec<u8>, All
     Ok(out)
 }
 
+/// The key of the version of this number.
+#[tactic(auto, unfolding(crate::specs::Keys::number_code))]
+pub(crate) fn version_key_bytes(number: u64) -> [u8; 9]
+    ensures { result ≡ key_code (version_key number) }
+{
+    let b = number.to_be_bytes();
+    [0, b[0], b[1], b[2], b[3], b[4], b[5], b[6], b[7]]
+}
+
 /// The kind of a mark, and its name.
-fn with_name(alloc: Global, name: &[u8]) -> Result<Vec<u8>, AllocError>
+pub(crate) fn with_name(alloc: Global, name: &[u8]) -> Result<Vec<u8>, AllocError>
     ensures { IfOk result (λ bytes. bytes.items ≡ 3 ∷ name.now) }
 {
     let mut out = Vec::with_capacity(alloc, name.len().saturating_add(1))?;
