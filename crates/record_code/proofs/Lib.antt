@@ -5,3 +5,4 @@ pub mod Noted
 pub mod Suits
 pub mod Runs
 mod Storable
+mod TxnFits

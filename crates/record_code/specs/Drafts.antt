@@ -1,6 +1,6 @@
 -- Cited by the contracts of control_bytes, txn_bytes, txn_bytes_under, piece_bytes and open_bytes.
 -- Drafts as bytes.
-use Rattle.std.specs.Prelude.{◌≡◌, List, [], ◌∷◌, ◌++◌, Option, Some, None, option_map, IfSome, ⊤}
+use Rattle.std.specs.Prelude.{List, [], ◌∷◌, ◌++◌, Option, Some, None}
 use Rattle.std.specs.List.{AllByRecursion}
 use mathlib.Core.List.{map as each}
 use Rattle.std.specs.FinMap as map
