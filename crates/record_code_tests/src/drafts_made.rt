@@ -141,13 +141,16 @@ fn view(alloc: Global) -> Result<ReadView, AllocError> {
     Ok(view)
 }
 
-/// Its deletion under version 1, with the mark m.
-fn drafted(alloc: Global, schema: ArcValue<Schema>) -> Option<TxnDraft>
+fn mark(alloc: Global) -> Option<Bytes> {
+    Bytes::from_slice(alloc, b"m").ok()
+}
+
+/// Its deletion under version 1, with this mark or none.
+fn drafted(alloc: Global, schema: ArcValue<Schema>, mark: Option<Bytes>) -> Option<TxnDraft>
     ensures { IfSome result (λ draft. draft.txn.schema ≡ schema) }
 {
     let ops = ArcValue::new(alloc, deletion(alloc).ok()?).ok()?;
     let view = view(alloc).ok()?;
-    let mark = Some(Bytes::from_slice(alloc, b"m").ok()?);
     match draft_txn(alloc, 1, schema, ops, mark, view) {
         Ok(Drafted::Draft(txn)) => Some(txn),
         _ => None,
@@ -155,25 +158,30 @@ fn drafted(alloc: Global, schema: ArcValue<Schema>) -> Option<TxnDraft>
 }
 
 fn transacted(alloc: Global) -> Option<Vec<u8>> {
-    let txn = drafted(alloc, version(alloc)?)?;
+    let txn = drafted(alloc, version(alloc)?, Some(mark(alloc)?))?;
     txn_bytes(alloc, &txn).ok()
 }
 
 /// The same, by the value of which this record was read.
-fn transacted_under(alloc: Global, value: &[u8], record: &Record) -> Option<Vec<u8>>
+fn transacted_under(
+    alloc: Global,
+    value: &[u8],
+    record: &Record,
+    mark: Option<Bytes>,
+) -> Option<Vec<u8>>
     requires known { IsKnown IsStorable record.now }
     requires spelled { value.now ≡ record_code record.now }
 {
     let Record::Version(schema) = record else {
         return None;
     };
-    let txn = drafted(alloc, schema.clone().ok()?)?;
+    let txn = drafted(alloc, schema.clone().ok()?, mark)?;
     txn_bytes_under(alloc, &txn, value).ok()
 }
 
-fn transacted_as_read(alloc: Global) -> Option<Vec<u8>> {
+fn transacted_as_read(alloc: Global, mark: Option<Bytes>) -> Option<Vec<u8>> {
     match record_of(alloc, RecordKind::Version, VERSION) {
-        Ok(record) => transacted_under(alloc, VERSION, &record),
+        Ok(record) => transacted_under(alloc, VERSION, &record, mark),
         Err(_) => None,
     }
 }
@@ -194,6 +202,22 @@ pub(crate) const TXN: &[u8] = b"\x01\
 \0\0\0\0\0\0\0\0\
 \0\0\0\0\0\0\0\x03\
 \0\0\0\0\0\0\0\x02\x03m\x01\0\0\0\0\0\0\0\x01\x01\
+\0\0\0\0\0\0\0\x12R\0\0\0\x01\x02\x80\0\0\0\0\0\0\x07\0\0\0\0\0\
+\0\0\0\0\0\0\0\x12R\0\0\0\x01\x02\x80\0\0\0\0\0\0\x07\0\0\0\x01\0";
+
+/// The same without a mark.
+const UNMARKED: &[u8] = b"\x01\
+\0\0\0\0\0\0\0\x03\
+\0\0\0\0\0\0\0\x09\0\0\0\0\0\0\0\0\x01\x01\0\0\0\0\0\0\0\x46\
+\x01\
+\0\0\0\0\0\0\0\x01\0\0\0\0\0\0\0\x01t\0\0\0\0\0\0\0\x01\0\0\0\0\0\0\0\x02id\0\
+\0\0\0\0\0\0\0\x01\
+\0\0\0\x01\0\0\0\x01\0\0\0\0\0\0\0\x01a\x01\0\x03\0\
+\0\0\0\x02\
+\0\0\0\0\0\0\0\x12R\0\0\0\x01\x02\x80\0\0\0\0\0\0\x07\0\0\0\0\x01\0\0\0\0\0\0\0\0\
+\0\0\0\0\0\0\0\x12R\0\0\0\x01\x02\x80\0\0\0\0\0\0\x07\0\0\0\x01\x01\0\0\0\0\0\0\0\x09\x02\x80\0\0\0\0\0\0\x05\
+\0\0\0\0\0\0\0\0\
+\0\0\0\0\0\0\0\x02\
 \0\0\0\0\0\0\0\x12R\0\0\0\x01\x02\x80\0\0\0\0\0\0\x07\0\0\0\0\0\
 \0\0\0\0\0\0\0\x12R\0\0\0\x01\x02\x80\0\0\0\0\0\0\x07\0\0\0\x01\0";
 
@@ -287,6 +311,7 @@ enum What {
     Close,
     Txn,
     TxnAsRead,
+    UnmarkedAsRead,
     Piece,
 }
 
@@ -295,7 +320,8 @@ fn made(alloc: Global, what: What) -> Option<Vec<u8>> {
         What::Open => opened(alloc),
         What::Close => closed(alloc),
         What::Txn => transacted(alloc),
-        What::TxnAsRead => transacted_as_read(alloc),
+        What::TxnAsRead => transacted_as_read(alloc, Some(mark(alloc)?)),
+        What::UnmarkedAsRead => transacted_as_read(alloc, None),
         What::Piece => moved(alloc),
     }
 }
@@ -317,6 +343,7 @@ const DRAFTS: &[(What, &[u8])] = &[
     (What::Close, CLOSE),
     (What::Txn, TXN),
     (What::TxnAsRead, TXN),
+    (What::UnmarkedAsRead, UNMARKED),
     (What::Piece, PIECE),
 ];
 
