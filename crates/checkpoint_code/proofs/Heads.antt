@@ -86,9 +86,9 @@ read_made bytes parts (Ok h) read is = (
 read_made bytes parts (Err head.Version) read is = absurd is
 read_made bytes parts (Err head.Trailing) read is = absurd is
 read_made bytes parts (Err head.Malformed) read is = absurd is
-read_made bytes parts (Err head.BadTimeline) read is = (parts, read.0, is)
-read_made bytes parts (Err head.BadNewest) read is = (parts, read.0, is)
-read_made bytes parts (Err head.BadBefore) read is = (parts, read.0, is)
+read_made bytes parts (Err head.BadTimeline) read is = (parts, read.1, read.0, is)
+read_made bytes parts (Err head.BadNewest) read is = (parts, read.1, read.0, is)
+read_made bytes parts (Err head.BadBefore) read is = (parts, read.1, read.0, is)
 read_made bytes parts (Err head.Memory) read is = has_version bytes parts read.0
 
 pub read_fault : (bytes : List ℕ) (fault : CodeFault) → IsRead (IsHead IsStorable) head_parts_code bytes (Err fault) → IsHeadRead bytes (Err (to_fault fault))

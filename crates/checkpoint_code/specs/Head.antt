@@ -66,9 +66,9 @@ IsMade parts (Ok head) = (parts_of head ≡ parts) × IsValid head.line × IsSou
 IsMade parts (Err Memory) = ⊤
 IsMade parts (Err fault) = WhyNone parts fault
 
--- the bytes are the code of parts of which there is no head, for this reason
+-- the bytes are the code of parts, so that no earlier fault is theirs, of which there is no head, for this reason
 abbrev pub HasNoHead : List ℕ → HeadFault → Type 0
-HasNoHead bytes fault = (parts : HeadParts) × (bytes ≡ head_parts_code parts) × WhyNone parts fault
+HasNoHead bytes fault = (parts : HeadParts) × IsHead IsStorable parts × (bytes ≡ head_parts_code parts) × WhyNone parts fault
 
 -- what is read has these bytes as its code; each refusal has its reason
 abbrev pub IsHeadRead : List ℕ → Result Head HeadFault → Type 0
